@@ -1,0 +1,10 @@
+pub mod Numbers
+pub mod ElfHeader
+pub mod SectionHeaders
+pub mod Names
+pub mod Sections
+pub mod Object
+pub mod Refusal
+pub mod RefusalNumber
+pub mod Counts
+pub mod Raised

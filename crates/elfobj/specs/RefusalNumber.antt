@@ -1,0 +1,15 @@
+-- The numbers under which refusals are told.
+use Rattle.std.specs.Prelude.{ℕ}
+use Rattle.elfobj.specs.declared.refusal.ObjectRefusal.{ObjectRefusal}
+use Rattle.elfobj.specs.declared.refusal.ObjectRefusal.TheVariants.{Short, NotElf, Machine, SectionTable, SectionCount, SectionBounds, SectionProfile, NoMemory, NotYet}
+
+abbrev pub refusal_number : ObjectRefusal → ℕ
+refusal_number Short = 1
+refusal_number NotElf = 2
+refusal_number Machine = 3
+refusal_number SectionTable = 4
+refusal_number SectionCount = 5
+refusal_number SectionBounds = 6
+refusal_number SectionProfile = 7
+refusal_number NoMemory = 14
+refusal_number NotYet = 15

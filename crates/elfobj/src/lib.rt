@@ -1,0 +1,10 @@
+//! The object reader: relocatable ELF-64 objects for x86-64.
+#![tactic(auto)]
+
+pub mod constants;
+pub mod meter;
+pub mod refusal;
+pub mod relocation;
+pub mod section;
+mod section_header;
+pub mod symbol;

@@ -1,0 +1,49 @@
+//! Why bytes are no object of the profile.
+
+/// Why `Object::read` refuses. The number of a refusal is its place in the order of the tests: the
+/// lowest whose condition holds is answered, and want of memory stands apart.
+#[derive(Clone, Copy, Debug, PartialEq, Eq)]
+pub enum ObjectRefusal {
+    /// 1: fewer bytes than an ELF header has.
+    Short,
+    /// 2: the first four bytes are not those of an ELF file.
+    NotElf,
+    /// 3: not a little-endian 64-bit relocatable object of version 1 for x86-64.
+    Machine,
+    /// 4: section headers of another size than 64, or outside the file.
+    SectionTable,
+    /// 5: no section header, too many, or a name table that is not among them.
+    SectionCount,
+    /// 6: the name table is no string table; or a section lies outside the file, is too large, or
+    /// has an alignment that is no power of two.
+    SectionBounds,
+    /// 7: an allocated section with a type, a flag or a name that the profile does not have.
+    SectionProfile,
+    /// 14: no memory.
+    NoMemory,
+    /// 15: an object of the profile that this version does not read yet: it has a symbol table or
+    /// relocations, or more than one linked section.
+    NotYet,
+}
+
+impl ObjectRefusal {
+    ghost use Rattle.std.specs.Prelude.{◌≡◌};
+    ghost use Rattle.elfobj.specs.RefusalNumber.{refusal_number};
+
+    /// The number under which the refusal is told, from 1 to 15.
+    pub fn number(self) -> u8
+        ensures { result ≡ refusal_number self }
+    {
+        match self {
+            ObjectRefusal::Short => 1,
+            ObjectRefusal::NotElf => 2,
+            ObjectRefusal::Machine => 3,
+            ObjectRefusal::SectionTable => 4,
+            ObjectRefusal::SectionCount => 5,
+            ObjectRefusal::SectionBounds => 6,
+            ObjectRefusal::SectionProfile => 7,
+            ObjectRefusal::NoMemory => 14,
+            ObjectRefusal::NotYet => 15,
+        }
+    }
+}

@@ -1,0 +1,39 @@
+//! Sections as callers see them.
+
+/// The number of a section header in its table, from 0.
+#[derive(Clone, Copy, Debug, PartialEq, Eq)]
+pub struct SectionIndex(pub u16);
+
+/// What a linked section holds, by its `sh_type`.
+#[derive(Clone, Copy, Debug, PartialEq, Eq)]
+pub enum SectionKind {
+    /// `SHT_PROGBITS`: code or data.
+    Progbits,
+    /// `SHT_NOBITS`: space that is zero and has no bytes in the file.
+    Nobits,
+    /// `SHT_NOTE`: notes.
+    Note,
+    /// `SHT_INIT_ARRAY`: addresses of functions to call at the start.
+    InitArray,
+    /// `SHT_FINI_ARRAY`: addresses of functions to call at the end.
+    FiniArray,
+    /// `SHT_PREINIT_ARRAY`: addresses of functions to call before all others.
+    PreinitArray,
+    /// `SHT_X86_64_UNWIND`: unwind tables.
+    Unwind,
+}
+
+/// A linked section: one with `SHF_ALLOC` and one of the types of `SectionKind`.
+#[derive(Clone, Copy, Debug, PartialEq, Eq)]
+pub struct Section {
+    /// Its number among the section headers.
+    pub number: SectionIndex,
+    /// What it holds.
+    pub kind: SectionKind,
+    /// `sh_flags`: `SHF_ALLOC`, with any of `SHF_WRITE`, `SHF_EXECINSTR`, `SHF_MERGE`, `SHF_STRINGS`.
+    pub flags: u64,
+    /// `sh_size`: how many bytes it takes in memory, at most 2^31.
+    pub size: u64,
+    /// `sh_addralign`: 0 or a power of two.
+    pub alignment: u64,
+}
