@@ -1,0 +1,70 @@
+-- In which mode each token of a script is read, and the cut of a whole text.
+use Rattle.std.specs.Prelude.{◌≡◌, ℕ, ◌+◌, ◌-◌, List, [], ◌∷◌, drop, Bool, ◌==◌, if◌then◌else◌, codes, bytes_eq}
+use Rattle.std.specs.List.{list_any}
+use Rattle.ldi.specs.Tokens.{Token, Name, Number, Text, Discard, Word, Punctuation, Front, End, Blank, Begins, Nothing, front}
+use Rattle.ldi.specs.declared.script.token.Mode.{Mode}
+use Rattle.ldi.specs.declared.script.token.Mode.TheVariants.{Expression, Pattern}
+use Rattle.ldi.specs.declared.script.token.Mark.{Mark}
+use Rattle.ldi.specs.declared.script.token.Mark.TheVariants.{OpenParenthesis, CloseParenthesis, OpenBrace, CloseBrace, Semicolon, Assign, AddAssign}
+use Rattle.ldi.specs.declared.script.token.Stretch.{Stretch}
+use Rattle.ldi.specs.declared.script.token.Stretch.TheVariants.{Closed, Awaited, ToSemicolon, ToParenthesis}
+use Rattle.ldi.specs.declared.script.token.LexState.{LexState}
+
+-- pattern mode holds at depth 2 outside stretches
+abbrev pub mode_at : ℕ → Stretch → Mode
+mode_at depth Closed = if depth == 2 then Pattern else Expression
+mode_at depth Awaited = if depth == 2 then Pattern else Expression
+mode_at depth ToSemicolon = Expression
+mode_at depth (ToParenthesis n) = Expression
+
+abbrev pub mode_of : LexState → Mode
+mode_of p = mode_at p.depth p.stretch
+
+-- the number of `{` less that of `}`, which stops at 0 at each `}`
+abbrev pub depth_after : ℕ → Token → ℕ
+depth_after depth (Punctuation OpenBrace) = depth + 1
+depth_after depth (Punctuation CloseBrace) = depth - 1
+depth_after depth _ = depth
+
+-- the words whose parentheses hold an expression
+abbrev pub stretch_words : List (List ℕ)
+stretch_words = codes "BYTE" ∷ codes "SHORT" ∷ codes "LONG" ∷ codes "QUAD" ∷ codes "PROVIDE" ∷ codes "ASSERT" ∷ []
+
+unfoldable pub is_stretch_word : List ℕ → Bool
+is_stretch_word word = list_any (λ w. bytes_eq w word) stretch_words
+
+-- after a token read in pattern mode: `=` and `+=` begin a stretch to the next `;`, and so does a `(` right after
+-- a word of those to the `)` that matches it
+abbrev pub opened : Stretch → Token → Stretch
+opened s (Punctuation Assign) = ToSemicolon
+opened s (Punctuation AddAssign) = ToSemicolon
+opened Awaited (Punctuation OpenParenthesis) = ToParenthesis 1
+opened s (Word w) = if is_stretch_word w then Awaited else Closed
+opened s _ = Closed
+
+-- after a token read in expression mode
+abbrev pub closed : Stretch → Token → Stretch
+closed ToSemicolon (Punctuation Semicolon) = Closed
+closed ToSemicolon _ = ToSemicolon
+closed (ToParenthesis n) (Punctuation OpenParenthesis) = ToParenthesis (n + 1)
+closed (ToParenthesis n) (Punctuation CloseParenthesis) = if n == 1 then Closed else ToParenthesis (n - 1)
+closed (ToParenthesis n) _ = ToParenthesis n
+closed Closed _ = Closed
+closed Awaited _ = Closed
+
+abbrev pub stretch_after : Mode → Stretch → Token → Stretch
+stretch_after Expression s t = closed s t
+stretch_after Pattern s t = opened s t
+
+-- where the text stands after a token
+unfoldable pub place_after : LexState → Token → Place
+place_after p t = record { depth = depth_after p.depth t; stretch = stretch_after (mode_of p) p.stretch t }
+
+abbrev pub at_start : LexState
+at_start = record { depth = 0; stretch = Closed }
+
+-- these are the tokens of a text from a place on
+pub data IsCut : LexState → List ℕ → List Token → Type 0 where
+  ended : {p : LexState} {text : List ℕ} → front (mode_of p) text ≡ End → IsCut p text []
+  blank : {p : LexState} {text : List ℕ} {n : ℕ} {ts : List Token} → front (mode_of p) text ≡ Blank n → IsCut p (drop n text) ts → IsCut p text ts
+  token : {p : LexState} {text : List ℕ} {t : Token} {n : ℕ} {ts : List Token} → front (mode_of p) text ≡ Begins t n → IsCut (place_after p t) (drop n text) ts → IsCut p text (t ∷ ts)

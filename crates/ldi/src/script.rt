@@ -1,0 +1,4 @@
+//! The script reader.
+
+pub mod refusal;
+pub mod token;
