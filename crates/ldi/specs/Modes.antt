@@ -57,8 +57,8 @@ stretch_after Expression s t = closed s t
 stretch_after Pattern s t = opened s t
 
 -- where the text stands after a token
-unfoldable pub place_after : LexState → Token → Place
-place_after p t = record { depth = depth_after p.depth t; stretch = stretch_after (mode_of p) p.stretch t }
+unfoldable pub state_after : LexState → Token → LexState
+state_after p t = record { depth = depth_after p.depth t; stretch = stretch_after (mode_of p) p.stretch t }
 
 abbrev pub at_start : LexState
 at_start = record { depth = 0; stretch = Closed }
@@ -67,4 +67,4 @@ at_start = record { depth = 0; stretch = Closed }
 pub data IsCut : LexState → List ℕ → List Token → Type 0 where
   ended : {p : LexState} {text : List ℕ} → front (mode_of p) text ≡ End → IsCut p text []
   blank : {p : LexState} {text : List ℕ} {n : ℕ} {ts : List Token} → front (mode_of p) text ≡ Blank n → IsCut p (drop n text) ts → IsCut p text ts
-  token : {p : LexState} {text : List ℕ} {t : Token} {n : ℕ} {ts : List Token} → front (mode_of p) text ≡ Begins t n → IsCut (place_after p t) (drop n text) ts → IsCut p text (t ∷ ts)
+  token : {p : LexState} {text : List ℕ} {t : Token} {n : ℕ} {ts : List Token} → front (mode_of p) text ≡ Begins t n → IsCut (state_after p t) (drop n text) ts → IsCut p text (t ∷ ts)
