@@ -3,3 +3,10 @@ pub mod Tokens
 pub mod Modes
 pub mod Tree
 pub mod ScriptForm
+pub mod Project
+pub mod Edits
+pub mod Gathering
+pub mod Placement
+pub mod Segments
+pub mod Image
+pub mod Link

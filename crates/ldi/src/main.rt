@@ -1,6 +1,8 @@
 //! `ldi`: a static linker that links again after every edit.
 #![tactic(auto)]
 
+mod linker;
+mod place;
 mod script;
 
 fn main() {}

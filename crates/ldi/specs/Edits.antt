@@ -1,0 +1,65 @@
+-- What an edit makes of a project, or why it is refused.
+use Rattle.std.specs.Prelude.{◌≡◌, ◌⊎◌, ℕ, ◌^◌, List, length, insert, Option, Some, None, Result, Ok, Err, Bool, not, ◌||◌, ◌&&◌, nat_lt, nat_le, if◌then◌else◌, bytes_eq}
+use Rattle.std.specs.List.{list_any, list_all}
+use Rattle.elfobj.specs.Object.{object_of}
+use Rattle.elfobj.specs.Refusal.{object_refusal}
+use Rattle.elfobj.specs.RefusalNumber.{refusal_number}
+use Rattle.elfobj.specs.declared.refusal.ObjectRefusal.{ObjectRefusal}
+use Rattle.ldi.specs.Bytes.{is_graphic}
+use Rattle.ldi.specs.Project.{Project, NamedObject}
+use Rattle.ldi.specs.Tree.{Tree}
+use Rattle.ldi.specs.ScriptForm.{IsScript, IsScriptRefusal, script_refusal_number}
+use Rattle.ldi.specs.declared.script.refusal.ScriptRefusal.{ScriptRefusal}
+use Rattle.ldi.specs.declared.linker.edit.EditRefusal.{EditRefusal}
+use Rattle.ldi.specs.declared.linker.edit.TheConstants.{MAX_OBJECTS}
+
+-- an edit, apart from where its bytes lie
+pub data Change : Type 0 where
+  Add : (name : List ℕ) → (at : ℕ) → (bytes : List ℕ) → Change
+  SetScript : (text : List ℕ) → Change
+
+abbrev pub refusal : ℕ → ℕ → EditRefusal
+refusal n m = record { n = n; m = m }
+
+-- want of memory
+abbrev pub no_memory : EditRefusal
+no_memory = refusal 7 0
+
+abbrev pub is_in_use : Project → List ℕ → Bool
+is_in_use p name = list_any (λ (o : NamedObject). bytes_eq o.name name) p.objects
+
+-- 1 to 255 graphic bytes
+unfoldable pub is_object_name : List ℕ → Bool
+is_object_name name = nat_le 1 (length name) && nat_le (length name) 255 && list_all is_graphic name
+
+-- more bytes than an object or a script may have
+unfoldable pub is_payload_too_long : List ℕ → Bool
+is_payload_too_long bytes = nat_lt (2 ^ 26) (length bytes)
+
+-- the refusals that need no look at the object or the script: 1 name in use, 3 position past the end, 6 limit
+abbrev pub early_refusal : Project → Change → Option EditRefusal
+early_refusal p (Add name at bytes) =
+    if is_in_use p name then Some (refusal 1 0)
+    else (if nat_lt (length p.objects) at then Some (refusal 3 0)
+    else (if not (is_object_name name) || is_payload_too_long bytes || nat_le MAX_OBJECTS (length p.objects) then Some (refusal 6 0)
+    else None))
+early_refusal p (SetScript text) = if is_payload_too_long text then Some (refusal 6 0) else None
+
+-- the next project
+abbrev pub Accepts : Project → Change → Project → Type 0
+Accepts p (Add name at bytes) q =
+    (object_refusal bytes ≡ None) × (q ≡ record p { objects = insert p.objects at (record { name = name; object = object_of bytes }) })
+Accepts p (SetScript text) q = (tree : Tree) × IsScript text tree × (q ≡ record p { script = tree })
+
+-- refusals 4 (object) and 5 (script), with the reader's own number
+abbrev pub Refuses : Project → Change → EditRefusal → Type 0
+Refuses p (Add name at bytes) r = (why : ObjectRefusal) × (object_refusal bytes ≡ Some why) × (r ≡ refusal 4 (refusal_number why))
+Refuses p (SetScript text) r = (why : ScriptRefusal) × IsScriptRefusal text why × (r ≡ refusal 5 (script_refusal_number why))
+
+abbrev pub After : Project → Change → Result Project EditRefusal → Type 0
+After p c (Ok q) = (early_refusal p c ≡ None) × Accepts p c q
+After p c (Err r) = (early_refusal p c ≡ Some r) ⊎ ((early_refusal p c ≡ None) × Refuses p c r)
+
+-- the refusal is the definition's; or memory was wanting, where no early refusal applies
+abbrev pub RefusedAs : Project → Change → EditRefusal → Type 0
+RefusedAs p c r = After p c (Err r) ⊎ ((early_refusal p c ≡ None) × (r ≡ no_memory))

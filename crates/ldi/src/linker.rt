@@ -1,0 +1,4 @@
+//! Linkers: what holds a project and its link.
+
+pub mod edit;
+pub mod options;
