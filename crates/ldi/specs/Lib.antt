@@ -10,3 +10,7 @@ pub mod Placement
 pub mod Segments
 pub mod Image
 pub mod Link
+pub mod EditMeaning
+pub mod Commands
+pub mod Answers
+pub mod Stepped

@@ -4,5 +4,6 @@
 mod linker;
 mod place;
 mod script;
+mod stream;
 
 fn main() {}
