@@ -4,7 +4,7 @@ use Rattle.std.specs.List.{flat_map, list_any}
 use Rattle.std.specs.Option.{option_map_or}
 use Rattle.elfobj.specs.Sections.{LinkedSection}
 use Rattle.ldi.specs.Tree.{Tree, Statement, SetDot, Section, Output, Input, matches}
-use Rattle.ldi.specs.Project.{Project, NamedObject}
+use Rattle.ldi.specs.Project.{NamedObject}
 
 -- a linked section of an object that has a name
 pub record Member : Type 0 where
@@ -15,8 +15,8 @@ abbrev pub members_of : NamedObject → List Member
 members_of o = map (λ s. record { object = o.name; section = s }) o.object.sections
 
 -- all linked sections, in object order and then section order
-abbrev pub members : Project → List Member
-members p = flat_map members_of p.objects
+abbrev pub members : List NamedObject → List Member
+members objects = flat_map members_of objects
 
 abbrev pub inputs_of : Statement → List Input
 inputs_of (SetDot e) = []
@@ -41,8 +41,8 @@ statement_of tree m = first_match tree m.object m.section.name
 abbrev pub is_orphan : Tree → Member → Bool
 is_orphan tree m = is_none (statement_of tree m) && not (m.section.size == 0)
 
-abbrev pub orphans : Project → List Member
-orphans p = filter (is_orphan p.script) (members p)
+abbrev pub orphans : Tree → List Member → List Member
+orphans tree ms = filter (is_orphan tree) ms
 
 -- a section in the output, with the number of the statement that takes it
 pub record Piece : Type 0 where
@@ -57,19 +57,19 @@ abbrev pub piece_of : ℕ → Member → Piece
 piece_of n m = record { statement = n; object = m.object; section = m.section }
 
 -- the sections that one statement takes
-abbrev pub taken_by : Project → ℕ → List Piece
-taken_by p n = map (piece_of n) (filter (is_taken_by p.script n) (members p))
+abbrev pub taken_by : Tree → List Member → ℕ → List Piece
+taken_by tree ms n = map (piece_of n) (filter (is_taken_by tree n) ms)
 
 -- the row of an output section, statement by statement, from a statement's number on
-abbrev pub row_from : Project → ℕ → List Input → List Piece
-row_from p n [] = []
-row_from p n (i ∷ is) = taken_by p n ++ row_from p (n + 1) is
+abbrev pub row_from : Tree → List Member → ℕ → List Input → List Piece
+row_from tree ms n [] = []
+row_from tree ms n (i ∷ is) = taken_by tree ms n ++ row_from tree ms (n + 1) is
 
 -- the rows of the output sections, in script order
-abbrev pub rows_from : Project → ℕ → Tree → List (List Piece)
-rows_from p n [] = []
-rows_from p n (SetDot e ∷ xs) = rows_from p n xs
-rows_from p n (Section o ∷ xs) = row_from p n o.inputs ∷ rows_from p (n + length o.inputs) xs
+abbrev pub rows_from : Tree → List Member → ℕ → Tree → List (List Piece)
+rows_from tree ms n [] = []
+rows_from tree ms n (SetDot e ∷ xs) = rows_from tree ms n xs
+rows_from tree ms n (Section o ∷ xs) = row_from tree ms n o.inputs ∷ rows_from tree ms (n + length o.inputs) xs
 
-abbrev pub rows : Project → List (List Piece)
-rows p = rows_from p 0 p.script
+abbrev pub rows : Tree → List Member → List (List Piece)
+rows tree ms = rows_from tree ms 0 tree

@@ -1,7 +1,8 @@
 -- A link: a function of the project alone.
 use Rattle.std.specs.Prelude.{ℕ, List, [], length, Result, Ok, Err, ◌==◌, if◌then◌else◌}
 use Rattle.ldi.specs.Project.{Project}
-use Rattle.ldi.specs.Gathering.{orphans}
+use Rattle.ldi.specs.Tree.{Tree}
+use Rattle.ldi.specs.Gathering.{Member, members, orphans, rows}
 use Rattle.ldi.specs.Placement.{State, placement}
 use Rattle.ldi.specs.Segments.{segments}
 use Rattle.ldi.specs.Image.{image_of}
@@ -25,8 +26,11 @@ linked_by (Ok s) = good s
 linked_by (Err f) = faulty
 
 -- the faults are those of the first phase that has any: gathering, then layout
+unfoldable pub link_of : Tree → List Member → Link
+link_of tree ms = if length (orphans tree ms) == 0 then linked_by (placement tree (rows tree ms)) else faulty
+
 unfoldable pub link : Project → Link
-link p = if length (orphans p) == 0 then linked_by (placement p) else faulty
+link p = link_of p.script (members p.objects)
 
 abbrev pub linked_of : Link → Linked
 linked_of l = record { status = l.status; length = length l.image }

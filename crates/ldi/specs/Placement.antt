@@ -7,8 +7,7 @@ use Rattle.elfobj.specs.declared.constants.TheConstants.{SHF_WRITE, SHF_EXECINST
 use Rattle.elfobj.specs.declared.section.SectionKind.{SectionKind}
 use Rattle.elfobj.specs.declared.section.SectionKind.TheVariants.{Nobits}
 use Rattle.ldi.specs.Tree.{Tree, Statement, SetDot, Section, Number}
-use Rattle.ldi.specs.Gathering.{Piece, rows}
-use Rattle.ldi.specs.Project.{Project}
+use Rattle.ldi.specs.Gathering.{Piece}
 use Rattle.ldi.specs.declared.place.Placed.{Placed}
 use Rattle.ldi.specs.declared.place.PlaceFault.{PlaceFault}
 use Rattle.ldi.specs.declared.place.PlaceFault.TheVariants.{PastAddressSpace}
@@ -109,5 +108,5 @@ run rows s [] = Ok s
 run rows s (x ∷ xs) = and_then (stepped rows s x) (λ t. run rows t xs)
 
 -- `.` is 0 at the start
-abbrev pub placement : Project → Result State PlaceFault
-placement p = run (rows p) (record { dot = 0; sections = [] }) p.script
+abbrev pub placement : Tree → List (List Piece) → Result State PlaceFault
+placement tree rows = run rows (record { dot = 0; sections = [] }) tree
