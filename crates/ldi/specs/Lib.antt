@@ -10,6 +10,7 @@ pub mod Placement
 pub mod Segments
 pub mod Image
 pub mod Link
+pub mod OneSection
 pub mod EditMeaning
 pub mod Commands
 pub mod Answers

@@ -23,3 +23,12 @@ pub enum PlaceFault {
     /// An address, or the end of a section, is 2^64 or more.
     PastAddressSpace,
 }
+
+/// A part of the image that is loaded as one.
+#[derive(Clone, Copy, Debug, PartialEq, Eq)]
+pub struct Segment {
+    /// Where it begins in the file.
+    pub offset: u64,
+    /// The output section that it holds.
+    pub placed: Placed,
+}

@@ -2,3 +2,4 @@
 
 pub mod refusal;
 pub mod token;
+pub mod tree;
