@@ -1,1 +1,2 @@
 pub mod OneSectionGathering
+pub mod OneSectionPlacement
