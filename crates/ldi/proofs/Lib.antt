@@ -1,2 +1,3 @@
 pub mod OneSectionGathering
 pub mod OneSectionPlacement
+pub mod OneSectionImage

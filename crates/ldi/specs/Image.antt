@@ -1,6 +1,6 @@
 -- The image, byte by byte: an executable file (gABI, "ELF Header" and "Program Header").
-use Rattle.std.specs.Prelude.{ℕ, zero, suc, ◌+◌, ◌-◌, ◌*◌, List, [], ◌∷◌, ◌++◌, length, map, find, replicate, slice_index, Option, Some, None, Bool, not, ◌&&◌, ◌==◌, nat_lt, nat_le, if◌then◌else◌}
-use Rattle.std.specs.List.{flat_map}
+use Rattle.std.specs.Prelude.{ℕ, ◌+◌, ◌-◌, ◌*◌, List, [], ◌∷◌, ◌++◌, length, map, find, replicate, slice_index, Option, Some, None, Bool, not, ◌&&◌, ◌==◌, nat_lt, nat_le, if◌then◌else◌}
+use Rattle.std.specs.List.{flat_map, range_with_len}
 use Rattle.std.specs.Int.{to_le_bytes, w16, w32, w64}
 use Rattle.ldi.specs.Placement.{Laid, PlacedPiece}
 use Rattle.ldi.specs.Segments.{Segment, sections_in, file_size, memory_size, length_of}
@@ -23,15 +23,15 @@ elf_header entry count =
 abbrev pub flags_of : Segment → ℕ
 flags_of g = 4 + (if g.first.placed.writable then 2 else 0) + (if g.first.placed.executable then 1 else 0)
 
--- 56 bytes
-unfoldable pub program_header : Segment → List ℕ
-program_header g =
-    -- p_type PT_LOAD, p_flags
-    to_le_bytes w32 1 ++ to_le_bytes w32 (flags_of g)
-    -- p_offset, p_vaddr, p_paddr
-    ++ to_le_bytes w64 g.offset ++ to_le_bytes w64 g.first.placed.start ++ to_le_bytes w64 g.first.placed.load
-    -- p_filesz, p_memsz, p_align
-    ++ to_le_bytes w64 (file_size g) ++ to_le_bytes w64 (memory_size g) ++ to_le_bytes w64 4096
+-- 56 bytes: p_type PT_LOAD, p_flags; p_offset, p_vaddr, p_paddr; p_filesz, p_memsz, p_align
+unfoldable pub load_header : ℕ → ℕ → ℕ → ℕ → ℕ → ℕ → List ℕ
+load_header flags offset vaddr paddr filesz memsz =
+    to_le_bytes w32 1 ++ to_le_bytes w32 flags
+    ++ to_le_bytes w64 offset ++ to_le_bytes w64 vaddr ++ to_le_bytes w64 paddr
+    ++ to_le_bytes w64 filesz ++ to_le_bytes w64 memsz ++ to_le_bytes w64 4096
+
+abbrev pub program_header : Segment → List ℕ
+program_header g = load_header (flags_of g) g.offset g.first.placed.start g.first.placed.load (file_size g) (memory_size g)
 
 -- the table stands in ascending p_vaddr
 abbrev pub inserted : Segment → List Segment → List Segment
@@ -84,10 +84,6 @@ byte_at entry gs o =
     if nat_lt o (length (headers entry gs)) then slice_index (headers entry gs) o
     else byte_behind gs o
 
--- a list by its bytes
-abbrev pub bytes_below : (ℕ → ℕ) → ℕ → List ℕ
-bytes_below byte zero = []
-bytes_below byte (suc n) = bytes_below byte n ++ byte n ∷ []
-
-abbrev pub image_of : ℕ → List Segment → List ℕ
-image_of entry gs = bytes_below (byte_at entry gs) (length_of gs)
+-- the bytes 0, 1, .. up to the length
+unfoldable pub image_of : ℕ → List Segment → List ℕ
+image_of entry gs = map (byte_at entry gs) (range_with_len 0 (length_of gs))

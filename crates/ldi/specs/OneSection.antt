@@ -1,12 +1,12 @@
 -- What links of this version come to: at most one object, with at most one linked section, and at most one output
 -- section. Each word here is one of the general definitions at such a project.
-use Rattle.std.specs.Prelude.{◌≡◌, ℕ, List, [], ◌∷◌, length, map, Option, Some, None, Result, Ok, Err, Bool, true, false, ◌==◌, if◌then◌else◌, option_to_list}
+use Rattle.std.specs.Prelude.{◌≡◌, ◌⊎◌, ◌≤◌, ◌<◌, ℕ, List, [], ◌∷◌, length, map, Option, Some, None, Result, Ok, Err, Bool, true, false, ◌==◌, if◌then◌else◌, option_to_list}
 use Rattle.std.specs.Option.{option_map}
 use Rattle.elfobj.specs.Sections.{LinkedSection}
 use Rattle.ldi.specs.Tree.{Tree}
 use Rattle.ldi.specs.Gathering as gathering
 use Rattle.ldi.specs.Gathering.{Piece, piece_of, orphans, rows}
-use Rattle.ldi.specs.Placement.{Laid, PlacedPiece, State}
+use Rattle.ldi.specs.Placement.{Laid, PlacedPiece, State, is_nobits}
 use Rattle.ldi.specs.Segments as segments
 use Rattle.ldi.specs.Segments.{congruent, headers_end}
 use Rattle.ldi.specs.declared.gather.Member.{Member}
@@ -57,11 +57,30 @@ abbrev pub PlacedAs : Result State PlaceFault → List Piece → Result (Option 
 PlacedAs wanted row (Ok p) = (s : State) × (wanted ≡ Ok s) × (s.sections ≡ laid p row)
 PlacedAs wanted row (Err f) = wanted ≡ Err f
 
--- the one segment
-abbrev pub segment_of : Option Segment → List Piece → List segments.Segment
-segment_of None row = []
-segment_of (Some g) row = record {
+-- the segment of an output section all of whose pieces begin where it does
+abbrev pub one_segment : Segment → List Piece → segments.Segment
+one_segment g row = record {
   offset = g.offset;
   first = record { placed = g.placed; pieces = map (λ (x : Piece). record { start = g.placed.start; piece = x }) row };
   others = [];
-} ∷ []
+}
+
+-- the one segment, if there is one
+abbrev pub segment_of : Option Segment → List Piece → List segments.Segment
+segment_of None row = []
+segment_of (Some g) row = one_segment g row ∷ []
+
+-- a member has the bytes that its size says, unless it is one without bytes in the file
+abbrev pub IsWhole : Member → Type 0
+IsWhole m = is_nobits m.section.kind ≡ false → length m.bytes.now ≡ m.section.size
+
+-- the output section has no file bytes, or just those of its one piece
+abbrev pub IsFilledBy : Placed → Option Member → Type 0
+IsFilledBy p None = p.load_size ≡ 0
+IsFilledBy p (Some m) = (p.load_size ≡ 0) ⊎ ((p.size ≡ m.section.size) × (length m.bytes.now ≡ p.size))
+
+-- a segment that isn't empty, behind the headers, and filled by the row
+pub record IsWritable (g : Segment) (row : Option Member) : Type 0 where
+  pub some : 0 < g.placed.size
+  pub behind : headers_end 1 ≤ g.offset
+  pub filled : IsFilledBy g.placed row

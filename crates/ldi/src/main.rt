@@ -1,6 +1,7 @@
 //! `ldi`: a static linker that links again after every edit.
 #![tactic(auto)]
 
+mod emit;
 mod gather;
 mod linker;
 mod place;

@@ -1,10 +1,13 @@
 //! Layout: where output sections stand.
 
-ghost use Rattle.std.specs.Prelude.{◌≡◌, ◌≤◌, ◌<◌, ◌+◌, ◌^◌, ◌⊎◌, ◌∷◌, [], max, IfSome, IfNone};
+ghost use Rattle.std.specs.Prelude.{◌≡◌, ◌≤◌, ◌<◌, ◌+◌, ◌^◌, ◌⊎◌, ◌∷◌, [], max, IfSome, IfNone, IfOk, List, Some};
+ghost use Rattle.std.specs.Option.{ForSome};
 ghost use Rattle.std.specs.Int.{next_multiple_of};
 ghost use Rattle.ldi.specs.Gathering.{piece_of};
 ghost use Rattle.ldi.specs.Placement.{placed, placement, is_nobits};
-ghost use Rattle.ldi.specs.OneSection.{member_of, row_of, rows_with, PlacedAs};
+ghost use Rattle.ldi.specs.Gathering.{Piece};
+ghost use Rattle.ldi.specs.Segments.{segments, headers_end};
+ghost use Rattle.ldi.specs.OneSection.{member_of, row_of, rows_with, PlacedAs, IsWhole, IsFilledBy, laid, segment_of};
 
 use crate::gather::Member;
 use crate::script::tree::Script;
@@ -95,7 +98,9 @@ fn span(dot: u64, m: &Member<'_>) -> Option<(u64, u64)>
 
 /// Places the script's output section with its row, if the script has one.
 pub fn place(script: &Script, row: Option<Member<'_>>) -> Result<Option<Placed>, PlaceFault>
-    ensures { PlacedAs (placement script.now (rows_with script.now (row_of row.entry))) (row_of row.entry) result }
+    requires { ForSome row IsWhole }
+    ensures placed { PlacedAs (placement script.now (rows_with script.now (row_of row.entry))) (row_of row.entry) result }
+    ensures filled { IfOk result (λ p. IfSome p (λ q. IsFilledBy q row.entry)) }
 {
     let Some(form) = script.form() else {
         return Ok(None);
@@ -107,4 +112,24 @@ pub fn place(script: &Script, row: Option<Member<'_>>) -> Result<Option<Placed>,
         None => Err(PlaceFault::PastAddressSpace),
         Some((start, end)) => Ok(Some(with_piece(start, end, &m))),
     }
+}
+
+/// The bytes of the ELF header and of one program header.
+const HEADERS_SIZE: u64 = 120;
+/// Segments are congruent to their addresses modulo this.
+const PAGE: u64 = 4096;
+
+/// The segment of an output section, if that is not empty.
+pub fn segments(placed: Option<Placed>) -> Option<Segment>
+    ensures segments { (row : List Piece) → segments (laid placed row) ≡ segment_of result row }
+    ensures placed { IfSome result (λ g. placed ≡ Some g.placed) }
+    ensures some { IfSome result (λ g. 0 < g.placed.size) }
+    ensures behind { IfSome result (λ g. headers_end 1 ≤ g.offset) }
+{
+    let p = placed?;
+    if p.size == 0 {
+        return None;
+    }
+    let offset = HEADERS_SIZE + (p.start % PAGE + (PAGE - HEADERS_SIZE % PAGE)) % PAGE;
+    Some(Segment { offset, placed: p })
 }

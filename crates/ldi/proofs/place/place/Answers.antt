@@ -4,17 +4,17 @@ use Rattle.ldi.specs.Gathering.{piece_of}
 use Rattle.ldi.proofs.OneSectionPlacement.{placed_none, placed_empty, placed_one}
 use Rattle.ldi.proofs.place.place.Goals as goal
 
-pub returns-in_default : goal.returns-in_default
-returns-in_default c = placed_none c.args.script.now (row_of c.args.row) c.in_default.ensures
+pub returns-in_default-clause-placed : goal.returns-in_default-clause-placed
+returns-in_default-clause-placed c = placed_none c.args.script.now (row_of c.args.row) c.in_default.ensures
 
-pub returns-in_default-row : goal.returns-in_default-row
-returns-in_default-row c =
+pub returns-in_default-row-clause-placed : goal.returns-in_default-row-clause-placed
+returns-in_default-row-clause-placed c =
     let f = c.in-Some.form.now in
     let below = rw c.start.ensures at c.start.type_inv in
     rw c.in_default-row.is (placed_empty c.args.script.now [] f.start f.name f.word c.in-Some.ensures c.without_pieces.result refl below (rw c.start.ensures at c.without_pieces.ensures))
 
-pub returns-in-Some-span : goal.returns-in-Some-span
-returns-in-Some-span c =
+pub returns-in-Some-span-clause-placed : goal.returns-in-Some-span-clause-placed
+returns-in-Some-span-clause-placed c =
     let f = c.in-Some.form.now in
     let p = piece_of 0 (member_of c.in-Some-row.m) in
     let found = c.in-Some-span.ensures.found in

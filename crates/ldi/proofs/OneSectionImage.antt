@@ -1,0 +1,157 @@
+-- The image of at most one segment, which holds one output section.
+use Rattle.std.proofs.Common.{◌≡◌, ◌≢◌, ℕ, suc, ◌+◌, ◌-◌, ◌*◌, ◌^◌, ◌<◌, ◌≤◌, ◌⊎◌, inl, inr, List, [], ◌∷◌, ◌++◌, length, get_or, Bool, true, false, cond, Some, None, refl, sym, ap, subst, ◌∙◌, arith, nat_eq, nat_lt, nat_le, find, append_assoc, append-nil, length-append, take}
+use Rattle.std.proofs.lemmas.Bool.{lt-ltb, le-leb, ne_eqb}
+use Rattle.std.proofs.lemmas.Bool.Decides.{leb_tells}
+use Rattle.std.proofs.lemmas.List.{get_or-replicate, length-replicate, take_all, get_or-append_right, get_or_append_left}
+use Rattle.std.proofs.lemmas.List.FromFn.{fill_by_all}
+use Rattle.std.proofs.Math.Nat.{sub-zero, sub_self}
+use Rattle.std.specs.Prelude.{replicate}
+use Rattle.ldi.specs.Gathering.{Piece}
+use Rattle.ldi.specs.Segments as segments
+use Rattle.ldi.specs.Segments.{length_of, file_size, memory_size, headers_end}
+use Rattle.ldi.specs.Image.{elf_header, load_header, headers, program_header, byte_at, byte_behind, image_of, covers}
+use Rattle.ldi.specs.OneSection.{one_segment, segment_of}
+use Rattle.ldi.specs.declared.place.Segment.{Segment}
+
+pub length-elf_header : (entry count : ℕ) → length (elf_header entry count) ≡ 64
+unfolding elf_header
+length-elf_header entry count = refl
+
+pub length-load_header : (a b c d e f : ℕ) → length (load_header a b c d e f) ≡ 56
+unfolding load_header
+length-load_header a b c d e f = refl
+
+-- an image by its bytes
+image_is : (entry : ℕ) (gs : List segments.Segment) (xs : List ℕ) → length xs ≡ length_of gs → ((o : ℕ) → o < length_of gs → get_or xs o 0 ≡ byte_at entry gs o) → xs ≡ image_of entry gs
+unfolding image_of
+image_is entry gs xs long each = fill_by_all (byte_at entry gs) xs (length_of gs) 0 long each
+
+-- no segment: the ELF header alone
+pub image_of_none : (entry : ℕ) → headers entry [] ≡ image_of entry []
+image_of_none entry =
+    let long : length (headers entry []) ≡ 64 = rw append-nil (length-elf_header entry 0) in
+    image_is entry [] (headers entry []) long (λ o h.
+    let here : nat_lt o (length (headers entry [])) ≡ true = rw long (lt-ltb o 64 h) in
+    rw here refl)
+
+not_below : (o n : ℕ) → n ≤ o → nat_lt o n ≡ false
+not_below o n h = elim (leb_tells (suc o) n) [ inl t ↦ absurd (omega (arith, t.1)) | inr f ↦ f.0 ]
+
+not_at_least : (o n : ℕ) → o < n → nat_le n o ≡ false
+not_at_least o n h = elim (leb_tells n o) [ inl t ↦ absurd (omega (arith, t.1)) | inr f ↦ f.0 ]
+
+module _ (g : Segment) (row : List Piece) where
+  pub memory_size_one : memory_size (one_segment g row) ≡ g.placed.size
+  memory_size_one = omega arith
+
+  pub headers_one : (entry : ℕ) → headers entry (segment_of (Some g) row) ≡ elf_header entry 1 ++ program_header (one_segment g row)
+  headers_one entry = simp append-nil
+
+  length-headers : (entry : ℕ) → length (headers entry (segment_of (Some g) row)) ≡ 120
+  length-headers entry = rw headers_one (rw length-append (rw (length-elf_header, length-load_header) refl))
+
+  header_byte : (entry o : ℕ) → o < 120 → byte_at entry (segment_of (Some g) row) o ≡ get_or (headers entry (segment_of (Some g) row)) o 0
+  header_byte entry o h =
+      let here : nat_lt o (length (headers entry (segment_of (Some g) row))) ≡ true = rw (length-headers entry) (lt-ltb o 120 h) in
+      rw here refl
+
+  behind_byte : (entry o : ℕ) → 120 ≤ o → byte_at entry (segment_of (Some g) row) o ≡ byte_behind (segment_of (Some g) row) o
+  behind_byte entry o h =
+      let there : nat_lt o (length (headers entry (segment_of (Some g) row))) ≡ false = rw (length-headers entry) (not_below o 120 h) in
+      rw there refl
+
+  -- no byte in the file
+  pub image_of_nobits : (entry : ℕ) → g.placed.load_size ≡ 0 → headers entry (segment_of (Some g) row) ≡ image_of entry (segment_of (Some g) row)
+  image_of_nobits entry none =
+      let long : length_of (segment_of (Some g) row) ≡ 120 = rw none refl in
+      image_is entry (segment_of (Some g) row) (headers entry (segment_of (Some g) row)) (length-headers entry ∙ sym long)
+      (λ o h. sym (header_byte entry o (rw long at h)))
+
+-- the bytes of one piece behind the headers
+pub record IsFilled (g : Segment) (p : Piece) : Type 0 where
+  pub loaded : g.placed.load_size ≢ 0
+  pub some : 0 < g.placed.size
+  pub behind : 120 ≤ g.offset
+  pub size : g.placed.size ≡ p.section.size
+  pub bytes : length p.section.bytes ≡ g.placed.size
+
+module _ (g : Segment) (p : Piece) (filled : IsFilled g p) where
+  file_size_one : file_size (one_segment g (p ∷ [])) ≡ g.placed.size
+  file_size_one = rw (ne_eqb g.placed.load_size 0 filled.loaded) (omega arith)
+
+  length_of_one : length_of (segment_of (Some g) (p ∷ [])) ≡ g.offset + g.placed.size
+  length_of_one =
+      let some : nat_eq (file_size (one_segment g (p ∷ []))) 0 ≡ false = rw file_size_one (ne_eqb g.placed.size 0 (λ e. absurd (omega (arith, e, filled.some)))) in
+      rw some (ap (λ n. g.offset + n) file_size_one)
+
+  begins_at : g.offset + (g.placed.start - g.placed.start) ≡ g.offset
+  begins_at = omega arith
+
+  gap_byte : (o : ℕ) → o < g.offset → byte_behind (segment_of (Some g) (p ∷ [])) o ≡ 0
+  gap_byte o h = rw (begins_at, ne_eqb g.placed.load_size 0 filled.loaded, not_at_least o g.offset h) refl
+
+  piece_byte : (i : ℕ) → i < g.placed.size → byte_behind (segment_of (Some g) (p ∷ [])) (g.offset + i) ≡ get_or p.section.bytes i 0
+  piece_byte i h =
+      let at : g.offset + i - g.offset ≡ i = omega arith in
+      let back : g.placed.start + i - g.placed.start ≡ i = omega arith in
+      rw (begins_at, ne_eqb g.placed.load_size 0 filled.loaded, le-leb g.offset (g.offset + i) (omega arith), lt-ltb (g.offset + i) (g.offset + g.placed.size) (omega arith), at,
+          le-leb g.placed.start (g.placed.start + i) (omega arith), lt-ltb (g.placed.start + i) (g.placed.start + p.section.size) (omega (arith, filled.size)), back) refl
+
+  -- the headers, zeros up to the segment's offset, and the bytes
+  laid_out : ℕ → List ℕ
+  laid_out entry = (headers entry (segment_of (Some g) (p ∷ [])) ++ replicate (g.offset - 120) 0) ++ p.section.bytes
+
+  front_length : (entry : ℕ) → length (headers entry (segment_of (Some g) (p ∷ [])) ++ replicate (g.offset - 120) 0) ≡ g.offset
+  front_length entry =
+      length-append (headers entry (segment_of (Some g) (p ∷ []))) (replicate (g.offset - 120) 0)
+      ∙ rw (length-headers g (p ∷ []) entry, length-replicate) (omega (arith, filled.behind))
+
+  length-laid_out : (entry : ℕ) → length (laid_out entry) ≡ length_of (segment_of (Some g) (p ∷ []))
+  unfolding laid_out
+  length-laid_out entry = length-append _ p.section.bytes ∙ rw (front_length entry, filled.bytes) (sym length_of_one)
+
+  in_headers : (entry o : ℕ) → o < 120 → get_or (laid_out entry) o 0 ≡ byte_at entry (segment_of (Some g) (p ∷ [])) o
+  unfolding laid_out
+  in_headers entry o h =
+      get_or_append_left _ p.section.bytes 0 o (rw (front_length entry) (omega (arith, filled.behind)))
+      ∙ get_or_append_left _ (replicate (g.offset - 120) 0) 0 o (rw (length-headers g (p ∷ []) entry) h)
+      ∙ sym (header_byte g (p ∷ []) entry o h)
+
+  in_gap : (entry o : ℕ) → 120 ≤ o → o < g.offset → get_or (laid_out entry) o 0 ≡ byte_at entry (segment_of (Some g) (p ∷ [])) o
+  unfolding laid_out
+  in_gap entry o low high =
+      get_or_append_left _ p.section.bytes 0 o (rw (front_length entry) high)
+      ∙ get_or-append_right _ (replicate (g.offset - 120) 0) 120 o 0 (length-headers g (p ∷ []) entry) low
+      ∙ get_or-replicate (g.offset - 120) (o - 120) 0 0 (omega arith)
+      ∙ sym (behind_byte g (p ∷ []) entry o low ∙ gap_byte o high)
+
+  in_piece : (entry o : ℕ) → g.offset ≤ o → o < g.offset + g.placed.size → get_or (laid_out entry) o 0 ≡ byte_at entry (segment_of (Some g) (p ∷ [])) o
+  unfolding laid_out
+  in_piece entry o low high =
+      let at : g.offset + (o - g.offset) ≡ o = omega arith in
+      let byte = piece_byte (o - g.offset) (omega arith) in
+      get_or-append_right _ p.section.bytes g.offset o 0 (front_length entry) low
+      ∙ sym (behind_byte g (p ∷ []) entry o (omega (arith, filled.behind)) ∙ (rw at at byte))
+
+  each_byte : (entry o : ℕ) → o < length_of (segment_of (Some g) (p ∷ [])) → get_or (laid_out entry) o 0 ≡ byte_at entry (segment_of (Some g) (p ∷ [])) o
+  each_byte entry o h =
+      elim (leb_tells 120 o) [
+        inl low ↦ elim (leb_tells g.offset o) [
+            inl far ↦ in_piece entry o far.1 (rw length_of_one at h)
+          | inr near ↦ in_gap entry o low.1 near.1
+          ]
+      | inr low ↦ in_headers entry o low.1
+      ]
+
+  pub image_of_bytes : (entry : ℕ) (xs : List ℕ) → xs ≡ (headers entry (segment_of (Some g) (p ∷ [])) ++ replicate (g.offset - 120) 0) ++ p.section.bytes
+    → xs ≡ image_of entry (segment_of (Some g) (p ∷ []))
+  unfolding laid_out
+  image_of_bytes entry xs e = e ∙ image_is entry (segment_of (Some g) (p ∷ [])) (laid_out entry) (length-laid_out entry) (each_byte entry)
+
+  -- the same after a resize of the headers
+  pub image_of_resized : (entry : ℕ) (items xs : List ℕ) (len : ℕ) → items ≡ headers entry (segment_of (Some g) (p ∷ [])) → len ≡ length items
+    → xs ≡ (take g.offset items ++ replicate (g.offset - len) 0) ++ p.section.bytes → xs ≡ image_of entry (segment_of (Some g) (p ∷ []))
+  image_of_resized entry items xs len is long e =
+      let known : len ≡ 120 = long ∙ ap length is ∙ length-headers g (p ∷ []) entry in
+      let short : length items ≤ g.offset = omega (arith, filled.behind, known, long) in
+      image_of_bytes entry xs (e ∙ (rw (take_all g.offset items short, known, is) refl))
