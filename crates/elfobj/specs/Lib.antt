@@ -1,5 +1,6 @@
 pub mod Numbers
 pub mod ElfHeader
+pub mod SectionTable
 pub mod SectionHeaders
 pub mod Names
 pub mod Sections

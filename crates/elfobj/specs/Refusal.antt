@@ -1,6 +1,6 @@
 -- When bytes are no object of the profile: the gABI's rules for a relocatable ELF-64 object of x86-64, and
 -- this linker's own limits. Offsets and sizes are whole numbers, so no sum wraps.
-use Rattle.std.specs.Prelude.{◌≡◌, ℕ, ◌+◌, ◌*◌, List, [], ◌∷◌, length, find, Option, Some, None, Bool, true, false, not, ◌&&◌, ◌||◌, ◌==◌, nat_lt, nat_le, is_some, bit_or}
+use Rattle.std.specs.Prelude.{◌≡◌, ℕ, ◌+◌, ◌*◌, List, [], ◌∷◌, ◌++◌, length, find, Option, Some, None, Bool, true, false, not, ◌&&◌, ◌||◌, ◌==◌, nat_lt, nat_le, is_some, bit_or}
 use Rattle.std.specs.List.{list_any}
 use Rattle.std.specs.Int.{is_power_of_two}
 use Rattle.std.specs.Option.{option_map_or}
@@ -53,9 +53,13 @@ holds bytes SectionProfile = list_any (is_outside_profile bytes) (headers bytes)
 holds bytes NoMemory = false
 holds bytes NotYet = list_any is_unread (headers bytes) || nat_lt 1 (length (sections_of bytes))
 
+-- those that the ELF header alone gives
+abbrev pub header_refusals : List ObjectRefusal
+header_refusals = Short ∷ NotElf ∷ Machine ∷ SectionTable ∷ SectionCount ∷ []
+
 -- in the order of their numbers
 abbrev pub refusals : List ObjectRefusal
-refusals = Short ∷ NotElf ∷ Machine ∷ SectionTable ∷ SectionCount ∷ SectionBounds ∷ SectionProfile ∷ NotYet ∷ []
+refusals = header_refusals ++ (SectionBounds ∷ SectionProfile ∷ NotYet ∷ [])
 
 -- the lowest whose condition holds
 unfoldable pub object_refusal : List ℕ → Option ObjectRefusal

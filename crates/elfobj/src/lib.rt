@@ -2,7 +2,9 @@
 #![tactic(auto)]
 
 pub mod constants;
+mod elf_header;
 pub mod meter;
+mod numbers;
 pub mod refusal;
 pub mod relocation;
 pub mod section;
