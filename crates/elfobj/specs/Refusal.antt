@@ -6,8 +6,8 @@ use Rattle.std.specs.Int.{is_power_of_two}
 use Rattle.std.specs.Option.{option_map_or}
 use Rattle.elfobj.specs.ElfHeader.{e_ident, e_type, e_machine, e_version, e_shoff, e_shentsize, e_shnum, e_shstrndx}
 use Rattle.elfobj.specs.SectionHeaders.{header, headers}
-use Rattle.elfobj.specs.Names.{is_name}
-use Rattle.elfobj.specs.Sections.{kind_of, is_alloc, name_of, sections_of}
+use Rattle.elfobj.specs.Names.{string_at, is_name}
+use Rattle.elfobj.specs.Sections.{kind_of, is_alloc, name_table, sections_of}
 use Rattle.elfobj.specs.declared.section_header.SectionHeader.{SectionHeader}
 use Rattle.elfobj.specs.declared.constants.TheConstants.{ELFCLASS64, ELFDATA2LSB, EV_CURRENT, ET_REL, EM_X86_64, MAX_SECTION_HEADERS, SHT_NULL, SHT_SYMTAB, SHT_STRTAB, SHT_RELA, SHT_NOBITS, SHT_REL, PROFILE_FLAGS, MAX_SECTION_SIZE}
 use Rattle.elfobj.specs.declared.refusal.ObjectRefusal.{ObjectRefusal}
@@ -25,14 +25,17 @@ is_out_of_bounds n h =
         || nat_lt MAX_SECTION_SIZE h.sh_size
         || ((not (h.sh_addralign == 0)) && (not (is_power_of_two h.sh_addralign))))
 
--- allocated, with a type that isn't linked, a flag outside the profile, or a name without an end or outside
--- the limits
-abbrev pub is_outside_profile : List ℕ → SectionHeader → Bool
-is_outside_profile bytes h =
+-- allocated, with a type that isn't linked, a flag outside the profile, or a name without an end in the table
+-- of names or outside the limits
+abbrev pub is_outside_profile_by : List ℕ → SectionHeader → Bool
+is_outside_profile_by table h =
     is_looked_at h && is_alloc h
     && ((not (is_some (kind_of h.sh_type)))
         || (not (bit_or h.sh_flags PROFILE_FLAGS == PROFILE_FLAGS))
-        || (not (option_map_or is_name (name_of bytes h) false)))
+        || (not (option_map_or is_name (string_at table h.sh_name) false)))
+
+abbrev pub is_outside_profile : List ℕ → SectionHeader → Bool
+is_outside_profile bytes h = is_outside_profile_by (name_table bytes) h
 
 -- a table that this version does not read
 abbrev pub is_unread : SectionHeader → Bool

@@ -4,6 +4,7 @@
 pub mod constants;
 mod elf_header;
 pub mod meter;
+mod names;
 mod numbers;
 pub mod refusal;
 pub mod relocation;
