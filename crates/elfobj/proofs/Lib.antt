@@ -1,2 +1,4 @@
 pub mod Headers
+pub mod Cuts
+pub mod Tests
 pub mod NameEnds

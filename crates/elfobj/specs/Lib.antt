@@ -4,8 +4,10 @@ pub mod SectionTable
 pub mod SectionHeaders
 pub mod Names
 pub mod Sections
+pub mod Places
 pub mod Object
 pub mod Refusal
+pub mod Linkable
 pub mod RefusalNumber
 pub mod Counts
 pub mod Raised

@@ -60,9 +60,13 @@ holds bytes NotYet = list_any is_unread (headers bytes) || nat_lt 1 (length (sec
 abbrev pub header_refusals : List ObjectRefusal
 header_refusals = Short ∷ NotElf ∷ Machine ∷ SectionTable ∷ SectionCount ∷ []
 
+-- those that the section headers give
+abbrev pub section_refusals : List ObjectRefusal
+section_refusals = SectionBounds ∷ SectionProfile ∷ NotYet ∷ []
+
 -- in the order of their numbers
 abbrev pub refusals : List ObjectRefusal
-refusals = header_refusals ++ (SectionBounds ∷ SectionProfile ∷ NotYet ∷ [])
+refusals = header_refusals ++ section_refusals
 
 -- the lowest whose condition holds
 unfoldable pub object_refusal : List ℕ → Option ObjectRefusal

@@ -3,11 +3,14 @@
 
 pub mod constants;
 mod elf_header;
+mod linked;
 pub mod meter;
 mod names;
 mod numbers;
+mod place;
 pub mod refusal;
 pub mod relocation;
 pub mod section;
 mod section_header;
+mod section_table;
 pub mod symbol;
