@@ -32,3 +32,9 @@ headers_length bytes = length_below bytes (e_shnum bytes)
 pub headers_at : (bytes : List ℕ) (k : ℕ) (d : SectionHeader) → k < e_shnum bytes → get_or (headers bytes) k d ≡ header bytes k
 unfolding headers
 headers_at bytes k d h = header_below bytes (e_shnum bytes) k d h
+
+pub count_of : (bytes : List ℕ) (hs : List SectionHeader) → hs ≡ headers bytes → length hs ≡ e_shnum bytes
+count_of bytes hs e = ap length e ∙ headers_length bytes
+
+pub header_of : (bytes : List ℕ) (hs : List SectionHeader) (k : ℕ) (d : SectionHeader) → hs ≡ headers bytes → k < length hs → get_or hs k d ≡ header bytes k
+header_of bytes hs k d e h = ap (λ xs. get_or xs k d) e ∙ headers_at bytes k d (omega (arith, count_of bytes hs e))

@@ -8,6 +8,7 @@ pub mod Places
 pub mod Object
 pub mod Refusal
 pub mod Linkable
+pub mod Profile
 pub mod RefusalNumber
 pub mod Counts
 pub mod Raised

@@ -7,6 +7,7 @@ mod linked;
 pub mod meter;
 mod names;
 mod numbers;
+pub mod object;
 mod place;
 pub mod refusal;
 pub mod relocation;

@@ -64,7 +64,8 @@ pub fn linked_sections(alloc: Global, bytes: &[u8], names: &SectionHeader, heade
     };
     for (number, header) in headers.iter().enumerate() {
         if let Some(kind) = header.linked_kind() {
-            let (section, place) = placed_section(bytes, names, number as u16, header, kind);
+            let (section, place) =
+                placed_section(bytes, names, number as u16, header, kind);
             linked.push(section, place)?;
         }
     }

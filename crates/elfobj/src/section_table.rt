@@ -18,6 +18,16 @@ use crate::refusal::ObjectRefusal;
 use crate::section_header::{SectionHeader, read_headers};
 use std::alloc::Global;
 
+/// The header of the table that the sections' names stand in.
+#[tactic(auto, using(crate::proofs::Headers::count_of, crate::proofs::Headers::header_of))]
+fn name_table_header(bytes: &[u8], headers: &[SectionHeader]) -> SectionHeader
+    requires table { HasSectionTable bytes.now }
+    requires headers { headers.now ≡ headers_of bytes.now }
+    ensures { result ≡ header bytes.now (e_shstrndx bytes.now) }
+{
+    headers[usize::from(name_table_number(bytes))]
+}
+
 fn is_any_out_of_bounds(headers: &[SectionHeader], len: u64) -> bool
     ensures { result ≡ list_any (is_out_of_bounds len) headers.now }
 {
@@ -56,4 +66,29 @@ fn section_refusal(bytes: &[u8], names: &SectionHeader, headers: &[SectionHeader
         return Some(ObjectRefusal::NotYet);
     }
     None
+}
+
+/// Reads the linked sections of a file, or tells why it is no object.
+pub fn read_sections(alloc: Global, bytes: &[u8]) -> Result<Linked, ObjectRefusal>
+    ensures ok { IfOk result (λ l. object_refusal bytes.now ≡ None) }
+    ensures read { IfOk result (λ l. AreRead bytes.now (sections_of bytes.now) l.sections.items l.places.items) }
+    ensures refused { IfErr result (λ e. (e ≡ NoMemory) ⊎ (object_refusal bytes.now ≡ Some e)) }
+{
+    if let Some(refusal) = header_refusal(bytes) {
+        return Err(refusal);
+    }
+    let Ok(headers) = read_headers(alloc, bytes) else {
+        return Err(ObjectRefusal::NoMemory);
+    };
+    let names = name_table_header(bytes, &headers);
+    if let Some(refusal) = section_refusal(bytes, &names, &headers) {
+        return Err(refusal);
+    }
+    let Ok(linked) = linked_sections(alloc, bytes, &names, &headers) else {
+        return Err(ObjectRefusal::NoMemory);
+    };
+    if linked.sections.len() > 1 {
+        return Err(ObjectRefusal::NotYet);
+    }
+    Ok(linked)
 }
