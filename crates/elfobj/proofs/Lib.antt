@@ -1,6 +1,6 @@
 pub mod Headers
 pub mod Cuts
-pub mod Tests
+pub mod Passing
 pub mod Steps
 pub mod Refusals
 pub mod Limits

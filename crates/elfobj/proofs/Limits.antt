@@ -21,7 +21,7 @@ use Rattle.elfobj.specs.declared.refusal.ObjectRefusal.TheVariants.{Short, NotEl
 use Rattle.elfobj.specs.declared.section.SectionKind.{SectionKind}
 use Rattle.elfobj.specs.declared.section.SectionKind.TheVariants.{Progbits, Nobits, Note, InitArray, FiniArray, PreinitArray, Unwind}
 use Rattle.elfobj.specs.declared.section_header.SectionHeader.{SectionHeader}
-use Rattle.elfobj.proofs.Tests.{none_at}
+use Rattle.elfobj.proofs.Passing.{none_at}
 use Rattle.elfobj.proofs.Steps.{linkable, linked_parts, kind_not_null}
 
 cond_none : (b : Bool) (r : ObjectRefusal) (o : Option ObjectRefusal) → cond b (Some r) o ≡ None → (b ≡ false) × (o ≡ None)

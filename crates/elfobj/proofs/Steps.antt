@@ -19,7 +19,7 @@ use Rattle.elfobj.specs.declared.section.Section.{Section}
 use Rattle.elfobj.specs.declared.section.SectionKind.{SectionKind}
 use Rattle.elfobj.specs.declared.section.SectionKind.TheVariants.{Progbits, Nobits, Note, InitArray, FiniArray, PreinitArray, Unwind}
 use Rattle.elfobj.specs.declared.section_header.SectionHeader.{SectionHeader}
-use Rattle.elfobj.proofs.Tests.{none_at}
+use Rattle.elfobj.proofs.Passing.{none_at}
 
 -- one more section and its place
 pub read_push : (file : List ℕ) (ls : List LinkedSection) (ss : List Section) (ps : List Place) (l : LinkedSection) (s : Section) (p : Place)
