@@ -1,4 +1,4 @@
-use Rattle.std.proofs.Common.{◌≡◌, ℕ, zero, suc, ◌+◌, ◌*◌, ◌<◌, ◌≤◌, List, [], ◌∷◌, ◌++◌, get_or, length, refl, ap, sym, ◌∙◌, subst, inl, inr, ⊎_elim, arith, add-one}
+use Rattle.std.proofs.Common.{◌≡◌, ℕ, zero, suc, ◌+◌, ◌*◌, ◌<◌, ◌≤◌, List, [], ◌∷◌, ◌++◌, get_or, length, refl, ap, sym, ◌∙◌, ⊎_elim, arith}
 use Rattle.std.proofs.lemmas.Bool.{cases_lt}
 use Rattle.std.proofs.lemmas.List.{length-append, get_or_append_left, get_or_push}
 use Rattle.elfobj.specs.ElfHeader.{e_shoff, e_shnum}
@@ -19,9 +19,9 @@ header_below : (bytes : List ℕ) (n k : ℕ) (d : SectionHeader) → k < n → 
 header_below bytes zero k d h = absurd (omega arith)
 header_below bytes (suc n) k d h = ⊎_elim
     (λ l. let long : k < length (headers_below bytes n) = omega (arith, length_below bytes n) in
-        get_or_append_left (headers_below bytes n) (header bytes n ∷ []) d k long ∙ header_below bytes n k d l)
+    get_or_append_left (headers_below bytes n) (header bytes n ∷ []) d k long ∙ header_below bytes n k d l)
     (λ l. let e : k ≡ n = omega arith in
-        ap (λ i. get_or (headers_below bytes n ++ header bytes n ∷ []) i d) e ∙ get_or_push (headers_below bytes n) (header bytes n) d n (length_below bytes n) ∙ ap (λ i. header bytes i) (sym e))
+    ap (λ i. get_or (headers_below bytes n ++ header bytes n ∷ []) i d) e ∙ get_or_push (headers_below bytes n) (header bytes n) d n (length_below bytes n) ∙ ap (λ i. header bytes i) (sym e))
     (cases_lt k n)
 
 pub headers_length : (bytes : List ℕ) → length (headers bytes) ≡ e_shnum bytes

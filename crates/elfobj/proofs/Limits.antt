@@ -1,6 +1,6 @@
-use Rattle.std.proofs.Common.{◌≡◌, ℕ, zero, suc, ◌+◌, ◌-◌, ◌<◌, ◌≤◌, ◌⊎◌, List, [], ◌∷◌, ◌++◌, Bool, true, false, cond, not, ◌||◌, ◌&&◌, length, min, take, drop, refl, ap, sym, ◌∙◌, subst, inl, inr, ⊎_elim, arith, Option, Some, None, nat_lt, eqb}
+use Rattle.std.proofs.Common.{◌≡◌, ℕ, zero, suc, ◌+◌, ◌-◌, ◌<◌, ◌≤◌, ◌⊎◌, List, [], Bool, true, false, cond, not, ◌||◌, ◌&&◌, length, drop, refl, ap, inl, inr, ⊎_elim, arith, Option, Some, None, nat_lt, eqb}
 use Rattle.std.specs.Prelude.{IsTrue}
-use Rattle.std.specs.List.{find, list_any, All, slice_range}
+use Rattle.std.specs.List.{All, slice_range}
 use Rattle.std.specs.Int.{is_power_of_two}
 use Rattle.std.specs.Int.Bits.{bit_or}
 use Rattle.std.specs.Option.{option_map_or, option_to_list, unwrap_or}
@@ -14,8 +14,8 @@ use Rattle.elfobj.specs.Names.{is_name}
 use Rattle.elfobj.specs.Places.{IsFileWithin}
 use Rattle.elfobj.specs.Profile.{IsSectionOfProfile, size_in_file}
 use Rattle.elfobj.specs.Refusal.{holds, is_looked_at, is_out_of_bounds, is_outside_profile, object_refusal}
-use Rattle.elfobj.specs.SectionHeaders.{header, headers}
-use Rattle.elfobj.specs.Sections.{LinkedSection, kind_of, is_alloc, linked_kind, linked_as, linked_section, sections_below, sections_of, name_of, contents}
+use Rattle.elfobj.specs.SectionHeaders.{header}
+use Rattle.elfobj.specs.Sections.{is_alloc, linked_kind, linked_as, linked_section, sections_below, sections_of, name_of, contents}
 use Rattle.elfobj.specs.declared.refusal.ObjectRefusal.{ObjectRefusal}
 use Rattle.elfobj.specs.declared.refusal.ObjectRefusal.TheVariants.{Short, NotElf, Machine, SectionTable, SectionCount, SectionBounds, SectionProfile, NotYet}
 use Rattle.elfobj.specs.declared.section.SectionKind.{SectionKind}

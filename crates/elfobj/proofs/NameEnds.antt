@@ -1,9 +1,9 @@
-use Rattle.std.proofs.Common.{◌≡◌, ℕ, zero, suc, ◌+◌, ◌-◌, ◌<◌, ◌≤◌, List, [], ◌∷◌, ◌++◌, Bool, true, false, cond, not, min, length, take, drop, get_or, refl, ap, sym, ◌∙◌, subst, inl, inr, ⊎_elim, arith, add-one, Option, Some, None, nat_lt, nat_le, ◌==◌, ◌&&◌}
-use Rattle.std.specs.List.{position, position_or_len, prefix_len, list_all}
+use Rattle.std.proofs.Common.{◌≡◌, ℕ, zero, suc, ◌+◌, ◌-◌, ◌<◌, ◌≤◌, List, [], ◌∷◌, Bool, true, false, cond, not, min, length, take, drop, refl, ap, sym, ◌∙◌, arith, Option, Some, None, nat_le, ◌==◌}
+use Rattle.std.specs.List.{position, prefix_len}
 use Rattle.std.specs.Option.{option_map_or, option_map}
-use Rattle.std.proofs.lemmas.Bool.{cases_lt, le-ltb, lt-ltb, lt-leb, and_left, and_right}
+use Rattle.std.proofs.lemmas.Bool.{lt-leb, and_left, and_right}
 use Rattle.std.proofs.lemmas.Bool.Decides.{nat_tests}
-use Rattle.std.proofs.lemmas.List.{length-take, length-drop, length-take-le, drop_all, take_min, take_rest}
+use Rattle.std.proofs.lemmas.List.{length-take, length-take-le, drop_all, take_min, take_rest}
 use Rattle.std.proofs.lemmas.List.Quantifiers.{position-Some}
 use Rattle.elfobj.specs.Names.{string_at, is_name, name_room}
 

@@ -1,13 +1,10 @@
-use Rattle.std.proofs.Common.{◌≡◌, ℕ, zero, suc, ◌+◌, ◌*◌, ◌<◌, ◌≤◌, List, [], ◌∷◌, ◌++◌, Bool, true, false, not, ◌&&◌, ◌||◌, get_or, length, refl, ap, sym, ◌∙◌, subst, inl, inr, ⊎_elim, arith, nat_lt}
+use Rattle.std.proofs.Common.{◌≡◌, ℕ, ◌+◌, ◌<◌, ◌≤◌, List, Bool, false, length, ap, ◌∙◌, arith}
 use Rattle.std.specs.List.{list_any}
-use Rattle.std.proofs.lemmas.Bool.{cases_Bool, both_ways, or_parts, ltb-false, false_from_ne_true}
-use Rattle.std.proofs.lemmas.Bool.Decides.{nat_tests}
+use Rattle.std.proofs.lemmas.Bool.{both_ways, or_parts, ltb-false, false_from_ne_true}
 use Rattle.std.proofs.lemmas.List.Folds.{list_any_at}
-use Rattle.elfobj.specs.ElfHeader.{e_shoff, e_shnum, e_shstrndx}
-use Rattle.elfobj.specs.Refusal.{holds, is_looked_at, is_out_of_bounds}
+use Rattle.elfobj.specs.ElfHeader.{e_shnum, e_shstrndx}
+use Rattle.elfobj.specs.Refusal.{is_out_of_bounds}
 use Rattle.elfobj.specs.SectionHeaders.{header, headers}
-use Rattle.elfobj.specs.SectionTable.{HasSectionTable}
-use Rattle.elfobj.specs.declared.refusal.ObjectRefusal.TheVariants.{SectionBounds, SectionProfile}
 use Rattle.elfobj.specs.declared.section_header.SectionHeader.{SectionHeader}
 use Rattle.elfobj.proofs.Headers.{headers_length, headers_at}
 

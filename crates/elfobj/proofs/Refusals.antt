@@ -1,14 +1,13 @@
-use Rattle.std.proofs.Common.{◌≡◌, ℕ, ◌+◌, ◌<◌, ◌≤◌, List, [], ◌∷◌, ◌++◌, Bool, true, false, cond, ◌||◌, length, map, refl, ap, sym, ◌∙◌, inr, arith, Option, Some, None, nat_lt}
-use Rattle.std.specs.List.{find, list_any}
-use Rattle.std.proofs.lemmas.Bool.{lt-ltb, le-ltb, or_right, or_from, or_parts, ltb-false, cond-false}
+use Rattle.std.proofs.Common.{◌≡◌, ℕ, ◌<◌, ◌≤◌, List, Bool, true, false, cond, length, map, refl, ap, ◌∙◌, arith, Option, Some, None}
+use Rattle.std.specs.List.{find}
+use Rattle.std.proofs.lemmas.Bool.{lt-ltb, le-ltb, or_right, or_from}
 use Rattle.std.proofs.lemmas.List.{length-map}
 use Rattle.std.proofs.lemmas.List.Folds.{find-append}
 use Rattle.elfobj.specs.Linkable.{PassesTests}
-use Rattle.elfobj.specs.Refusal.{holds, is_unread, header_refusals, section_refusals, refusals, object_refusal}
-use Rattle.elfobj.specs.SectionHeaders.{headers}
-use Rattle.elfobj.specs.Sections.{LinkedSection, section_of, sections_of}
+use Rattle.elfobj.specs.Refusal.{holds, header_refusals, section_refusals, object_refusal}
+use Rattle.elfobj.specs.Sections.{section_of, sections_of}
 use Rattle.elfobj.specs.declared.refusal.ObjectRefusal.{ObjectRefusal}
-use Rattle.elfobj.specs.declared.refusal.ObjectRefusal.TheVariants.{SectionBounds, SectionProfile, NotYet}
+use Rattle.elfobj.specs.declared.refusal.ObjectRefusal.TheVariants.{NotYet}
 use Rattle.elfobj.specs.declared.section.Section.{Section}
 
 -- the ELF header is refused

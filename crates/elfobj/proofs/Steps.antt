@@ -1,10 +1,7 @@
-use Rattle.std.proofs.Common.{◌≡◌, ℕ, zero, suc, ◌+◌, ◌*◌, ◌<◌, ◌≤◌, List, [], ◌∷◌, ◌++◌, Bool, true, false, not, ◌&&◌, ◌||◌, cond, get_or, length, map, refl, ap, sym, ◌∙◌, subst, inl, inr, ⊎_elim, arith, add-one, append-nil, Option, Some, None, nat_lt, eqb}
-use Rattle.std.specs.List.{list_any, All}
-use Rattle.std.specs.Option.{option_map_or, is_some}
-use Rattle.std.specs.Int.Bits.{bit_or}
-use Rattle.std.proofs.lemmas.Bool.{cases_Bool, both_ways, false_from_ne_true, or_parts, and_cases, ltb-false, not-false, eqb-true, cond_both, true≢false}
-use Rattle.std.proofs.lemmas.Bool.Decides.{nat_tests}
-use Rattle.std.proofs.lemmas.List.{map_push, map-append}
+use Rattle.std.proofs.Common.{◌≡◌, ℕ, ◌+◌, ◌<◌, ◌≤◌, List, [], ◌∷◌, ◌++◌, Bool, true, false, not, ◌&&◌, ◌||◌, cond, length, map, refl, ap, sym, ◌∙◌, subst, ⊎_elim, add-one, append-nil, Option, Some, None, nat_lt, eqb}
+use Rattle.std.specs.Option.{option_map_or}
+use Rattle.std.proofs.lemmas.Bool.{cases_Bool, false_from_ne_true, or_parts, ltb-false, not-false, eqb-true, true≢false}
+use Rattle.std.proofs.lemmas.List.{map_push}
 use Rattle.std.proofs.lemmas.List.Elements.{All-push}
 use Rattle.std.proofs.lemmas.Option.{none-some, same_Some}
 use Rattle.elfobj.specs.ElfHeader.{e_shnum}
@@ -12,8 +9,8 @@ use Rattle.elfobj.specs.Linkable.{IsLinkable, IsPlaced, PassesTests}
 use Rattle.elfobj.specs.Names.{is_name}
 use Rattle.elfobj.specs.Places.{AreRead, IsFileWithin, IsWithin, name_in, bytes_in}
 use Rattle.elfobj.specs.Refusal.{holds, is_looked_at, is_out_of_bounds, is_outside_profile}
-use Rattle.elfobj.specs.SectionHeaders.{header, headers}
-use Rattle.elfobj.specs.Sections.{LinkedSection, section_of, kind_of, is_alloc, linked_kind, linked_as, linked_section, linked_at, sections_below, name_of}
+use Rattle.elfobj.specs.SectionHeaders.{header}
+use Rattle.elfobj.specs.Sections.{LinkedSection, section_of, kind_of, is_alloc, linked_kind, linked_as, sections_below, name_of}
 use Rattle.elfobj.specs.declared.place.Place.{Place}
 use Rattle.elfobj.specs.declared.section.Section.{Section}
 use Rattle.elfobj.specs.declared.section.SectionKind.{SectionKind}

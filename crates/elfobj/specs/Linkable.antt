@@ -1,13 +1,13 @@
 -- What the tests of the section headers leave known of them.
-use Rattle.std.specs.Prelude.{◌≡◌, ℕ, ◌+◌, ◌<◌, ◌≤◌, List, [], ◌∷◌, length, Some, true, false}
+use Rattle.std.specs.Prelude.{◌≡◌, ℕ, ◌+◌, ◌≤◌, List, length, true, false}
 use Rattle.std.specs.List.{list_any}
 use Rattle.std.specs.Option.{option_map_or}
-use Rattle.elfobj.specs.ElfHeader.{e_shnum, e_shstrndx}
+use Rattle.elfobj.specs.ElfHeader.{e_shstrndx}
 use Rattle.elfobj.specs.Names.{is_name}
 use Rattle.elfobj.specs.Places.{IsFileWithin, name_in, bytes_in, IsWithin}
 use Rattle.elfobj.specs.Refusal.{holds, is_unread}
 use Rattle.elfobj.specs.SectionHeaders.{header, headers}
-use Rattle.elfobj.specs.Sections.{LinkedSection, section_of, name_of, linked_kind}
+use Rattle.elfobj.specs.Sections.{LinkedSection, section_of, name_of}
 use Rattle.elfobj.specs.declared.place.Place.{Place}
 use Rattle.elfobj.specs.declared.refusal.ObjectRefusal.TheVariants.{SectionBounds, SectionProfile}
 use Rattle.elfobj.specs.declared.section.Section.{Section}

@@ -1,7 +1,7 @@
 -- Strings of a string table (gABI, "String Table": a string runs to the next zero byte), and the
 -- limits on names of this profile.
-use Rattle.std.specs.Prelude.{ℕ, ◌+◌, List, length, take, drop, position, Option, Bool, ◌&&◌, ◌==◌, nat_le}
-use Rattle.std.specs.List.{list_all, slice_range}
+use Rattle.std.specs.Prelude.{ℕ, List, length, take, drop, position, Option, Bool, ◌&&◌, ◌==◌, nat_le}
+use Rattle.std.specs.List.{list_all}
 use Rattle.std.specs.Option.{option_map}
 
 -- the string that begins at a place, if a zero byte ends it inside the table

@@ -10,7 +10,7 @@ use Rattle.elfobj.specs.declared.constants.TheConstants.{PROFILE_FLAGS}
 use Rattle.elfobj.specs.declared.place.Place.{Place}
 use Rattle.elfobj.specs.declared.section.Section.{Section}
 use Rattle.elfobj.specs.declared.section.SectionKind.{SectionKind}
-use Rattle.elfobj.specs.declared.section.SectionKind.TheVariants.{Progbits, Nobits, Note, InitArray, FiniArray, PreinitArray, Unwind}
+use Rattle.elfobj.specs.declared.section.SectionKind.TheVariants.{Nobits}
 use Rattle.std.specs.Prelude.{None}
 
 -- how many bytes of the file a section of so many bytes has

@@ -1,6 +1,6 @@
 -- The linked sections of an object: those with SHF_ALLOC and one of the types below (gABI, "Sections";
 -- psABI, "Section types").
-use Rattle.std.specs.Prelude.{ℕ, zero, suc, ◌+◌, List, [], ◌∷◌, ◌++◌, Option, Some, None, Bool, not, ◌&&◌, ◌==◌, if◌then◌else◌, unwrap_or, bit_and, option_to_list}
+use Rattle.std.specs.Prelude.{ℕ, zero, suc, ◌+◌, List, [], ◌++◌, Option, Some, None, Bool, not, ◌==◌, if◌then◌else◌, unwrap_or, bit_and, option_to_list}
 use Rattle.std.specs.List.{slice_range}
 use Rattle.elfobj.specs.ElfHeader.{e_shnum, e_shstrndx}
 use Rattle.elfobj.specs.SectionHeaders.{header}

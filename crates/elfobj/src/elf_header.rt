@@ -59,9 +59,7 @@ fn is_other_machine(bytes: &[u8]) -> bool
 {
     let is_class = bytes[4] == ELFCLASS64 && bytes[5] == ELFDATA2LSB && bytes[6] == EV_CURRENT;
     let is_object = is_class && read_u16(bytes, 16) == ET_REL;
-    !(is_object
-        && read_u16(bytes, 18) == EM_X86_64
-        && read_u32(bytes, 20) == u32::from(EV_CURRENT))
+    !(is_object && read_u16(bytes, 18) == EM_X86_64 && read_u32(bytes, 20) == u32::from(EV_CURRENT))
 }
 
 #[tactic(auto, unfolding(crate::specs::Refusal::holds))]

@@ -15,6 +15,5 @@ pub mod section;
 mod section_header;
 mod section_table;
 pub mod symbol;
-
 #[cfg(test)]
 mod tests;

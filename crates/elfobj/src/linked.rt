@@ -24,7 +24,13 @@ pub struct Linked {
 
 /// The section of a header of this number and kind, and its place.
 #[tactic(auto, unfolding(crate::specs::Sections::name_table))]
-fn placed_section(bytes: &[u8], names: &SectionHeader, number: u16, header: &SectionHeader, kind: SectionKind) -> (Section, Place)
+fn placed_section(
+    bytes: &[u8],
+    names: &SectionHeader,
+    number: u16,
+    header: &SectionHeader,
+    kind: SectionKind,
+) -> (Section, Place)
     requires names { IsNameTable bytes.now names.now }
     requires linkable { IsLinkable bytes.now header.now kind }
     ensures { IsPlaced bytes.now (linked_as bytes.now number header.now kind) result.0 result.1 }
@@ -51,7 +57,12 @@ impl Linked {
 }
 
 /// The linked sections of a file whose section headers have passed their tests.
-pub fn linked_sections(alloc: Global, bytes: &[u8], names: &SectionHeader, headers: &[SectionHeader]) -> Result<Linked, AllocError>
+pub fn linked_sections(
+    alloc: Global,
+    bytes: &[u8],
+    names: &SectionHeader,
+    headers: &[SectionHeader],
+) -> Result<Linked, AllocError>
     requires table { HasSectionTable bytes.now }
     requires names { IsNameTable bytes.now names.now }
     requires headers { headers.now ≡ headers_of bytes.now }
@@ -64,8 +75,7 @@ pub fn linked_sections(alloc: Global, bytes: &[u8], names: &SectionHeader, heade
     };
     for (number, header) in headers.iter().enumerate() {
         if let Some(kind) = header.linked_kind() {
-            let (section, place) =
-                placed_section(bytes, names, number as u16, header, kind);
+            let (section, place) = placed_section(bytes, names, number as u16, header, kind);
             linked.push(section, place)?;
         }
     }

@@ -43,7 +43,11 @@ impl Object {
 
     /// Reads an object, and counts it whether it is one or not. Bytes that are no object are given back,
     /// with the lowest refusal whose condition holds, or with `NoMemory` where memory runs out.
-    pub fn read(alloc: Global, bytes: Vec<u8>, meter: &mut Meter) -> Result<Object, (Vec<u8>, ObjectRefusal)>
+    pub fn read(
+        alloc: Global,
+        bytes: Vec<u8>,
+        meter: &mut Meter,
+    ) -> Result<Object, (Vec<u8>, ObjectRefusal)>
         ensures ok { IfOk result (λ o. (object_refusal bytes.items ≡ None) × (o ≡ object_of bytes.items)) }
         ensures refused { IfErr result (λ e. (e.1 ≡ NoMemory) ⊎ (object_refusal bytes.items ≡ Some e.1)) }
         ensures bytes { IfErr result (λ e. e.0.items ≡ bytes.items) }

@@ -33,12 +33,20 @@ fn file_range(header: &SectionHeader, kind: SectionKind, len: usize) -> (usize, 
 {
     match kind {
         SectionKind::Nobits => (0, 0),
-        _ => (header.sh_offset as usize, (header.sh_offset + header.sh_size) as usize),
+        _ => (
+            header.sh_offset as usize,
+            (header.sh_offset + header.sh_size) as usize,
+        ),
     }
 }
 
 /// The place of a section, whose name stands in the table that `names` is the header of.
-pub fn place_of(bytes: &[u8], names: &SectionHeader, header: &SectionHeader, kind: SectionKind) -> Place
+pub fn place_of(
+    bytes: &[u8],
+    names: &SectionHeader,
+    header: &SectionHeader,
+    kind: SectionKind,
+) -> Place
     requires names { names.now.sh_offset + names.now.sh_size ≤ length bytes.now }
     requires name { option_map_or is_name (string_at (file_bytes bytes.now names.now) header.now.sh_name) false ≡ true }
     requires file { IsFileWithin (length bytes.now) header.now kind }

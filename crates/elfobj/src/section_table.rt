@@ -48,7 +48,11 @@ fn is_any_unread(headers: &[SectionHeader]) -> bool
 
 /// The lowest refusal that the section headers give, but for the number of linked sections.
 #[tactic(auto, using(crate::proofs::Passing::names_within), unfolding(crate::specs::Refusal::holds, crate::specs::Sections::name_table))]
-fn section_refusal(bytes: &[u8], names: &SectionHeader, headers: &[SectionHeader]) -> Option<ObjectRefusal>
+fn section_refusal(
+    bytes: &[u8],
+    names: &SectionHeader,
+    headers: &[SectionHeader],
+) -> Option<ObjectRefusal>
     requires table { HasSectionTable bytes.now }
     requires names { names.now ≡ header bytes.now (e_shstrndx bytes.now) }
     requires headers { headers.now ≡ headers_of bytes.now }

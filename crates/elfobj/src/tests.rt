@@ -83,7 +83,10 @@ fn reads_a_good_object(rt: HostRuntime) -> Result<(), Fail> {
     assert_eq!(rt; object.sections(), [section].as_slice());
     assert_eq!(rt; object.sections().len(), 1);
     assert_eq!(rt; object.section_name(0), b".text".as_slice());
-    assert_eq!(rt; object.section_bytes(0), [0x90, 0x90, 0x90, 0xc3].as_slice());
+    assert_eq!(rt;
+        object.section_bytes(0),
+        [0x90, 0x90, 0x90, 0xc3].as_slice()
+    );
     assert_eq!(rt; object.text(), good_object(rt.alloc())?.as_slice());
     Ok(())
 }
@@ -164,7 +167,10 @@ fn refuses_a_second_linked_section(rt: HostRuntime) -> Result<(), Fail> {
 
 #[test]
 fn bounds_the_length_of_a_name(rt: HostRuntime) -> Result<(), Fail> {
-    for (length, want) in [(65535u64, None), (65536, Some(ObjectRefusal::SectionProfile))] {
+    for (length, want) in [
+        (65535u64, None),
+        (65536, Some(ObjectRefusal::SectionProfile)),
+    ] {
         let mut bytes = good_object(rt.alloc())?;
         bytes.truncate(216);
         push_header(&mut bytes, [0, 3], [0, 280, length + 1, 1])?;

@@ -1,8 +1,8 @@
-use Rattle.std.proofs.Common.{◌≡◌, ◌<◌, ◌≤◌, ℕ, ap, sym, ◌∙◌, subst, arith, rules, length, get_or}
+use Rattle.std.proofs.Common.{◌≡◌, ◌<◌, sym, ◌∙◌, subst, arith, rules, get_or}
 use Rattle.elfobj.specs.ElfHeader.{e_shnum}
 use Rattle.elfobj.specs.Places.{AreRead}
 use Rattle.elfobj.specs.Sections.{sections_of, sections_below}
-use Rattle.elfobj.specs.SectionHeaders.{header, null_header}
+use Rattle.elfobj.specs.SectionHeaders.{null_header}
 use Rattle.elfobj.proofs.Headers.{header_of, count_of}
 use Rattle.elfobj.proofs.Steps.{linkable, read_more, read_same}
 use Rattle.elfobj.proofs.linked.linked_sections.Goals as goal
@@ -26,11 +26,11 @@ pub loop-number-preserved : goal.loop-number-preserved
 loop-number-preserved c =
     let h = header_of c.args.bytes.now c.args.headers.now c.loop-number.number null_header c.requires.headers c.loop-number-test.true in
     elim c.match-linked_kind.branch [
-    in-Some+in_ok-push w ↦ rw w.linked-is (read_more c.args.bytes.now c.loop-number.number (get_or c.args.headers.now c.loop-number.number null_header) w.in-Some.kind
-        c.loop-number.linked.sections.items _ c.loop-number.linked.places.items _ w.placed_section.result.0 w.placed_section.result.1
-        h (sym c.linked_kind.ensures ∙ w.in-Some.is) c.loop-number.invariant w.placed_section.ensures w.in_ok-push.ensures.sections w.in_ok-push.ensures.places)
-    | in_default w ↦ rw w.linked-is (read_same c.args.bytes.now c.loop-number.number (get_or c.args.headers.now c.loop-number.number null_header) _ _
-        h (sym c.linked_kind.ensures ∙ w.in_default.is) c.loop-number.invariant)
+      | in-Some+in_ok-push w ↦ rw w.linked-is (read_more c.args.bytes.now c.loop-number.number (get_or c.args.headers.now c.loop-number.number null_header) w.in-Some.kind
+          c.loop-number.linked.sections.items _ c.loop-number.linked.places.items _ w.placed_section.result.0 w.placed_section.result.1
+          h (sym c.linked_kind.ensures ∙ w.in-Some.is) c.loop-number.invariant w.placed_section.ensures w.in_ok-push.ensures.sections w.in_ok-push.ensures.places)
+      | in_default w ↦ rw w.linked-is (read_same c.args.bytes.now c.loop-number.number (get_or c.args.headers.now c.loop-number.number null_header) _ _
+          h (sym c.linked_kind.ensures ∙ w.in_default.is) c.loop-number.invariant)
     ]
 
 pub returns : goal.returns

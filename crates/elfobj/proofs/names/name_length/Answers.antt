@@ -1,4 +1,4 @@
-use Rattle.std.proofs.Common.{◌≡◌, ◌<◌, ◌-◌, List, ℕ, Option, Some, None, false, refl, sym, ap, ◌∙◌, arith, length, drop, take}
+use Rattle.std.proofs.Common.{◌≡◌, ◌-◌, List, ℕ, Some, refl, sym, ap, ◌∙◌, arith, length, drop, take}
 use Rattle.std.specs.Prelude.{◌==◌, position}
 use Rattle.std.proofs.lemmas.List.{take_rest, length-drop, length-take-le}
 use Rattle.elfobj.specs.Names.{is_name, name_room}

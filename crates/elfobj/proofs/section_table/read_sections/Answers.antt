@@ -1,4 +1,4 @@
-use Rattle.std.proofs.Common.{◌≡◌, ◌∙◌, ap, sym, inr, refl, arith, length, get_or}
+use Rattle.std.proofs.Common.{◌∙◌, sym, inr, arith}
 use Rattle.elfobj.proofs.Refusals.{refused_by_header, refused_by_sections, refused_by_count, accepted}
 use Rattle.elfobj.proofs.section_table.read_sections.Goals as goal
 
@@ -12,7 +12,7 @@ returns-in-Some-section_refusal-clause-refused c =
 pub returns-then-len-gt1-clause-refused : goal.returns-then-len-gt1-clause-refused
 returns-then-len-gt1-clause-refused c =
     inr (refused_by_count c.args.bytes.now c.in-Ok-linked_sections.linked.sections.items c.in_default-section_refusal.ensures.passed (sym c.header_refusal.ensures.value ∙ c.in_default.is)
-        c.in-Ok-linked_sections.ensures.sections (omega arith))
+    c.in-Ok-linked_sections.ensures.sections (omega arith))
 
 pub returns-clause-ok : goal.returns-clause-ok
 returns-clause-ok c =

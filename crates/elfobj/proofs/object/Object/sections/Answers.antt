@@ -1,4 +1,4 @@
-use Rattle.std.proofs.Common.{ap, sym, ◌≤◌, length, subst, List}
+use Rattle.std.proofs.Common.{◌≤◌, length, subst}
 use Rattle.std.specs.List.{All}
 use Rattle.elfobj.specs.Profile.{IsSectionOfProfile}
 use Rattle.elfobj.specs.Object.{ObjectData}
