@@ -73,7 +73,7 @@ impl Object {
         ensures accepted { object_refusal self.now.text ≡ None }
         ensures read { self.now ≡ object_of self.now.text }
     {
-        &self.bytes
+        self.bytes.as_slice()
     }
 
     /// Its linked sections, in the order of their headers: at most one in this version.
