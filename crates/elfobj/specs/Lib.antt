@@ -1,10 +1,14 @@
 pub mod Numbers
 pub mod ElfHeader
+pub mod SectionTable
 pub mod SectionHeaders
 pub mod Names
 pub mod Sections
+pub mod Places
 pub mod Object
 pub mod Refusal
+pub mod Linkable
+pub mod Profile
 pub mod RefusalNumber
 pub mod Counts
 pub mod Raised

@@ -1,7 +1,7 @@
 -- Strings of a string table (gABI, "String Table": a string runs to the next zero byte), and the
 -- limits on names of this profile.
-use Rattle.std.specs.Prelude.{ℕ, ◌+◌, List, length, take, drop, position, Option, Bool, ◌&&◌, ◌==◌, nat_le}
-use Rattle.std.specs.List.{list_all, slice_range}
+use Rattle.std.specs.Prelude.{ℕ, List, length, take, drop, position, Option, Bool, ◌&&◌, ◌==◌, nat_le}
+use Rattle.std.specs.List.{list_all}
 use Rattle.std.specs.Option.{option_map}
 
 -- the string that begins at a place, if a zero byte ends it inside the table
@@ -15,3 +15,7 @@ is_graphic b = nat_le 33 b && nat_le b 126
 -- 1 to 65,535 graphic bytes
 unfoldable pub is_name : List ℕ → Bool
 is_name name = nat_le 1 (length name) && nat_le (length name) 65535 && list_all is_graphic name
+
+-- the bytes among which a name within the limits ends, from where it begins
+unfoldable pub name_room : List ℕ → List ℕ
+name_room bytes = take 65536 bytes

@@ -1,6 +1,6 @@
 -- The linked sections of an object: those with SHF_ALLOC and one of the types below (gABI, "Sections";
 -- psABI, "Section types").
-use Rattle.std.specs.Prelude.{ℕ, zero, suc, ◌+◌, List, [], ◌∷◌, ◌++◌, Option, Some, None, Bool, not, ◌&&◌, ◌==◌, if◌then◌else◌, unwrap_or, bit_and, option_to_list}
+use Rattle.std.specs.Prelude.{ℕ, zero, suc, ◌+◌, List, [], ◌++◌, Option, Some, None, Bool, not, ◌==◌, if◌then◌else◌, unwrap_or, bit_and, option_to_list}
 use Rattle.std.specs.List.{slice_range}
 use Rattle.elfobj.specs.ElfHeader.{e_shnum, e_shstrndx}
 use Rattle.elfobj.specs.SectionHeaders.{header}
@@ -62,10 +62,9 @@ abbrev pub contents : List ℕ → SectionHeader → SectionKind → List ℕ
 contents bytes h Nobits = []
 contents bytes h _ = file_bytes bytes h
 
--- the section of header number k, if it is a linked one
-abbrev pub linked_section : List ℕ → ℕ → SectionHeader → Option SectionKind → Option LinkedSection
-linked_section bytes k h None = None
-linked_section bytes k h (Some kind) = Some (record {
+-- the section of header number k, of a kind that is linked
+abbrev pub linked_as : List ℕ → ℕ → SectionHeader → SectionKind → LinkedSection
+linked_as bytes k h kind = record {
   number = record { 0 = k };
   name = unwrap_or (name_of bytes h) [];
   kind = kind;
@@ -74,7 +73,12 @@ linked_section bytes k h (Some kind) = Some (record {
   alignment = h.sh_addralign;
   bytes = contents bytes h kind;
   relocations = [];
-})
+}
+
+-- the section of header number k, if it is a linked one
+abbrev pub linked_section : List ℕ → ℕ → SectionHeader → Option SectionKind → Option LinkedSection
+linked_section bytes k h None = None
+linked_section bytes k h (Some kind) = Some (linked_as bytes k h kind)
 
 abbrev pub linked_at : List ℕ → ℕ → Option LinkedSection
 linked_at bytes k = linked_section bytes k (header bytes k) (linked_kind (header bytes k))

@@ -49,7 +49,7 @@ pub const SHF_MERGE: u64 = 0x10;
 /// The section holds strings that end with a zero byte.
 pub const SHF_STRINGS: u64 = 0x20;
 /// All flags that an allocated section may have: WRITE, ALLOC, EXECINSTR, MERGE and STRINGS.
-pub const PROFILE_FLAGS: u64 = 0x37;
+pub const PROFILE_FLAGS: u64 = SHF_WRITE | SHF_ALLOC | SHF_EXECINSTR | SHF_MERGE | SHF_STRINGS;
 
 /// The greatest size of a section, in bytes.
 pub const MAX_SECTION_SIZE: u64 = 0x8000_0000;

@@ -2,9 +2,18 @@
 #![tactic(auto)]
 
 pub mod constants;
+mod elf_header;
+mod linked;
 pub mod meter;
+mod names;
+mod numbers;
+pub mod object;
+mod place;
 pub mod refusal;
 pub mod relocation;
 pub mod section;
 mod section_header;
+mod section_table;
 pub mod symbol;
+#[cfg(test)]
+mod tests;

@@ -1,19 +1,23 @@
 //! Counts of work, which only rise.
 
-ghost use Rattle.std.specs.Prelude.{◌≡◌, ◌≤◌, ◌+◌};
-ghost use Rattle.elfobj.specs.Counts.{Counts, capped};
-
 use std::marker::Model;
 
+/// What a meter counts.
 #[derive(Clone, Copy, Debug, PartialEq, Eq)]
 pub enum Count {
+    /// Objects that were read, accepted or refused.
     Objects,
+    /// Names that were worked on.
     Names,
+    /// Pieces that were worked on.
     Pieces,
+    /// Fields that were worked on.
     Fields,
+    /// Bytes that were worked on.
     Bytes,
 }
 
+/// Five counts, each from 0 to the greatest `u64`, where it stands still.
 #[derive(Drop)]
 pub struct Meter {
     objects: u64,
@@ -32,8 +36,10 @@ impl Model for Meter {
 }
 
 impl Meter {
+    ghost use Rattle.std.specs.Prelude.{◌≡◌};
     ghost use Rattle.elfobj.specs.Raised.{raised};
 
+    /// A meter with all counts at 0.
     pub fn new() -> Meter
         ensures { result ≡ record { objects = 0; names = 0; pieces = 0; fields = 0; bytes = 0 } }
     {
@@ -46,7 +52,7 @@ impl Meter {
         }
     }
 
-    /// Raises one count. It stands still at the greatest number.
+    /// Raises one count. A count that would pass the greatest `u64` stands still there.
     pub fn raise(&mut self, count: Count, by: u64)
         ensures { self.new ≡ raised self.old count by }
     {
@@ -59,9 +65,38 @@ impl Meter {
         }
     }
 
+    /// How many objects were read, accepted or refused.
+    pub fn objects(&self) -> u64
+        ensures { result ≡ self.now.objects }
+    {
+        self.objects
+    }
+
+    /// How many names were worked on.
     pub fn names(&self) -> u64
         ensures { result ≡ self.now.names }
     {
         self.names
+    }
+
+    /// How many pieces were worked on.
+    pub fn pieces(&self) -> u64
+        ensures { result ≡ self.now.pieces }
+    {
+        self.pieces
+    }
+
+    /// How many fields were worked on.
+    pub fn fields(&self) -> u64
+        ensures { result ≡ self.now.fields }
+    {
+        self.fields
+    }
+
+    /// How many bytes were worked on.
+    pub fn bytes(&self) -> u64
+        ensures { result ≡ self.now.bytes }
+    {
+        self.bytes
     }
 }

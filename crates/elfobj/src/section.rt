@@ -1,5 +1,10 @@
 //! Sections as callers see them.
 
+use crate::constants::{
+    SHT_FINI_ARRAY, SHT_INIT_ARRAY, SHT_NOBITS, SHT_NOTE, SHT_PREINIT_ARRAY, SHT_PROGBITS,
+    SHT_X86_64_UNWIND,
+};
+
 /// The number of a section header in its table, from 0.
 #[derive(Clone, Copy, Debug, PartialEq, Eq)]
 pub struct SectionIndex(pub u16);
@@ -21,6 +26,28 @@ pub enum SectionKind {
     PreinitArray,
     /// `SHT_X86_64_UNWIND`: unwind tables.
     Unwind,
+}
+
+impl SectionKind {
+    ghost use Rattle.std.specs.Prelude.{◌≡◌};
+    ghost use Rattle.elfobj.specs.Sections.{kind_of};
+
+    /// What a section of this `sh_type` holds, if it is a type that is linked.
+    #[tactic(auto, unfolding(crate::specs::Sections::kind_of))]
+    pub fn of_type(sh_type: u32) -> Option<SectionKind>
+        ensures { result ≡ kind_of sh_type }
+    {
+        match sh_type {
+            SHT_PROGBITS => Some(SectionKind::Progbits),
+            SHT_NOBITS => Some(SectionKind::Nobits),
+            SHT_NOTE => Some(SectionKind::Note),
+            SHT_INIT_ARRAY => Some(SectionKind::InitArray),
+            SHT_FINI_ARRAY => Some(SectionKind::FiniArray),
+            SHT_PREINIT_ARRAY => Some(SectionKind::PreinitArray),
+            SHT_X86_64_UNWIND => Some(SectionKind::Unwind),
+            _ => None,
+        }
+    }
 }
 
 /// A linked section: one with `SHF_ALLOC` and one of the types of `SectionKind`.

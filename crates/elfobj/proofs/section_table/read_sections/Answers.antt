@@ -1,0 +1,20 @@
+use Rattle.std.proofs.Common.{◌∙◌, sym, inr, arith}
+use Rattle.elfobj.proofs.Refusals.{refused_by_header, refused_by_sections, refused_by_count, accepted}
+use Rattle.elfobj.proofs.section_table.read_sections.Goals as goal
+
+pub returns-in-Some-clause-refused : goal.returns-in-Some-clause-refused
+returns-in-Some-clause-refused c = inr (refused_by_header c.args.bytes.now c.in-Some.refusal (sym c.header_refusal.ensures.value ∙ c.in-Some.is))
+
+pub returns-in-Some-section_refusal-clause-refused : goal.returns-in-Some-section_refusal-clause-refused
+returns-in-Some-section_refusal-clause-refused c =
+    inr (refused_by_sections c.args.bytes.now _ (sym c.header_refusal.ensures.value ∙ c.in_default.is) c.in-Some-section_refusal.ensures.refused)
+
+pub returns-then-len-gt1-clause-refused : goal.returns-then-len-gt1-clause-refused
+returns-then-len-gt1-clause-refused c =
+    inr (refused_by_count c.args.bytes.now c.in-Ok-linked_sections.linked.sections.items c.in_default-section_refusal.ensures.passed (sym c.header_refusal.ensures.value ∙ c.in_default.is)
+    c.in-Ok-linked_sections.ensures.sections (omega arith))
+
+pub returns-clause-ok : goal.returns-clause-ok
+returns-clause-ok c =
+    accepted c.args.bytes.now c.in-Ok-linked_sections.linked.sections.items c.in_default-section_refusal.ensures.passed (sym c.header_refusal.ensures.value ∙ c.in_default.is)
+    c.in-Ok-linked_sections.ensures.sections (omega arith)

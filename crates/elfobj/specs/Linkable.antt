@@ -1,0 +1,38 @@
+-- What the tests of the section headers leave known of them.
+use Rattle.std.specs.Prelude.{◌≡◌, ℕ, ◌+◌, ◌≤◌, List, length, true, false}
+use Rattle.std.specs.List.{list_any}
+use Rattle.std.specs.Option.{option_map_or}
+use Rattle.elfobj.specs.ElfHeader.{e_shstrndx}
+use Rattle.elfobj.specs.Names.{is_name}
+use Rattle.elfobj.specs.Places.{IsFileWithin, name_in, bytes_in, IsWithin}
+use Rattle.elfobj.specs.Refusal.{holds, is_unread}
+use Rattle.elfobj.specs.SectionHeaders.{header, headers}
+use Rattle.elfobj.specs.Sections.{LinkedSection, section_of, name_of}
+use Rattle.elfobj.specs.declared.place.Place.{Place}
+use Rattle.elfobj.specs.declared.refusal.ObjectRefusal.TheVariants.{SectionBounds, SectionProfile}
+use Rattle.elfobj.specs.declared.section.Section.{Section}
+use Rattle.elfobj.specs.declared.section.SectionKind.{SectionKind}
+use Rattle.elfobj.specs.declared.section_header.SectionHeader.{SectionHeader}
+
+-- no test of the section headers alone refuses
+pub record PassesTests (bytes : List ℕ) : Type 0 where
+  pub bounds : holds bytes SectionBounds ≡ false
+  pub profile : holds bytes SectionProfile ≡ false
+  pub read : list_any is_unread (headers bytes) ≡ false
+
+-- a header, whose section has a name within the limits and bytes inside the file
+pub record IsLinkable (bytes : List ℕ) (h : SectionHeader) (kind : SectionKind) : Type 0 where
+  pub name : option_map_or is_name (name_of bytes h) false ≡ true
+  pub file : IsFileWithin (length bytes) h kind
+
+-- the header of the table of names
+pub record IsNameTable (bytes : List ℕ) (names : SectionHeader) : Type 0 where
+  pub header : names ≡ header bytes (e_shstrndx bytes)
+  pub within : names.sh_offset + names.sh_size ≤ length bytes
+
+-- a linked section as callers see it, and the place of its name and bytes
+pub record IsPlaced (file : List ℕ) (linked : LinkedSection) (read : Section) (place : Place) : Type 0 where
+  pub section : read ≡ section_of linked
+  pub name : name_in file place ≡ linked.name
+  pub bytes : bytes_in file place ≡ linked.bytes
+  pub within : IsWithin (length file) place

@@ -1,0 +1,34 @@
+-- The places of names and bytes, told of the bytes of the file.
+use Rattle.std.specs.Prelude.{◌≡◌, ℕ, ◌+◌, ◌≤◌, List, length, map}
+use Rattle.std.specs.List.{All, slice_range}
+use Rattle.elfobj.specs.Sections.{LinkedSection, section_of}
+use Rattle.elfobj.specs.declared.place.Place.{Place}
+use Rattle.elfobj.specs.declared.section.Section.{Section}
+use Rattle.elfobj.specs.declared.section.SectionKind.{SectionKind}
+use Rattle.elfobj.specs.declared.section.SectionKind.TheVariants.{Nobits}
+use Rattle.elfobj.specs.declared.section_header.SectionHeader.{SectionHeader}
+
+abbrev pub name_in : List ℕ → Place → List ℕ
+name_in bytes p = slice_range bytes p.name_start p.name_end
+
+abbrev pub bytes_in : List ℕ → Place → List ℕ
+bytes_in bytes p = slice_range bytes p.start p.end
+
+-- a place inside n bytes
+pub record IsWithin (n : ℕ) (p : Place) : Type 0 where
+  pub name_order : p.name_start ≤ p.name_end
+  pub name_end : p.name_end ≤ n
+  pub order : p.start ≤ p.end
+  pub end : p.end ≤ n
+
+-- what a header of this kind names lies inside n bytes
+abbrev pub IsFileWithin : ℕ → SectionHeader → SectionKind → Type 0
+IsFileWithin n h Nobits = Unit {0}
+IsFileWithin n h _ = h.sh_offset + h.sh_size ≤ n
+
+-- the sections as callers see them, and the places of their names and bytes
+pub record AreRead (file : List ℕ) (linked : List LinkedSection) (read : List Section) (places : List Place) : Type 0 where
+  pub sections : read ≡ map section_of linked
+  pub names : map (name_in file) places ≡ map (λ s. s.name) linked
+  pub bytes : map (bytes_in file) places ≡ map (λ s. s.bytes) linked
+  pub within : All (IsWithin (length file)) places

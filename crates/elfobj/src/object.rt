@@ -1,0 +1,106 @@
+//! An object: its bytes, and what was read of them.
+
+ghost use Rattle.std.specs.Prelude.{◌≡◌, ◌≤◌, ◌<◌, ◌⊎◌, IfErr, IfOk, None, Some, length, map};
+ghost use Rattle.std.specs.List.{All, slice_get};
+ghost use Rattle.elfobj.specs.Raised.{raised};
+ghost use Rattle.elfobj.specs.declared.meter.Count.TheVariants.{Objects};
+ghost use Rattle.elfobj.specs.declared.refusal.ObjectRefusal.TheVariants.{NoMemory};
+
+use crate::linked::Linked;
+use crate::meter::{Count, Meter};
+use crate::place::Place;
+use crate::refusal::ObjectRefusal;
+use crate::section::Section;
+use crate::section_table::read_sections;
+use std::alloc::Global;
+use std::marker::Model;
+
+/// A relocatable ELF-64 object for x86-64, which only `Object::read` makes. It owns the bytes that it was
+/// read from, and lends names and contents of sections as slices of them.
+#[derive(Drop)]
+pub struct Object {
+    bytes: Vec<u8>,
+    sections: Vec<Section>,
+    places: Vec<Place>,
+}
+
+impl Model for Object {
+    ghost use Rattle.elfobj.specs.Object.{ObjectData, object_of};
+    ghost use Rattle.elfobj.specs.Profile.{IsObject};
+
+    ghost Value = { ObjectData };
+
+    ghost view = { λ a. object_of a.bytes.items };
+
+    ghost invariant = { λ a. IsObject a.bytes.items a.sections.items a.places.items };
+}
+
+impl Object {
+    ghost use Rattle.elfobj.specs.Object.{object_of};
+    ghost use Rattle.elfobj.specs.Profile.{IsSectionOfProfile};
+    ghost use Rattle.elfobj.specs.Refusal.{object_refusal};
+    ghost use Rattle.elfobj.specs.Sections.{section_of};
+
+    /// Reads an object, and counts it whether it is one or not. Bytes that are no object are given back,
+    /// with the lowest refusal whose condition holds, or with `NoMemory` where memory runs out.
+    pub fn read(
+        alloc: Global,
+        bytes: Vec<u8>,
+        meter: &mut Meter,
+    ) -> Result<Object, (Vec<u8>, ObjectRefusal)>
+        ensures ok { IfOk result (λ o. (object_refusal bytes.items ≡ None) × (o ≡ object_of bytes.items)) }
+        ensures refused { IfErr result (λ e. (e.1 ≡ NoMemory) ⊎ (object_refusal bytes.items ≡ Some e.1)) }
+        ensures bytes { IfErr result (λ e. e.0.items ≡ bytes.items) }
+        ensures counted { meter.new ≡ raised meter.old Objects 1 }
+    {
+        meter.raise(Count::Objects, 1);
+        match read_sections(alloc, &bytes) {
+            Ok(linked) => {
+                let Linked { sections, places } = linked;
+                Ok(Object {
+                    bytes,
+                    sections,
+                    places,
+                })
+            }
+            Err(refusal) => Err((bytes, refusal)),
+        }
+    }
+
+    /// The bytes that it was read from.
+    pub fn text(&self) -> &[u8]
+        ensures value { result.now ≡ self.now.text }
+        ensures accepted { object_refusal self.now.text ≡ None }
+        ensures read { self.now ≡ object_of self.now.text }
+    {
+        self.bytes.as_slice()
+    }
+
+    /// Its linked sections, in the order of their headers: at most one in this version.
+    pub fn sections(&self) -> &[Section]
+        ensures value { result.now ≡ map section_of self.now.sections }
+        ensures limits { All IsSectionOfProfile self.now.sections }
+        ensures one { length self.now.sections ≤ 1 }
+    {
+        &self.sections
+    }
+
+    /// The name of the section at this place of `sections`, 1 to 65,535 bytes from `!` to `~`.
+    pub fn section_name(&self, i: usize) -> &[u8]
+        requires { i < length self.now.sections }
+        ensures { slice_get (map (λ s. s.name) self.now.sections) i ≡ Some result.now }
+    {
+        let place = self.places[i];
+        &self.bytes[place.name_start..place.name_end]
+    }
+
+    /// The bytes of the section at this place of `sections`: as many as its size, but none for one that has
+    /// no bytes in the file.
+    pub fn section_bytes(&self, i: usize) -> &[u8]
+        requires { i < length self.now.sections }
+        ensures { slice_get (map (λ s. s.bytes) self.now.sections) i ≡ Some result.now }
+    {
+        let place = self.places[i];
+        &self.bytes[place.start..place.end]
+    }
+}
