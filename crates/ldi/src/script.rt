@@ -1,4 +1,5 @@
 //! The script reader.
 
+pub mod bytes;
 pub mod refusal;
 pub mod token;
