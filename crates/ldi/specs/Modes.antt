@@ -1,5 +1,5 @@
 -- In which mode each token of a script is read, and the cut of a whole text.
-use Rattle.std.specs.Prelude.{◌≡◌, ℕ, ◌+◌, ◌-◌, List, [], ◌∷◌, drop, Bool, ◌==◌, if◌then◌else◌, codes, bytes_eq}
+use Rattle.std.specs.Prelude.{◌≡◌, ℕ, ◌+◌, ◌-◌, ◌≤◌, List, [], ◌∷◌, drop, Bool, ◌==◌, if◌then◌else◌, codes, bytes_eq}
 use Rattle.std.specs.List.{list_any}
 use Rattle.ldi.specs.Tokens.{Token, Name, Number, Text, Discard, Word, Punctuation, Front, End, Blank, Begins, Nothing, front}
 use Rattle.ldi.specs.declared.script.token.Mode.{Mode}
@@ -62,6 +62,17 @@ state_after p t = record { depth = depth_after p.depth t; stretch = stretch_afte
 
 abbrev pub at_start : LexState
 at_start = record { depth = 0; stretch = Closed }
+
+-- so many parentheses at most are open in a stretch
+abbrev pub IsShortStretch : ℕ → Stretch → Type 0
+IsShortStretch n Closed = Unit {0}
+IsShortStretch n Awaited = Unit {0}
+IsShortStretch n ToSemicolon = Unit {0}
+IsShortStretch n (ToParenthesis k) = k ≤ n
+
+-- so many braces at most are open, and parentheses in a stretch
+abbrev pub IsShallow : ℕ → LexState → Type 0
+IsShallow n p = (p.depth ≤ n) × IsShortStretch n p.stretch
 
 -- these are the tokens of a text from a place on
 pub data IsCut : LexState → List ℕ → List Token → Type 0 where

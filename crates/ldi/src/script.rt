@@ -2,5 +2,7 @@
 
 pub mod bytes;
 pub mod front;
+pub mod modes;
+pub mod number;
 pub mod refusal;
 pub mod token;

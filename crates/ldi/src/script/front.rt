@@ -80,7 +80,7 @@ fn name_front(text: &[u8]) -> Ahead
 }
 
 /// Whether `0x` or `0X` and a hex digit stand at the front.
-fn is_hex(text: &[u8]) -> bool
+pub fn is_hex(text: &[u8]) -> bool
     ensures value { result ≡ is_hex text.now }
     ensures within { result ≡ true → 2 < length text.now }
 {
@@ -92,6 +92,7 @@ fn is_hex(text: &[u8]) -> bool
 pub fn digits_length(text: &[u8]) -> usize
     ensures value { result ≡ digits_length text.now }
     ensures within { result ≤ length text.now }
+    ensures hex { is_hex text.now ≡ true → 2 ≤ result }
 {
     if is_hex(text) {
         2 + hex_run(&text[2..])
