@@ -1,1 +1,2 @@
+pub mod ScriptCut
 pub mod ScriptNumber

@@ -2,6 +2,7 @@
 
 pub mod bytes;
 pub mod front;
+pub mod lexer;
 pub mod modes;
 pub mod number;
 pub mod refusal;
