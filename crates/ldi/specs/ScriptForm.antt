@@ -1,5 +1,5 @@
 -- The scripts that this version reads, and the refusals of all others.
-use Rattle.std.specs.Prelude.{◌≡◌, ℕ, ◌+◌, ◌-◌, ◌*◌, ◌^◌, ◌<◌, ◌≤◌, List, [], ◌∷◌, length, take, drop, slice_index, fold, Bool, true, false, not, ◌&&◌, ◌||◌, ◌==◌, nat_le, if◌then◌else◌, codes, bytes_eq}
+use Rattle.std.specs.Prelude.{◌≡◌, ℕ, ◌+◌, ◌-◌, ◌*◌, ◌^◌, ◌<◌, ◌≤◌, List, [], ◌∷◌, length, take, drop, slice_index, fold, Bool, true, false, not, ◌&&◌, ◌||◌, ◌==◌, nat_le, if◌then◌else◌, codes, bytes_eq, Option, Some, None}
 use Rattle.std.specs.List.{list_any}
 use Rattle.ldi.specs.Bytes.{is_decimal_digit}
 use Rattle.ldi.specs.Tokens.{Token, Name, Number, Word, Punctuation, is_hex, digits_length}
@@ -68,6 +68,16 @@ form_tree start name word =
     SetDot (tree.Number start)
     ∷ Section (record { name = name; inputs = record { file = Any; sections = Exact word ∷ [] } ∷ [] })
     ∷ []
+
+-- what callers see of a form
+pub record FormData : Type 0 where
+  pub start : ℕ
+  pub name : List ℕ
+  pub word : List ℕ
+
+abbrev pub tree_of : Option FormData → Tree
+tree_of None = []
+tree_of (Some f) = form_tree f.start f.name f.word
 
 -- these tokens are of the form, and this is their tree
 pub data IsForm : List Token → Tree → Type 0 where

@@ -1,9 +1,12 @@
 //! The script reader.
 
 pub mod bytes;
+pub mod cursor;
+pub mod form;
 pub mod front;
 pub mod lexer;
 pub mod modes;
 pub mod number;
 pub mod refusal;
 pub mod token;
+pub mod words;
