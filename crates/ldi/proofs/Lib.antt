@@ -1,2 +1,3 @@
 pub mod ScriptCut
 pub mod ScriptNumber
+pub mod ScriptTokens

@@ -7,6 +7,7 @@ pub mod front;
 pub mod lexer;
 pub mod modes;
 pub mod number;
+pub mod reader;
 pub mod refusal;
 pub mod token;
 pub mod words;

@@ -51,8 +51,8 @@ impl<'a> Cursor<'a> {
     }
 
     /// Whether no token is left.
-    pub fn is_at_end(self) -> bool
-        ensures { IsTrue result ↔ self.entry ≡ [] }
+    pub fn is_empty(&self) -> bool
+        ensures { IsTrue result ↔ self.now ≡ [] }
     {
         self.rest.is_empty()
     }
