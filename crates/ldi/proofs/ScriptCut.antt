@@ -52,16 +52,16 @@ cut_to_nothing c h ts all = cut_nothing h (c.only ts all).2
 pub cut_to_blank : {text : List ℕ} {done : List Token} {p : LexState} {rest : List ℕ} {n : ℕ} → IsCutTo text done p rest → front (mode_of p) rest ≡ Blank n
     → IsCutTo text done p (drop n rest)
 cut_to_blank c h = record {
-    on = λ ts r. c.on ts (blank h r);
-    only = λ all r. let o = c.only all r in (o.0, o.1, cut_blank h o.2)
-  }
+  on = λ ts r. c.on ts (blank h r);
+  only = λ all r. let o = c.only all r in (o.0, o.1, cut_blank h o.2);
+}
 
 pub cut_to_token : {text : List ℕ} {done : List Token} {p : LexState} {rest : List ℕ} {t : Token} {n : ℕ} → IsCutTo text done p rest → front (mode_of p) rest ≡ Begins t n
     → IsCutTo text (done ++ t ∷ []) (state_after p t) (drop n rest)
 cut_to_token {text} {done} {p} {rest} {t} {n} c h = record {
-    on = λ ts r. subst (λ all. IsCut at_start text all) (sym (append_assoc done (t ∷ []) ts)) (c.on (t ∷ ts) (token h r));
-    only = λ all r. let o = c.only all r in let k = cut_token h o.2 in (k.0, o.1 ∙ ap (λ v. done ++ v) k.1 ∙ sym (append_assoc done (t ∷ []) k.0), k.2)
-  }
+  on = λ ts r. subst (λ all. IsCut at_start text all) (sym (append_assoc done (t ∷ []) ts)) (c.on (t ∷ ts) (token h r));
+  only = λ all r. let o = c.only all r in let k = cut_token h o.2 in (k.0, o.1 ∙ ap (λ v. done ++ v) k.1 ∙ sym (append_assoc done (t ∷ []) k.0), k.2);
+}
 
 pub still_short : (n m : ℕ) (s : Stretch) → n ≤ m → IsShortStretch n s → IsShortStretch m s
 still_short n m Closed h r = tt

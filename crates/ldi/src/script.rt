@@ -9,5 +9,7 @@ pub mod modes;
 pub mod number;
 pub mod reader;
 pub mod refusal;
+#[cfg(test)]
+mod tests;
 pub mod token;
 pub mod words;

@@ -47,7 +47,14 @@ impl<'a> Cursor<'a> {
         ensures { MatchOption result (self.entry ≡ []) (λ x. self.entry ≡ spelled_token x.0 x.1.now ∷ x.2) }
     {
         let (first, rest) = split(self.rest)?;
-        Some((first.kind, first.bytes(self.text), Cursor { text: self.text, rest }))
+        Some((
+            first.kind,
+            first.bytes(self.text),
+            Cursor {
+                text: self.text,
+                rest,
+            },
+        ))
     }
 
     /// Whether no token is left.
@@ -62,7 +69,11 @@ impl<'a> Cursor<'a> {
         ensures { MatchOption result ((r : List Token) → self.entry ≡ Punctuation mark ∷ r → ⊥) (λ rest. self.entry ≡ Punctuation mark ∷ rest) }
     {
         let (kind, _, rest) = self.next()?;
-        if kind == TokenKind::Punctuation(mark) { Some(rest) } else { None }
+        if kind == TokenKind::Punctuation(mark) {
+            Some(rest)
+        } else {
+            None
+        }
     }
 
     /// A number as it is spelled, and what follows it, if one comes next.

@@ -4,7 +4,10 @@ ghost use Rattle.std.specs.Prelude.{◌≡◌, ◌<◌, ◌≤◌, ◌+◌, ◌^
 ghost use Rattle.ldi.specs.Bytes.{is_name_start, is_name_byte, is_octal_digit, is_decimal_digit, is_hex_digit, is_text_byte, run_length};
 ghost use Rattle.ldi.specs.Tokens.{front_of, IsAdvance, is_hex, digits_length, number_length, name_front, number_front, text_front, star_slash, comment_front, mark_of, mark_length, mark_front, expression_front, word_length, word_front, pattern_mark, pattern_front, front};
 
-use super::bytes::{byte_at, is_decimal_digit, is_hex_digit, is_name_byte, is_octal_digit, is_text_byte, is_name_start, is_word_byte, is_graphic, is_space};
+use super::bytes::{
+    byte_at, is_decimal_digit, is_graphic, is_hex_digit, is_name_byte, is_name_start,
+    is_octal_digit, is_space, is_text_byte, is_word_byte,
+};
 use super::token::{CodeToken, Mark, Mode, TokenKind};
 
 const DISCARD: &[u8] = b"/DISCARD/";
@@ -26,7 +29,14 @@ pub enum Ahead {
 fn whole(kind: TokenKind, length: usize) -> Ahead
     ensures { result ≡ Ahead.Found (record { kind = kind; start = 0; end = length }) length }
 {
-    Ahead::Found(CodeToken { kind, start: 0, end: length }, length)
+    Ahead::Found(
+        CodeToken {
+            kind,
+            start: 0,
+            end: length,
+        },
+        length,
+    )
 }
 
 /// How long a run of bytes of a name stands at the front.
@@ -84,7 +94,9 @@ pub fn is_hex(text: &[u8]) -> bool
     ensures value { result ≡ is_hex text.now }
     ensures within { result ≡ true → 2 < length text.now }
 {
-    byte_at(text, 0) == b'0' && matches!(byte_at(text, 1), b'x' | b'X') && is_hex_digit(byte_at(text, 2))
+    byte_at(text, 0) == b'0'
+        && matches!(byte_at(text, 1), b'x' | b'X')
+        && is_hex_digit(byte_at(text, 2))
 }
 
 /// How many bytes a number's digits take, with a `0x` before them.
@@ -109,7 +121,11 @@ fn number_length(text: &[u8]) -> usize
     ensures within { result ≤ length text.now }
 {
     let digits = digits_length(text);
-    if matches!(byte_at(text, digits), b'K' | b'M') { digits + 1 } else { digits }
+    if matches!(byte_at(text, digits), b'K' | b'M') {
+        digits + 1
+    } else {
+        digits
+    }
 }
 
 /// A number, where a digit stands: none that a byte of a name other than `-` follows.
@@ -137,7 +153,11 @@ fn text_front(text: &[u8]) -> Ahead
 {
     let length = text_run(&text[1..]);
     if byte_at(text, length + 1) == b'"' {
-        let content = CodeToken { kind: TokenKind::Text, start: 1, end: length + 1 };
+        let content = CodeToken {
+            kind: TokenKind::Text,
+            start: 1,
+            end: length + 1,
+        };
         Ahead::Found(content, length + 2)
     } else {
         Ahead::Unknown

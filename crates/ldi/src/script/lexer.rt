@@ -24,7 +24,11 @@ impl CodeToken {
         requires order { self.start ≤ self.end }
         ensures { result ≡ record self { start = before + self.start; end = before + self.end } }
     {
-        CodeToken { kind: self.kind, start: before + self.start, end: before + self.end }
+        CodeToken {
+            kind: self.kind,
+            start: before + self.start,
+            end: before + self.end,
+        }
     }
 
     /// Its bytes.

@@ -49,9 +49,12 @@ fn closed(stretch: Stretch, kind: TokenKind, spelled: &[u8]) -> Stretch
     match (stretch, kind) {
         (Stretch::ToSemicolon, TokenKind::Punctuation(Mark::Semicolon)) => Stretch::Closed,
         (Stretch::ToSemicolon, _) => Stretch::ToSemicolon,
-        (Stretch::ToParenthesis(n), TokenKind::Punctuation(Mark::OpenParenthesis)) => Stretch::ToParenthesis(n + 1),
-        (Stretch::ToParenthesis(1), TokenKind::Punctuation(Mark::CloseParenthesis)) => Stretch::Closed,
-        (Stretch::ToParenthesis(n), TokenKind::Punctuation(Mark::CloseParenthesis)) => Stretch::ToParenthesis(n.saturating_sub(1)),
+        (Stretch::ToParenthesis(n), TokenKind::Punctuation(Mark::OpenParenthesis)) =>
+            Stretch::ToParenthesis(n + 1),
+        (Stretch::ToParenthesis(1), TokenKind::Punctuation(Mark::CloseParenthesis)) =>
+            Stretch::Closed,
+        (Stretch::ToParenthesis(n), TokenKind::Punctuation(Mark::CloseParenthesis)) =>
+            Stretch::ToParenthesis(n.saturating_sub(1)),
         (Stretch::ToParenthesis(n), _) => Stretch::ToParenthesis(n),
         _ => Stretch::Closed,
     }
@@ -75,7 +78,10 @@ impl LexState {
     pub fn start() -> LexState
         ensures { result ≡ at_start }
     {
-        LexState { depth: 0, stretch: Stretch::Closed }
+        LexState {
+            depth: 0,
+            stretch: Stretch::Closed,
+        }
     }
 
     /// How a token is read here.
