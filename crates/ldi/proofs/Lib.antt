@@ -1,3 +1,6 @@
 pub mod OneSectionGathering
 pub mod OneSectionPlacement
 pub mod OneSectionImage
+pub mod ScriptCut
+pub mod ScriptNumber
+pub mod ScriptTokens

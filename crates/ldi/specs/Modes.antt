@@ -1,5 +1,5 @@
 -- In which mode each token of a script is read, and the cut of a whole text.
-use Rattle.std.specs.Prelude.{◌≡◌, ℕ, ◌+◌, ◌-◌, List, [], ◌∷◌, drop, Bool, ◌==◌, if◌then◌else◌, codes, bytes_eq}
+use Rattle.std.specs.Prelude.{◌≡◌, ℕ, ◌+◌, ◌-◌, ◌≤◌, List, [], ◌∷◌, drop, Bool, ◌==◌, if◌then◌else◌, codes, bytes_eq}
 use Rattle.std.specs.List.{list_any}
 use Rattle.ldi.specs.Tokens.{Token, Name, Number, Text, Discard, Word, Punctuation, Front, End, Blank, Begins, Nothing, front}
 use Rattle.ldi.specs.declared.script.token.Mode.{Mode}
@@ -9,6 +9,9 @@ use Rattle.ldi.specs.declared.script.token.Mark.TheVariants.{OpenParenthesis, Cl
 use Rattle.ldi.specs.declared.script.token.Stretch.{Stretch}
 use Rattle.ldi.specs.declared.script.token.Stretch.TheVariants.{Closed, Awaited, ToSemicolon, ToParenthesis}
 use Rattle.ldi.specs.declared.script.token.LexState.{LexState}
+use Rattle.ldi.specs.declared.script.token.CodeToken.{CodeToken}
+use Rattle.ldi.specs.declared.script.lexer.LexFault.{LexFault}
+use Rattle.ldi.specs.declared.script.lexer.LexFault.TheVariants.{NotAToken, NoMemory}
 
 -- pattern mode holds at depth 2 outside stretches
 abbrev pub mode_at : ℕ → Stretch → Mode
@@ -63,8 +66,28 @@ state_after p t = record { depth = depth_after p.depth t; stretch = stretch_afte
 abbrev pub at_start : LexState
 at_start = record { depth = 0; stretch = Closed }
 
+-- so many parentheses at most are open in a stretch
+abbrev pub IsShortStretch : ℕ → Stretch → Type 0
+IsShortStretch n Closed = Unit {0}
+IsShortStretch n Awaited = Unit {0}
+IsShortStretch n ToSemicolon = Unit {0}
+IsShortStretch n (ToParenthesis k) = k ≤ n
+
+-- so many braces at most are open, and parentheses in a stretch
+abbrev pub IsShallow : ℕ → LexState → Type 0
+IsShallow n p = (p.depth ≤ n) × IsShortStretch n p.stretch
+
 -- these are the tokens of a text from a place on
 pub data IsCut : LexState → List ℕ → List Token → Type 0 where
   ended : {p : LexState} {text : List ℕ} → front (mode_of p) text ≡ End → IsCut p text []
   blank : {p : LexState} {text : List ℕ} {n : ℕ} {ts : List Token} → front (mode_of p) text ≡ Blank n → IsCut p (drop n text) ts → IsCut p text ts
   token : {p : LexState} {text : List ℕ} {t : Token} {n : ℕ} {ts : List Token} → front (mode_of p) text ≡ Begins t n → IsCut (state_after p t) (drop n text) ts → IsCut p text (t ∷ ts)
+
+-- a token that lies within so many bytes
+abbrev pub IsPlace : ℕ → CodeToken → Type 0
+IsPlace n t = (t.start ≤ t.end) × (t.end ≤ n)
+
+-- why a text is not cut; want of memory says nothing of it
+abbrev pub IsLexFault : List ℕ → LexFault → Type 0
+IsLexFault text NotAToken = (ts : List Token) → IsCut at_start text ts → ⊥
+IsLexFault text NoMemory = Unit {0}

@@ -1,5 +1,5 @@
 -- The scripts that this version reads, and the refusals of all others.
-use Rattle.std.specs.Prelude.{◌≡◌, ℕ, ◌+◌, ◌-◌, ◌*◌, ◌^◌, ◌<◌, ◌≤◌, List, [], ◌∷◌, length, take, drop, slice_index, fold, Bool, true, false, Option, Some, None, not, ◌&&◌, ◌||◌, ◌==◌, nat_le, if◌then◌else◌, codes, bytes_eq}
+use Rattle.std.specs.Prelude.{◌≡◌, ℕ, ◌+◌, ◌-◌, ◌*◌, ◌^◌, ◌<◌, ◌≤◌, List, [], ◌∷◌, length, take, drop, slice_index, fold, Bool, true, false, not, ◌&&◌, ◌||◌, ◌==◌, nat_le, if◌then◌else◌, codes, bytes_eq, Option, Some, None}
 use Rattle.std.specs.List.{list_any}
 use Rattle.ldi.specs.Bytes.{is_decimal_digit}
 use Rattle.ldi.specs.Tokens.{Token, Name, Number, Word, Punctuation, is_hex, digits_length}
@@ -54,14 +54,23 @@ is_pattern_sign b = (b == 42) || (b == 63) || (b == 91) || (b == 93) || (b == 92
 unfoldable pub is_free_word : List ℕ → Bool
 is_free_word word = not (list_any is_pattern_sign word) && not (is_reserved word) && nat_le (length word) 255
 
+-- SECTIONS { . = NUMBER ;
+abbrev pub start_tokens : List ℕ → List Token → List Token
+start_tokens number rest =
+    Name (codes "SECTIONS") ∷ Punctuation OpenBrace ∷ Name (codes ".") ∷ Punctuation Assign ∷ Number number ∷ Punctuation Semicolon ∷ rest
+
+-- NAME : {
+abbrev pub head_tokens : List ℕ → List Token → List Token
+head_tokens name rest = Name name ∷ Punctuation Colon ∷ Punctuation OpenBrace ∷ rest
+
+-- * ( WORD ) } }
+abbrev pub body_tokens : List ℕ → List Token
+body_tokens word =
+    Word (codes "*") ∷ Punctuation OpenParenthesis ∷ Word word ∷ Punctuation CloseParenthesis ∷ Punctuation CloseBrace ∷ Punctuation CloseBrace ∷ []
+
 -- SECTIONS { . = NUMBER ; NAME : { * ( WORD ) } }
 abbrev pub form_tokens : List ℕ → List ℕ → List ℕ → List Token
-form_tokens number name word =
-    Name (codes "SECTIONS") ∷ Punctuation OpenBrace
-    ∷ Name (codes ".") ∷ Punctuation Assign ∷ Number number ∷ Punctuation Semicolon
-    ∷ Name name ∷ Punctuation Colon ∷ Punctuation OpenBrace
-    ∷ Word (codes "*") ∷ Punctuation OpenParenthesis ∷ Word word ∷ Punctuation CloseParenthesis
-    ∷ Punctuation CloseBrace ∷ Punctuation CloseBrace ∷ []
+form_tokens number name word = start_tokens number (head_tokens name (body_tokens word))
 
 abbrev pub form_tree : ℕ → List ℕ → List ℕ → Tree
 form_tree start name word =
@@ -69,11 +78,29 @@ form_tree start name word =
     ∷ Section (record { name = name; inputs = record { file = Any; sections = Exact word ∷ [] } ∷ [] })
     ∷ []
 
+-- what callers see of a form
+pub record FormData : Type 0 where
+  pub start : ℕ
+  pub name : List ℕ
+  pub word : List ℕ
+
+abbrev pub tree_of : Option FormData → Tree
+tree_of None = []
+tree_of (Some f) = form_tree f.start f.name f.word
+
+-- what a number, a name and a word of the form must meet
+abbrev pub IsAllowed : List ℕ → List ℕ → List ℕ → Type 0
+IsAllowed number name word = (number_value number < 2 ^ 64) × (is_free_name name ≡ true) × (is_free_word word ≡ true)
+
+-- this is the form that they spell, and they are allowed
+abbrev pub IsFormOf : List ℕ → List ℕ → List ℕ → FormData → Type 0
+IsFormOf number name word f = IsAllowed number name word × (f ≡ record { start = number_value number; name = name; word = word })
+
 -- these tokens are of the form, and this is their tree
 pub data IsForm : List Token → Tree → Type 0 where
   empty : IsForm [] []
   section : (number name word : List ℕ) → number_value number < 2 ^ 64 → is_free_name name ≡ true → is_free_word word ≡ true
-    → IsForm (form_tokens number name word) (form_tree (number_value number) name word)
+      → IsForm (form_tokens number name word) (form_tree (number_value number) name word)
 
 -- a text of at most 2^20 bytes whose tokens have this tree
 pub record IsScript (text : List ℕ) (t : Tree) : Type 0 where
@@ -92,12 +119,3 @@ abbrev pub script_refusal_number : ScriptRefusal → ℕ
 script_refusal_number Limit = 5
 script_refusal_number NoMemory = 6
 script_refusal_number NotYet = 7
-
-pub record FormData : Type 0 where
-  pub start : ℕ
-  pub name : List ℕ
-  pub word : List ℕ
-
-abbrev pub tree_of : Option FormData → Tree
-tree_of None = []
-tree_of (Some f) = form_tree f.start f.name f.word

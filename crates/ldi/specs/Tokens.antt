@@ -1,12 +1,17 @@
 -- The tokens of a script, and how a text is cut into them: from left to right, each as long as possible.
 -- White space and comments part tokens. A comment begins only where a token could begin, goes before any token
 -- there, and runs from `/*` to the next `*/` behind it.
-use Rattle.std.specs.Prelude.{◌≡◌, ℕ, suc, ◌+◌, ◌-◌, List, [], ◌∷◌, length, take, drop, slice_index, position, Option, Some, None, Bool, true, false, not, ◌&&◌, ◌||◌, ◌==◌, nat_lt, if◌then◌else◌, codes, bytes_eq}
+use Rattle.std.specs.Prelude.{◌≡◌, ℕ, suc, ◌+◌, ◌-◌, List, [], ◌∷◌, length, take, drop, slice_index, position, Option, Some, None, Bool, true, false, not, ◌&&◌, ◌||◌, ◌==◌, nat_lt, if◌then◌else◌, codes, bytes_eq, slice_range, ◌<◌, ◌≤◌}
 use Rattle.std.specs.Option.{option_map}
 use Rattle.ldi.specs.Bytes.{is_space, is_name_start, is_name_byte, is_decimal_digit, is_octal_digit, is_hex_digit, is_word_byte, is_graphic, is_text_byte, run_length}
 use Rattle.ldi.specs.declared.script.token.Mode.{Mode}
 use Rattle.ldi.specs.declared.script.token.Mode.TheVariants.{Expression, Pattern}
 use Rattle.ldi.specs.declared.script.token.Mark.{Mark}
+use Rattle.ldi.specs.declared.script.token.TokenKind.{TokenKind}
+use Rattle.ldi.specs.declared.script.token.TokenKind.TheVariants as kind
+use Rattle.ldi.specs.declared.script.token.CodeToken.{CodeToken}
+use Rattle.ldi.specs.declared.script.front.Ahead.{Ahead}
+use Rattle.ldi.specs.declared.script.front.Ahead.TheVariants.{Finished, Space, Found, Unknown}
 use Rattle.ldi.specs.declared.script.token.Mark.TheVariants.{OpenParenthesis, CloseParenthesis, OpenBrace, CloseBrace, Semicolon, Colon, Comma, Assign, AddAssign, Not, Minus, Complement, Star, Slash, Percent, Plus, ShiftLeft, ShiftRight, Less, LessOrEqual, Greater, GreaterOrEqual, Equal, NotEqual, And, AndAnd, Or, OrOr, Question}
 
 -- a token with its bytes; a text without its quotes
@@ -25,6 +30,32 @@ pub data Front : Type 0 where
   Blank : (n : ℕ) → Front
   Begins : (token : Token) → (n : ℕ) → Front
   Nothing : Front
+
+-- the token of a kind with these bytes
+abbrev pub spelled_token : TokenKind → List ℕ → Token
+spelled_token kind.Name bytes = Name bytes
+spelled_token kind.Number bytes = Number bytes
+spelled_token kind.Text bytes = Text bytes
+spelled_token kind.Discard bytes = Discard
+spelled_token kind.Word bytes = Word bytes
+spelled_token (kind.Punctuation m) bytes = Punctuation m
+
+-- the token that stands at a place of a text
+abbrev pub token_of : List ℕ → CodeToken → Token
+token_of text t = spelled_token t.kind (slice_range text t.start t.end)
+
+abbrev pub front_of : List ℕ → Ahead → Front
+front_of text Finished = End
+front_of text (Space n) = Blank n
+front_of text (Found t n) = Begins (token_of text t) n
+front_of text Unknown = Nothing
+
+-- it takes a byte or more, and no more than so many
+abbrev pub IsAdvance : ℕ → Ahead → Type 0
+IsAdvance room Finished = Unit {0}
+IsAdvance room (Space n) = (0 < n) × (n ≤ room)
+IsAdvance room (Found t n) = (0 < n) × (n ≤ room) × (t.start ≤ t.end) × (t.end ≤ n)
+IsAdvance room Unknown = Unit {0}
 
 -- `/*`, and how far the next `*/` behind it reaches
 abbrev pub is_comment : List ℕ → Bool
@@ -131,7 +162,7 @@ expression_front text =
     if is_name_start b then name_front text
     else (if is_decimal_digit b then number_front text
     else (if b == 34 then text_front text
-    else (if bytes_eq (take 9 text) discard then Begins Discard 9
+    else (if bytes_eq discard (take 9 text) then Begins Discard 9
     else mark_front text)))
 
 -- WORD: a longest run of word bytes and of pairs of `\` with a byte from `!` to `~`

@@ -4,7 +4,7 @@ ghost use Rattle.std.specs.Prelude.{◌≡◌, [], None, ◌==◌, if◌then◌e
 ghost use Rattle.ldi.specs.declared.gather.Gathered.TheVariants.{Orphan, Row};
 ghost use Rattle.ldi.specs.OneSection.{members_of, GatheredAs};
 
-use crate::script::tree::Script;
+use crate::script::form::Script;
 use elfobj::section::Section;
 
 /// A linked section of a named object.

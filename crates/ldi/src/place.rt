@@ -10,7 +10,7 @@ ghost use Rattle.ldi.specs.Segments.{segments, headers_end};
 ghost use Rattle.ldi.specs.OneSection.{member_of, row_of, rows_with, PlacedAs, IsWhole, IsFilledBy, laid, segment_of};
 
 use crate::gather::Member;
-use crate::script::tree::Script;
+use crate::script::form::Script;
 use elfobj::constants::{SHF_EXECINSTR, SHF_WRITE};
 use elfobj::section::SectionKind;
 

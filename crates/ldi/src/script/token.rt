@@ -89,6 +89,17 @@ pub enum TokenKind {
     Punctuation(Mark),
 }
 
+/// A token by its place in a text.
+#[derive(Clone, Copy, Debug, PartialEq, Eq)]
+pub struct CodeToken {
+    /// What it is.
+    pub kind: TokenKind,
+    /// The index of its first byte; of a text in double quotes, of the first byte between them.
+    pub start: usize,
+    /// The index behind its last byte, and at least `start`.
+    pub end: usize,
+}
+
 /// A stretch of an output section's body that is read as an expression.
 #[derive(Clone, Copy, Debug, PartialEq, Eq)]
 pub enum Stretch {

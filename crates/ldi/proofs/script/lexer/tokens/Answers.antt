@@ -1,0 +1,41 @@
+use Rattle.std.proofs.Common.{◌≡◌, ◌+◌, ◌++◌, ◌∷◌, [], ◌≤◌, List, drop, map, length, sym, ◌∙◌, ap, arith, rules}
+use Rattle.std.proofs.lemmas.Grind.{common_steps}
+use Rattle.std.specs.List.{All}
+use Rattle.ldi.specs.Tokens.{End, Blank, Nothing, front, front_of, token_of}
+use Rattle.ldi.specs.Modes.{mode_of, state_after, IsPlace}
+use Rattle.ldi.proofs.ScriptCut.{IsCutTo, cut_to_end, cut_to_nothing, cut_to_space, cut_to_found, still_shallow, behind}
+use Rattle.ldi.proofs.script.lexer.tokens.Goals as goal
+
+pub returns-in-Finished-clause-cut : goal.returns-in-Finished-clause-cut
+returns-in-Finished-clause-cut c = cut_to_end c.loop-tokens.invariant.cut (sym c.in-Finished.ensures.value)
+
+pub returns-in-Unknown-clause-refused : goal.returns-in-Unknown-clause-refused
+returns-in-Unknown-clause-refused c = cut_to_nothing c.loop-tokens.invariant.cut (sym c.in-Unknown.ensures.value)
+
+pub loop-tokens-preserved-in-Space : goal.loop-tokens-preserved-in-Space
+loop-tokens-preserved-in-Space c =
+    let text = c.args.text.now in
+    let at = c.loop-tokens.at in
+    let n = c.in-Space.n in
+    record {
+      cut = cut_to_space text _ c.loop-tokens.state at n c.loop-tokens.invariant.cut (sym c.in-Space.ensures.value);
+      within = search rules;
+      places = c.loop-tokens.invariant.places;
+      shallow = still_shallow at (at + n) c.loop-tokens.state (omega arith) c.loop-tokens.invariant.shallow;
+    }
+
+pub loop-tokens-preserved : goal.loop-tokens-preserved
+loop-tokens-preserved c =
+    let text = c.args.text.now in
+    let at = c.loop-tokens.at in
+    let n = c.in-Found.n in
+    let t = c.in-Found.token in
+    let old = c.loop-tokens.tokens.items in
+    let pushed : c.push.new.self.items ≡ old ++ behind at t ∷ [] = rw (c.is_err.ensures.negation, c.if-is_err.false, c.behind-token.ensures) at c.push.ensures.items in
+    let after : c.after-state.result ≡ state_after c.loop-tokens.state (token_of text (behind at t)) = rw (c.bytes.ensures, c.behind-token.ensures) at c.after-state.ensures.value in
+    record {
+      cut = rw (pushed, after) (cut_to_found text old c.loop-tokens.state at n t c.loop-tokens.invariant.cut (sym c.in-Found.ensures.value));
+      within = search rules;
+      places = rw pushed (search rules);
+      shallow = c.after-state.ensures.shallow at (at + n) c.loop-tokens.invariant.shallow (search rules);
+    }

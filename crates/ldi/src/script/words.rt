@@ -1,0 +1,82 @@
+//! The names and words that a script may give.
+
+ghost use Rattle.std.specs.Prelude.{◌≡◌};
+ghost use Rattle.std.specs.List.{list_any};
+ghost use Rattle.ldi.specs.ScriptForm.{is_reserved, is_free_name, is_pattern_sign, is_free_word};
+
+use super::bytes::is_one_of;
+
+/// The greatest length of a name or word.
+const LONGEST: usize = 255;
+
+const RESERVED: [&[u8]; 32] = [
+    b"ENTRY",
+    b"MEMORY",
+    b"SECTIONS",
+    b"PROVIDE",
+    b"PROVIDE_HIDDEN",
+    b"HIDDEN",
+    b"KEEP",
+    b"ASSERT",
+    b"BYTE",
+    b"SHORT",
+    b"LONG",
+    b"QUAD",
+    b"SORT",
+    b"SORT_BY_NAME",
+    b"SORT_BY_ALIGNMENT",
+    b"EXCLUDE_FILE",
+    b"ORIGIN",
+    b"LENGTH",
+    b"ADDR",
+    b"LOADADDR",
+    b"SIZEOF",
+    b"ALIGN",
+    b"AT",
+    b"DEFINED",
+    b"MAX",
+    b"MIN",
+    b"CONSTANT",
+    b"NOLOAD",
+    b"SIZEOF_HEADERS",
+    b"FILL",
+    b"SQUAD",
+    b"INPUT_SECTION_FLAGS",
+];
+
+/// Whether the language keeps this word for itself.
+#[tactic(auto, unfolding(crate::specs::ScriptForm::is_reserved))]
+fn is_reserved(word: &[u8]) -> bool
+    ensures { result ≡ is_reserved word.now }
+{
+    is_one_of(&RESERVED, word)
+}
+
+/// Whether an output section may have this name: not `.`, not reserved, of at most 255 bytes.
+#[tactic(auto, unfolding(crate::specs::ScriptForm::is_free_name))]
+pub fn is_free_name(name: &[u8]) -> bool
+    ensures { result ≡ is_free_name name.now }
+{
+    name != b".".as_slice() && !is_reserved(name) && name.len() <= LONGEST
+}
+
+/// Whether it is one of `* ? [ ] \`, which stand for other bytes in a pattern.
+fn is_pattern_sign(b: u8) -> bool
+    ensures { result ≡ is_pattern_sign b }
+{
+    matches!(b, b'*' | b'?' | b'[' | b']' | b'\\')
+}
+
+fn has_pattern_sign(word: &[u8]) -> bool
+    ensures { result ≡ list_any is_pattern_sign word.now }
+{
+    word.iter().any(|b| is_pattern_sign(*b))
+}
+
+/// Whether input sections may be named by this word: no pattern sign, not reserved, of at most 255 bytes.
+#[tactic(auto, unfolding(crate::specs::ScriptForm::is_free_word))]
+pub fn is_free_word(word: &[u8]) -> bool
+    ensures { result ≡ is_free_word word.now }
+{
+    !has_pattern_sign(word) && !is_reserved(word) && word.len() <= LONGEST
+}
