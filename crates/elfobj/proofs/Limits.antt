@@ -89,6 +89,7 @@ section_limits bytes k h kind e b p l =
       name = name_told (name_of bytes h) l.name;
       flags = flags;
       flags_fit = omega arith;
+      relocations = refl;
       size = ltb-false 2147483648 h.sh_size large.0;
       alignment = aligned h.sh_addralign large.1;
       bytes = contents_length bytes h kind l.file;

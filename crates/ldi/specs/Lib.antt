@@ -12,6 +12,7 @@ pub mod Image
 pub mod Link
 pub mod OneSection
 pub mod EditMeaning
+pub mod Applied
 pub mod Commands
 pub mod Answers
 pub mod Stepped

@@ -1,7 +1,7 @@
 -- What links of this version come to: at most one object, with at most one linked section, and at most one output
 -- section. Each word here is one of the general definitions at such a project.
 use Rattle.std.specs.Prelude.{◌≡◌, ◌⊎◌, ◌≤◌, ◌<◌, ℕ, List, [], ◌∷◌, length, map, Option, Some, None, Result, Ok, Err, Bool, true, false, ◌==◌, if◌then◌else◌, option_to_list}
-use Rattle.std.specs.Option.{option_map}
+use Rattle.std.specs.Option.{option_map, ForSome}
 use Rattle.elfobj.specs.Sections.{LinkedSection}
 use Rattle.ldi.specs.Tree.{Tree}
 use Rattle.ldi.specs.Gathering as gathering
@@ -73,6 +73,11 @@ segment_of (Some g) row = one_segment g row ∷ []
 -- a member has the bytes that its size says, unless it is one without bytes in the file
 abbrev pub IsWhole : Member → Type 0
 IsWhole m = is_nobits m.section.kind ≡ false → length m.bytes.now ≡ m.section.size
+
+-- a row of such a member, or of none
+abbrev pub IsWholeRow : Gathered → Type 0
+IsWholeRow Orphan = Unit {0}
+IsWholeRow (Row row) = ForSome row IsWhole
 
 -- the output section has no file bytes, or just those of its one piece
 abbrev pub IsFilledBy : Placed → Option Member → Type 0

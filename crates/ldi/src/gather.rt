@@ -1,8 +1,9 @@
 //! Which section stands in which output section.
 
 ghost use Rattle.std.specs.Prelude.{◌≡◌, [], None, ◌==◌, if◌then◌else◌};
+ghost use Rattle.std.specs.Option.{ForSome};
 ghost use Rattle.ldi.specs.declared.gather.Gathered.TheVariants.{Orphan, Row};
-ghost use Rattle.ldi.specs.OneSection.{members_of, GatheredAs};
+ghost use Rattle.ldi.specs.OneSection.{members_of, GatheredAs, IsWhole, IsWholeRow};
 
 use crate::script::form::Script;
 use elfobj::section::Section;
@@ -42,7 +43,9 @@ fn untaken(m: Member<'_>) -> Gathered<'_>
 
 /// Gives the section, if there is one, to the first input statement that takes it.
 pub fn gather<'a>(script: &Script, member: Option<Member<'a>>) -> Gathered<'a>
-    ensures { GatheredAs script.now (members_of member.entry) result }
+    requires { ForSome member IsWhole }
+    ensures gathered { GatheredAs script.now (members_of member.entry) result }
+    ensures whole { IsWholeRow result }
 {
     let Some(m) = member else {
         return no_section(script);
@@ -61,7 +64,8 @@ pub fn gather<'a>(script: &Script, member: Option<Member<'a>>) -> Gathered<'a>
 
 /// Without a section there is nothing to take.
 fn no_section<'a>(script: &Script) -> Gathered<'a>
-    ensures { GatheredAs script.now [] result }
+    ensures gathered { GatheredAs script.now [] result }
+    ensures whole { IsWholeRow result }
 {
     match script.form() {
         None => Gathered::Row(None),

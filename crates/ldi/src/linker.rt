@@ -10,6 +10,8 @@ use crate::linker::edit::{Edit, EditRefusal, Linked};
 use elfobj::meter::Meter;
 
 pub mod edit;
+pub mod link;
+pub mod named;
 pub mod options;
 
 /// What holds a project, changes it by edits and knows its link.

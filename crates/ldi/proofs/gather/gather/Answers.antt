@@ -3,8 +3,8 @@ use Rattle.ldi.specs.OneSection.{member_of}
 use Rattle.ldi.proofs.OneSectionGathering.{taken}
 use Rattle.ldi.proofs.gather.gather.Goals as goal
 
-pub returns-then-takes : goal.returns-then-takes
-returns-then-takes c =
+pub returns-then-takes-clause-gathered : goal.returns-then-takes-clause-gathered
+returns-then-takes-clause-gathered c =
     let f = c.in-Some-form.form.now in
     let t = taken f.start f.name f.word (member_of c.in-Some.m) (sym c.takes.ensures ∙ c.if-takes.true) in
     rw (c.in-Some.is, c.in-Some-form.ensures) (t.orphans, t.rows)

@@ -1,0 +1,119 @@
+//! A link from scratch.
+
+ghost use Rattle.std.specs.Prelude.{◌≡◌, ◌≤◌, IfOk, IfSome, length};
+ghost use Rattle.std.specs.Option.{ForSome};
+ghost use Rattle.ldi.specs.Gathering.{members};
+ghost use Rattle.ldi.specs.Placement.{placement};
+ghost use Rattle.ldi.specs.Segments.{segments};
+ghost use Rattle.ldi.specs.Image.{image_of};
+ghost use Rattle.ldi.specs.Link.{faulty, linked_by, linked_of, link_of};
+ghost use Rattle.ldi.specs.OneSection.{members_of, row_of, rows_with, laid, IsWhole, IsFilledBy};
+
+use crate::emit::image;
+use crate::gather::{Gathered, Member, gather};
+use crate::linker::edit::Linked;
+use crate::linker::named::NamedObject;
+use crate::place::{Placed, place, segments};
+use crate::script::form::Script;
+use std::alloc::{AllocError, Global};
+use std::marker::Model;
+
+/// What a link gives.
+#[derive(Drop)]
+pub struct Linkage {
+    status: u8,
+    image: Vec<u8>,
+}
+
+impl Model for Linkage {
+    ghost use Rattle.ldi.specs.Link.{Link};
+
+    ghost Value = { Link };
+
+    ghost view = { λ l. record { status = l.status; image = l.image.items } };
+}
+
+impl Linkage {
+    /// A link with faults: no image.
+    fn faulty(alloc: Global) -> Linkage
+        ensures { result ≡ faulty }
+    {
+        Linkage {
+            status: 1,
+            image: Vec::new(alloc),
+        }
+    }
+
+    /// 0 where the link has no faults, else 1.
+    pub fn status(&self) -> u8
+        ensures { result ≡ self.now.status }
+    {
+        self.status
+    }
+
+    /// The image; empty where the link has faults.
+    pub fn image(&self) -> &[u8]
+        ensures { result.now ≡ self.now.image }
+    {
+        &self.image
+    }
+
+    /// The status and the length of the image.
+    pub fn summary(&self) -> Linked
+        ensures { result ≡ linked_of self.now }
+    {
+        Linked {
+            status: self.status,
+            length: self.image.len() as u64,
+        }
+    }
+}
+
+/// The linked section of the project, if it has one.
+fn only_member(objects: &[NamedObject]) -> Option<Member<'_>>
+    requires { length objects.now ≤ 1 }
+    ensures members { members objects.now ≡ members_of result }
+    ensures whole { IfSome result IsWhole }
+{
+    let named = objects.first()?;
+    let object = named.object();
+    let section = *object.sections().first()?;
+    Some(Member {
+        object: named.name(),
+        name: object.section_name(0),
+        section,
+        bytes: object.section_bytes(0),
+    })
+}
+
+/// The link of an output section that is placed, or of none.
+fn with_image(alloc: Global, placed: Option<Placed>, row: Option<Member<'_>>) -> Result<Linkage, AllocError>
+    requires { ForSome placed (λ q. IsFilledBy q row) }
+    ensures { IfOk result (λ l. l ≡ record { status = 0; image = image_of 0 (segments (laid placed (row_of row.entry))) }) }
+{
+    let image = image(alloc, segments(placed), row)?;
+    Ok(Linkage { status: 0, image })
+}
+
+/// The link of a script whose output section has this row.
+fn with_row(alloc: Global, script: &Script, row: Option<Member<'_>>) -> Result<Linkage, AllocError>
+    requires { ForSome row IsWhole }
+    ensures { IfOk result (λ l. l ≡ linked_by (placement script.now (rows_with script.now (row_of row.entry)))) }
+{
+    match place(script, row) {
+        Err(_fault) => Ok(Linkage::faulty(alloc)),
+        Ok(placed) => with_image(alloc, placed, row),
+    }
+}
+
+/// Links the objects by the script: gathers their sections, places them, and writes the image.
+#[tactic(auto, unfolding(crate::specs::Link::link_of))]
+pub fn link(alloc: Global, objects: &[NamedObject], script: &Script) -> Result<Linkage, AllocError>
+    requires { length objects.now ≤ 1 }
+    ensures { IfOk result (λ l. l ≡ link_of script.now (members objects.now)) }
+{
+    match gather(script, only_member(objects)) {
+        Gathered::Orphan => Ok(Linkage::faulty(alloc)),
+        Gathered::Row(row) => with_row(alloc, script, row),
+    }
+}
