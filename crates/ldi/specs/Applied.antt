@@ -1,7 +1,13 @@
 -- What `apply` leaves, by cases on its result.
 use Rattle.std.specs.Prelude.{◌≡◌, Result, Ok, Err}
 use Rattle.ldi.specs.Project.{Project}
-use Rattle.ldi.specs.Edits.{Change, After, RefusedAs}
+use Rattle.elfobj.specs.RefusalNumber.{refusal_number}
+use Rattle.elfobj.specs.declared.refusal.ObjectRefusal.{ObjectRefusal}
+use Rattle.elfobj.specs.declared.refusal.ObjectRefusal.TheVariants as object
+use Rattle.ldi.specs.declared.script.refusal.ScriptRefusal.{ScriptRefusal}
+use Rattle.ldi.specs.declared.script.refusal.ScriptRefusal.TheVariants as script
+use Rattle.ldi.specs.ScriptForm.{script_refusal_number}
+use Rattle.ldi.specs.Edits.{Change, After, RefusedAs, refusal, no_memory}
 use Rattle.ldi.specs.Link.{link, linked_of}
 use Rattle.ldi.specs.declared.linker.edit.Linked.{Linked}
 use Rattle.ldi.specs.declared.linker.edit.EditRefusal.{EditRefusal}
@@ -10,3 +16,12 @@ use Rattle.ldi.specs.declared.linker.edit.EditRefusal.{EditRefusal}
 abbrev pub Applied : Project → Change → Project → Result Linked EditRefusal → Type 0
 Applied old change new (Ok l) = After old change (Ok new) × (l ≡ linked_of (link new))
 Applied old change new (Err r) = RefusedAs old change r × (new ≡ old)
+
+-- how a linker tells a reader's refusal
+abbrev pub object_refused : ObjectRefusal → EditRefusal
+object_refused object.NoMemory = no_memory
+object_refused why = refusal 4 (refusal_number why)
+
+abbrev pub script_refused : ScriptRefusal → EditRefusal
+script_refused script.NoMemory = no_memory
+script_refused why = refusal 5 (script_refusal_number why)

@@ -25,8 +25,8 @@ refusal n m = record { n = n; m = m }
 abbrev pub no_memory : EditRefusal
 no_memory = refusal 7 0
 
-abbrev pub is_in_use : Project → List ℕ → Bool
-is_in_use p name = list_any (λ (o : NamedObject). bytes_eq o.name name) p.objects
+abbrev pub is_in_use : List NamedObject → List ℕ → Bool
+is_in_use objects name = list_any (λ (o : NamedObject). bytes_eq o.name name) objects
 
 -- 1 to 255 graphic bytes
 unfoldable pub is_object_name : List ℕ → Bool
@@ -36,12 +36,16 @@ is_object_name name = nat_le 1 (length name) && nat_le (length name) 255 && list
 unfoldable pub is_payload_too_long : List ℕ → Bool
 is_payload_too_long bytes = nat_lt (2 ^ 26) (length bytes)
 
+-- a name or bytes outside the limits, or as many objects as this version takes: one
+unfoldable pub is_over_limit : List NamedObject → List ℕ → List ℕ → Bool
+is_over_limit objects name bytes = not (is_object_name name) || is_payload_too_long bytes || nat_le MAX_OBJECTS (length objects)
+
 -- the refusals that need no look at the object or the script: 1 name in use, 3 position past the end, 6 limit
 abbrev pub early_refusal : Project → Change → Option EditRefusal
 early_refusal p (Add name at bytes) =
-    if is_in_use p name then Some (refusal 1 0)
+    if is_in_use p.objects name then Some (refusal 1 0)
     else (if nat_lt (length p.objects) at then Some (refusal 3 0)
-    else (if not (is_object_name name) || is_payload_too_long bytes || nat_le MAX_OBJECTS (length p.objects) then Some (refusal 6 0)
+    else (if is_over_limit p.objects name bytes then Some (refusal 6 0)
     else None))
 early_refusal p (SetScript text) = if is_payload_too_long text then Some (refusal 6 0) else None
 

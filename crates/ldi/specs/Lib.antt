@@ -13,6 +13,7 @@ pub mod Link
 pub mod OneSection
 pub mod EditMeaning
 pub mod Applied
+pub mod Holds
 pub mod Commands
 pub mod Answers
 pub mod Stepped

@@ -29,7 +29,7 @@ linked_by (Err f) = faulty
 unfoldable pub link_of : Tree → List Member → Link
 link_of tree ms = if length (orphans tree ms) == 0 then linked_by (placement tree (rows tree ms)) else faulty
 
-unfoldable pub link : Project → Link
+abbrev pub link : Project → Link
 link p = link_of p.script (members p.objects)
 
 abbrev pub linked_of : Link → Linked

@@ -13,6 +13,7 @@ pub mod edit;
 pub mod link;
 pub mod named;
 pub mod options;
+pub mod plain;
 
 /// What holds a project, changes it by edits and knows its link.
 pub trait Linker {

@@ -43,3 +43,8 @@ pub struct EditRefusal {
     /// For 4 and 5 the reader's own number, else 0.
     pub m: u8,
 }
+
+impl EditRefusal {
+    /// Want of memory.
+    pub const NO_MEMORY: EditRefusal = EditRefusal { n: 7, m: 0 };
+}

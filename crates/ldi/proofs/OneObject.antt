@@ -1,0 +1,41 @@
+-- The first object of a project.
+use Rattle.std.proofs.Common.{◌≡◌, ◌||◌, ℕ, suc, inl, inr, ◌<◌, ◌≤◌, List, [], ◌∷◌, length, Bool, true, false, cond, Option, Some, None, refl, sym, ap, ◌∙◌, arith, insert, nat_le, nat_lt}
+use Rattle.std.proofs.lemmas.Bool.{true≢false}
+use Rattle.std.proofs.lemmas.Bool.Decides.{leb_tells}
+use Rattle.ldi.specs.Project.{Project, NamedObject}
+use Rattle.ldi.specs.Edits.{Add, early_refusal, is_over_limit, is_in_use, refusal}
+use Rattle.ldi.specs.declared.linker.edit.EditRefusal.{EditRefusal}
+
+passes : (b : Bool) (r : EditRefusal) (later : Option EditRefusal) → cond b (Some r) later ≡ None → (b ≡ false) × (later ≡ None)
+passes true r later e = cc
+passes false r later e = (refl, e)
+
+pub record IsFirst (p : Project) (at : ℕ) : Type 0 where
+  pub none : p.objects ≡ []
+  pub front : at ≡ 0
+
+empty : (objects : List NamedObject) → nat_le 1 (length objects) ≡ false → objects ≡ []
+empty [] e = refl
+empty (o ∷ os) e = elim (leb_tells 1 (length (o ∷ os))) [ inl t ↦ absurd (true≢false (sym t.0 ∙ e)) | inr f ↦ absurd (omega (arith, f.1)) ]
+
+second : (a b : Bool) → (a || b) ≡ false → b ≡ false
+second true b e = cc
+second false b e = e
+
+no_more : (n at : ℕ) → n ≡ 0 → nat_lt n at ≡ false → at ≡ 0
+no_more n at e h = elim (leb_tells (suc n) at) [ inl t ↦ absurd (true≢false (sym t.0 ∙ h)) | inr f ↦ omega (arith, f.1, e) ]
+
+-- with no early refusal there is no object yet
+pub first : (p : Project) (name : List ℕ) (at : ℕ) (bytes : List ℕ) → early_refusal p (Add name at bytes) ≡ None → IsFirst p at
+unfolding is_over_limit
+first p name at bytes e =
+    let after_name = passes (is_in_use p.objects name) _ _ e in
+    let after_place = passes (nat_lt (length p.objects) at) _ _ after_name.1 in
+    let after_limit = passes (is_over_limit p.objects name bytes) _ _ after_place.1 in
+    let none : p.objects ≡ [] = empty p.objects (second _ _ after_limit.0) in
+    let few : length p.objects ≡ 0 = ap length none in
+    record { none = none; front = no_more (length p.objects) at few after_place.0 }
+
+-- it stands before nothing
+pub inserted : (p : Project) (at : ℕ) (o : NamedObject) → IsFirst p at → record p { objects = o ∷ [] } ≡ record p { objects = insert p.objects at o }
+inserted p at o f = rw (f.none, f.front) refl

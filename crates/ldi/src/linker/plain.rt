@@ -1,0 +1,219 @@
+//! The plain linker: it links from scratch after every edit.
+
+ghost use Rattle.std.specs.Prelude.{◌≡◌, ◌≤◌, [], ◌∷◌, IfOk, OnErr, length};
+ghost use Rattle.std.specs.List.{list_all};
+ghost use Rattle.ldi.specs.Bytes.{is_graphic};
+ghost use Rattle.ldi.specs.Edits.{Add, SetScript, early_refusal, is_in_use, is_object_name, is_payload_too_long, is_over_limit};
+ghost use Rattle.ldi.specs.Applied.{Applied, object_refused, script_refused};
+ghost use Rattle.ldi.specs.Project.{Project, empty_project};
+ghost use Rattle.ldi.specs.Link.{link, linked_of};
+ghost use Rattle.ldi.specs.EditMeaning.{change_of};
+
+use crate::linker::Linker;
+use crate::linker::edit::{Edit, EditRefusal, Linked, MAX_OBJECT_NAME, MAX_OBJECTS, MAX_PAYLOAD};
+use crate::linker::link::{Linkage, link};
+use crate::linker::named::NamedObject;
+use crate::linker::options::Options;
+use crate::script::bytes::is_graphic;
+use crate::script::form::Script;
+use crate::script::refusal::ScriptRefusal;
+use elfobj::meter::Meter;
+use elfobj::object::Object;
+use elfobj::refusal::ObjectRefusal;
+use std::alloc::{AllocError, Global};
+use std::marker::Model;
+
+/// A linker that keeps nothing from one link to the next.
+#[derive(Drop)]
+pub struct Plain {
+    alloc: Global,
+    objects: Vec<NamedObject>,
+    script: Script,
+    options: Options,
+    linkage: Linkage,
+}
+
+impl Model for Plain {
+    ghost use Rattle.ldi.specs.Project.{Project};
+
+    ghost Value = { Project };
+
+    ghost use Rattle.ldi.specs.Holds.{IsLinked};
+
+    ghost view = { λ s. record { objects = s.objects.items; script = s.script; options = s.options } };
+
+    ghost invariant = { λ s. IsLinked s.objects.items s.script s.linkage };
+}
+
+/// Whether all bytes are from `!` to `~`.
+fn is_all_graphic(name: &[u8]) -> bool
+    ensures { result ≡ list_all is_graphic name.now }
+{
+    name.iter().all(|b| is_graphic(*b))
+}
+
+/// Whether a name may be that of an object: 1 to 255 bytes from `!` to `~`.
+#[tactic(auto, unfolding(crate::specs::Edits::is_object_name))]
+fn is_object_name(name: &[u8]) -> bool
+    ensures { result ≡ is_object_name name.now }
+{
+    1 <= name.len() && name.len() <= MAX_OBJECT_NAME && is_all_graphic(name)
+}
+
+/// Whether these are more bytes than an object or a script may have.
+#[tactic(auto, unfolding(crate::specs::Edits::is_payload_too_long))]
+fn is_payload_too_long(bytes: &[u8]) -> bool
+    ensures { result ≡ is_payload_too_long bytes.now }
+{
+    bytes.len() > MAX_PAYLOAD
+}
+
+/// Whether one of the objects has this name.
+fn is_in_use(objects: &[NamedObject], name: &[u8]) -> bool
+    ensures { result ≡ is_in_use objects.now name.now }
+{
+    objects.iter().any(|object| object.name() == name)
+}
+
+/// Whether the name, the bytes or one more object is outside the limits.
+#[tactic(auto, unfolding(crate::specs::Edits::is_over_limit))]
+fn is_over_limit(objects: &[NamedObject], name: &[u8], bytes: &[u8]) -> bool
+    ensures { result ≡ is_over_limit objects.now name.now bytes.now }
+{
+    !is_object_name(name) || is_payload_too_long(bytes) || objects.len() >= MAX_OBJECTS
+}
+
+/// The refusals of a new object that need no look at it.
+fn early_refusal(objects: &[NamedObject], name: &[u8], at: u64, bytes: &[u8]) -> Option<EditRefusal>
+    ensures { (p : Project) → p.objects ≡ objects.now → result ≡ early_refusal p (Add name.now at bytes.now) }
+{
+    if is_in_use(objects, name) {
+        return Some(EditRefusal { n: 1, m: 0 });
+    }
+    if (objects.len() as u64) < at {
+        return Some(EditRefusal { n: 3, m: 0 });
+    }
+    if is_over_limit(objects, name, bytes) {
+        return Some(EditRefusal { n: 6, m: 0 });
+    }
+    None
+}
+
+/// How the linker tells that an object is refused.
+fn object_refused(why: ObjectRefusal) -> EditRefusal
+    ensures { result ≡ object_refused why }
+{
+    match why {
+        ObjectRefusal::NoMemory => EditRefusal::NO_MEMORY,
+        _ => EditRefusal {
+            n: 4,
+            m: why.number(),
+        },
+    }
+}
+
+/// How the linker tells that a script is refused.
+fn script_refused(why: ScriptRefusal) -> EditRefusal
+    ensures { result ≡ script_refused why }
+{
+    match why {
+        ScriptRefusal::NoMemory => EditRefusal::NO_MEMORY,
+        _ => EditRefusal {
+            n: 5,
+            m: why.number(),
+        },
+    }
+}
+
+impl Plain {
+    /// A linker that holds the link of the empty project.
+    pub fn new(alloc: Global, options: Options) -> Result<Plain, AllocError>
+        ensures { IfOk result (λ s. s ≡ empty_project options) }
+    {
+        let objects = Vec::new(alloc);
+        let script = Script::empty();
+        let linkage = link(alloc, &objects, &script)?;
+        Ok(Plain {
+            alloc,
+            objects,
+            script,
+            options,
+            linkage,
+        })
+    }
+
+    /// Takes the first object in, and links.
+    fn take_object(&mut self, name: &[u8], object: Object) -> Result<Linked, AllocError>
+        requires { self.old.objects ≡ [] }
+        ensures taken { IfOk result (λ l. (self.new ≡ record self.old { objects = record { name = name.now; object = object } ∷ [] }) × (l ≡ linked_of (link self.new))) }
+        ensures unchanged { OnErr result (self.new ≡ self.old) }
+    {
+        let named = NamedObject::new(self.alloc, name, object)?;
+        let mut objects = Vec::new(self.alloc);
+        objects.push(named)?;
+        let linkage = link(self.alloc, &objects, &self.script)?;
+        self.objects = objects;
+        self.linkage = linkage;
+        Ok(self.linkage.summary())
+    }
+
+    /// Takes another script, and links.
+    fn take_script(&mut self, script: Script) -> Result<Linked, AllocError>
+        ensures taken { IfOk result (λ l. (self.new ≡ record self.old { script = script }) × (l ≡ linked_of (link self.new))) }
+        ensures unchanged { OnErr result (self.new ≡ self.old) }
+    {
+        let linkage = link(self.alloc, &self.objects, &script)?;
+        self.script = script;
+        self.linkage = linkage;
+        Ok(self.linkage.summary())
+    }
+
+    fn add(&mut self, name: &[u8], at: u64, bytes: Vec<u8>, meter: &mut Meter) -> Result<Linked, EditRefusal>
+        ensures { Applied self.old (Add name.now at bytes.items) self.new result }
+    {
+        if let Some(refusal) = early_refusal(&self.objects, name, at, &bytes) {
+            return Err(refusal);
+        }
+        match Object::read(self.alloc, bytes, meter) {
+            Err((_bytes, why)) => Err(object_refused(why)),
+            Ok(object) => match self.take_object(name, object) {
+                Err(_) => Err(EditRefusal::NO_MEMORY),
+                Ok(linked) => Ok(linked),
+            },
+        }
+    }
+
+    fn set_script(&mut self, text: &[u8]) -> Result<Linked, EditRefusal>
+        ensures { Applied self.old (SetScript text.now) self.new result }
+    {
+        if is_payload_too_long(text) {
+            return Err(EditRefusal { n: 6, m: 0 });
+        }
+        match Script::read(self.alloc, text) {
+            Err(why) => Err(script_refused(why)),
+            Ok(script) => match self.take_script(script) {
+                Err(_) => Err(EditRefusal::NO_MEMORY),
+                Ok(linked) => Ok(linked),
+            },
+        }
+    }
+}
+
+impl Linker for Plain {
+    ghost project = { λ s. s };
+
+    fn apply(&mut self, edit: Edit<'_>, meter: &mut Meter) -> Result<Linked, EditRefusal> {
+        match edit {
+            Edit::Add { name, at, bytes } => self.add(name, at, bytes, meter),
+            Edit::Script { text } => self.set_script(text),
+        }
+    }
+
+    fn image(&self) -> &[u8] {
+        self.linkage.image()
+    }
+
+    fn status(&self) -> u8 {
+        self.linkage.status()
+    }
+}
