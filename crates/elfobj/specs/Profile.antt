@@ -1,5 +1,5 @@
 -- What holds of each linked section of an object.
-use Rattle.std.specs.Prelude.{◌≡◌, ℕ, ◌^◌, ◌<◌, ◌≤◌, ◌⊎◌, List, length, IsTrue}
+use Rattle.std.specs.Prelude.{◌≡◌, ℕ, ◌^◌, ◌<◌, ◌≤◌, ◌⊎◌, length, IsTrue}
 use Rattle.std.specs.Int.{is_power_of_two}
 use Rattle.std.specs.Int.Bits.{bit_or}
 use Rattle.elfobj.specs.Names.{is_name}
