@@ -1,13 +1,13 @@
 -- What the tests of the section headers leave known of them.
-use Rattle.std.specs.Prelude.{◌≡◌, ℕ, ◌+◌, ◌≤◌, List, length, true, false}
+use Rattle.std.specs.Prelude.{◌≡◌, ℕ, ◌+◌, ◌≤◌, List, length, None, true, false}
 use Rattle.std.specs.List.{list_any}
 use Rattle.std.specs.Option.{option_map_or}
 use Rattle.elfobj.specs.ElfHeader.{e_shstrndx}
 use Rattle.elfobj.specs.Names.{is_name}
-use Rattle.elfobj.specs.Places.{IsFileWithin, name_in, bytes_in, IsWithin}
-use Rattle.elfobj.specs.Refusal.{holds, is_unread}
+use Rattle.elfobj.specs.Places.{AreRead, IsFileWithin, name_in, bytes_in, IsWithin}
+use Rattle.elfobj.specs.Refusal.{object_refusal, holds, is_unread}
 use Rattle.elfobj.specs.SectionHeaders.{header, headers}
-use Rattle.elfobj.specs.Sections.{LinkedSection, section_of, name_of}
+use Rattle.elfobj.specs.Sections.{sections_of, LinkedSection, section_of, name_of}
 use Rattle.elfobj.specs.declared.place.Place.{Place}
 use Rattle.elfobj.specs.declared.refusal.ObjectRefusal.TheVariants.{SectionBounds, SectionProfile}
 use Rattle.elfobj.specs.declared.section.Section.{Section}
@@ -36,3 +36,8 @@ pub record IsPlaced (file : List ℕ) (linked : LinkedSection) (read : Section) 
   pub name : name_in file place ≡ linked.name
   pub bytes : bytes_in file place ≡ linked.bytes
   pub within : IsWithin (length file) place
+
+-- what an object keeps: bytes that no test refuses, and what was read of them
+pub record IsObject (file : List ℕ) (read : List Section) (places : List Place) : Type 0 where
+  pub refusal : object_refusal file ≡ None
+  pub sections : AreRead file (sections_of file) read places

@@ -1,17 +1,12 @@
 -- What holds of each linked section of an object.
-use Rattle.std.specs.Prelude.{◌≡◌, ℕ, ◌^◌, ◌<◌, ◌≤◌, ◌⊎◌, List, [], length, IsTrue}
+use Rattle.std.specs.Prelude.{◌≡◌, ℕ, ◌^◌, ◌<◌, ◌≤◌, ◌⊎◌, [], length, IsTrue}
 use Rattle.std.specs.Int.{is_power_of_two}
 use Rattle.std.specs.Int.Bits.{bit_or}
 use Rattle.elfobj.specs.Names.{is_name}
-use Rattle.elfobj.specs.Refusal.{object_refusal}
-use Rattle.elfobj.specs.Places.{AreRead}
-use Rattle.elfobj.specs.Sections.{LinkedSection, sections_of}
+use Rattle.elfobj.specs.Sections.{LinkedSection}
 use Rattle.elfobj.specs.declared.constants.TheConstants.{PROFILE_FLAGS}
-use Rattle.elfobj.specs.declared.place.Place.{Place}
-use Rattle.elfobj.specs.declared.section.Section.{Section}
 use Rattle.elfobj.specs.declared.section.SectionKind.{SectionKind}
 use Rattle.elfobj.specs.declared.section.SectionKind.TheVariants.{Nobits}
-use Rattle.std.specs.Prelude.{None}
 
 -- how many bytes of the file a section of so many bytes has
 abbrev pub size_in_file : SectionKind → ℕ → ℕ
@@ -28,8 +23,3 @@ pub record IsSectionOfProfile (s : LinkedSection) : Type 0 where
   pub size : s.size ≤ 2 ^ 31
   pub alignment : (s.alignment ≡ 0) ⊎ IsTrue (is_power_of_two s.alignment)
   pub bytes : length s.bytes ≡ size_in_file s.kind s.size
-
--- what an object keeps: bytes that no test refuses, and what was read of them
-pub record IsObject (file : List ℕ) (read : List Section) (places : List Place) : Type 0 where
-  pub refusal : object_refusal file ≡ None
-  pub sections : AreRead file (sections_of file) read places

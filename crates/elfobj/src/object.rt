@@ -1,6 +1,6 @@
 //! An object: its bytes, and what was read of them.
 
-ghost use Rattle.std.specs.Prelude.{◌≡◌, ◌≤◌, ◌<◌, ◌⊎◌, IfErr, IfOk, None, Some, length, map};
+ghost use Rattle.std.specs.Prelude.{◌≡◌, ◌≤◌, ◌<◌, ◌⊎◌, IfErr, IfOk, None, Some, find, length, map};
 ghost use Rattle.std.specs.List.{All, slice_get};
 ghost use Rattle.elfobj.specs.Raised.{raised};
 ghost use Rattle.elfobj.specs.declared.meter.Count.TheVariants.{Objects};
@@ -26,7 +26,7 @@ pub struct Object {
 
 impl Model for Object {
     ghost use Rattle.elfobj.specs.Object.{ObjectData, object_of};
-    ghost use Rattle.elfobj.specs.Profile.{IsObject};
+    ghost use Rattle.elfobj.specs.Linkable.{IsObject};
 
     ghost Value = { ObjectData };
 
@@ -38,11 +38,12 @@ impl Model for Object {
 impl Object {
     ghost use Rattle.elfobj.specs.Object.{object_of};
     ghost use Rattle.elfobj.specs.Profile.{IsSectionOfProfile};
-    ghost use Rattle.elfobj.specs.Refusal.{object_refusal};
+    ghost use Rattle.elfobj.specs.Refusal.{header_refusals, holds, object_refusal};
     ghost use Rattle.elfobj.specs.Sections.{section_of};
 
     /// Reads an object, and counts it whether it is one or not. Bytes that are no object are given back,
-    /// with the lowest refusal whose condition holds, or with `NoMemory` where memory runs out.
+    /// with the lowest refusal whose condition holds, or with `NoMemory` where memory runs out. What the ELF
+    /// header alone refuses is told without any memory.
     pub fn read(
         alloc: Global,
         bytes: Vec<u8>,
@@ -50,6 +51,7 @@ impl Object {
     ) -> Result<Object, (Vec<u8>, ObjectRefusal)>
         ensures ok { IfOk result (λ o. (object_refusal bytes.items ≡ None) × (o ≡ object_of bytes.items)) }
         ensures refused { IfErr result (λ e. (e.1 ≡ NoMemory) ⊎ (object_refusal bytes.items ≡ Some e.1)) }
+        ensures memory { IfErr result (λ e. e.1 ≡ NoMemory → find (holds bytes.items) header_refusals ≡ None) }
         ensures bytes { IfErr result (λ e. e.0.items ≡ bytes.items) }
         ensures counted { meter.new ≡ raised meter.old Objects 1 }
     {

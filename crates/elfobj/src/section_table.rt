@@ -5,7 +5,7 @@ ghost use Rattle.std.specs.List.{list_any};
 ghost use Rattle.elfobj.specs.Linkable.{IsNameTable, PassesTests};
 ghost use Rattle.elfobj.specs.Places.{AreRead};
 ghost use Rattle.elfobj.specs.ElfHeader.{e_shstrndx};
-ghost use Rattle.elfobj.specs.Refusal.{holds, is_out_of_bounds, is_outside_profile_by, is_unread, object_refusal, section_refusals};
+ghost use Rattle.elfobj.specs.Refusal.{holds, is_out_of_bounds, is_outside_profile_by, is_unread, header_refusals, object_refusal, section_refusals};
 ghost use Rattle.elfobj.specs.SectionHeaders.{header, headers as headers_of};
 ghost use Rattle.elfobj.specs.SectionTable.{HasSectionTable};
 ghost use Rattle.elfobj.specs.Sections.{sections_of};
@@ -77,6 +77,7 @@ pub fn read_sections(alloc: Global, bytes: &[u8]) -> Result<Linked, ObjectRefusa
     ensures ok { IfOk result (λ l. object_refusal bytes.now ≡ None) }
     ensures read { IfOk result (λ l. AreRead bytes.now (sections_of bytes.now) l.sections.items l.places.items) }
     ensures refused { IfErr result (λ e. (e ≡ NoMemory) ⊎ (object_refusal bytes.now ≡ Some e)) }
+    ensures memory { IfErr result (λ e. e ≡ NoMemory → find (holds bytes.now) header_refusals ≡ None) }
 {
     if let Some(refusal) = header_refusal(bytes) {
         return Err(refusal);

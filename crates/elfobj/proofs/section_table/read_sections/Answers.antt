@@ -1,5 +1,6 @@
 use Rattle.std.proofs.Common.{◌∙◌, sym, inr, arith}
-use Rattle.elfobj.proofs.Refusals.{refused_by_header, refused_by_sections, refused_by_count, accepted}
+use Rattle.elfobj.specs.Refusal.{header_refusals}
+use Rattle.elfobj.proofs.Refusals.{no_memory_found, refused_by_header, refused_by_sections, refused_by_count, accepted}
 use Rattle.elfobj.proofs.section_table.read_sections.Goals as goal
 
 pub returns-in-Some-clause-refused : goal.returns-in-Some-clause-refused
@@ -18,3 +19,6 @@ pub returns-clause-ok : goal.returns-clause-ok
 returns-clause-ok c =
     accepted c.args.bytes.now c.in-Ok-linked_sections.linked.sections.items c.in_default-section_refusal.ensures.passed (sym c.header_refusal.ensures.value ∙ c.in_default.is)
     c.in-Ok-linked_sections.ensures.sections (omega arith)
+
+pub returns-in-Some-clause-memory : goal.returns-in-Some-clause-memory
+returns-in-Some-clause-memory c = λ e. no_memory_found c.args.bytes.now header_refusals c.in-Some.refusal (sym c.header_refusal.ensures.value ∙ c.in-Some.is) e
