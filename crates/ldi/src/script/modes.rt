@@ -7,6 +7,7 @@ ghost use Rattle.ldi.specs.Modes.{mode_of, is_stretch_word, depth_after, opened,
 use super::bytes::is_one_of;
 use super::token::{LexState, Mark, Mode, Stretch, TokenKind};
 
+/// The words whose parentheses hold an expression.
 const STRETCH_WORDS: [&[u8]; 6] = [b"BYTE", b"SHORT", b"LONG", b"QUAD", b"PROVIDE", b"ASSERT"];
 
 /// Whether a `(` right after this word begins a stretch.

@@ -9,6 +9,7 @@ use super::bytes::is_one_of;
 /// The greatest length of a name or word.
 const LONGEST: usize = 255;
 
+/// The words that the language keeps for itself.
 const RESERVED: [&[u8]; 32] = [
     b"ENTRY",
     b"MEMORY",
@@ -67,6 +68,7 @@ fn is_pattern_sign(b: u8) -> bool
     matches!(b, b'*' | b'?' | b'[' | b']' | b'\\')
 }
 
+/// Whether a pattern sign is among these bytes.
 fn has_pattern_sign(word: &[u8]) -> bool
     ensures { result ≡ list_any is_pattern_sign word.now }
 {
