@@ -70,14 +70,14 @@ pub fn pattern_mark(first: u8, second: u8) -> Option<Mark>
     ensures value { result ≡ pattern_mark first second }
     ensures doubled { IfSome result (λ m. 1 < mark_length m → 0 < second) }
 {
-    match first {
-        b'(' => Some(Mark::OpenParenthesis),
-        b')' => Some(Mark::CloseParenthesis),
-        b'{' => Some(Mark::OpenBrace),
-        b'}' => Some(Mark::CloseBrace),
-        b';' => Some(Mark::Semicolon),
-        b'=' => Some(Mark::Assign),
-        b'+' if second == b'=' => Some(Mark::AddAssign),
+    match (first, second) {
+        (b'(', _) => Some(Mark::OpenParenthesis),
+        (b')', _) => Some(Mark::CloseParenthesis),
+        (b'{', _) => Some(Mark::OpenBrace),
+        (b'}', _) => Some(Mark::CloseBrace),
+        (b';', _) => Some(Mark::Semicolon),
+        (b'=', _) => Some(Mark::Assign),
+        (b'+', b'=') => Some(Mark::AddAssign),
         _ => None,
     }
 }
