@@ -1,10 +1,8 @@
 //! The names and words that a script may give.
 
-ghost use Rattle.std.specs.Prelude.{◌≡◌};
+ghost use Rattle.std.specs.Prelude.{◌≡◌, bytes_eq};
 ghost use Rattle.std.specs.List.{list_any};
 ghost use Rattle.ldi.specs.ScriptForm.{is_reserved, is_free_name, is_pattern_sign, is_free_word};
-
-use super::bytes::is_one_of;
 
 /// The greatest length of a name or word.
 const LONGEST: usize = 255;
@@ -44,6 +42,13 @@ const RESERVED: [&[u8]; 32] = [
     b"SQUAD",
     b"INPUT_SECTION_FLAGS",
 ];
+
+/// Whether it is one of these words.
+pub fn is_one_of(words: &[&[u8]], word: &[u8]) -> bool
+    ensures { result ≡ list_any (λ w. bytes_eq w.now word.now) words.now }
+{
+    words.iter().any(|w| *w == word)
+}
 
 /// Whether the language keeps this word for itself.
 #[tactic(auto, unfolding(crate::specs::ScriptForm::is_reserved))]
