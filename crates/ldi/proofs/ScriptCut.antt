@@ -1,14 +1,14 @@
 -- A cut of a text, a token at a time.
-use Rattle.std.proofs.Common.{◌≡◌, ℕ, List, [], ◌∷◌, ◌++◌, drop, take, length, map, ◌+◌, ◌-◌, ◌<◌, ◌≤◌, refl, sym, ◌∙◌, ap, subst, append_assoc, append-nil, arith}
-use Rattle.std.specs.List.{All, slice_range}
+use Rattle.std.proofs.Common.{◌≡◌, ℕ, List, [], ◌∷◌, ◌++◌, drop, map, ◌+◌, ◌-◌, ◌≤◌, refl, sym, ◌∙◌, ap, subst, append_assoc, append-nil, arith}
+use Rattle.std.specs.List.{slice_range}
 use Rattle.std.proofs.lemmas.List.{drop-drop, map-append}
-use Rattle.ldi.specs.Tokens.{Token, Front, End, Blank, Begins, Nothing, front, token_of, spelled_token, front_of}
-use Rattle.ldi.specs.Modes.{IsCut, ended, blank, token, mode_of, state_after, at_start, IsShallow, IsShortStretch, IsPlace}
+use Rattle.ldi.specs.Tokens.{Token, End, Blank, Begins, Nothing, front, token_of, spelled_token, front_of}
+use Rattle.ldi.specs.Modes.{IsCut, ended, blank, token, mode_of, state_after, at_start, IsShallow, IsShortStretch}
 use Rattle.ldi.specs.declared.script.token.LexState.{LexState}
 use Rattle.ldi.specs.declared.script.token.CodeToken.{CodeToken}
 use Rattle.ldi.specs.declared.script.token.Stretch.{Stretch}
 use Rattle.ldi.specs.declared.script.token.Stretch.TheVariants.{Closed, Awaited, ToSemicolon, ToParenthesis}
-use Rattle.ldi.specs.declared.script.front.Ahead.TheVariants.{Space, Found}
+use Rattle.ldi.specs.declared.script.front.Ahead.TheVariants.{Found}
 
 pub cut_end : {p : LexState} {text : List ℕ} {ts : List Token} → front (mode_of p) text ≡ End → IsCut p text ts → ts ≡ []
 cut_end h (ended e) = refl

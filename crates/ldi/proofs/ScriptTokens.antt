@@ -1,9 +1,9 @@
 -- A text has one list of tokens, and its tokens one tree at most.
-use Rattle.std.proofs.Common.{◌≡◌, ℕ, ◌<◌, ◌≤◌, ◌^◌, List, [], ◌∷◌, length, true, refl, sym, ◌∙◌, ap, subst, Result, Ok, Err, IfErr, ◌⊎◌, inl, inr}
+use Rattle.std.proofs.Common.{◌≡◌, ℕ, ◌≤◌, ◌^◌, List, [], ◌∷◌, length, refl, sym, ◌∙◌, ap, subst, Result, Ok, Err, IfErr, ◌⊎◌, inl, inr}
 use Rattle.ldi.specs.Tokens.{Token}
 use Rattle.ldi.specs.Modes.{IsCut, ended, blank, token, at_start}
 use Rattle.ldi.specs.Tree.{Tree}
-use Rattle.ldi.specs.ScriptForm.{IsForm, empty, section, IsScript, IsAllowed, start_tokens, head_tokens, body_tokens, form_tokens, number_value, is_free_name, is_free_word, FormData, IsFormOf, form_tree, IsScriptRefusal}
+use Rattle.ldi.specs.ScriptForm.{IsForm, empty, section, IsScript, IsAllowed, start_tokens, head_tokens, body_tokens, form_tokens, FormData, IsFormOf, form_tree, IsScriptRefusal}
 use Rattle.ldi.specs.declared.script.refusal.ScriptRefusal.{ScriptRefusal}
 use Rattle.ldi.specs.declared.script.refusal.ScriptRefusal.TheVariants.{NoMemory, NotYet}
 use Rattle.ldi.specs.declared.script.token.LexState.{LexState}

@@ -1,10 +1,9 @@
 -- In which mode each token of a script is read, and the cut of a whole text.
 use Rattle.std.specs.Prelude.{◌≡◌, ℕ, ◌+◌, ◌-◌, ◌≤◌, List, [], ◌∷◌, drop, Bool, ◌==◌, if◌then◌else◌, codes, bytes_eq}
 use Rattle.std.specs.List.{list_any}
-use Rattle.ldi.specs.Tokens.{Token, Name, Number, Text, Discard, Word, Punctuation, Front, End, Blank, Begins, Nothing, front}
+use Rattle.ldi.specs.Tokens.{Token, Word, Punctuation, End, Blank, Begins, front}
 use Rattle.ldi.specs.declared.script.token.Mode.{Mode}
 use Rattle.ldi.specs.declared.script.token.Mode.TheVariants.{Expression, Pattern}
-use Rattle.ldi.specs.declared.script.token.Mark.{Mark}
 use Rattle.ldi.specs.declared.script.token.Mark.TheVariants.{OpenParenthesis, CloseParenthesis, OpenBrace, CloseBrace, Semicolon, Assign, AddAssign}
 use Rattle.ldi.specs.declared.script.token.Stretch.{Stretch}
 use Rattle.ldi.specs.declared.script.token.Stretch.TheVariants.{Closed, Awaited, ToSemicolon, ToParenthesis}

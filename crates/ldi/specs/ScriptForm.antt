@@ -1,5 +1,5 @@
 -- The scripts that this version reads, and the refusals of all others.
-use Rattle.std.specs.Prelude.{◌≡◌, ℕ, ◌+◌, ◌-◌, ◌*◌, ◌^◌, ◌<◌, ◌≤◌, List, [], ◌∷◌, length, take, drop, slice_index, fold, Bool, true, false, not, ◌&&◌, ◌||◌, ◌==◌, nat_le, if◌then◌else◌, codes, bytes_eq, Option, Some, None}
+use Rattle.std.specs.Prelude.{◌≡◌, ℕ, ◌+◌, ◌-◌, ◌*◌, ◌^◌, ◌<◌, ◌≤◌, List, [], ◌∷◌, length, take, drop, slice_index, fold, Bool, true, not, ◌&&◌, ◌||◌, ◌==◌, nat_le, if◌then◌else◌, codes, bytes_eq, Option, Some, None}
 use Rattle.std.specs.List.{list_any}
 use Rattle.ldi.specs.Bytes.{is_decimal_digit}
 use Rattle.ldi.specs.Tokens.{Token, Name, Number, Word, Punctuation, is_hex, digits_length}

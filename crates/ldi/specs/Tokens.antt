@@ -1,7 +1,7 @@
 -- The tokens of a script, and how a text is cut into them: from left to right, each as long as possible.
 -- White space and comments part tokens. A comment begins only where a token could begin, goes before any token
 -- there, and runs from `/*` to the next `*/` behind it.
-use Rattle.std.specs.Prelude.{◌≡◌, ℕ, suc, ◌+◌, ◌-◌, List, [], ◌∷◌, length, take, drop, slice_index, position, Option, Some, None, Bool, true, false, not, ◌&&◌, ◌||◌, ◌==◌, nat_lt, if◌then◌else◌, codes, bytes_eq, slice_range, ◌<◌, ◌≤◌}
+use Rattle.std.specs.Prelude.{ℕ, ◌+◌, List, [], ◌∷◌, take, drop, slice_index, Option, Some, None, Bool, not, ◌&&◌, ◌||◌, ◌==◌, if◌then◌else◌, codes, bytes_eq, slice_range, ◌<◌, ◌≤◌}
 use Rattle.std.specs.Option.{option_map}
 use Rattle.ldi.specs.Bytes.{is_space, is_name_start, is_name_byte, is_decimal_digit, is_octal_digit, is_hex_digit, is_word_byte, is_graphic, is_text_byte, run_length}
 use Rattle.ldi.specs.declared.script.token.Mode.{Mode}

@@ -1,7 +1,6 @@
 -- The tree of a script (GNU ld manual, "Linker Scripts"), as far as this version reads it: assignments of a
 -- number to `.`, and output sections whose bodies are input statements.
-use Rattle.std.specs.Prelude.{ℕ, List, [], ◌∷◌, Bool, true, false, bytes_eq, Option, Some, None}
-use Rattle.std.specs.List.{flat_map}
+use Rattle.std.specs.Prelude.{ℕ, List, Bool, true, bytes_eq}
 
 pub data Expr : Type 0 where
   Number : (n : ℕ) → Expr

@@ -5,6 +5,7 @@ pub mod cursor;
 pub mod form;
 pub mod front;
 pub mod lexer;
+pub mod marks;
 pub mod modes;
 pub mod number;
 pub mod reader;

@@ -1,7 +1,6 @@
 //! Kinds of bytes in a script, in ASCII.
 
-ghost use Rattle.std.specs.Prelude.{◌≡◌, ◌<◌, length, slice_index, bytes_eq};
-ghost use Rattle.std.specs.List.{list_any};
+ghost use Rattle.std.specs.Prelude.{◌≡◌, ◌<◌, length, slice_index};
 ghost use Rattle.ldi.specs.Bytes.{is_letter, is_decimal_digit, is_octal_digit, is_hex_digit, is_space, is_name_start, is_name_byte, is_word_byte, is_graphic, is_text_byte};
 
 /// Whether it is one of `A-Z a-z`.
@@ -80,11 +79,4 @@ pub fn byte_at(text: &[u8], index: usize) -> u8
     ensures within { 0 < result → index < length text.now }
 {
     text.get(index).copied().unwrap_or(0)
-}
-
-/// Whether it is one of these words.
-pub fn is_one_of(words: &[&[u8]], word: &[u8]) -> bool
-    ensures { result ≡ list_any (λ w. bytes_eq w.now word.now) words.now }
-{
-    words.iter().any(|w| *w == word)
 }

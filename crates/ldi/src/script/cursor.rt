@@ -7,6 +7,7 @@ ghost use Rattle.ldi.specs.Modes.{IsPlace};
 use super::token::{CodeToken, Mark, TokenKind};
 use std::marker::Model;
 
+/// The first of these tokens, and the others.
 fn split(tokens: &[CodeToken]) -> Option<(CodeToken, &[CodeToken])>
     ensures { MatchOption result (tokens.now ≡ []) (λ x. tokens.now ≡ x.0 ∷ x.1.now) }
 {

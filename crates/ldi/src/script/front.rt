@@ -2,14 +2,16 @@
 
 ghost use Rattle.std.specs.Prelude.{◌≡◌, ◌<◌, ◌≤◌, ◌+◌, ◌^◌, true, length, drop, slice_index, IfSome, if◌then◌else◌, ◌==◌};
 ghost use Rattle.ldi.specs.Bytes.{is_name_start, is_name_byte, is_octal_digit, is_decimal_digit, is_hex_digit, is_text_byte, run_length};
-ghost use Rattle.ldi.specs.Tokens.{front_of, IsAdvance, is_hex, digits_length, number_length, name_front, number_front, text_front, star_slash, comment_front, mark_of, mark_length, mark_front, expression_front, word_length, word_front, pattern_mark, pattern_front, front};
+ghost use Rattle.ldi.specs.Tokens.{front_of, IsAdvance, is_hex, digits_length, number_length, name_front, number_front, text_front, star_slash, comment_front, mark_front, expression_front, word_length, word_front, pattern_front, front};
 
 use super::bytes::{
     byte_at, is_decimal_digit, is_graphic, is_hex_digit, is_name_byte, is_name_start,
     is_octal_digit, is_space, is_text_byte, is_word_byte,
 };
-use super::token::{CodeToken, Mark, Mode, TokenKind};
+use super::marks::{mark_length, mark_of, pattern_mark};
+use super::token::{CodeToken, Mode, TokenKind};
 
+/// The name of what is left out, a token by itself.
 const DISCARD: &[u8] = b"/DISCARD/";
 
 /// What stands at the front of a text. Places are counted from there.
@@ -190,65 +192,6 @@ fn comment_front(text: &[u8]) -> Ahead
     }
 }
 
-/// The mark that a byte begins outside patterns, by the byte after it.
-#[tactic(auto, unfolding(crate::specs::Tokens::mark_of))]
-fn mark_of(first: u8, second: u8) -> Option<Mark>
-    ensures value { result ≡ mark_of first second }
-    ensures doubled { IfSome result (λ m. 1 < mark_length m → 0 < second) }
-{
-    match first {
-        b'(' => Some(Mark::OpenParenthesis),
-        b')' => Some(Mark::CloseParenthesis),
-        b'{' => Some(Mark::OpenBrace),
-        b'}' => Some(Mark::CloseBrace),
-        b';' => Some(Mark::Semicolon),
-        b':' => Some(Mark::Colon),
-        b',' => Some(Mark::Comma),
-        b'=' if second == b'=' => Some(Mark::Equal),
-        b'=' => Some(Mark::Assign),
-        b'+' if second == b'=' => Some(Mark::AddAssign),
-        b'+' => Some(Mark::Plus),
-        b'!' if second == b'=' => Some(Mark::NotEqual),
-        b'!' => Some(Mark::Not),
-        b'-' => Some(Mark::Minus),
-        b'~' => Some(Mark::Complement),
-        b'*' => Some(Mark::Star),
-        b'/' => Some(Mark::Slash),
-        b'%' => Some(Mark::Percent),
-        b'<' if second == b'<' => Some(Mark::ShiftLeft),
-        b'<' if second == b'=' => Some(Mark::LessOrEqual),
-        b'<' => Some(Mark::Less),
-        b'>' if second == b'>' => Some(Mark::ShiftRight),
-        b'>' if second == b'=' => Some(Mark::GreaterOrEqual),
-        b'>' => Some(Mark::Greater),
-        b'&' if second == b'&' => Some(Mark::AndAnd),
-        b'&' => Some(Mark::And),
-        b'|' if second == b'|' => Some(Mark::OrOr),
-        b'|' => Some(Mark::Or),
-        b'?' => Some(Mark::Question),
-        _ => None,
-    }
-}
-
-/// How many bytes a mark takes.
-fn mark_length(mark: Mark) -> usize
-    ensures value { result ≡ mark_length mark }
-    ensures short { (0 < result) × (result ≤ 2) }
-{
-    match mark {
-        Mark::AddAssign
-        | Mark::ShiftLeft
-        | Mark::ShiftRight
-        | Mark::LessOrEqual
-        | Mark::GreaterOrEqual
-        | Mark::Equal
-        | Mark::NotEqual
-        | Mark::AndAnd
-        | Mark::OrOr => 2,
-        _ => 1,
-    }
-}
-
 /// A mark outside patterns.
 #[tactic(auto, unfolding(crate::specs::Tokens::mark_front))]
 fn mark_front(text: &[u8]) -> Ahead
@@ -322,24 +265,6 @@ fn word_front(text: &[u8]) -> Ahead
     match word_length(text) {
         0 => Ahead::Unknown,
         length => whole(TokenKind::Word, length),
-    }
-}
-
-/// The mark that a byte begins in patterns, by the byte after it.
-#[tactic(auto, unfolding(crate::specs::Tokens::pattern_mark))]
-fn pattern_mark(first: u8, second: u8) -> Option<Mark>
-    ensures value { result ≡ pattern_mark first second }
-    ensures doubled { IfSome result (λ m. 1 < mark_length m → 0 < second) }
-{
-    match first {
-        b'(' => Some(Mark::OpenParenthesis),
-        b')' => Some(Mark::CloseParenthesis),
-        b'{' => Some(Mark::OpenBrace),
-        b'}' => Some(Mark::CloseBrace),
-        b';' => Some(Mark::Semicolon),
-        b'=' => Some(Mark::Assign),
-        b'+' if second == b'=' => Some(Mark::AddAssign),
-        _ => None,
     }
 }
 

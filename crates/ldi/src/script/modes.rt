@@ -4,9 +4,10 @@ ghost use Rattle.std.specs.Prelude.{◌≡◌, ◌<◌, ◌≤◌, ◌^◌, ℕ}
 ghost use Rattle.ldi.specs.Tokens.{spelled_token};
 ghost use Rattle.ldi.specs.Modes.{mode_of, is_stretch_word, depth_after, opened, closed, stretch_after, state_after, at_start, IsShallow, IsShortStretch};
 
-use super::bytes::is_one_of;
 use super::token::{LexState, Mark, Mode, Stretch, TokenKind};
+use super::words::is_one_of;
 
+/// The words whose parentheses hold an expression.
 const STRETCH_WORDS: [&[u8]; 6] = [b"BYTE", b"SHORT", b"LONG", b"QUAD", b"PROVIDE", b"ASSERT"];
 
 /// Whether a `(` right after this word begins a stretch.

@@ -1,14 +1,13 @@
 //! The names and words that a script may give.
 
-ghost use Rattle.std.specs.Prelude.{◌≡◌};
+ghost use Rattle.std.specs.Prelude.{◌≡◌, bytes_eq};
 ghost use Rattle.std.specs.List.{list_any};
 ghost use Rattle.ldi.specs.ScriptForm.{is_reserved, is_free_name, is_pattern_sign, is_free_word};
-
-use super::bytes::is_one_of;
 
 /// The greatest length of a name or word.
 const LONGEST: usize = 255;
 
+/// The words that the language keeps for itself.
 const RESERVED: [&[u8]; 32] = [
     b"ENTRY",
     b"MEMORY",
@@ -44,6 +43,13 @@ const RESERVED: [&[u8]; 32] = [
     b"INPUT_SECTION_FLAGS",
 ];
 
+/// Whether it is one of these words.
+pub fn is_one_of(words: &[&[u8]], word: &[u8]) -> bool
+    ensures { result ≡ list_any (λ w. bytes_eq w.now word.now) words.now }
+{
+    words.iter().any(|w| *w == word)
+}
+
 /// Whether the language keeps this word for itself.
 #[tactic(auto, unfolding(crate::specs::ScriptForm::is_reserved))]
 fn is_reserved(word: &[u8]) -> bool
@@ -67,6 +73,7 @@ fn is_pattern_sign(b: u8) -> bool
     matches!(b, b'*' | b'?' | b'[' | b']' | b'\\')
 }
 
+/// Whether a pattern sign is among these bytes.
 fn has_pattern_sign(word: &[u8]) -> bool
     ensures { result ≡ list_any is_pattern_sign word.now }
 {

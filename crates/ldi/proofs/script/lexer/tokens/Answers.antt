@@ -1,9 +1,7 @@
-use Rattle.std.proofs.Common.{◌≡◌, ◌+◌, ◌++◌, ◌∷◌, [], ◌≤◌, List, drop, map, length, sym, ◌∙◌, ap, arith, rules}
-use Rattle.std.proofs.lemmas.Grind.{common_steps}
-use Rattle.std.specs.List.{All}
-use Rattle.ldi.specs.Tokens.{End, Blank, Nothing, front, front_of, token_of}
-use Rattle.ldi.specs.Modes.{mode_of, state_after, IsPlace}
-use Rattle.ldi.proofs.ScriptCut.{IsCutTo, cut_to_end, cut_to_nothing, cut_to_space, cut_to_found, still_shallow, behind}
+use Rattle.std.proofs.Common.{◌≡◌, ◌+◌, ◌++◌, ◌∷◌, [], sym, arith, rules}
+use Rattle.ldi.specs.Tokens.{token_of}
+use Rattle.ldi.specs.Modes.{state_after}
+use Rattle.ldi.proofs.ScriptCut.{cut_to_end, cut_to_nothing, cut_to_space, cut_to_found, still_shallow, behind}
 use Rattle.ldi.proofs.script.lexer.tokens.Goals as goal
 
 pub returns-in-Finished-clause-cut : goal.returns-in-Finished-clause-cut
