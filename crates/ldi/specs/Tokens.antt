@@ -73,9 +73,15 @@ comment_to (Some n) = Blank (n + 4)
 unfoldable pub comment_front : List ℕ → Front
 comment_front text = comment_to (star_slash (drop 2 text))
 
--- NAME: a letter, `_` or `.`, then any of letters, digits, `_ . $ -`
+-- NAME: a letter, `_` or `.`, then any of letters, digits, `_ . $ -`; none begins with `.-`, so that `.-4` is a
+-- subtraction from `.`
+abbrev pub name_length : List ℕ → ℕ
+name_length text =
+    if (slice_index text 0 == 46) && (slice_index text 1 == 45) then 1
+    else run_length is_name_byte text
+
 unfoldable pub name_front : List ℕ → Front
-name_front text = let n = run_length is_name_byte text in Begins (Name (take n text)) n
+name_front text = let n = name_length text in Begins (Name (take n text)) n
 
 -- NUMBER: 0x or 0X and hex digits; 0 and octal digits; 1-9 and decimal digits
 abbrev pub is_hex : List ℕ → Bool

@@ -2,7 +2,7 @@
 
 ghost use Rattle.std.specs.Prelude.{◌≡◌, ◌<◌, ◌≤◌, ◌+◌, ◌^◌, true, length, drop, slice_index, IfSome, if◌then◌else◌, ◌==◌};
 ghost use Rattle.ldi.specs.Bytes.{is_name_start, is_name_byte, is_octal_digit, is_decimal_digit, is_hex_digit, is_text_byte, run_length};
-ghost use Rattle.ldi.specs.Tokens.{front_of, IsAdvance, is_hex, digits_length, number_length, name_front, number_front, text_front, star_slash, comment_front, mark_front, expression_front, word_length, word_front, pattern_front, front};
+ghost use Rattle.ldi.specs.Tokens.{front_of, IsAdvance, is_hex, digits_length, number_length, name_length, name_front, number_front, text_front, star_slash, comment_front, mark_front, expression_front, word_length, word_front, pattern_front, front};
 
 use super::bytes::{
     byte_at, is_decimal_digit, is_graphic, is_hex_digit, is_name_byte, is_name_start,
@@ -81,6 +81,19 @@ fn text_run(text: &[u8]) -> usize
     text.iter().take_while(|b| is_text_byte(**b)).count()
 }
 
+/// How long the name at the front is: no name begins with `.-`.
+fn name_length(text: &[u8]) -> usize
+    requires { 0 < length text.now }
+    ensures value { result ≡ name_length text.now }
+    ensures within { result ≤ length text.now }
+{
+    if text.len() > 1 && text[0] == b'.' && text[1] == b'-' {
+        1
+    } else {
+        name_run(text)
+    }
+}
+
 /// A name, where a byte stands that begins one.
 #[tactic(auto, unfolding(crate::specs::Tokens::name_front))]
 fn name_front(text: &[u8]) -> Ahead
@@ -88,7 +101,7 @@ fn name_front(text: &[u8]) -> Ahead
     ensures value { front_of text.now result ≡ name_front text.now }
     ensures advance { IsAdvance (length text.now) result }
 {
-    whole(TokenKind::Name, name_run(text))
+    whole(TokenKind::Name, name_length(text))
 }
 
 /// Whether `0x` or `0X` and a hex digit stand at the front.
