@@ -1,0 +1,6 @@
+pub mod StreamLines
+pub mod StreamWriting
+pub mod StreamGrammar
+pub mod StreamRuns
+pub mod StreamSteps
+pub mod StreamEnds
