@@ -4,3 +4,4 @@ pub mod StreamGrammar
 pub mod StreamRuns
 pub mod StreamSteps
 pub mod StreamEnds
+pub mod StreamWords

@@ -46,13 +46,20 @@ decimal_no b n low small =
     (λ d ds _ h. no-append b ds ((48 + d % 10) ∷ []) h (λ e. absurd (omega (arith, e)), tt)) n small
 
 -- a test of literal bytes
-abbrev has_no : ℕ → List ℕ → Bool
+abbrev pub has_no : ℕ → List ℕ → Bool
 has_no b [] = true
 has_no b (x ∷ xs) = not (x == b) && has_no b xs
 
-no_by_test : (b : ℕ) (xs : List ℕ) → has_no b xs ≡ true → HasNo b xs
+both : (p q : Bool) → p && q ≡ true → (p ≡ true) × (q ≡ true)
+both true q e = (refl, e)
+both false q e = absurd (false≢true e)
+
+differs : (x b : ℕ) → not (x == b) ≡ true → x ≢ b
+differs x b e same = false≢true (rw (eq-eqb x b same) at e)
+
+pub no_by_test : (b : ℕ) (xs : List ℕ) → has_no b xs ≡ true → HasNo b xs
 no_by_test b [] e = tt
-no_by_test b (x ∷ xs) e = (λ same. let t = eq-eqb x b same in false≢true (rw t at e), no_by_test b xs ?)
+no_by_test b (x ∷ xs) e = let two = both (not (x == b)) (has_no b xs) e in (differs x b two.0, no_by_test b xs two.1)
 
 -- ---- lines
 
@@ -82,21 +89,24 @@ one_object name name' at at' count count' n n' a a' c c' e =
 add_same : (name name' : List ℕ) (at at' count count' : ℕ) → name ≡ name' → at ≡ at' → count ≡ count' → AddHead name at count ≡ AddHead name' at' count'
 add_same name name' at at' count count' n a c = cc
 
+apart : (a b : ℕ) (x y : List ℕ) → a ≢ b → a ∷ x ≡ b ∷ y → ⊥
+apart a b x y n e = let same : a ≡ b = cc in n same
+
 pub one_head : (h k : Head) → IsHead h → IsHead k → head_line h ≡ head_line k → h ≡ k
 unfolding head_line
 one_head (AddHead name at count) (AddHead name' at' count') i j e =
     let words : object_words name at count ≡ object_words name' at' count' = cc in
     let one = one_object name name' at at' count count' i.numbers.0.no_space j.numbers.0.no_space i.numbers.1 j.numbers.1 i.numbers.2 j.numbers.2 words in
     add_same _ _ _ _ _ _ one.0 one.1 one.2
-one_head (AddHead name at count) (ScriptHead n) i j e = cc
-one_head (AddHead name at count) ImageHead i j e = cc
-one_head (ScriptHead n) (AddHead name at count) i j e = cc
+one_head (AddHead name at count) (ScriptHead n) i j e = absurd (apart 97 115 _ _ (omega arith) e)
+one_head (AddHead name at count) ImageHead i j e = absurd (apart 97 105 _ _ (omega arith) e)
+one_head (ScriptHead n) (AddHead name at count) i j e = absurd (apart 115 97 _ _ (omega arith) e)
 one_head (ScriptHead m) (ScriptHead n) i j e =
     let words : decimal m ≡ decimal n = cc in
     ap ScriptHead (decimal_injective m n (small_count m i.numbers) (small_count n j.numbers) words)
-one_head (ScriptHead n) ImageHead i j e = cc
-one_head ImageHead (AddHead name at count) i j e = cc
-one_head ImageHead (ScriptHead n) i j e = cc
+one_head (ScriptHead n) ImageHead i j e = absurd (apart 115 105 _ _ (omega arith) e)
+one_head ImageHead (AddHead name at count) i j e = absurd (apart 105 97 _ _ (omega arith) e)
+one_head ImageHead (ScriptHead n) i j e = absurd (apart 105 115 _ _ (omega arith) e)
 one_head ImageHead ImageHead i j e = refl
 
 -- how long a payload the head announces

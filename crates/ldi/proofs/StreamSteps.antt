@@ -2,8 +2,9 @@ use Rattle.std.proofs.Common.{◌≡◌, ℕ, ◌+◌, ◌<◌, ◌≤◌, ◌�
 use Rattle.std.specs.Io.KnownBytes.{Consumes, Appends, Keeps, IsAtEnd}
 use Rattle.std.proofs.KnownBytes.{Consumes-trans}
 use Rattle.ldi.specs.Project.{Project}
+use Rattle.ldi.specs.Edits as edits
 use Rattle.ldi.specs.Edits.{Change}
-use Rattle.ldi.specs.Commands.{Command, Head, head_of, payload_of, head_line, IsHead, IsCommand, spelling}
+use Rattle.ldi.specs.Commands.{Command, Add, SetScript, Head, AddHead, ScriptHead, head_of, payload_of, head_line, IsHead, IsCommand, spelling}
 use Rattle.ldi.specs.Answers.{BeginsCommand, EditReply, Reply}
 use Rattle.ldi.specs.Stepped.{World, world, Stepped, EditStepped}
 use Rattle.ldi.specs.declared.stream.fault.RunFault.{RunFault}
@@ -18,6 +19,12 @@ pub record IsEdit (h : Head) (command : List ℕ → Command) (change : List ℕ
   pub head : (bytes : List ℕ) → length bytes ≡ n → head_of (command bytes) ≡ h
   pub payload : (bytes : List ℕ) → payload_of (command bytes) ≡ bytes
   pub replies : (p q : Project) (bytes answer : List ℕ) → EditReply p (change bytes) answer q → Reply p (command bytes) answer q
+
+pub script_edit : (n : ℕ) → IsEdit (ScriptHead n) SetScript edits.SetScript n
+script_edit n = record { announces = refl; head = λ bytes e. ap ScriptHead e; payload = λ bytes. refl; replies = λ p q bytes answer r. r }
+
+pub add_edit : (name : List ℕ) (at n : ℕ) → IsEdit (AddHead name at n) (Add name at) (edits.Add name at) n
+add_edit name at n = record { announces = refl; head = λ bytes e. ap (AddHead name at) e; payload = λ bytes. refl; replies = λ p q bytes answer r. r }
 
 short_read : (h : Head) (n : ℕ) (part : List ℕ) → announced h ≡ n → IsHead h → length part < n → NotBegun ((head_line h ++ 10 ∷ []) ++ part)
 short_read h n part e i l = rw append_assoc (short_payload h part i (omega arith))

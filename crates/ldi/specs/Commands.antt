@@ -74,5 +74,6 @@ SplitsWord bytes (Some p) = (bytes ≡ p.0.now ++ 32 ∷ p.1.now) × HasNo 32 p.
 pub record HasWords (words : List ℕ) (w : ObjectWords) : Type 0 where
   pub within : w.name_len ≤ length words
   pub name : IsWord (take w.name_len words)
+  pub place : w.at < 2 ^ 64
   pub count : w.count ≤ 2 ^ 26
   pub spelled : words ≡ object_words (take w.name_len words) w.at w.count

@@ -56,7 +56,7 @@ fn split_word(bytes: &[u8]) -> Option<(&[u8], &[u8])>
 
 /// The number below 2^64 that a word spells in decimal, without needless zeros.
 fn read_number(word: &[u8]) -> Option<u64>
-    ensures found { IfSome result (λ n. word.now ≡ decimal n) }
+    ensures found { IfSome result (λ n. (n < 2 ^ 64) × (word.now ≡ decimal n)) }
     ensures none { IfNone result ((n : ℕ) → n < 2 ^ 64 → word.now ≡ decimal n → ⊥) }
 {
     match str::from_utf8(word) {
@@ -93,7 +93,10 @@ fn is_word(word: &[u8]) -> bool
     requires { HasNo 32 word.now }
     ensures { IsTrue result ↔ IsWord word.now }
 {
-    !word.is_empty() && word.find_byte(b'\n').is_none()
+    match word.find_byte(b'\n') {
+        None => !word.is_empty(),
+        Some(_) => false,
+    }
 }
 
 /// Reads a name, a place and a length.
