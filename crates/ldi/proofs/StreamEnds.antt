@@ -29,14 +29,30 @@ answered old new status r =
     let p = r.1 in
     rest_told old.rest mid.rest _ p.read _ (λ t k.
     elim r.2 [
-      inl e ↦ (p.answers, Appends-kept _ _ _ _ p.wrote e.wrote, record {
-        commands = p.commands; tail = t; answers = p.answers; each = p.each; cut = refl;
-        replies = rw e.same p.replies;
-        ending = inl (end_known mid.rest new.rest t e.read e.at k, refl, e.tells ∙ ap status_of (sym e.same));
-      })
-    | inr b ↦ (p.answers ++ stream_line, Appends-trans _ _ _ _ _ p.wrote b.wrote, record {
-        commands = p.commands; tail = t; answers = p.answers; each = p.each; cut = refl;
-        replies = rw b.same p.replies;
-        ending = inr (rw k at b.bad, refl, b.tells);
-      })
+      | inl e ↦ (
+        p.answers,
+        Appends-kept _ _ _ _ p.wrote e.wrote,
+        record {
+          commands = p.commands;
+          tail = t;
+          answers = p.answers;
+          each = p.each;
+          cut = refl;
+          replies = rw e.same p.replies;
+          ending = inl (end_known mid.rest new.rest t e.read e.at k, refl, e.tells ∙ ap status_of (sym e.same));
+        },
+      )
+      | inr b ↦ (
+        p.answers ++ stream_line,
+        Appends-trans _ _ _ _ _ p.wrote b.wrote,
+        record {
+          commands = p.commands;
+          tail = t;
+          answers = p.answers;
+          each = p.each;
+          cut = refl;
+          replies = rw b.same p.replies;
+          ending = inr (rw k at b.bad, refl, b.tells);
+        },
+      )
     ])

@@ -1,4 +1,4 @@
-use Rattle.std.proofs.Common.{◌≡◌, ◌≢◌, ℕ, zero, suc, ◌+◌, ◌-◌, ◌%◌, ◌^◌, Bool, true, false, not, ◌&&◌, ◌==◌,  ◌<◌, ◌≤◌, ◌⊎◌, List, [], ◌∷◌, ◌++◌, length, codes, decimal, Option, None, Some, IfSome, Ok, inl, inr, take, refl, sym, ap, subst, arith, ◌∙◌, length-append, append_assoc, append-nil}
+use Rattle.std.proofs.Common.{◌≡◌, ◌≢◌, ℕ, zero, suc, ◌+◌, ◌-◌, ◌%◌, ◌^◌, Bool, true, false, not, ◌&&◌, ◌==◌, ◌<◌, ◌≤◌, ◌⊎◌, List, [], ◌∷◌, ◌++◌, length, codes, decimal, Option, None, Some, IfSome, Ok, inl, inr, take, refl, sym, ap, subst, arith, ◌∙◌, length-append, append_assoc, append-nil}
 use Rattle.std.proofs.lemmas.Fmt.{decimal_by_steps, decimal_injective}
 use Rattle.std.proofs.lemmas.Bool.{false≢true, eqb-true, eq-eqb}
 use Rattle.std.specs.Io.KnownBytes.{Consumes, IsAtEnd}
@@ -71,9 +71,11 @@ unfolding head_line
 head_no_feed (AddHead name at count) i =
     let n = i.numbers.0 in
     no-append 10 (codes "add ") (object_words name at count) (no_by_test 10 (codes "add ") refl)
-    (no-append 10 name (32 ∷ (decimal at ++ 32 ∷ decimal count)) n.no_feed
-    (λ e. absurd (omega (arith, e)), no-append 10 (decimal at) (32 ∷ decimal count) (decimal_no 10 at (omega arith) i.numbers.1)
-    (λ e. absurd (omega (arith, e)), decimal_no 10 count (omega arith) (small_count count i.numbers.2))))
+    (no-append 10 name (32 ∷ (decimal at ++ 32 ∷ decimal count)) n.no_feed (
+      λ e. absurd (omega (arith, e)),
+      no-append 10 (decimal at) (32 ∷ decimal count) (decimal_no 10 at (omega arith) i.numbers.1)
+          (λ e. absurd (omega (arith, e)), decimal_no 10 count (omega arith) (small_count count i.numbers.2)),
+    ))
 head_no_feed (ScriptHead count) i =
     no-append 10 (codes "script ") (decimal count) (no_by_test 10 (codes "script ") refl) (decimal_no 10 count (omega arith) (small_count count i.numbers))
 head_no_feed ImageHead i = no_by_test 10 (codes "image") refl
@@ -177,8 +179,8 @@ bad_at_end (Some s) (Some t) bytes l h r e =
 pub broken_tail : (E : Type 0) (old new : Option (List ℕ)) (line : List ℕ) → LineRead {E = E} old new line (Ok Broken) → IfSome old IsBad
 broken_tail E old new line r =
     elim r.4 [
-      inl e ↦ bad_at_end old new r.0 r.1 (no_line r.0 r.2) r.3 e
-    | inr l ↦ bad_known old new r.0 r.1 (λ more. long_line r.0 more r.2 l) r.3
+      | inl e ↦ bad_at_end old new r.0 r.1 (no_line r.0 r.2) r.3 e
+      | inr l ↦ bad_known old new r.0 r.1 (λ more. long_line r.0 more r.2 l) r.3
     ]
 
 pub unread_line : (E : Type 0) (old new : Option (List ℕ)) (line : List ℕ) (n : ℕ) → LineRead {E = E} old new line (Ok (Line n)) → ((h : Head) → IsHead h → take n line ≡ head_line h → ⊥) → IfSome old IsBad

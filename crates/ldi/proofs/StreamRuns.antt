@@ -20,8 +20,12 @@ AreCommands-more (d ∷ cs) c h i = (h.0, AreCommands-more cs c h.1 i)
 -- nothing yet
 pub at_start : (w : World) → Progress w w
 at_start w = record {
-  commands = []; answers = []; each = tt;
-  read = Consumes-nil w.rest; wrote = Appends-nil w.written; replies = (refl, refl);
+  commands = [];
+  answers = [];
+  each = tt;
+  read = Consumes-nil w.rest;
+  wrote = Appends-nil w.written;
+  replies = (refl, refl);
 }
 
 pub at_start_length : (w : World) → length (at_start w).commands ≡ 0

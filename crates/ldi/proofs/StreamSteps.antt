@@ -42,20 +42,25 @@ module _ (h : Head) (command : List ℕ → Command) (change : List ℕ → Chan
       → EditStepped change n (world mid out p) (world end out' p') r → Stepped (world rest out p) (world end out' p') r
   edit_stepped rest mid end out out' p p' (Ok Next) line s =
       record {
-        command = command s.0; answer = s.1; is = is_command s.0 s.2;
+        command = command s.0;
+        answer = s.1;
+        is = is_command s.0 s.2;
         read = whole rest mid end s.0 s.2 line s.3;
-        wrote = s.4; reply = is.replies p p' s.0 s.1 s.5;
+        wrote = s.4;
+        reply = is.replies p p' s.0 s.1 s.5;
       }
   edit_stepped rest mid end out out' p p' (Ok (End status)) line s =
       inr (record {
         bad = bad_at_end _ _ _ (rw length-append (rw length-append (omega arith))) (short_read h n s.0 is.announces i s.1) (Consumes-trans _ _ _ _ _ line s.2) s.3;
-        wrote = s.4; same = s.5; tells = s.6;
+        wrote = s.4;
+        same = s.5;
+        tells = s.6;
       })
   edit_stepped rest mid end out out' p p' (Err Read) line s =
       record { part = (head_line h ++ 10 ∷ []) ++ s.0; read = Consumes-trans _ _ _ _ _ line s.2; none = short_read h n s.0 is.announces i s.1; wrote = s.3; same = s.4 }
   edit_stepped rest mid end out out' p p' (Err Write) line s =
       elim s [
-        inl a ↦ inl (record { command = command a.0; answer = a.1; n = a.2; is = is_command a.0 a.3; read = whole rest mid end a.0 a.3 line a.4; wrote = a.5; reply = is.replies p p' a.0 a.1 a.6 })
-      | inr b ↦ inr (record { bad = bad_at_end _ _ _ (rw length-append (rw length-append (omega arith))) (short_read h n b.0 is.announces i b.2) (Consumes-trans _ _ _ _ _ line b.3) b.4; n = b.1; wrote = b.5; same = b.6 })
+        | inl a ↦ inl (record { command = command a.0; answer = a.1; n = a.2; is = is_command a.0 a.3; read = whole rest mid end a.0 a.3 line a.4; wrote = a.5; reply = is.replies p p' a.0 a.1 a.6 })
+        | inr b ↦ inr (record { bad = bad_at_end _ _ _ (rw length-append (rw length-append (omega arith))) (short_read h n b.0 is.announces i b.2) (Consumes-trans _ _ _ _ _ line b.3) b.4; n = b.1; wrote = b.5; same = b.6 })
       ]
   edit_stepped rest mid end out out' p p' (Err Long) line s = s

@@ -32,9 +32,10 @@ split_there b xs k h =
     let within = h.0.high in
     let here : get_or xs k 0 ≡ b = eqb-true _ _ h.1 in
     let rest : take (length xs - (k + 1)) (drop (k + 1) xs) ≡ drop (k + 1) xs = take_all _ _ (simp length-drop (omega arith)) in
-    let at : drop k xs ≡ get_or xs k 0 ∷ drop (k + 1) xs = rw add-one (drop-cons xs k 0 within) in
-    (sym (take-append-drop k xs) ∙ ap (λ l. take k xs ++ l) (at ∙ ap (λ x. x ∷ drop (k + 1) xs) here) ∙ ap (λ l. take k xs ++ b ∷ l) (sym rest),
-    no_front b xs k (omega arith) (λ j l. h.0.before j (omega arith) l))
+    let at : drop k xs ≡ get_or xs k 0 ∷ drop (k + 1) xs = rw add-one (drop-cons xs k 0 within) in (
+      sym (take-append-drop k xs) ∙ ap (λ l. take k xs ++ l) (at ∙ ap (λ x. x ∷ drop (k + 1) xs) here) ∙ ap (λ l. take k xs ++ b ∷ l) (sym rest),
+      no_front b xs k (omega arith) (λ j l. h.0.before j (omega arith) l),
+    )
 
 pub word_test : (word : List ℕ) (empty : Bool) → HasNo 32 word → IsFirstByte (is_byte 10) word None → empty ≡ (length word == 0) → IsTrue (not empty) ↔ IsWord word
 word_test word true h f e = (λ t. absurd (false≢true t), λ w. let none = eqb-true (length word) 0 (sym e) in absurd (omega (arith, w.some, none)))
@@ -153,8 +154,10 @@ object_is line word rest w cut is words short =
     let count : 4 + w.name_len - 4 ≡ w.name_len = omega arith in
     let name : take w.name_len rest ≡ slice_range line 4 (4 + w.name_len) = sym (ap (λ k. take k (drop 4 line)) count ∙ ap (take w.name_len) behind) in
     let same : line ≡ codes "add " ++ object_words (slice_range line 4 (4 + w.name_len)) w.at w.count =
-    front ∙ ap (λ r. codes "add " ++ r) (words.spelled ∙ ap (λ x. object_words x w.at w.count) name) in
-    (record {
-      short = subst (λ (l : List ℕ). length l ≤ 512) same short;
-      numbers = (subst IsWord name words.name, words.place, words.count);
-    }, same)
+    front ∙ ap (λ r. codes "add " ++ r) (words.spelled ∙ ap (λ x. object_words x w.at w.count) name) in (
+      record {
+        short = subst (λ (l : List ℕ). length l ≤ 512) same short;
+        numbers = (subst IsWord name words.name, words.place, words.count);
+      },
+      same,
+    )

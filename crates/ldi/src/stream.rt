@@ -8,7 +8,7 @@ ghost use Rattle.ldi.specs.Stepped.{Ran, FaultsCounted, world};
 use crate::linker::Linker;
 use crate::stream::devices::{Sink, Source};
 use crate::stream::fault::RunFault;
-use crate::stream::serve::{serve_one, Step};
+use crate::stream::serve::{Step, serve_one};
 use std::alloc::Global;
 
 pub mod answer;
@@ -18,6 +18,10 @@ pub mod head;
 pub mod line;
 pub mod payload;
 pub mod serve;
+#[cfg(test)]
+pub mod testing;
+#[cfg(test)]
+mod tests;
 
 /// How a run ends.
 #[derive(Clone, Copy, Debug, PartialEq, Eq)]

@@ -66,7 +66,12 @@ pub fn write_refused<W: Sink>(sink: &mut W, refusal: EditRefusal) -> Result<(), 
     ensures text { Writes (W.written sink.old) (W.written sink.new) (refused_line refusal) result }
     ensures counted { Counts (W.failed sink.old) (W.failed sink.new) result }
 {
-    write_answer(sink, b"refused ", u64::from(refusal.n), u64::from(refusal.m))
+    write_answer(
+        sink,
+        b"refused ",
+        u64::from(refusal.n),
+        u64::from(refusal.m),
+    )
 }
 
 /// Answers with an image: `bytes` and its length in a line, and then its bytes.

@@ -65,7 +65,11 @@ fn read_number(word: &[u8]) -> Option<u64>
             Err(_) => None,
             Ok(n) => {
                 let mut buffer = Buffer::new();
-                if buffer.format(n) == text { Some(n) } else { None }
+                if buffer.format(n) == text {
+                    Some(n)
+                } else {
+                    None
+                }
             }
         },
     }

@@ -73,11 +73,19 @@ pub fn read_payload<R: Source>(
     match vec![in alloc; 0u8; count] {
         Ok(mut bytes) => {
             let n = fill(source, &mut bytes)?;
-            Ok(if n < count { Payload::Short } else { Payload::Whole(bytes) })
+            Ok(if n < count {
+                Payload::Short
+            } else {
+                Payload::Whole(bytes)
+            })
         }
         Err(_) => {
             let n = skip(source, count)?;
-            Ok(if n < count { Payload::Short } else { Payload::NoMemory })
+            Ok(if n < count {
+                Payload::Short
+            } else {
+                Payload::NoMemory
+            })
         }
     }
 }

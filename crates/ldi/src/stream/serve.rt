@@ -5,15 +5,15 @@ ghost use Rattle.ldi.specs.Answers.{EditReply};
 ghost use Rattle.ldi.specs.EditMeaning.{change_of};
 ghost use Rattle.ldi.specs.Stepped.{Counts, Writes, Started, Stepped, EditStepped, aimed, FaultsCounted, world};
 
-use crate::linker::edit::{Edit, EditRefusal};
 use crate::linker::Linker;
+use crate::linker::edit::{Edit, EditRefusal};
+use crate::stream::Status;
 use crate::stream::answer::{write_bytes, write_linked, write_malformed, write_refused};
 use crate::stream::devices::{Sink, Source};
 use crate::stream::fault::{ReadFault, RunFault, WriteFault};
-use crate::stream::head::{read_head, HeadInLine, NAME_START};
-use crate::stream::line::{read_line, LineEnd, MAX_LINE};
-use crate::stream::payload::{read_payload, Payload};
-use crate::stream::Status;
+use crate::stream::head::{HeadInLine, NAME_START, read_head};
+use crate::stream::line::{LineEnd, MAX_LINE, read_line};
+use crate::stream::payload::{Payload, read_payload};
 use elfobj::meter::Meter;
 use std::alloc::Global;
 
@@ -177,7 +177,13 @@ pub fn serve_one<R: Source, W: Sink, L: Linker>(
         Start::Command(HeadInLine::Script { count }) => {
             serve_edit(alloc, source, sink, linker, Aim::Script, count)
         }
-        Start::Command(HeadInLine::Add { name_end, at, count }) => {
+        Start::Command(
+            HeadInLine::Add {
+                name_end,
+                at,
+                count,
+            },
+        ) => {
             let name = &line[NAME_START..name_end];
             serve_edit(alloc, source, sink, linker, Aim::Object { name, at }, count)
         }

@@ -12,7 +12,6 @@ returns-in_err-read_start-clause-stepped g c =
     let h = c.in_err-read_start.ensures.started in
     rw (p.1, p.2) (record { part = h.0; none = h.1; read = h.2; wrote = Keeps-refl _; same = refl })
 
-
 pub returns-in-Command-Script-clause-stepped : goal.returns-in-Command-Script-clause-stepped
 returns-in-Command-Script-clause-stepped g c =
     let h = rw c.in-Command-Script.field-0-is at (rw c.in-Command-Script.is at c.in_ok-read_start.ensures.started) in
