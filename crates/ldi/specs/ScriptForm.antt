@@ -73,7 +73,7 @@ form_tree start name word =
 pub data IsForm : List Token → Tree → Type 0 where
   empty : IsForm [] []
   section : (number name word : List ℕ) → number_value number < 2 ^ 64 → is_free_name name ≡ true → is_free_word word ≡ true
-      → IsForm (form_tokens number name word) (form_tree (number_value number) name word)
+    → IsForm (form_tokens number name word) (form_tree (number_value number) name word)
 
 -- a text of at most 2^20 bytes whose tokens have this tree
 pub record IsScript (text : List ℕ) (t : Tree) : Type 0 where
