@@ -1,6 +1,6 @@
 -- What one step of a run does, and a whole run: by cases on its result, over what the devices tell and what the
 -- linker holds.
-use Rattle.std.specs.Prelude.{◌≡◌, ◌≢◌, ℕ, ◌+◌, ◌<◌, ◌≤◌, ◌-◌, ◌^◌, min, ◌⊎◌, List, [], ◌∷◌, ◌++◌, length, take, flat_map, Option, Some, None, IfSome, Result, Ok, Err, MatchResult, Contains}
+use Rattle.std.specs.Prelude.{◌≡◌, ◌≢◌, ℕ, ◌+◌, ◌<◌, ◌≤◌, ◌-◌, ◌^◌, min, ◌⊎◌, List, [], ◌∷◌, ◌++◌, length, take, flat_map, Option, Some, None, IfSome, Result, Ok, Err, MatchResult, Bool, true}
 use Rattle.std.specs.Io.KnownBytes.{Consumes, Appends, Keeps, IsAtEnd}
 use Rattle.ldi.specs.Project.{Project}
 use Rattle.ldi.specs.Commands.{Command, Head, AddHead, ScriptHead, ImageHead, head_line, IsHead, IsCommand, HasNoFeed, spelling}
@@ -34,9 +34,15 @@ pub record World : Type 0 where
 abbrev pub world : Option (List ℕ) → Option (List ℕ) → Project → World
 world rest written project = record { rest = rest; written = written; project = project }
 
--- what a reader has left or a writer has taken, and how many calls failed
-pub record Told : Type 0 where
-  pub bytes : Option (List ℕ)
+-- what a reader has left, and how many of its calls failed
+pub record ReaderState : Type 0 where
+  pub rest : Option (List ℕ)
+  pub failed : ℕ
+
+-- what a writer has taken, whether all of it was flushed, and how many of its calls failed
+pub record WriterState : Type 0 where
+  pub written : Option (List ℕ)
+  pub flushed : Bool
   pub failed : ℕ
 
 -- one more, or the greatest number where that is reached
@@ -184,3 +190,10 @@ FaultsCounted r r' w w' (Ok _) = (r' ≡ r) × (w' ≡ w)
 FaultsCounted r r' w w' (Err Read) = (r' ≡ risen r) × (w' ≡ w)
 FaultsCounted r r' w w' (Err Write) = (r' ≡ r) × (w' ≡ risen w)
 FaultsCounted r r' w w' (Err Long) = (r' ≡ r) × (w' ≡ w)
+
+-- answers are not held back: what was written is flushed whenever a read is tried and at the end
+abbrev pub Flushed : {T : Type 0} → Bool → Bool → Result T RunFault → Type 0
+Flushed old new (Ok _) = old ≡ true → new ≡ true
+Flushed old new (Err Read) = old ≡ true → new ≡ true
+Flushed old new (Err Write) = Unit {0}
+Flushed old new (Err Long) = old ≡ true → new ≡ true

@@ -3,7 +3,7 @@
 ghost use Rattle.std.specs.Prelude.{◌≡◌, List, ℕ, IfOk, IfSome};
 ghost use Rattle.std.specs.Io.KnownBytes.{Appends};
 ghost use Rattle.ldi.specs.Answers.{Answers};
-ghost use Rattle.ldi.specs.Stepped.{Ran, FaultsCounted, world};
+ghost use Rattle.ldi.specs.Stepped.{Ran, FaultsCounted, Flushed, world};
 
 use crate::linker::Linker;
 use crate::stream::devices::{Sink, Source};
@@ -55,6 +55,8 @@ pub fn run<R: Source, W: Sink, L: Linker>(
     // What stands after each outcome.
     ensures ran { Ran (world (R.rest source.old) (W.written sink.old) (L.project linker.old))
         (world (R.rest source.new) (W.written sink.new) (L.project linker.new)) result }
+    // What was written is flushed whenever a read is tried, and at the end.
+    ensures flushed { Flushed (W.flushed sink.old) (W.flushed sink.new) result }
     // A fault is told where a device's count of failures rose, and nowhere else.
     ensures counted { FaultsCounted (R.failed source.old) (R.failed source.new) (W.failed sink.old) (W.failed sink.new) result }
 {

@@ -1,6 +1,6 @@
 //! Answers, each written whole and then flushed.
 
-ghost use Rattle.std.specs.Prelude.{◌≡◌, ◌++◌, ◌∷◌, [], ℕ, take, decimal, OnOk, OnErr};
+ghost use Rattle.std.specs.Prelude.{◌≡◌, ◌++◌, ◌∷◌, [], ℕ, take, decimal, true, OnOk, OnErr};
 ghost use Rattle.std.specs.Io.KnownBytes.{Appends};
 ghost use Rattle.ldi.specs.Answers.{linked_line, refused_line, answer_line, bytes_answer, stream_line};
 ghost use Rattle.ldi.specs.Stepped.{Counts, Writes};
@@ -37,6 +37,7 @@ fn write_number<W: Sink>(sink: &mut W, n: u64, end: u8) -> Result<(), WriteFault
 #[tactic(auto, unfolding(crate::specs::Answers::answer_line))]
 fn write_answer<W: Sink>(sink: &mut W, word: &[u8], a: u64, b: u64) -> Result<(), WriteFault>
     ensures text { Writes (W.written sink.old) (W.written sink.new) (answer_line word.now a b) result }
+    ensures flushed { OnOk result (W.flushed sink.new ≡ true) }
     ensures counted { Counts (W.failed sink.old) (W.failed sink.new) result }
 {
     write_all(sink, word)?;
@@ -52,6 +53,7 @@ fn write_answer<W: Sink>(sink: &mut W, word: &[u8], a: u64, b: u64) -> Result<()
 /// Where a call of `sink` failed: a beginning of the answer is written then.
 pub fn write_linked<W: Sink>(sink: &mut W, linked: Linked) -> Result<(), WriteFault>
     ensures text { Writes (W.written sink.old) (W.written sink.new) (linked_line linked) result }
+    ensures flushed { OnOk result (W.flushed sink.new ≡ true) }
     ensures counted { Counts (W.failed sink.old) (W.failed sink.new) result }
 {
     write_answer(sink, b"linked ", u64::from(linked.status), linked.length)
@@ -64,6 +66,7 @@ pub fn write_linked<W: Sink>(sink: &mut W, linked: Linked) -> Result<(), WriteFa
 /// Where a call of `sink` failed: a beginning of the answer is written then.
 pub fn write_refused<W: Sink>(sink: &mut W, refusal: EditRefusal) -> Result<(), WriteFault>
     ensures text { Writes (W.written sink.old) (W.written sink.new) (refused_line refusal) result }
+    ensures flushed { OnOk result (W.flushed sink.new ≡ true) }
     ensures counted { Counts (W.failed sink.old) (W.failed sink.new) result }
 {
     write_answer(
@@ -82,6 +85,7 @@ pub fn write_refused<W: Sink>(sink: &mut W, refusal: EditRefusal) -> Result<(), 
 #[tactic(auto, unfolding(crate::specs::Answers::bytes_answer))]
 pub fn write_bytes<W: Sink>(sink: &mut W, bytes: &[u8]) -> Result<(), WriteFault>
     ensures text { Writes (W.written sink.old) (W.written sink.new) (bytes_answer bytes.now) result }
+    ensures flushed { OnOk result (W.flushed sink.new ≡ true) }
     ensures counted { Counts (W.failed sink.old) (W.failed sink.new) result }
 {
     write_all(sink, b"bytes ")?;
@@ -97,6 +101,7 @@ pub fn write_bytes<W: Sink>(sink: &mut W, bytes: &[u8]) -> Result<(), WriteFault
 /// Where a call of `sink` failed: a beginning of the answer is written then.
 pub fn write_malformed<W: Sink>(sink: &mut W) -> Result<(), WriteFault>
     ensures text { Writes (W.written sink.old) (W.written sink.new) stream_line result }
+    ensures flushed { OnOk result (W.flushed sink.new ≡ true) }
     ensures counted { Counts (W.failed sink.old) (W.failed sink.new) result }
 {
     write_all(sink, b"stream\n")?;

@@ -1,8 +1,8 @@
 //! Readers and writers that a stream is read from and its answers written to, and that count failed calls.
 
-ghost use Rattle.std.specs.Prelude.{◌≡◌, ◌≤◌, ◌<◌, ℕ, List, Option, length, IfOk};
+ghost use Rattle.std.specs.Prelude.{◌≡◌, ◌≤◌, ◌<◌, ℕ, List, Option, Bool, true, false, length, IfOk, OnOk};
 ghost use Rattle.std.specs.Io.KnownBytes.{ReadConsumes, WriteAppends, Keeps};
-ghost use Rattle.ldi.specs.Stepped.{Counts, Told};
+ghost use Rattle.ldi.specs.Stepped.{Counts, ReaderState, WriterState};
 
 use crate::stream::fault::{ReadFault, WriteFault};
 use std::io::{Read, Write};
@@ -36,6 +36,9 @@ pub trait Sink {
     /// What was written so far, where the writer tells it.
     ghost written: { Self → Option (List ℕ) };
 
+    /// Whether all that was written was flushed since.
+    ghost flushed: { Self → Bool };
+
     /// How many calls have failed.
     ghost failed: { Self → ℕ };
 
@@ -48,6 +51,7 @@ pub trait Sink {
         ensures count { IfOk result (λ n. n ≤ length bytes.now) }
         ensures some { IfOk result (λ n. 0 < length bytes.now → 0 < n) }
         ensures bytes { WriteAppends (written self.old) (written self.new) result bytes.now }
+        ensures unflushed { IfOk result (λ n. 0 < n → flushed self.new ≡ false) }
         ensures counted { Counts (failed self.old) (failed self.new) result };
 
     /// Sends on what was written and is still held back.
@@ -57,6 +61,7 @@ pub trait Sink {
     /// Where the device failed.
     fn flush(&mut self) -> Result<(), WriteFault>
         ensures bytes { Keeps (written self.old) (written self.new) }
+        ensures flushed { OnOk result (flushed self.new ≡ true) }
         ensures counted { Counts (failed self.old) (failed self.new) result };
 
     /// How many calls have failed; 2^64 - 1 says that or more.
@@ -72,15 +77,15 @@ pub struct Input<R: Read + Drop> {
 }
 
 impl<R: Read + Drop> Model for Input<R> {
-    ghost Value = { Told };
+    ghost Value = { ReaderState };
 
-    ghost view = { λ s. record { bytes = R.remaining s.reader; failed = s.failures } };
+    ghost view = { λ s. record { rest = R.remaining s.reader; failed = s.failures } };
 }
 
 impl<R: Read + Drop> Input<R> {
     /// A source that has not failed yet.
     pub fn new(reader: R) -> Input<R>
-        ensures { result ≡ record { bytes = R.remaining reader; failed = 0 } }
+        ensures { result ≡ record { rest = R.remaining reader; failed = 0 } }
     {
         Input {
             reader,
@@ -90,7 +95,7 @@ impl<R: Read + Drop> Input<R> {
 }
 
 impl<R: Read + Drop> Source for Input<R> {
-    ghost rest = { λ s. s.bytes };
+    ghost rest = { λ s. s.rest };
 
     ghost failed = { λ s. s.failed };
 
@@ -113,29 +118,33 @@ impl<R: Read + Drop> Source for Input<R> {
 #[derive(Drop)]
 pub struct Output<W: Write + Drop> {
     writer: W,
+    is_flushed: bool,
     failures: u64,
 }
 
 impl<W: Write + Drop> Model for Output<W> {
-    ghost Value = { Told };
+    ghost Value = { WriterState };
 
-    ghost view = { λ s. record { bytes = W.contents s.writer; failed = s.failures } };
+    ghost view = { λ s. record { written = W.contents s.writer; flushed = s.is_flushed; failed = s.failures } };
 }
 
 impl<W: Write + Drop> Output<W> {
     /// A sink that has not failed yet.
     pub fn new(writer: W) -> Output<W>
-        ensures { result ≡ record { bytes = W.contents writer; failed = 0 } }
+        ensures { result ≡ record { written = W.contents writer; flushed = true; failed = 0 } }
     {
         Output {
             writer,
+            is_flushed: true,
             failures: 0,
         }
     }
 }
 
 impl<W: Write + Drop> Sink for Output<W> {
-    ghost written = { λ s. s.bytes };
+    ghost written = { λ s. s.written };
+
+    ghost flushed = { λ s. s.flushed };
 
     ghost failed = { λ s. s.failed };
 
@@ -146,6 +155,7 @@ impl<W: Write + Drop> Sink for Output<W> {
                     self.failures = self.failures.saturating_add(1);
                     Err(WriteFault)
                 } else {
+                    self.is_flushed = self.is_flushed && n == 0;
                     Ok(n)
                 }
             }
@@ -158,7 +168,10 @@ impl<W: Write + Drop> Sink for Output<W> {
 
     fn flush(&mut self) -> Result<(), WriteFault> {
         match self.writer.flush() {
-            Ok(_) => Ok(()),
+            Ok(_) => {
+                self.is_flushed = true;
+                Ok(())
+            }
             Err(_) => {
                 self.failures = self.failures.saturating_add(1);
                 Err(WriteFault)

@@ -1,9 +1,9 @@
 //! One command of a stream: read, made and answered.
 
-ghost use Rattle.std.specs.Prelude.{◌≡◌, ℕ, List, length};
+ghost use Rattle.std.specs.Prelude.{◌≡◌, ℕ, List, true, length, OnOk};
 ghost use Rattle.ldi.specs.Answers.{EditReply};
 ghost use Rattle.ldi.specs.EditMeaning.{change_of};
-ghost use Rattle.ldi.specs.Stepped.{Counts, Writes, Started, Stepped, EditStepped, aimed, FaultsCounted, world};
+ghost use Rattle.ldi.specs.Stepped.{Counts, Writes, Started, Stepped, EditStepped, aimed, FaultsCounted, Flushed, world};
 
 use crate::linker::Linker;
 use crate::linker::edit::{Edit, EditRefusal};
@@ -78,6 +78,7 @@ fn make_edit<W: Sink, L: Linker>(
 ) -> Result<(), WriteFault>
     ensures text { (answer : List ℕ) × Writes (W.written sink.old) (W.written sink.new) answer result
         × EditReply (L.project linker.old) (change_of edit.entry) answer (L.project linker.new) }
+    ensures flushed { OnOk result (W.flushed sink.new ≡ true) }
     ensures counted { Counts (W.failed sink.old) (W.failed sink.new) result }
 {
     let mut meter = Meter::new();
@@ -96,6 +97,7 @@ fn use_payload<W: Sink, L: Linker>(
 ) -> Result<(), WriteFault>
     ensures text { (answer : List ℕ) × Writes (W.written sink.old) (W.written sink.new) answer result
         × EditReply (L.project linker.old) (aimed aim.entry payload.items) answer (L.project linker.new) }
+    ensures flushed { OnOk result (W.flushed sink.new ≡ true) }
     ensures counted { Counts (W.failed sink.old) (W.failed sink.new) result }
 {
     match aim {
@@ -129,6 +131,7 @@ fn serve_edit<R: Source, W: Sink, L: Linker>(
 ) -> Result<Step, RunFault>
     ensures stepped { EditStepped (aimed aim.entry) count (world (R.rest source.old) (W.written sink.old) (L.project linker.old))
         (world (R.rest source.new) (W.written sink.new) (L.project linker.new)) result }
+    ensures flushed { Flushed (W.flushed sink.old) (W.flushed sink.new) result }
     ensures counted { FaultsCounted (R.failed source.old) (R.failed source.new) (W.failed sink.old) (W.failed sink.new) result }
 {
     match read_payload(alloc, source, count)? {
@@ -161,6 +164,7 @@ pub fn serve_one<R: Source, W: Sink, L: Linker>(
 ) -> Result<Step, RunFault>
     ensures stepped { Stepped (world (R.rest source.old) (W.written sink.old) (L.project linker.old))
         (world (R.rest source.new) (W.written sink.new) (L.project linker.new)) result }
+    ensures flushed { Flushed (W.flushed sink.old) (W.flushed sink.new) result }
     ensures counted { FaultsCounted (R.failed source.old) (R.failed source.new) (W.failed sink.old) (W.failed sink.new) result }
 {
     let mut line = [0u8; MAX_LINE];

@@ -5,7 +5,7 @@ use Rattle.ldi.proofs.StreamEnds.{answered}
 use Rattle.ldi.proofs.stream.run.Goals as goal
 
 pub loop-turn-init : goal.loop-turn-init
-loop-turn-init g c = record { done = at_start _; turns = at_start_length _; read_counted = refl; write_counted = refl }
+loop-turn-init g c = record { done = at_start _; turns = at_start_length _; flushed = λ e. e; read_counted = refl; write_counted = refl }
 
 pub loop-turn-preserved : goal.loop-turn-preserved
 loop-turn-preserved g c =
@@ -15,6 +15,7 @@ loop-turn-preserved g c =
     record {
       done = one_more _ _ _ so_far.done served;
       turns = one_more_length _ _ _ so_far.done served ∙ (omega (arith, so_far.turns));
+      flushed = λ e. c.in_ok-serve_one.ensures.flushed (so_far.flushed e);
       read_counted = counted.0 ∙ so_far.read_counted;
       write_counted = counted.1 ∙ so_far.write_counted;
     }
