@@ -6,3 +6,10 @@ pub mod OneObject
 pub mod ScriptCut
 pub mod ScriptNumber
 pub mod ScriptTokens
+pub mod StreamLines
+pub mod StreamWriting
+pub mod StreamGrammar
+pub mod StreamRuns
+pub mod StreamSteps
+pub mod StreamEnds
+pub mod StreamWords

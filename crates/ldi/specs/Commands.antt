@@ -1,7 +1,8 @@
 -- The commands of a stream, and how they are spelled: a line of at most 512 bytes, its line feed, and at once the
 -- payload that the line announces.
-use Rattle.std.specs.Prelude.{◌≡◌, ◌≢◌, ℕ, ◌^◌, ◌<◌, ◌≤◌, List, [], ◌∷◌, ◌++◌, length, codes, decimal}
-use Rattle.std.specs.List.{flat_map}
+use Rattle.std.specs.Prelude.{◌≡◌, ◌≢◌, ℕ, ◌^◌, ◌<◌, ◌≤◌, List, [], ◌∷◌, ◌++◌, length, take, codes, decimal, Option, Some, None}
+use Rattle.std.specs.Borrow.{Bor}
+use Rattle.ldi.specs.declared.stream.head.ObjectWords.{ObjectWords}
 
 pub data Command : Type 0 where
   Add : (name : List ℕ) → (at : ℕ) → (payload : List ℕ) → Command
@@ -24,9 +25,13 @@ payload_of (Add name at payload) = payload
 payload_of (SetScript payload) = payload
 payload_of Image = []
 
+-- the words behind `add `
+abbrev pub object_words : List ℕ → ℕ → ℕ → List ℕ
+object_words name at count = name ++ 32 ∷ (decimal at ++ 32 ∷ decimal count)
+
 -- words with one space between; numbers are decimal without needless zeros
 unfoldable pub head_line : Head → List ℕ
-head_line (AddHead name at count) = codes "add " ++ (name ++ 32 ∷ (decimal at ++ 32 ∷ decimal count))
+head_line (AddHead name at count) = codes "add " ++ object_words name at count
 head_line (ScriptHead count) = codes "script " ++ decimal count
 head_line ImageHead = codes "image"
 
@@ -59,3 +64,16 @@ IsCommand c = IsHead (head_of c)
 
 abbrev pub spelling : Command → List ℕ
 spelling c = head_line (head_of c) ++ 10 ∷ payload_of c
+
+-- bytes cut at their first space, if they have one
+abbrev pub SplitsWord : List ℕ → Option (Bor (List ℕ) × Bor (List ℕ)) → Type 0
+SplitsWord bytes None = HasNo 32 bytes
+SplitsWord bytes (Some p) = (bytes ≡ p.0.now ++ 32 ∷ p.1.now) × HasNo 32 p.0.now
+
+-- the words behind `add `, by the length of the name and the two numbers
+pub record HasWords (words : List ℕ) (w : ObjectWords) : Type 0 where
+  pub within : w.name_len ≤ length words
+  pub name : IsWord (take w.name_len words)
+  pub place : w.at < 2 ^ 64
+  pub count : w.count ≤ 2 ^ 26
+  pub spelled : words ≡ object_words (take w.name_len words) w.at w.count

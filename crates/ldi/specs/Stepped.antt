@@ -1,26 +1,29 @@
 -- What one step of a run does, and a whole run: by cases on its result, over what the devices tell and what the
 -- linker holds.
-use Rattle.std.specs.Prelude.{◌≡◌, ◌≢◌, ℕ, ◌+◌, ◌<◌, ◌≤◌, ◌-◌, ◌^◌, ◌⊎◌, List, [], ◌∷◌, ◌++◌, length, take, flat_map, Option, Some, None, IfSome, Result, Ok, Err, MatchResult, Contains}
+use Rattle.std.specs.Prelude.{◌≡◌, ◌≢◌, ℕ, ◌+◌, ◌<◌, ◌≤◌, ◌-◌, ◌^◌, min, ◌⊎◌, List, [], ◌∷◌, ◌++◌, length, take, flat_map, Option, Some, None, IfSome, Result, Ok, Err, MatchResult, Bool, true}
 use Rattle.std.specs.Io.KnownBytes.{Consumes, Appends, Keeps, IsAtEnd}
 use Rattle.ldi.specs.Project.{Project}
 use Rattle.ldi.specs.Commands.{Command, Head, AddHead, ScriptHead, ImageHead, head_line, IsHead, IsCommand, HasNoFeed, spelling}
+use Rattle.ldi.specs.Edits as edits
 use Rattle.ldi.specs.Edits.{Change}
+use Rattle.ldi.specs.declared.stream.serve.Aim.{Aim}
+use Rattle.ldi.specs.declared.stream.serve.Aim.TheVariants as aim
 use Rattle.ldi.specs.Answers.{AreCommands, Reply, EditReply, Replies, BeginsCommand, IsBad, status_of, stream_line, Answers}
 use Rattle.ldi.specs.declared.stream.Status.{Status}
 use Rattle.ldi.specs.declared.stream.Status.TheVariants.{Done, Malformed}
-use Rattle.ldi.specs.declared.stream.Step.{Step}
-use Rattle.ldi.specs.declared.stream.Step.TheVariants.{Next, End}
-use Rattle.ldi.specs.declared.stream.LineEnd.{LineEnd}
-use Rattle.ldi.specs.declared.stream.LineEnd.TheVariants.{Line, Ended, Broken}
+use Rattle.ldi.specs.declared.stream.serve.Step.{Step}
+use Rattle.ldi.specs.declared.stream.serve.Step.TheVariants.{Next, End}
+use Rattle.ldi.specs.declared.stream.line.LineEnd.{LineEnd}
+use Rattle.ldi.specs.declared.stream.line.LineEnd.TheVariants.{Line, Ended, Broken}
 use Rattle.std.specs.List.{slice_range}
-use Rattle.ldi.specs.declared.stream.HeadInLine.{HeadInLine}
-use Rattle.ldi.specs.declared.stream.HeadInLine.TheVariants.{Add, Script, Image}
-use Rattle.ldi.specs.declared.stream.Start.{Start}
-use Rattle.ldi.specs.declared.stream.Start.TheVariants as Start
-use Rattle.ldi.specs.declared.stream.Payload.{Payload}
-use Rattle.ldi.specs.declared.stream.Payload.TheVariants.{Whole, NoMemory, Short}
-use Rattle.ldi.specs.declared.stream.RunFault.{RunFault}
-use Rattle.ldi.specs.declared.stream.RunFault.TheVariants.{Read, Write, Long}
+use Rattle.ldi.specs.declared.stream.head.HeadInLine.{HeadInLine}
+use Rattle.ldi.specs.declared.stream.head.HeadInLine.TheVariants.{Add, Script, Image}
+use Rattle.ldi.specs.declared.stream.serve.Start.{Start}
+use Rattle.ldi.specs.declared.stream.serve.Start.TheVariants as Start
+use Rattle.ldi.specs.declared.stream.payload.Payload.{Payload}
+use Rattle.ldi.specs.declared.stream.payload.Payload.TheVariants.{Whole, NoMemory, Short}
+use Rattle.ldi.specs.declared.stream.fault.RunFault.{RunFault}
+use Rattle.ldi.specs.declared.stream.fault.RunFault.TheVariants.{Read, Write, Long}
 
 -- what the devices tell and what the linker holds
 pub record World : Type 0 where
@@ -31,9 +34,24 @@ pub record World : Type 0 where
 abbrev pub world : Option (List ℕ) → Option (List ℕ) → Project → World
 world rest written project = record { rest = rest; written = written; project = project }
 
--- each failed call raises the count, and no other changes it
+-- what a reader has left, and how many of its calls failed
+pub record ReaderState : Type 0 where
+  pub rest : Option (List ℕ)
+  pub failed : ℕ
+
+-- what a writer has taken, whether all of it was flushed, and how many of its calls failed
+pub record WriterState : Type 0 where
+  pub written : Option (List ℕ)
+  pub flushed : Bool
+  pub failed : ℕ
+
+-- one more, or the greatest number where that is reached
+abbrev pub risen : ℕ → ℕ
+risen n = min (n + 1) (2 ^ 64 - 1)
+
+-- each failed call raises the count by one, and no other changes it
 abbrev pub Counts : {T E : Type 0} → ℕ → ℕ → Result T E → Type 0
-Counts old new result = MatchResult result (λ _. new ≡ old) (λ _. old < 2 ^ 64 - 1 → old < new)
+Counts old new result = MatchResult result (λ _. new ≡ old) (λ _. new ≡ risen old)
 
 abbrev pub ByteRead : {E : Type 0} → Option (List ℕ) → Option (List ℕ) → Result (Option ℕ) E → Type 0
 ByteRead old new (Ok (Some b)) = Consumes old new (b ∷ [])
@@ -52,11 +70,17 @@ head_in line (Add name_end at count) = AddHead (slice_range line 4 name_end) at 
 head_in line (Script count) = ScriptHead count
 head_in line Image = ImageHead
 
+-- where the name lies in the line
+abbrev pub LiesIn : List ℕ → HeadInLine → Type 0
+LiesIn line (Add name_end at count) = (4 ≤ name_end) × (name_end ≤ length line)
+LiesIn line (Script count) = Unit {0}
+LiesIn line Image = Unit {0}
+
 -- the line that a command begins with
 abbrev pub Started : {E : Type 0} → Option (List ℕ) → Option (List ℕ) → List ℕ → Result Start E → Type 0
 Started old new line (Ok Start.Ended) = Consumes old new [] × IsAtEnd new
 Started old new line (Ok Start.Bad) = IfSome old IsBad
-Started old new line (Ok (Start.Command h)) = IsHead (head_in line h) × Consumes old new (head_line (head_in line h) ++ 10 ∷ [])
+Started old new line (Ok (Start.Command h)) = LiesIn line h × IsHead (head_in line h) × Consumes old new (head_line (head_in line h) ++ 10 ∷ [])
 Started old new line (Err e) = (part : List ℕ) × (BeginsCommand part → ⊥) × Consumes old new part
 
 -- the text is written, or a beginning of it
@@ -129,6 +153,11 @@ Stepped old new (Err Read) = CutShort old new
 Stepped old new (Err Write) = AnswerCut old new ⊎ BadCut old new
 Stepped old new (Err Long) = ⊥
 
+-- the edit that a payload is meant for
+abbrev pub aimed : Aim → List ℕ → Change
+aimed (aim.Object name at) payload = edits.Add name.now at payload
+aimed aim.Script payload = edits.SetScript payload
+
 -- the same of an edit whose line was read, with so many bytes of payload to come
 abbrev pub EditStepped : (List ℕ → Change) → ℕ → World → World → Result Step RunFault → Type 0
 EditStepped change n old new (Ok Next) = (payload answer : List ℕ) × (length payload ≡ n) × Consumes old.rest new.rest payload × Appends old.written new.written answer × EditReply old.project (change payload) answer new.project
@@ -158,6 +187,13 @@ Ran old new (Err Long) = (done : Progress old new) × (length done.commands ≡ 
 -- the counts rose at the fault that is told, and at no other time
 abbrev pub FaultsCounted : {T : Type 0} → ℕ → ℕ → ℕ → ℕ → Result T RunFault → Type 0
 FaultsCounted r r' w w' (Ok _) = (r' ≡ r) × (w' ≡ w)
-FaultsCounted r r' w w' (Err Read) = (r < 2 ^ 64 - 1 → r < r') × (w' ≡ w)
-FaultsCounted r r' w w' (Err Write) = (r' ≡ r) × (w < 2 ^ 64 - 1 → w < w')
+FaultsCounted r r' w w' (Err Read) = (r' ≡ risen r) × (w' ≡ w)
+FaultsCounted r r' w w' (Err Write) = (r' ≡ r) × (w' ≡ risen w)
 FaultsCounted r r' w w' (Err Long) = (r' ≡ r) × (w' ≡ w)
+
+-- answers are not held back: what was written is flushed whenever a read is tried and at the end
+abbrev pub Flushed : {T : Type 0} → Bool → Bool → Result T RunFault → Type 0
+Flushed old new (Ok _) = old ≡ true → new ≡ true
+Flushed old new (Err Read) = old ≡ true → new ≡ true
+Flushed old new (Err Write) = Unit {0}
+Flushed old new (Err Long) = old ≡ true → new ≡ true
