@@ -17,3 +17,4 @@ pub mod Holds
 pub mod Commands
 pub mod Answers
 pub mod Stepped
+pub mod Exit
