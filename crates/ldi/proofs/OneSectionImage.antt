@@ -94,8 +94,16 @@ module _ (g : Segment) (p : Piece) (filled : IsFilled g p) where
   piece_byte i h =
       let at : g.offset + i - g.offset ≡ i = omega arith in
       let back : g.placed.start + i - g.placed.start ≡ i = omega arith in
-      rw (begins_at, ne_eqb g.placed.load_size 0 filled.loaded, le-leb g.offset (g.offset + i) (omega arith), lt-ltb (g.offset + i) (g.offset + g.placed.size) (omega arith), at,
-          le-leb g.placed.start (g.placed.start + i) (omega arith), lt-ltb (g.placed.start + i) (g.placed.start + p.section.size) (omega (arith, filled.size)), back) refl
+      rw (
+        begins_at,
+        ne_eqb g.placed.load_size 0 filled.loaded,
+        le-leb g.offset (g.offset + i) (omega arith),
+        lt-ltb (g.offset + i) (g.offset + g.placed.size) (omega arith),
+        at,
+        le-leb g.placed.start (g.placed.start + i) (omega arith),
+        lt-ltb (g.placed.start + i) (g.placed.start + p.section.size) (omega (arith, filled.size)),
+        back,
+      ) refl
 
   -- the headers, zeros up to the segment's offset, and the bytes
   laid_out : ℕ → List ℕ
@@ -136,21 +144,21 @@ module _ (g : Segment) (p : Piece) (filled : IsFilled g p) where
   each_byte : (entry o : ℕ) → o < length_of (segment_of (Some g) (p ∷ [])) → get_or (laid_out entry) o 0 ≡ byte_at entry (segment_of (Some g) (p ∷ [])) o
   each_byte entry o h =
       elim (leb_tells 120 o) [
-        inl low ↦ elim (leb_tells g.offset o) [
-            inl far ↦ in_piece entry o far.1 (rw length_of_one at h)
+        | inl low ↦ elim (leb_tells g.offset o) [
+          | inl far ↦ in_piece entry o far.1 (rw length_of_one at h)
           | inr near ↦ in_gap entry o low.1 near.1
-          ]
-      | inr low ↦ in_headers entry o low.1
+        ]
+        | inr low ↦ in_headers entry o low.1
       ]
 
   pub image_of_bytes : (entry : ℕ) (xs : List ℕ) → xs ≡ (headers entry (segment_of (Some g) (p ∷ [])) ++ replicate (g.offset - 120) 0) ++ p.section.bytes
-    → xs ≡ image_of entry (segment_of (Some g) (p ∷ []))
+      → xs ≡ image_of entry (segment_of (Some g) (p ∷ []))
   unfolding laid_out
   image_of_bytes entry xs e = e ∙ image_is entry (segment_of (Some g) (p ∷ [])) (laid_out entry) (length-laid_out entry) (each_byte entry)
 
   -- the same after a resize of the headers
   pub image_of_resized : (entry : ℕ) (items xs : List ℕ) (len : ℕ) → items ≡ headers entry (segment_of (Some g) (p ∷ [])) → len ≡ length items
-    → xs ≡ (take g.offset items ++ replicate (g.offset - len) 0) ++ p.section.bytes → xs ≡ image_of entry (segment_of (Some g) (p ∷ []))
+      → xs ≡ (take g.offset items ++ replicate (g.offset - len) 0) ++ p.section.bytes → xs ≡ image_of entry (segment_of (Some g) (p ∷ []))
   image_of_resized entry items xs len is long e =
       let known : len ≡ 120 = long ∙ ap length is ∙ length-headers g (p ∷ []) entry in
       let short : length items ≤ g.offset = omega (arith, filled.behind, known, long) in

@@ -54,13 +54,16 @@ module _ (script : Tree) (row : List Piece) (v : ℕ) (name word : List ℕ) (fo
       rw (formed, e, is) (record { dot = v; sections = record { placed = placed v v []; pieces = [] } ∷ [] }, rw at refl, refl)
 
   pub placed_one : (p : Piece) (start end : ℕ) (q : Placed) → row ≡ p ∷ [] → start ≡ next_multiple_of v (max 1 p.section.alignment) → end ≡ start + p.section.size → end < 2 ^ 64
-    → q ≡ placed start end (p ∷ []) → PlacedAs (placement script (rows_with script row)) row (Ok (Some q))
+      → q ≡ placed start end (p ∷ []) → PlacedAs (placement script (rows_with script row)) row (Ok (Some q))
   placed_one p start end q e starts ends below is =
       let a : ℕ = alignment_of p in
       let first : address (next_multiple_of v (widest (p ∷ []))) ≡ Ok start =
-          rw (widest_one p, ← starts) (address_below start (omega arith)) in
+      rw (widest_one p, ← starts) (address_below start (omega arith)) in
       let again : address (next_multiple_of start a) ≡ Ok start =
-          rw starts (rw (next_multiple_of-again v a (omega arith), ← starts) (address_below start (omega arith))) in
+      rw starts (rw (next_multiple_of-again v a (omega arith), ← starts) (address_below start (omega arith))) in
       let last : address (start + p.section.size) ≡ Ok end = rw (← ends) (address_below end below) in
-      rw (formed, e, is) (record { dot = end; sections = record { placed = placed start end (p ∷ []); pieces = record { start = start; piece = p } ∷ [] } ∷ [] },
-          rw (first, again, last) refl, refl)
+      rw (formed, e, is) (
+        record { dot = end; sections = record { placed = placed start end (p ∷ []); pieces = record { start = start; piece = p } ∷ [] } ∷ [] },
+        rw (first, again, last) refl,
+        refl,
+      )

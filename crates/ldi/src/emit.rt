@@ -93,12 +93,21 @@ fn flags_of(g: &Segment) -> u32
 fn file_size(g: &Segment) -> u64
     ensures { (row : List Piece) → result ≡ file_size (one_segment g.now row) }
 {
-    if g.placed.load_size == 0 { 0 } else { g.placed.size }
+    if g.placed.load_size == 0 {
+        0
+    } else {
+        g.placed.size
+    }
 }
 
 /// Writes the program header of a segment with these flags and so many bytes in the file.
 #[tactic(auto, unfolding(crate::specs::Image::load_header))]
-fn put_load_header(out: &mut Vec<u8>, flags: u32, g: &Segment, file_size: u64) -> Result<(), AllocError>
+fn put_load_header(
+    out: &mut Vec<u8>,
+    flags: u32,
+    g: &Segment,
+    file_size: u64,
+) -> Result<(), AllocError>
     ensures { OnOk result (out.new.items ≡ out.old.items ++ load_header flags g.now.offset g.now.placed.start g.now.placed.load file_size g.now.placed.size) }
 {
     put_u32(out, PT_LOAD)?;
@@ -127,7 +136,11 @@ pub fn headers(alloc: Global, entry: u64, segment: Option<Segment>) -> Result<Ve
 }
 
 /// The image of a link with the row of its output section.
-pub fn image(alloc: Global, segment: Option<Segment>, row: Option<Member<'_>>) -> Result<Vec<u8>, AllocError>
+pub fn image(
+    alloc: Global,
+    segment: Option<Segment>,
+    row: Option<Member<'_>>,
+) -> Result<Vec<u8>, AllocError>
     requires { ForSome segment (λ g. IsWritable g row) }
     ensures { IfOk result (λ v. v.items ≡ image_of 0 (segment_of segment (row_of row.entry))) }
 {

@@ -23,6 +23,8 @@ mod linker;
 mod place;
 mod script;
 mod stream;
+#[cfg(test)]
+mod tests;
 
 /// The words of the command line are refused.
 const REFUSED: u8 = 2;

@@ -60,13 +60,18 @@ fn with_piece(start: u64, end: u64, m: &Member<'_>) -> Placed
 {
     let section = m.section;
     let size = end - start;
-    let load_size = if section.size != 0 && !is_nobits(section.kind) { size } else { 0 };
+    let load_size = if section.size != 0 && !is_nobits(section.kind) {
+        size
+    } else {
+        0
+    };
     Placed {
         start,
         size,
         load: start,
         load_size,
-        writable: section.flags & SHF_WRITE != 0 && section.size != 0 || size != 0 && load_size == 0,
+        writable: section.flags & SHF_WRITE != 0 && section.size != 0
+            || size != 0 && load_size == 0,
         executable: section.flags & SHF_EXECINSTR != 0 && section.size != 0,
     }
 }

@@ -87,7 +87,11 @@ fn only_member(objects: &[NamedObject]) -> Option<Member<'_>>
 }
 
 /// The link of an output section that is placed, or of none.
-fn with_image(alloc: Global, placed: Option<Placed>, row: Option<Member<'_>>) -> Result<Linkage, AllocError>
+fn with_image(
+    alloc: Global,
+    placed: Option<Placed>,
+    row: Option<Member<'_>>,
+) -> Result<Linkage, AllocError>
     requires { ForSome placed (λ q. IsFilledBy q row) }
     ensures { IfOk result (λ l. l ≡ record { status = 0; image = image_of 0 (segments (laid placed (row_of row.entry))) }) }
 {

@@ -168,7 +168,13 @@ impl Plain {
         Ok(self.linkage.summary())
     }
 
-    fn add(&mut self, name: &[u8], at: u64, bytes: Vec<u8>, meter: &mut Meter) -> Result<Linked, EditRefusal>
+    fn add(
+        &mut self,
+        name: &[u8],
+        at: u64,
+        bytes: Vec<u8>,
+        meter: &mut Meter,
+    ) -> Result<Linked, EditRefusal>
         ensures { Applied self.old (Add name.now at bytes.items) self.new result }
     {
         if let Some(refusal) = early_refusal(&self.objects, name, at, &bytes) {

@@ -21,10 +21,10 @@ returns c =
     let by = rw c.in-Some-row.is at w.filled in
     let made = c.in_ok-image.ensures (p ∷ []) in
     elim by [
-      inl none ↦ absurd (c.if-g-eq0.false none)
-    | inr fills ↦
-        let filled : IsFilled g p = record { loaded = c.if-g-eq0.false; some = w.some; behind = w.behind; size = fills.0; bytes = fills.1 } in
-        rw (c.in-Some.is, c.in-Some-row.is)
-        (image_of_resized g p filled 0 c.in_ok-image.image.items c.extend_from_slice.new.self.items c.in_ok-image.image.len (rw c.in-Some.is at made) c.in_ok-image.image.ok.0
-            (c.in_ok-extend_from_slice.ensures.items ∙ ap (λ xs. xs ++ c.in-Some-row.m.bytes.now) c.in_ok-resize.ensures.items))
+      | inl none ↦ absurd (c.if-g-eq0.false none)
+      | inr fills ↦
+          let filled : IsFilled g p = record { loaded = c.if-g-eq0.false; some = w.some; behind = w.behind; size = fills.0; bytes = fills.1 } in
+          rw (c.in-Some.is, c.in-Some-row.is)
+          (image_of_resized g p filled 0 c.in_ok-image.image.items c.extend_from_slice.new.self.items c.in_ok-image.image.len (rw c.in-Some.is at made) c.in_ok-image.image.ok.0
+          (c.in_ok-extend_from_slice.ensures.items ∙ ap (λ xs. xs ++ c.in-Some-row.m.bytes.now) c.in_ok-resize.ensures.items))
     ]

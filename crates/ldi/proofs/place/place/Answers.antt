@@ -19,4 +19,4 @@ returns-in-Some-span-clause-placed c =
     let p = piece_of 0 (member_of c.in-Some-row.m) in
     let found = c.in-Some-span.ensures.found in
     placed_one c.args.script.now (row_of c.args.row) f.start f.name f.word c.in-Some.ensures p c.in-Some-span.start c.in-Some-span.end c.with_piece.result (rw c.in-Some-row.is refl)
-      (rw c.start-2.ensures at found.0) found.1 found.2 c.with_piece.ensures
+    (rw c.start-2.ensures at found.0) found.1 found.2 c.with_piece.ensures
