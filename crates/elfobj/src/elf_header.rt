@@ -1,6 +1,6 @@
 //! Tests of the ELF header (gABI, "ELF Header", `Elf64_Ehdr`: 64 bytes).
 
-ghost use Rattle.std.specs.Prelude.{◌≡◌, ◌≤◌, ◌<◌, ◌+◌, ◌*◌, IfNone, false, find, length};
+ghost use Rattle.std.specs.Prelude.{◌≡◌, ◌≤◌, IfNone, false, find, length};
 ghost use Rattle.elfobj.specs.ElfHeader.{e_shoff, e_shnum, e_shstrndx};
 ghost use Rattle.elfobj.specs.Refusal.{holds, header_refusals};
 ghost use Rattle.elfobj.specs.SectionTable.{IsTableWithin, IsCountRight, HasSectionTable};

@@ -1,11 +1,10 @@
 //! The linked sections of an object, gathered from its section headers.
 
-ghost use Rattle.std.specs.Prelude.{◌≡◌, ◌<◌, ℕ, List, [], ◌∷◌, ◌++◌, IfOk, OnOk, Some, length};
-ghost use Rattle.elfobj.specs.ElfHeader.{e_shnum};
+ghost use Rattle.std.specs.Prelude.{◌≡◌, [], ◌∷◌, ◌++◌, IfOk, OnOk};
 ghost use Rattle.elfobj.specs.Linkable.{IsLinkable, IsNameTable, IsPlaced, PassesTests};
 ghost use Rattle.elfobj.specs.Places.{AreRead};
 ghost use Rattle.elfobj.specs.SectionHeaders.{headers as headers_of};
-ghost use Rattle.elfobj.specs.Sections.{LinkedSection, linked_as, sections_of};
+ghost use Rattle.elfobj.specs.Sections.{linked_as, sections_of};
 ghost use Rattle.elfobj.specs.SectionTable.{HasSectionTable};
 
 use crate::place::{Place, place_of};

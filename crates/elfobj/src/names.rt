@@ -1,6 +1,6 @@
 //! Names in a string table (gABI, "String Table": a string runs to the next zero byte).
 
-ghost use Rattle.std.specs.Prelude.{◌≡◌, ◌≤◌, ◌<◌, ◌+◌, ◌==◌, IfSome, Some, false, drop, is_some, length, position, take};
+ghost use Rattle.std.specs.Prelude.{◌≡◌, ◌≤◌, ◌+◌, ◌==◌, IfSome, Some, false, drop, is_some, length, position, take};
 ghost use Rattle.std.specs.List.{list_all};
 ghost use Rattle.std.specs.Option.{option_map_or};
 ghost use Rattle.elfobj.specs.Names.{string_at, is_graphic, is_name, name_room};

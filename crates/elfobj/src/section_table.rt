@@ -1,6 +1,6 @@
 //! The tests of the section headers, and what they leave to read.
 
-ghost use Rattle.std.specs.Prelude.{◌≡◌, ◌⊎◌, ◌||◌, ◌==◌, IfErr, IfNone, IfOk, IfSome, None, Some, find, not};
+ghost use Rattle.std.specs.Prelude.{◌≡◌, ◌⊎◌, IfErr, IfNone, IfOk, IfSome, None, Some, find};
 ghost use Rattle.std.specs.List.{list_any};
 ghost use Rattle.elfobj.specs.Linkable.{IsNameTable, PassesTests};
 ghost use Rattle.elfobj.specs.Places.{AreRead};
