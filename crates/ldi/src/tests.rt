@@ -7,6 +7,7 @@ use crate::stream::fault::RunFault;
 use crate::stream::testing::{Recorder, Scripted};
 use crate::stream::{Status, run};
 use std::alloc::{AllocError, Global};
+use std::process::Abort;
 use std::test::Fail;
 
 /// An object with the four bytes `90 90 90 C3` in `.text`.
@@ -95,8 +96,7 @@ fn answers(
 }
 
 /// Each row, with one byte a call, with a few, and with as many as are asked for.
-fn check_rows(rt: &HostRuntime, rows: &[Row<'_>]) -> Result<(), Fail> {
-    let alloc = rt.alloc();
+fn check_rows(rt: &impl Abort, alloc: Global, rows: &[Row<'_>]) -> Result<(), Fail> {
     for (stream, want, status) in rows {
         let stream = joined(alloc, stream)?;
         let want = joined(alloc, want)?;
@@ -135,7 +135,7 @@ fn answers_the_smallest_streams(rt: HostRuntime) -> Result<(), Fail> {
             Status::Done(0),
         ),
     ];
-    check_rows(&rt, &rows)
+    check_rows(&rt, rt.alloc(), &rows)
 }
 
 #[test]
@@ -162,7 +162,7 @@ fn links_at_each_start(rt: HostRuntime) -> Result<(), Fail> {
             &[b"linked 0 64\n", linked],
             Status::Done(status),
         )];
-        check_rows(&rt, &rows)?;
+        check_rows(&rt, rt.alloc(), &rows)?;
     }
     Ok(())
 }
@@ -207,7 +207,7 @@ fn refuses_edits_and_keeps_the_image(rt: HostRuntime) -> Result<(), Fail> {
             Status::Malformed,
         ),
     ];
-    check_rows(&rt, &rows)
+    check_rows(&rt, rt.alloc(), &rows)
 }
 
 #[test]
@@ -222,7 +222,7 @@ fn ends_at_a_bad_tail(rt: HostRuntime) -> Result<(), Fail> {
             Status::Malformed,
         ),
     ];
-    check_rows(&rt, &rows)
+    check_rows(&rt, rt.alloc(), &rows)
 }
 
 #[test]
@@ -243,9 +243,18 @@ fn refuses_each_cut_of_an_object(rt: HostRuntime) -> Result<(), Fail> {
     Ok(())
 }
 
-/// Whether the written bytes are a beginning of the answers.
-fn begins(written: &[u8], want: &[u8]) -> bool {
-    written.len() <= want.len() && &want[..written.len()] == written
+/// Whether the answers are whole, or the fault is told and a beginning of them is written.
+fn is_told(
+    outcome: Result<Status, RunFault>,
+    fault: RunFault,
+    written: &[u8],
+    want: &[u8],
+) -> bool {
+    if outcome == Err(fault) {
+        written.len() <= want.len() && &want[..written.len()] == written
+    } else {
+        outcome == Ok(Status::Done(0)) && written == want
+    }
 }
 
 #[test]
@@ -253,28 +262,29 @@ fn tells_failed_devices(rt: HostRuntime) -> Result<(), Fail> {
     let alloc = rt.alloc();
     let stream = joined(alloc, &[SCRIPT, ADD, &OBJECT_A, IMAGE])?;
     let (_, want) = answers(alloc, &stream, usize::MAX)?;
-    let mut faults = 0u32;
+    let mut read_faults = 0u64;
+    let mut write_faults = 0u64;
     for at in 1..200u64 {
         let mut recorder = Recorder::new(alloc, usize::MAX, 0);
         let reader = Scripted::new(&stream, usize::MAX, at);
-        if run_with(alloc, reader, &mut recorder)? == Err(RunFault::Read) {
-            faults = faults.saturating_add(1);
-            assert!(rt;
-                begins(&recorder.written, &want) && recorder.written.len() < want.len() || at > 30,
-                "read {at}"
-            );
-        } else {
-            assert_eq!(rt; recorder.written.as_slice(), want.as_slice());
-        }
+        let outcome = run_with(alloc, reader, &mut recorder)?;
+        assert!(rt;
+            is_told(outcome, RunFault::Read, &recorder.written, &want),
+            "read {at}"
+        );
+        read_faults = read_faults.saturating_add(u64::from(outcome.is_err()));
         let mut recorder = Recorder::new(alloc, 100, at);
         let reader = Scripted::new(&stream, usize::MAX, 0);
-        if run_with(alloc, reader, &mut recorder)? == Err(RunFault::Write) {
-            faults = faults.saturating_add(1);
-            assert!(rt; begins(&recorder.written, &want), "write {at}");
-        } else {
-            assert_eq!(rt; recorder.written.as_slice(), want.as_slice());
-        }
+        let outcome = run_with(alloc, reader, &mut recorder)?;
+        assert!(rt;
+            is_told(outcome, RunFault::Write, &recorder.written, &want),
+            "write {at}"
+        );
+        write_faults = write_faults.saturating_add(u64::from(outcome.is_err()));
     }
-    assert!(rt; faults > 80, "{faults} faults");
+    // Lines of 10, 14 and 6 bytes are read by the byte, two payloads at once, and the end.
+    assert_eq!(rt; read_faults, 33);
+    // Two answers of 5 parts and a flush, and one of 3 parts, 41 writes of an image, and a flush.
+    assert_eq!(rt; write_faults, 57);
     Ok(())
 }
