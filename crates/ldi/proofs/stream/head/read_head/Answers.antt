@@ -1,4 +1,4 @@
-use Rattle.std.proofs.Common.{◌≡◌, ◌≤◌, ◌∙◌, sym, arith}
+use Rattle.std.proofs.Common.{◌∙◌, sym, arith}
 use Rattle.ldi.proofs.StreamWords.{bytes_same, bytes_differ, if_none, image_is, no_words, no_object, no_script, no_known, script_is, object_is}
 use Rattle.ldi.proofs.stream.head.read_head.Goals as goal
 
