@@ -1,10 +1,8 @@
-use Rattle.std.proofs.Common.{◌≡◌, ℕ, ◌⊎◌, inl, inr, List, [], ◌∷◌, ◌++◌, length, flat_map, Option, None, Some, IfSome, Ok, refl, sym, ap, subst, ◌∙◌, append-nil}
-use Rattle.std.specs.Io.KnownBytes.{Consumes, Appends, Keeps, IsAtEnd}
+use Rattle.std.proofs.Common.{◌≡◌, ℕ, inl, inr, List, [], ◌++◌, Option, None, Some, IfSome, Ok, refl, sym, ap, subst, ◌∙◌}
+use Rattle.std.specs.Io.KnownBytes.{Consumes, Appends, IsAtEnd}
 use Rattle.std.proofs.KnownBytes.{Appends-trans, Appends-kept}
-use Rattle.ldi.specs.Project.{Project}
-use Rattle.ldi.specs.Commands.{Command, spelling}
-use Rattle.ldi.specs.Answers.{AreCommands, Replies, Ending, Answers, IsBad, stream_line, status_of}
-use Rattle.ldi.specs.Stepped.{World, world, Progress, AtEnd, AtBad, Ran}
+use Rattle.ldi.specs.Answers.{Answers, stream_line, status_of}
+use Rattle.ldi.specs.Stepped.{World, Ran}
 use Rattle.ldi.specs.declared.stream.Status.{Status}
 
 abbrev pub Answered : World → World → Status → Type 0

@@ -1,11 +1,11 @@
-use Rattle.std.proofs.Common.{◌≡◌, ◌≢◌, ℕ, zero, suc, ◌+◌, ◌-◌, ◌%◌, ◌^◌, Bool, true, false, not, ◌&&◌, ◌==◌, ◌<◌, ◌≤◌, ◌⊎◌, List, [], ◌∷◌, ◌++◌, length, codes, decimal, Option, None, Some, IfSome, Ok, inl, inr, take, refl, sym, ap, subst, arith, ◌∙◌, length-append, append_assoc, append-nil}
+use Rattle.std.proofs.Common.{◌≡◌, ◌≢◌, ℕ, ◌+◌, ◌%◌, ◌^◌, Bool, true, false, not, ◌&&◌, ◌==◌, ◌<◌, ◌≤◌, List, [], ◌∷◌, ◌++◌, length, codes, decimal, Option, None, Some, IfSome, Ok, inl, inr, take, refl, sym, ap, subst, arith, ◌∙◌, length-append, append_assoc, append-nil}
 use Rattle.std.proofs.lemmas.Fmt.{decimal_by_steps, decimal_injective}
-use Rattle.std.proofs.lemmas.Bool.{false≢true, eqb-true, eq-eqb}
+use Rattle.std.proofs.lemmas.Bool.{false≢true, eq-eqb}
 use Rattle.std.specs.Io.KnownBytes.{Consumes, IsAtEnd}
-use Rattle.ldi.specs.Commands.{Command, Add, SetScript, Image, Head, AddHead, ScriptHead, ImageHead, head_of, payload_of, head_line, object_words, HasNo, HasNoFeed, IsWord, IsHead, spelling, IsCommand}
+use Rattle.ldi.specs.Commands.{Command, Add, SetScript, Image, Head, AddHead, ScriptHead, ImageHead, head_of, payload_of, head_line, object_words, HasNo, HasNoFeed, IsHead, spelling}
 use Rattle.ldi.specs.Answers.{BeginsCommand, IsBad}
 use Rattle.ldi.specs.Stepped.{LineRead}
-use Rattle.ldi.specs.declared.stream.line.LineEnd.TheVariants.{Line, Ended, Broken}
+use Rattle.ldi.specs.declared.stream.line.LineEnd.TheVariants.{Line, Broken}
 
 -- ---- bytes up to the first of a kind
 

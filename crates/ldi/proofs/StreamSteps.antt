@@ -1,12 +1,12 @@
-use Rattle.std.proofs.Common.{◌≡◌, ℕ, ◌+◌, ◌<◌, ◌≤◌, ◌⊎◌, inl, inr, List, [], ◌∷◌, ◌++◌, length, take, Option, None, Some, IfSome, Result, Ok, Err, refl, sym, ap, subst, arith, ◌∙◌, append_assoc, append-nil, length-append}
-use Rattle.std.specs.Io.KnownBytes.{Consumes, Appends, Keeps, IsAtEnd}
+use Rattle.std.proofs.Common.{◌≡◌, ℕ, ◌<◌, inl, inr, List, [], ◌∷◌, ◌++◌, length, Option, Result, Ok, Err, refl, sym, ap, subst, arith, append_assoc, length-append}
+use Rattle.std.specs.Io.KnownBytes.{Consumes}
 use Rattle.std.proofs.KnownBytes.{Consumes-trans}
 use Rattle.ldi.specs.Project.{Project}
 use Rattle.ldi.specs.Edits as edits
 use Rattle.ldi.specs.Edits.{Change}
 use Rattle.ldi.specs.Commands.{Command, Add, SetScript, Head, AddHead, ScriptHead, head_of, payload_of, head_line, IsHead, IsCommand, spelling}
-use Rattle.ldi.specs.Answers.{BeginsCommand, EditReply, Reply}
-use Rattle.ldi.specs.Stepped.{World, world, Stepped, EditStepped}
+use Rattle.ldi.specs.Answers.{EditReply, Reply}
+use Rattle.ldi.specs.Stepped.{world, Stepped, EditStepped}
 use Rattle.ldi.specs.declared.stream.fault.RunFault.{RunFault}
 use Rattle.ldi.specs.declared.stream.fault.RunFault.TheVariants.{Read, Write, Long}
 use Rattle.ldi.specs.declared.stream.serve.Step.{Step}

@@ -1,4 +1,4 @@
-use Rattle.std.proofs.Common.{◌≡◌, ◌≢◌, ◌↔◌, ℕ, zero, suc, ◌+◌, ◌-◌, ◌^◌, ◌<◌, ◌≤◌, ◌==◌, Bool, true, false, not, IsTrue, Result, Ok, Err, List, [], ◌∷◌, ◌++◌, length, codes, decimal, take, drop, get_or, Option, None, Some, IfNone, refl, sym, ap, subst, arith, add-one, ◌∙◌, length-append, length-drop, take_all, take-append-drop, drop-cons, append_assoc}
+use Rattle.std.proofs.Common.{◌≡◌, ◌↔◌, ℕ, zero, suc, ◌+◌, ◌-◌, ◌^◌, ◌<◌, ◌≤◌, ◌==◌, Bool, true, false, not, IsTrue, Result, Ok, Err, List, [], ◌∷◌, ◌++◌, length, codes, decimal, take, drop, get_or, Option, None, Some, IfNone, refl, sym, ap, subst, arith, add-one, ◌∙◌, length-drop, take_all, take-append-drop, drop-cons}
 use Rattle.std.specs.List.{slice_range}
 use Rattle.std.proofs.lemmas.Bool.{eqb-true, eqb-false, eq-eqb, false≢true}
 use Rattle.std.specs.Str.{bytes_eq}
@@ -6,7 +6,7 @@ use Rattle.std.specs.Str.Parse.{ParsesUnsigned}
 use Rattle.std.proofs.lemmas.Slice.Eq.{bytes_eq-Decides}
 use Rattle.std.proofs.lemmas.Fmt.{parse-decimal}
 use Rattle.bstr.specs.Find.{IsFirstByte, Passes, Nowhere, is_byte}
-use Rattle.ldi.specs.Commands.{Head, AddHead, ScriptHead, ImageHead, HasNo, IsWord, IsHead, HasNumbers, HasWords, head_line, object_words}
+use Rattle.ldi.specs.Commands.{Head, AddHead, ScriptHead, ImageHead, HasNo, IsWord, IsHead, HasWords, head_line, object_words}
 use Rattle.ldi.specs.declared.stream.head.ObjectWords.{ObjectWords}
 use Rattle.ldi.proofs.StreamGrammar.{first_cut, no_cut, decimal_no, no_by_test}
 

@@ -1,5 +1,5 @@
 -- The answers to a stream, command by command.
-use Rattle.std.specs.Prelude.{◌≡◌, ◌≢◌, ℕ, ◌+◌, ◌<◌, ◌≤◌, ◌⊎◌, List, [], ◌∷◌, ◌++◌, length, flat_map, Result, Ok, Err, codes, decimal}
+use Rattle.std.specs.Prelude.{◌≡◌, ◌≢◌, ℕ, ◌⊎◌, List, [], ◌∷◌, ◌++◌, length, flat_map, Ok, Err, codes, decimal}
 use Rattle.ldi.specs.Commands.{Command, Add, SetScript, Image, IsCommand, spelling}
 use Rattle.ldi.specs.Project.{Project}
 use Rattle.ldi.specs.Edits as edits

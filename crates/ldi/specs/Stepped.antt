@@ -1,6 +1,6 @@
 -- What one step of a run does, and a whole run: by cases on its result, over what the devices tell and what the
 -- linker holds.
-use Rattle.std.specs.Prelude.{◌≡◌, ◌≢◌, ℕ, ◌+◌, ◌<◌, ◌≤◌, ◌-◌, ◌^◌, min, ◌⊎◌, List, [], ◌∷◌, ◌++◌, length, take, flat_map, Option, Some, None, IfSome, Result, Ok, Err, MatchResult, Bool, true}
+use Rattle.std.specs.Prelude.{◌≡◌, ℕ, ◌+◌, ◌<◌, ◌≤◌, ◌-◌, ◌^◌, min, ◌⊎◌, List, [], ◌∷◌, ◌++◌, length, take, flat_map, Option, Some, None, IfSome, Result, Ok, Err, MatchResult, Bool, true}
 use Rattle.std.specs.Io.KnownBytes.{Consumes, Appends, Keeps, IsAtEnd}
 use Rattle.ldi.specs.Project.{Project}
 use Rattle.ldi.specs.Commands.{Command, Head, AddHead, ScriptHead, ImageHead, head_line, IsHead, IsCommand, HasNoFeed, spelling}
@@ -8,9 +8,9 @@ use Rattle.ldi.specs.Edits as edits
 use Rattle.ldi.specs.Edits.{Change}
 use Rattle.ldi.specs.declared.stream.serve.Aim.{Aim}
 use Rattle.ldi.specs.declared.stream.serve.Aim.TheVariants as aim
-use Rattle.ldi.specs.Answers.{AreCommands, Reply, EditReply, Replies, BeginsCommand, IsBad, status_of, stream_line, Answers}
+use Rattle.ldi.specs.Answers.{AreCommands, Reply, EditReply, Replies, BeginsCommand, IsBad, status_of, stream_line}
 use Rattle.ldi.specs.declared.stream.Status.{Status}
-use Rattle.ldi.specs.declared.stream.Status.TheVariants.{Done, Malformed}
+use Rattle.ldi.specs.declared.stream.Status.TheVariants.{Malformed}
 use Rattle.ldi.specs.declared.stream.serve.Step.{Step}
 use Rattle.ldi.specs.declared.stream.serve.Step.TheVariants.{Next, End}
 use Rattle.ldi.specs.declared.stream.line.LineEnd.{LineEnd}
@@ -19,7 +19,6 @@ use Rattle.std.specs.List.{slice_range}
 use Rattle.ldi.specs.declared.stream.head.HeadInLine.{HeadInLine}
 use Rattle.ldi.specs.declared.stream.head.HeadInLine.TheVariants.{Add, Script, Image}
 use Rattle.ldi.specs.declared.stream.serve.Start.{Start}
-use Rattle.ldi.specs.declared.stream.serve.Start.TheVariants as Start
 use Rattle.ldi.specs.declared.stream.payload.Payload.{Payload}
 use Rattle.ldi.specs.declared.stream.payload.Payload.TheVariants.{Whole, NoMemory, Short}
 use Rattle.ldi.specs.declared.stream.fault.RunFault.{RunFault}

@@ -80,15 +80,11 @@ fn read_count(word: &[u8]) -> Option<usize>
     ensures found { IfSome result (λ n. (n ≤ 2 ^ 26) × (word.now ≡ decimal n)) }
     ensures none { IfNone result ((n : ℕ) → n ≤ 2 ^ 26 → word.now ≡ decimal n → ⊥) }
 {
-    match read_number(word) {
-        None => None,
-        Some(n) => {
-            if n <= MAX_PAYLOAD as u64 {
-                Some(n as usize)
-            } else {
-                None
-            }
-        }
+    let n = read_number(word)?;
+    if n <= MAX_PAYLOAD as u64 {
+        Some(n as usize)
+    } else {
+        None
     }
 }
 
@@ -141,19 +137,15 @@ pub fn read_head(line: &[u8]) -> Option<HeadInLine>
         }
         Some((word, rest)) => {
             if word == b"add".as_slice() {
-                match read_object(rest) {
-                    None => None,
-                    Some(words) => Some(HeadInLine::Add {
-                        name_end: NAME_START + words.name_len,
-                        at: words.at,
-                        count: words.count,
-                    }),
-                }
+                let words = read_object(rest)?;
+                Some(HeadInLine::Add {
+                    name_end: NAME_START + words.name_len,
+                    at: words.at,
+                    count: words.count,
+                })
             } else if word == b"script".as_slice() {
-                match read_count(rest) {
-                    None => None,
-                    Some(count) => Some(HeadInLine::Script { count }),
-                }
+                let count = read_count(rest)?;
+                Some(HeadInLine::Script { count })
             } else {
                 None
             }

@@ -1,5 +1,5 @@
-use Rattle.std.proofs.Common.{refl, arith, ◌∙◌, ◌≡◌, ◌+◌}
-use Rattle.ldi.specs.Stepped.{world, Served}
+use Rattle.std.proofs.Common.{refl, arith, ◌∙◌}
+use Rattle.ldi.specs.Stepped.{world}
 use Rattle.ldi.proofs.StreamRuns.{at_start, at_start_length, one_more, one_more_length}
 use Rattle.ldi.proofs.StreamEnds.{answered}
 use Rattle.ldi.proofs.stream.run.Goals as goal

@@ -1,4 +1,4 @@
-use Rattle.std.proofs.Common.{◌≡◌, ◌<◌, ◌≤◌, length, take, drop, ◌-◌, ◌∙◌, arith, length-drop, length-take}
+use Rattle.std.proofs.Common.{◌≤◌, length, take, drop, ◌-◌, ◌∙◌, arith, length-drop, length-take}
 use Rattle.std.proofs.KnownBytes.{Appends-trans}
 use Rattle.ldi.proofs.StreamLines.{take_two}
 use Rattle.ldi.proofs.stream.answer.write_all.Goals as goal

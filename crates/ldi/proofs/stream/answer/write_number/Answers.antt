@@ -1,4 +1,4 @@
-use Rattle.std.proofs.Common.{◌≡◌, ◌++◌, ◌∷◌, [], decimal, ◌∙◌}
+use Rattle.std.proofs.Common.{◌∙◌}
 use Rattle.ldi.proofs.StreamWriting.{Part-front, Writes-cut, Writes-then, Writes-both}
 use Rattle.ldi.proofs.stream.answer.write_number.Goals as goal
 

@@ -1,4 +1,3 @@
-use Rattle.std.proofs.Common.{◌≡◌, arith}
 use Rattle.std.proofs.lemmas.Bool.{false≢true}
 use Rattle.ldi.proofs.StreamWords.{word_test, not_word}
 use Rattle.ldi.proofs.stream.head.is_word.Goals as goal

@@ -1,4 +1,4 @@
-use Rattle.std.proofs.Common.{◌≡◌, ◌<◌, ◌^◌, ℕ, decimal, ◌∙◌, sym, ap}
+use Rattle.std.proofs.Common.{◌≡◌, decimal, ◌∙◌, sym, ap}
 use Rattle.std.proofs.lemmas.Fmt.{IsAscii-decimal}
 use Rattle.std.proofs.lemmas.Str.{IsUtf8-from_ascii}
 use Rattle.ldi.proofs.StreamWords.{bytes_differ, no_parse, one_parse}

@@ -1,4 +1,4 @@
-use Rattle.std.proofs.Common.{◌≡◌, ◌<◌, ◌≤◌, ◌++◌, ◌∷◌, [], ◌∙◌, length, take, arith, length-take, length-append, inr, sym, subst}
+use Rattle.std.proofs.Common.{◌<◌, ◌++◌, ◌∷◌, [], ◌∙◌, length, take, arith, length-take, length-append, inr}
 use Rattle.std.proofs.KnownBytes.{Consumes-trans}
 use Rattle.ldi.proofs.StreamLines.{NoFeed-more, take_set}
 use Rattle.ldi.proofs.stream.line.read_line.Goals as goal

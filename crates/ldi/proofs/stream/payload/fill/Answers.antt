@@ -1,6 +1,6 @@
-use Rattle.std.proofs.Common.{◌≡◌, ◌<◌, ◌≤◌, ◌-◌, ◌∙◌, length, take, drop, arith, length-drop, length-take}
+use Rattle.std.proofs.Common.{◌≡◌, ◌≤◌, ◌-◌, ◌∙◌, length, take, drop, arith, length-drop, length-take}
 use Rattle.std.proofs.KnownBytes.{Consumes-trans}
-use borrow.Rule.Slice.PartMut.{put_mid, same_len_mid}
+use borrow.Rule.Slice.PartMut.{same_len_mid}
 use Rattle.ldi.proofs.StreamLines.{put_front}
 use Rattle.ldi.proofs.stream.payload.fill.Goals as goal
 

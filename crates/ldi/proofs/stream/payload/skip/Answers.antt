@@ -1,4 +1,4 @@
-use Rattle.std.proofs.Common.{◌≡◌, ◌<◌, ◌≤◌, ◌+◌, ◌++◌, ◌∙◌, length, arith, length-append, length-take, length-drop, take}
+use Rattle.std.proofs.Common.{◌++◌, ◌∙◌, arith, length-append, length-take, length-drop, take}
 use Rattle.std.proofs.lemmas.Result.{err_from_is_err_and}
 use Rattle.std.proofs.KnownBytes.{Consumes-trans}
 use Rattle.ldi.proofs.stream.payload.skip.Goals as goal

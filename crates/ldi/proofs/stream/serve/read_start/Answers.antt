@@ -1,4 +1,4 @@
-use Rattle.std.proofs.Common.{ℕ, ◌++◌, ◌∷◌, []}
+use Rattle.std.proofs.Common.{ℕ}
 use Rattle.std.proofs.lemmas.Result.{err_from_is_err_and}
 use Rattle.ldi.proofs.StreamGrammar.{no_line, broken_tail, unread_line}
 use Rattle.ldi.proofs.stream.serve.read_start.Goals as goal

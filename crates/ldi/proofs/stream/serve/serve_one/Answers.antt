@@ -1,8 +1,6 @@
 use Rattle.std.proofs.lemmas.Result.{err_from_is_err_and}
 use Rattle.std.proofs.KnownBytes.{Keeps-refl}
 use Rattle.std.proofs.Common.{refl}
-use Rattle.ldi.specs.Commands.{AddHead, ScriptHead, SetScript, Add}
-use Rattle.ldi.specs.Edits as edits
 use Rattle.ldi.proofs.StreamSteps.{edit_stepped, script_edit, add_edit}
 use Rattle.ldi.proofs.stream.serve.serve_one.Goals as goal
 
