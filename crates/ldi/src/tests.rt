@@ -95,16 +95,27 @@ fn answers(
     Ok((outcome, recorder.written))
 }
 
-/// Each row, with one byte a call, with a few, and with as many as are asked for.
+/// A stream with one byte a call, with a few, and with as many as are asked for.
+fn check_stream(
+    rt: &impl Abort,
+    alloc: Global,
+    stream: &[u8],
+    want: &[u8],
+    status: Status,
+) -> Result<(), AllocError> {
+    for step in [1usize, 7, usize::MAX] {
+        let (outcome, written) = answers(alloc, stream, step)?;
+        assert_eq!(rt; outcome, Ok(status));
+        assert_eq!(rt; written.as_slice(), want);
+    }
+    Ok(())
+}
+
 fn check_rows(rt: &impl Abort, alloc: Global, rows: &[Row<'_>]) -> Result<(), Fail> {
     for (stream, want, status) in rows {
         let stream = joined(alloc, stream)?;
         let want = joined(alloc, want)?;
-        for step in [1usize, 7, usize::MAX] {
-            let (outcome, written) = answers(alloc, &stream, step)?;
-            assert_eq!(rt; outcome, Ok(*status));
-            assert_eq!(rt; written.as_slice(), want.as_slice());
-        }
+        check_stream(rt, alloc, &stream, &want, *status)?;
     }
     Ok(())
 }
@@ -157,12 +168,9 @@ fn links_at_each_start(rt: HostRuntime) -> Result<(), Fail> {
             &[b"SECTIONS { . = ", start, b"; .text : { *(.text) } }"],
         )?;
         let line = format!(in alloc; "script {}\n", script.len())?;
-        let rows: [Row<'_>; 1] = [(
-            &[line.as_bytes(), &script, ADD, &OBJECT_A],
-            &[b"linked 0 64\n", linked],
-            Status::Done(status),
-        )];
-        check_rows(&rt, rt.alloc(), &rows)?;
+        let stream = joined(alloc, &[line.as_bytes(), &script, ADD, &OBJECT_A])?;
+        let want = joined(alloc, &[b"linked 0 64\n", linked])?;
+        check_stream(&rt, alloc, &stream, &want, Status::Done(status))?;
     }
     Ok(())
 }
