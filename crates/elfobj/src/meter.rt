@@ -7,17 +7,18 @@ use std::marker::Model;
 pub enum Count {
     /// Objects that were read, accepted or refused.
     Objects,
-    /// Names that were worked on.
+    /// Names that were decided.
     Names,
-    /// Pieces that were worked on.
+    /// Pieces that were placed.
     Pieces,
-    /// Fields that were worked on.
+    /// Relocations that were evaluated.
     Fields,
-    /// Bytes that were worked on.
+    /// Bytes of the image that were written.
     Bytes,
 }
 
-/// Five counts, each from 0 to the greatest `u64`, where it stands still.
+/// Five counts of the work of a link, each from 0 to the greatest `u64`, where it stands still. This version
+/// counts objects alone.
 #[derive(Drop)]
 pub struct Meter {
     objects: u64,

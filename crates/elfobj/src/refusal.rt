@@ -21,8 +21,8 @@ pub enum ObjectRefusal {
     SectionProfile,
     /// 14: no memory.
     NoMemory,
-    /// 15: an object of the profile that this version does not read yet: it has a symbol table or
-    /// relocations, or more than one linked section.
+    /// 15: none of the others, but what this version does not read yet: a symbol table, a relocation
+    /// section, or more than one linked section.
     NotYet,
 }
 

@@ -25,7 +25,9 @@ abbrev pub linked_by : Result State PlaceFault → Link
 linked_by (Ok s) = good s
 linked_by (Err f) = faulty
 
--- the faults are those of the first phase that has any: gathering, then layout
+-- the faults are those of the first phase that has any: gathering, then layout. Output sections can't meet and
+-- an image can't be too long here, since there is at most one output section, and an object has at most 2^26
+-- bytes
 unfoldable pub link_of : Tree → List Member → Link
 link_of tree ms = if length (orphans tree ms) == 0 then linked_by (placement tree (rows tree ms)) else faulty
 

@@ -35,7 +35,8 @@ stretch_words = codes "BYTE" ∷ codes "SHORT" ∷ codes "LONG" ∷ codes "QUAD"
 unfoldable pub is_stretch_word : List ℕ → Bool
 is_stretch_word word = list_any (λ w. bytes_eq w word) stretch_words
 
--- after a token read in pattern mode: `=` and `+=` begin a stretch to the next `;`, and so does a `(` right after
+-- after a token read in pattern mode (a `(` that begins a stretch belongs to it, and is the same token in both
+-- modes): `=` and `+=` begin a stretch to the next `;`, and so does a `(` right after
 -- a word of those to the `)` that matches it
 abbrev pub opened : Stretch → Token → Stretch
 opened s (Punctuation Assign) = ToSemicolon

@@ -39,7 +39,8 @@ congruent end at = end + (at % 4096 + (4096 - end % 4096)) % 4096
 abbrev pub begun : ℕ → Laid → Segment
 begun end q = record { offset = congruent end q.placed.start; first = q; others = [] }
 
--- p_filesz: up to the end of the last section with file bytes, 0 if there is none
+-- p_filesz: up to the end of the last section with file bytes, 0 if there is none. Sections of a segment stand in
+-- rising order, and one of nonzero size has file bytes exactly if its load size isn't 0
 abbrev pub file_size : Segment → ℕ
 file_size g = fold (λ n (q : Laid). if q.placed.load_size == 0 then n else end_of q.placed - g.first.placed.start) 0 (sections_in g)
 
