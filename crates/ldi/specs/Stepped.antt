@@ -190,7 +190,7 @@ FaultsCounted r r' w w' (Err Read) = (r' ≡ risen r) × (w' ≡ w)
 FaultsCounted r r' w w' (Err Write) = (r' ≡ r) × (w' ≡ risen w)
 FaultsCounted r r' w w' (Err Long) = (r' ≡ r) × (w' ≡ w)
 
--- answers are not held back: what was written is flushed whenever a read is tried and at the end
+-- answers are not held back: all that was written is flushed where a read fails, as any read might, and at the end
 abbrev pub Flushed : {T : Type 0} → Bool → Bool → Result T RunFault → Type 0
 Flushed old new (Ok _) = old ≡ true → new ≡ true
 Flushed old new (Err Read) = old ≡ true → new ≡ true

@@ -55,7 +55,7 @@ pub fn run<R: Source, W: Sink, L: Linker>(
     // What stands after each outcome.
     ensures ran { Ran (world (R.rest source.old) (W.written sink.old) (L.project linker.old))
         (world (R.rest source.new) (W.written sink.new) (L.project linker.new)) result }
-    // What was written is flushed whenever a read is tried, and at the end.
+    // All answers are flushed where a read fails, as any might, and at the end.
     ensures flushed { Flushed (W.flushed sink.old) (W.flushed sink.new) result }
     // A fault is told where a device's count of failures rose, and nowhere else.
     ensures counted { FaultsCounted (R.failed source.old) (R.failed source.new) (W.failed sink.old) (W.failed sink.new) result }
