@@ -1,9 +1,9 @@
 -- The first object of a project.
-use Rattle.std.proofs.Common.{◌≡◌, ◌||◌, ℕ, suc, inl, inr, ◌<◌, ◌≤◌, List, [], ◌∷◌, length, Bool, true, false, cond, Option, Some, None, refl, sym, ap, ◌∙◌, arith, insert, nat_le, nat_lt}
+use Rattle.std.proofs.Common.{◌≡◌, ◌||◌, ℕ, suc, inl, inr, List, [], ◌∷◌, length, Bool, true, false, cond, Option, Some, None, refl, sym, ap, ◌∙◌, arith, insert, nat_le, nat_lt}
 use Rattle.std.proofs.lemmas.Bool.{true≢false}
 use Rattle.std.proofs.lemmas.Bool.Decides.{leb_tells}
 use Rattle.ldi.specs.Project.{Project, NamedObject}
-use Rattle.ldi.specs.Edits.{Add, early_refusal, is_over_limit, is_in_use, refusal}
+use Rattle.ldi.specs.Edits.{Add, early_refusal, is_over_limit, is_in_use}
 use Rattle.ldi.specs.declared.linker.edit.EditRefusal.{EditRefusal}
 
 passes : (b : Bool) (r : EditRefusal) (later : Option EditRefusal) → cond b (Some r) later ≡ None → (b ≡ false) × (later ≡ None)

@@ -1,15 +1,14 @@
 -- The image of at most one segment, which holds one output section.
-use Rattle.std.proofs.Common.{◌≡◌, ◌≢◌, ℕ, suc, ◌+◌, ◌-◌, ◌*◌, ◌^◌, ◌<◌, ◌≤◌, ◌⊎◌, inl, inr, List, [], ◌∷◌, ◌++◌, length, get_or, Bool, true, false, cond, Some, None, refl, sym, ap, subst, ◌∙◌, arith, nat_eq, nat_lt, nat_le, find, append_assoc, append-nil, length-append, take}
+use Rattle.std.proofs.Common.{◌≡◌, ◌≢◌, ℕ, suc, ◌+◌, ◌-◌, ◌<◌, ◌≤◌, inl, inr, List, [], ◌∷◌, ◌++◌, length, get_or, true, false, Some, refl, sym, ap, ◌∙◌, arith, nat_eq, nat_lt, nat_le, append-nil, length-append, take}
 use Rattle.std.proofs.lemmas.Bool.{lt-ltb, le-leb, ne_eqb}
 use Rattle.std.proofs.lemmas.Bool.Decides.{leb_tells}
 use Rattle.std.proofs.lemmas.List.{get_or-replicate, length-replicate, take_all, get_or-append_right, get_or_append_left}
 use Rattle.std.proofs.lemmas.List.FromFn.{fill_by_all}
-use Rattle.std.proofs.Math.Nat.{sub-zero, sub_self}
 use Rattle.std.specs.Prelude.{replicate}
 use Rattle.ldi.specs.Gathering.{Piece}
 use Rattle.ldi.specs.Segments as segments
 use Rattle.ldi.specs.Segments.{length_of, file_size, memory_size, headers_end}
-use Rattle.ldi.specs.Image.{elf_header, load_header, headers, program_header, byte_at, byte_behind, image_of, covers}
+use Rattle.ldi.specs.Image.{elf_header, load_header, headers, program_header, byte_at, byte_behind, image_of}
 use Rattle.ldi.specs.OneSection.{one_segment, segment_of}
 use Rattle.ldi.specs.declared.place.Segment.{Segment}
 

@@ -1,5 +1,5 @@
 -- The linked sections of a project that has at most one.
-use Rattle.std.proofs.Common.{◌≡◌, ℕ, ◌+◌, ◌<◌, ◌≤◌, List, [], ◌∷◌, length, map, Bool, true, false, Option, Some, None, refl, sym, ap, ◌∙◌, arith, append-nil}
+use Rattle.std.proofs.Common.{◌≡◌, ℕ, ◌≤◌, List, [], ◌∷◌, length, map, false, Some, ap, ◌∙◌, arith, append-nil}
 use Rattle.std.specs.List.{All, slice_get}
 use Rattle.elfobj.specs.Sections.{LinkedSection, section_of}
 use Rattle.elfobj.specs.Profile.{IsSectionOfProfile, size_in_file}

@@ -1,13 +1,12 @@
 -- Layout where there is at most one output section, with at most one piece.
-use Rattle.std.proofs.Common.{◌≡◌, ◌≢◌, ℕ, ◌+◌, ◌-◌, ◌*◌, ◌/◌, ◌%◌, ◌^◌, ◌<◌, ◌≤◌, max, ◌⊎◌, inl, inr, List, [], ◌∷◌, Bool, true, false, cond, Ok, None, Some, refl, sym, ap, subst, ◌∙◌, arith, ◌==◌}
+use Rattle.std.proofs.Common.{◌≡◌, ◌≢◌, ℕ, ◌+◌, ◌-◌, ◌*◌, ◌/◌, ◌%◌, ◌^◌, ◌<◌, max, List, [], ◌∷◌, Bool, true, false, Ok, None, Some, refl, arith, ◌==◌}
 use Rattle.std.proofs.lemmas.Bool.{lt-ltb, eqb-true, eqb-false}
-use Rattle.std.proofs.lemmas.Bool.Decides.{leb_tells}
 use Rattle.std.proofs.Math.Nat.{mul-mod_left, mod_self, mod-eq_of_lt, sub-zero}
 use Rattle.std.specs.Int.{next_multiple_of}
 use Rattle.ldi.specs.Tree.{Tree}
 use Rattle.ldi.specs.ScriptForm.{form_tree}
 use Rattle.ldi.specs.Gathering.{Piece}
-use Rattle.ldi.specs.Placement.{placement, address, placed, State, alignment_of, widest}
+use Rattle.ldi.specs.Placement.{placement, address, placed, alignment_of, widest}
 use Rattle.ldi.specs.OneSection.{rows_with, PlacedAs}
 use Rattle.ldi.specs.declared.place.Placed.{Placed}
 

@@ -5,7 +5,7 @@ use Rattle.elfobj.specs.Object.{object_of}
 use Rattle.elfobj.specs.Refusal.{object_refusal}
 use Rattle.elfobj.specs.RefusalNumber.{refusal_number}
 use Rattle.elfobj.specs.declared.refusal.ObjectRefusal.{ObjectRefusal}
-use Rattle.ldi.specs.Bytes.{is_graphic}
+use Rattle.elfobj.specs.Names.{is_graphic}
 use Rattle.ldi.specs.Project.{Project, NamedObject}
 use Rattle.ldi.specs.Tree.{Tree}
 use Rattle.ldi.specs.ScriptForm.{IsScript, IsScriptRefusal, script_refusal_number}

@@ -3,7 +3,7 @@ use Rattle.std.specs.Prelude.{ℕ, ◌+◌, List, [], ◌∷◌, ◌++◌, lengt
 use Rattle.std.specs.List.{flat_map, list_any}
 use Rattle.std.specs.Option.{option_map_or}
 use Rattle.elfobj.specs.Sections.{LinkedSection}
-use Rattle.ldi.specs.Tree.{Tree, Statement, SetDot, Section, Output, Input, matches}
+use Rattle.ldi.specs.Tree.{Tree, Statement, SetDot, Section, Input, matches}
 use Rattle.ldi.specs.Project.{NamedObject}
 
 -- a linked section of an object that has a name

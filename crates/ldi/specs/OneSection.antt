@@ -1,12 +1,11 @@
 -- What links of this version come to: at most one object, with at most one linked section, and at most one output
 -- section. Each word here is one of the general definitions at such a project.
-use Rattle.std.specs.Prelude.{◌≡◌, ◌⊎◌, ◌≤◌, ◌<◌, ℕ, List, [], ◌∷◌, length, map, Option, Some, None, Result, Ok, Err, Bool, true, false, ◌==◌, if◌then◌else◌, option_to_list}
+use Rattle.std.specs.Prelude.{◌≡◌, ◌⊎◌, ◌≤◌, ◌<◌, List, [], ◌∷◌, length, map, Option, Some, None, Result, Ok, Err, true, false, ◌==◌, option_to_list}
 use Rattle.std.specs.Option.{option_map, ForSome}
-use Rattle.elfobj.specs.Sections.{LinkedSection}
 use Rattle.ldi.specs.Tree.{Tree}
 use Rattle.ldi.specs.Gathering as gathering
 use Rattle.ldi.specs.Gathering.{Piece, piece_of, orphans, rows}
-use Rattle.ldi.specs.Placement.{Laid, PlacedPiece, State, is_nobits}
+use Rattle.ldi.specs.Placement.{Laid, State, is_nobits}
 use Rattle.ldi.specs.Segments as segments
 use Rattle.ldi.specs.Segments.{congruent, headers_end}
 use Rattle.ldi.specs.declared.gather.Member.{Member}

@@ -49,8 +49,8 @@ abbrev pub risen : ℕ → ℕ
 risen n = min (n + 1) (2 ^ 64 - 1)
 
 -- each failed call raises the count by one, and no other changes it
-abbrev pub Counts : {T E : Type 0} → ℕ → ℕ → Result T E → Type 0
-Counts old new result = MatchResult result (λ _. new ≡ old) (λ _. new ≡ risen old)
+abbrev pub CountsFailure : {T E : Type 0} → ℕ → ℕ → Result T E → Type 0
+CountsFailure old new result = MatchResult result (λ _. new ≡ old) (λ _. new ≡ risen old)
 
 abbrev pub ByteRead : {E : Type 0} → Option (List ℕ) → Option (List ℕ) → Result (Option ℕ) E → Type 0
 ByteRead old new (Ok (Some b)) = Consumes old new (b ∷ [])

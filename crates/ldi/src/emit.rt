@@ -9,21 +9,16 @@ ghost use Rattle.ldi.specs.Segments.{file_size};
 ghost use Rattle.ldi.specs.OneSection.{row_of, one_segment, segment_of, IsWritable};
 
 use crate::gather::Member;
-use crate::place::Segment;
+use crate::place::{EHSIZE, PAGE, PHENTSIZE, Segment};
+use elfobj::constants::EM_X86_64;
 use std::alloc::{AllocError, Global};
 
 /// Identification of a little-endian 64-bit file of version 1.
 const IDENT: [u8; 16] = [0x7f, b'E', b'L', b'F', 2, 1, 1, 0, 0, 0, 0, 0, 0, 0, 0, 0];
 /// An executable file, in `e_type`.
 const ET_EXEC: u16 = 2;
-/// AMD x86-64, in `e_machine`.
-const EM_X86_64: u16 = 62;
 /// The current version.
 const EV_CURRENT: u32 = 1;
-/// The size of the ELF header, in bytes.
-const EHSIZE: u16 = 64;
-/// The size of a program header, in bytes.
-const PHENTSIZE: u16 = 56;
 /// A loadable segment, in `p_type`.
 const PT_LOAD: u32 = 1;
 /// The segment may be executed.
@@ -32,8 +27,6 @@ const PF_X: u32 = 1;
 const PF_W: u32 = 2;
 /// The segment may be read.
 const PF_R: u32 = 4;
-/// The alignment of segments.
-const P_ALIGN: u64 = 4096;
 
 fn put_u16(out: &mut Vec<u8>, n: u16) -> Result<(), AllocError>
     ensures { OnOk result (out.new.items ≡ out.old.items ++ to_le_bytes w16 n) }
@@ -117,7 +110,7 @@ fn put_load_header(
     put_u64(out, g.placed.load)?;
     put_u64(out, file_size)?;
     put_u64(out, g.placed.size)?;
-    put_u64(out, P_ALIGN)?;
+    put_u64(out, PAGE)?;
     Ok(())
 }
 

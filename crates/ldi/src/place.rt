@@ -119,10 +119,14 @@ pub fn place(script: &Script, row: Option<Member<'_>>) -> Result<Option<Placed>,
     }
 }
 
-/// The bytes of the ELF header and of one program header.
-const HEADERS_SIZE: u64 = 120;
-/// Segments are congruent to their addresses modulo this.
-const PAGE: u64 = 4096;
+/// The size of the ELF header, in bytes.
+pub const EHSIZE: u16 = 64;
+/// The size of a program header, in bytes.
+pub const PHENTSIZE: u16 = 56;
+/// The alignment of segments: their offsets and addresses are equal modulo this.
+pub const PAGE: u64 = 4096;
+/// The size of the ELF header and one program header, in bytes.
+const HEADERS_SIZE: u64 = EHSIZE as u64 + PHENTSIZE as u64;
 
 /// The segment of an output section, if that is not empty.
 pub fn segments(placed: Option<Placed>) -> Option<Segment>

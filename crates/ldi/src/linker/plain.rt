@@ -2,7 +2,7 @@
 
 ghost use Rattle.std.specs.Prelude.{◌≡◌, ◌≤◌, [], ◌∷◌, IfOk, OnErr, length};
 ghost use Rattle.std.specs.List.{list_all};
-ghost use Rattle.ldi.specs.Bytes.{is_graphic};
+ghost use Rattle.elfobj.specs.Names.{is_graphic};
 ghost use Rattle.ldi.specs.Edits.{Add, SetScript, early_refusal, is_in_use, is_object_name, is_payload_too_long, is_over_limit};
 ghost use Rattle.ldi.specs.Applied.{Applied, object_refused, script_refused};
 ghost use Rattle.ldi.specs.Project.{Project, empty_project};
@@ -14,7 +14,6 @@ use crate::linker::edit::{Edit, EditRefusal, Linked, MAX_OBJECT_NAME, MAX_OBJECT
 use crate::linker::link::{Linkage, link};
 use crate::linker::named::NamedObject;
 use crate::linker::options::Options;
-use crate::script::bytes::is_graphic;
 use crate::script::form::Script;
 use crate::script::refusal::ScriptRefusal;
 use elfobj::meter::Meter;
@@ -45,7 +44,14 @@ impl Model for Plain {
     ghost invariant = { λ s. IsLinked s.objects.items s.script s.linkage };
 }
 
-/// Whether all bytes are from `!` to `~`.
+/// Whether a byte is from `!` to `~`.
+fn is_graphic(b: u8) -> bool
+    ensures { result ≡ is_graphic b }
+{
+    matches!(b, b'!'..=b'~')
+}
+
+/// Whether all bytes are.
 fn is_all_graphic(name: &[u8]) -> bool
     ensures { result ≡ list_all is_graphic name.now }
 {

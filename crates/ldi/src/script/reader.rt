@@ -14,8 +14,8 @@ use super::token::Mark;
 use super::words::{is_free_name, is_free_word};
 use std::alloc::Global;
 
-/// The greatest length of a script.
-const LONGEST: usize = 1 << 20;
+/// The greatest length of a script, in bytes.
+const MAX_SCRIPT: usize = 1 << 20;
 
 /// What a script of the form gives, as it is spelled.
 #[derive(Clone, Copy)]
@@ -110,7 +110,7 @@ impl Script {
         ensures read { IfOk result (λ s. IsScript text.now s) }
         ensures refused { IfErr result (λ r. (r ≡ ScriptRefusal.NoMemory) ⊎ IsScriptRefusal text.now r) }
     {
-        if text.len() > LONGEST {
+        if text.len() > MAX_SCRIPT {
             return Err(ScriptRefusal::Limit);
         }
         match tokens(alloc, text) {

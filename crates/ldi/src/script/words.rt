@@ -5,7 +5,7 @@ ghost use Rattle.std.specs.List.{list_any};
 ghost use Rattle.ldi.specs.ScriptForm.{is_reserved, is_free_name, is_pattern_sign, is_free_word};
 
 /// The greatest length of a name or word.
-const LONGEST: usize = 255;
+const MAX_WORD: usize = 255;
 
 /// The words that the language keeps for itself.
 const RESERVED: [&[u8]; 32] = [
@@ -63,7 +63,7 @@ fn is_reserved(word: &[u8]) -> bool
 pub fn is_free_name(name: &[u8]) -> bool
     ensures { result ≡ is_free_name name.now }
 {
-    name != b".".as_slice() && !is_reserved(name) && name.len() <= LONGEST
+    name != b".".as_slice() && !is_reserved(name) && name.len() <= MAX_WORD
 }
 
 /// Whether it is one of `* ? [ ] \`, which stand for other bytes in a pattern.
@@ -85,5 +85,5 @@ fn has_pattern_sign(word: &[u8]) -> bool
 pub fn is_free_word(word: &[u8]) -> bool
     ensures { result ≡ is_free_word word.now }
 {
-    !has_pattern_sign(word) && !is_reserved(word) && word.len() <= LONGEST
+    !has_pattern_sign(word) && !is_reserved(word) && word.len() <= MAX_WORD
 }

@@ -3,7 +3,7 @@
 ghost use Rattle.std.specs.Prelude.{◌≡◌, ◌++◌, ◌∷◌, [], ℕ, take, decimal, true, OnOk, OnErr};
 ghost use Rattle.std.specs.Io.KnownBytes.{Appends};
 ghost use Rattle.ldi.specs.Answers.{linked_line, refused_line, answer_line, bytes_answer, stream_line};
-ghost use Rattle.ldi.specs.Stepped.{Counts, Writes};
+ghost use Rattle.ldi.specs.Stepped.{CountsFailure, Writes};
 
 use crate::linker::edit::{EditRefusal, Linked};
 use crate::stream::devices::Sink;
@@ -14,7 +14,7 @@ use itoa::Buffer;
 fn write_all<W: Sink>(sink: &mut W, bytes: &[u8]) -> Result<(), WriteFault>
     ensures ok { OnOk result (Appends (W.written sink.old) (W.written sink.new) bytes.now) }
     ensures err { OnErr result ((n : ℕ) × Appends (W.written sink.old) (W.written sink.new) (take n bytes.now)) }
-    ensures counted { Counts (W.failed sink.old) (W.failed sink.new) result }
+    ensures counted { CountsFailure (W.failed sink.old) (W.failed sink.new) result }
 {
     let mut at = 0;
     while at < bytes.len() {
@@ -26,7 +26,7 @@ fn write_all<W: Sink>(sink: &mut W, bytes: &[u8]) -> Result<(), WriteFault>
 /// Writes a number in decimal, and the byte after it.
 fn write_number<W: Sink>(sink: &mut W, n: u64, end: u8) -> Result<(), WriteFault>
     ensures text { Writes (W.written sink.old) (W.written sink.new) (decimal n ++ end ∷ []) result }
-    ensures counted { Counts (W.failed sink.old) (W.failed sink.new) result }
+    ensures counted { CountsFailure (W.failed sink.old) (W.failed sink.new) result }
 {
     let mut buffer = Buffer::new();
     write_all(sink, buffer.format(n).as_bytes())?;
@@ -38,7 +38,7 @@ fn write_number<W: Sink>(sink: &mut W, n: u64, end: u8) -> Result<(), WriteFault
 fn write_answer<W: Sink>(sink: &mut W, word: &[u8], a: u64, b: u64) -> Result<(), WriteFault>
     ensures text { Writes (W.written sink.old) (W.written sink.new) (answer_line word.now a b) result }
     ensures flushed { OnOk result (W.flushed sink.new ≡ true) }
-    ensures counted { Counts (W.failed sink.old) (W.failed sink.new) result }
+    ensures counted { CountsFailure (W.failed sink.old) (W.failed sink.new) result }
 {
     write_all(sink, word)?;
     write_number(sink, a, b' ')?;
@@ -54,7 +54,7 @@ fn write_answer<W: Sink>(sink: &mut W, word: &[u8], a: u64, b: u64) -> Result<()
 pub fn write_linked<W: Sink>(sink: &mut W, linked: Linked) -> Result<(), WriteFault>
     ensures text { Writes (W.written sink.old) (W.written sink.new) (linked_line linked) result }
     ensures flushed { OnOk result (W.flushed sink.new ≡ true) }
-    ensures counted { Counts (W.failed sink.old) (W.failed sink.new) result }
+    ensures counted { CountsFailure (W.failed sink.old) (W.failed sink.new) result }
 {
     write_answer(sink, b"linked ", u64::from(linked.status), linked.length)
 }
@@ -67,7 +67,7 @@ pub fn write_linked<W: Sink>(sink: &mut W, linked: Linked) -> Result<(), WriteFa
 pub fn write_refused<W: Sink>(sink: &mut W, refusal: EditRefusal) -> Result<(), WriteFault>
     ensures text { Writes (W.written sink.old) (W.written sink.new) (refused_line refusal) result }
     ensures flushed { OnOk result (W.flushed sink.new ≡ true) }
-    ensures counted { Counts (W.failed sink.old) (W.failed sink.new) result }
+    ensures counted { CountsFailure (W.failed sink.old) (W.failed sink.new) result }
 {
     write_answer(
         sink,
@@ -86,7 +86,7 @@ pub fn write_refused<W: Sink>(sink: &mut W, refusal: EditRefusal) -> Result<(), 
 pub fn write_bytes<W: Sink>(sink: &mut W, bytes: &[u8]) -> Result<(), WriteFault>
     ensures text { Writes (W.written sink.old) (W.written sink.new) (bytes_answer bytes.now) result }
     ensures flushed { OnOk result (W.flushed sink.new ≡ true) }
-    ensures counted { Counts (W.failed sink.old) (W.failed sink.new) result }
+    ensures counted { CountsFailure (W.failed sink.old) (W.failed sink.new) result }
 {
     write_all(sink, b"bytes ")?;
     write_number(sink, bytes.len() as u64, b'\n')?;
@@ -102,7 +102,7 @@ pub fn write_bytes<W: Sink>(sink: &mut W, bytes: &[u8]) -> Result<(), WriteFault
 pub fn write_malformed<W: Sink>(sink: &mut W) -> Result<(), WriteFault>
     ensures text { Writes (W.written sink.old) (W.written sink.new) stream_line result }
     ensures flushed { OnOk result (W.flushed sink.new ≡ true) }
-    ensures counted { Counts (W.failed sink.old) (W.failed sink.new) result }
+    ensures counted { CountsFailure (W.failed sink.old) (W.failed sink.new) result }
 {
     write_all(sink, b"stream\n")?;
     sink.flush()

@@ -2,7 +2,7 @@
 
 ghost use Rattle.std.specs.Prelude.{◌≡◌, ◌≤◌, ◌<◌, ℕ, List, Option, Bool, true, false, length, IfOk, OnOk};
 ghost use Rattle.std.specs.Io.KnownBytes.{ReadConsumes, WriteAppends, Keeps};
-ghost use Rattle.ldi.specs.Stepped.{Counts, ReaderState, WriterState};
+ghost use Rattle.ldi.specs.Stepped.{CountsFailure, ReaderState, WriterState};
 
 use crate::stream::fault::{ReadFault, WriteFault};
 use std::io::{Read, Write};
@@ -24,7 +24,7 @@ pub trait Source {
     fn read(&mut self, buf: &mut [u8]) -> Result<usize, ReadFault>
         ensures count { IfOk result (λ n. n ≤ length buf.old) }
         ensures bytes { ReadConsumes (rest self.old) (rest self.new) result buf.new }
-        ensures counted { Counts (failed self.old) (failed self.new) result };
+        ensures counted { CountsFailure (failed self.old) (failed self.new) result };
 
     /// How many calls have failed; 2^64 - 1 says that or more.
     fn failures(&self) -> u64
@@ -52,7 +52,7 @@ pub trait Sink {
         ensures some { IfOk result (λ n. 0 < length bytes.now → 0 < n) }
         ensures bytes { WriteAppends (written self.old) (written self.new) result bytes.now }
         ensures unflushed { IfOk result (λ n. 0 < n → flushed self.new ≡ false) }
-        ensures counted { Counts (failed self.old) (failed self.new) result };
+        ensures counted { CountsFailure (failed self.old) (failed self.new) result };
 
     /// Sends on what was written and is still held back.
     ///
@@ -62,7 +62,7 @@ pub trait Sink {
     fn flush(&mut self) -> Result<(), WriteFault>
         ensures bytes { Keeps (written self.old) (written self.new) }
         ensures flushed { OnOk result (flushed self.new ≡ true) }
-        ensures counted { Counts (failed self.old) (failed self.new) result };
+        ensures counted { CountsFailure (failed self.old) (failed self.new) result };
 
     /// How many calls have failed; 2^64 - 1 says that or more.
     fn failures(&self) -> u64

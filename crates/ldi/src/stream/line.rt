@@ -1,7 +1,7 @@
 //! Lines of commands, read a byte at a time, so that no byte behind a command is taken from the source.
 
 ghost use Rattle.std.specs.Prelude.{◌≡◌, length};
-ghost use Rattle.ldi.specs.Stepped.{Counts, ByteRead, LineRead};
+ghost use Rattle.ldi.specs.Stepped.{CountsFailure, ByteRead, LineRead};
 
 use crate::stream::devices::Source;
 use crate::stream::fault::ReadFault;
@@ -23,7 +23,7 @@ pub enum LineEnd {
 /// Reads one byte, or meets the end.
 fn read_byte<R: Source>(source: &mut R) -> Result<Option<u8>, ReadFault>
     ensures read { ByteRead (R.rest source.old) (R.rest source.new) result }
-    ensures counted { Counts (R.failed source.old) (R.failed source.new) result }
+    ensures counted { CountsFailure (R.failed source.old) (R.failed source.new) result }
 {
     let mut byte = [0u8];
     let n = source.read(&mut byte)?;
@@ -38,7 +38,7 @@ fn read_byte<R: Source>(source: &mut R) -> Result<Option<u8>, ReadFault>
 pub fn read_line<R: Source>(source: &mut R, line: &mut [u8]) -> Result<LineEnd, ReadFault>
     requires { length line.old ≡ 512 }
     ensures read { LineRead (R.rest source.old) (R.rest source.new) line.new result }
-    ensures counted { Counts (R.failed source.old) (R.failed source.new) result }
+    ensures counted { CountsFailure (R.failed source.old) (R.failed source.new) result }
 {
     for at in 0..MAX_LINE + 1 {
         let Some(byte) = read_byte(source)? else {

@@ -2,7 +2,7 @@
 
 ghost use Rattle.std.specs.Prelude.{◌≡◌, ◌<◌, ◌≤◌, ◌-◌, ℕ, List, length, IfOk, OnErr};
 ghost use Rattle.std.specs.Io.KnownBytes.{Consumes, IsAtEnd};
-ghost use Rattle.ldi.specs.Stepped.{Counts, Filled, PayloadRead};
+ghost use Rattle.ldi.specs.Stepped.{CountsFailure, Filled, PayloadRead};
 
 use crate::stream::devices::Source;
 use crate::stream::fault::ReadFault;
@@ -25,7 +25,7 @@ pub enum Payload {
 /// Fills the buffer from its front, to its end or to that of the stream, and says how far.
 fn fill<R: Source>(source: &mut R, buf: &mut [u8]) -> Result<usize, ReadFault>
     ensures filled { Filled (R.rest source.old) (R.rest source.new) buf.new result }
-    ensures counted { Counts (R.failed source.old) (R.failed source.new) result }
+    ensures counted { CountsFailure (R.failed source.old) (R.failed source.new) result }
 {
     let mut at = 0;
     while at < buf.len() {
@@ -42,7 +42,7 @@ fn fill<R: Source>(source: &mut R, buf: &mut [u8]) -> Result<usize, ReadFault>
 fn skip<R: Source>(source: &mut R, count: usize) -> Result<usize, ReadFault>
     ensures ok { IfOk result (λ n. (bytes : List ℕ) × (length bytes ≡ n) × (n ≤ count) × Consumes (R.rest source.old) (R.rest source.new) bytes × (n < count → IsAtEnd (R.rest source.new))) }
     ensures err { OnErr result ((bytes : List ℕ) × (length bytes < count) × Consumes (R.rest source.old) (R.rest source.new) bytes) }
-    ensures counted { Counts (R.failed source.old) (R.failed source.new) result }
+    ensures counted { CountsFailure (R.failed source.old) (R.failed source.new) result }
 {
     let mut chunk = [0u8; SKIP_STEP];
     let mut at = 0;
@@ -68,7 +68,7 @@ pub fn read_payload<R: Source>(
     count: usize,
 ) -> Result<Payload, ReadFault>
     ensures read { PayloadRead (R.rest source.old) (R.rest source.new) count result }
-    ensures counted { Counts (R.failed source.old) (R.failed source.new) result }
+    ensures counted { CountsFailure (R.failed source.old) (R.failed source.new) result }
 {
     match vec![in alloc; 0u8; count] {
         Ok(mut bytes) => {

@@ -3,7 +3,7 @@
 ghost use Rattle.std.specs.Prelude.{◌≡◌, ℕ, List, true, length, OnOk};
 ghost use Rattle.ldi.specs.Answers.{EditReply};
 ghost use Rattle.ldi.specs.EditMeaning.{change_of};
-ghost use Rattle.ldi.specs.Stepped.{Counts, Writes, Started, Stepped, EditStepped, aimed, FaultsCounted, Flushed, world};
+ghost use Rattle.ldi.specs.Stepped.{CountsFailure, Writes, Started, Stepped, EditStepped, aimed, FaultsCounted, Flushed, world};
 
 use crate::linker::Linker;
 use crate::linker::edit::{Edit, EditRefusal};
@@ -16,9 +16,6 @@ use crate::stream::line::{LineEnd, MAX_LINE, read_line};
 use crate::stream::payload::{Payload, read_payload};
 use elfobj::meter::Meter;
 use std::alloc::Global;
-
-/// What an edit whose payload found no memory is answered.
-const NO_MEMORY: EditRefusal = EditRefusal { n: 7, m: 0 };
 
 /// What a step of a run comes to.
 #[derive(Clone, Copy, Debug, PartialEq, Eq)]
@@ -58,7 +55,7 @@ pub enum Aim<'a> {
 fn read_start<R: Source>(source: &mut R, line: &mut [u8]) -> Result<Start, ReadFault>
     requires { length line.old ≡ 512 }
     ensures started { Started (R.rest source.old) (R.rest source.new) line.new result }
-    ensures counted { Counts (R.failed source.old) (R.failed source.new) result }
+    ensures counted { CountsFailure (R.failed source.old) (R.failed source.new) result }
 {
     match read_line(source, line)? {
         LineEnd::Ended => Ok(Start::Ended),
@@ -79,7 +76,7 @@ fn make_edit<W: Sink, L: Linker>(
     ensures text { (answer : List ℕ) × Writes (W.written sink.old) (W.written sink.new) answer result
         × EditReply (L.project linker.old) (change_of edit.entry) answer (L.project linker.new) }
     ensures flushed { OnOk result (W.flushed sink.new ≡ true) }
-    ensures counted { Counts (W.failed sink.old) (W.failed sink.new) result }
+    ensures counted { CountsFailure (W.failed sink.old) (W.failed sink.new) result }
 {
     let mut meter = Meter::new();
     match linker.apply(edit, &mut meter) {
@@ -98,7 +95,7 @@ fn use_payload<W: Sink, L: Linker>(
     ensures text { (answer : List ℕ) × Writes (W.written sink.old) (W.written sink.new) answer result
         × EditReply (L.project linker.old) (aimed aim.entry payload.items) answer (L.project linker.new) }
     ensures flushed { OnOk result (W.flushed sink.new ≡ true) }
-    ensures counted { Counts (W.failed sink.old) (W.failed sink.new) result }
+    ensures counted { CountsFailure (W.failed sink.old) (W.failed sink.new) result }
 {
     match aim {
         Aim::Object { name, at } => make_edit(
@@ -140,7 +137,7 @@ fn serve_edit<R: Source, W: Sink, L: Linker>(
             Ok(Step::Next)
         }
         Payload::NoMemory => {
-            write_refused(sink, NO_MEMORY)?;
+            write_refused(sink, EditRefusal::NO_MEMORY)?;
             Ok(Step::Next)
         }
         Payload::Short => {

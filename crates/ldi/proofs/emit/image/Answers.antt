@@ -1,8 +1,6 @@
-use Rattle.std.proofs.Common.{◌≡◌, refl, sym, ◌∙◌, [], ◌∷◌, ◌++◌, inl, inr, ap}
-use Rattle.ldi.specs.OneSection.{row_of, member_of, IsFilledBy}
+use Rattle.std.proofs.Common.{◌∙◌, [], ◌∷◌, ◌++◌, inl, inr, ap}
+use Rattle.ldi.specs.OneSection.{row_of, member_of}
 use Rattle.ldi.specs.Gathering.{piece_of}
-use Rattle.ldi.specs.Image.{image_of}
-use Rattle.ldi.specs.OneSection.{segment_of}
 use Rattle.ldi.proofs.OneSectionImage.{image_of_none, image_of_nobits, image_of_resized, IsFilled}
 use Rattle.ldi.proofs.emit.image.Goals as goal
 

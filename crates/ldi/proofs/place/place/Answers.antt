@@ -1,4 +1,4 @@
-use Rattle.std.proofs.Common.{◌≡◌, ◌+◌, ◌<◌, ◌^◌, ℕ, refl, ◌∙◌, arith, [], subst}
+use Rattle.std.proofs.Common.{refl, []}
 use Rattle.ldi.specs.OneSection.{row_of, member_of}
 use Rattle.ldi.specs.Gathering.{piece_of}
 use Rattle.ldi.proofs.OneSectionPlacement.{placed_none, placed_empty, placed_one}

@@ -1,4 +1,4 @@
-use Rattle.std.proofs.Common.{◌≡◌, ◌∷◌, [], refl, ◌∙◌, sym, ap, None}
+use Rattle.std.proofs.Common.{◌≡◌, ◌∙◌, sym, ap, None}
 use Rattle.ldi.specs.Project.{Project}
 use Rattle.ldi.specs.Edits.{Add, early_refusal}
 use Rattle.ldi.proofs.OneObject.{first, inserted}
