@@ -7,7 +7,7 @@ use Rattle.ldi.specs.Gathering as gathering
 use Rattle.ldi.specs.Gathering.{Piece, piece_of, orphans, rows}
 use Rattle.ldi.specs.Placement.{Laid, State, is_nobits}
 use Rattle.ldi.specs.Segments as segments
-use Rattle.ldi.specs.Segments.{congruent, headers_end}
+use Rattle.ldi.specs.Segments.{headers_end}
 use Rattle.ldi.specs.declared.gather.Member.{Member}
 use Rattle.ldi.specs.declared.gather.Gathered.{Gathered}
 use Rattle.ldi.specs.declared.gather.Gathered.TheVariants.{Orphan, Row}

@@ -5,7 +5,7 @@ use Rattle.ldi.specs.Bytes.{is_decimal_digit}
 use Rattle.ldi.specs.Tokens.{Token, Name, Number, Word, Punctuation, is_hex, digits_length}
 use Rattle.ldi.specs.Modes.{IsCut, at_start}
 use Rattle.ldi.specs.Tree as tree
-use Rattle.ldi.specs.Tree.{Tree, Statement, SetDot, Section, Output, Input, Any, Exact}
+use Rattle.ldi.specs.Tree.{Tree, SetDot, Section, Any, Exact}
 use Rattle.ldi.specs.declared.script.token.Mark.TheVariants.{OpenParenthesis, CloseParenthesis, OpenBrace, CloseBrace, Semicolon, Colon, Assign}
 use Rattle.ldi.specs.declared.script.refusal.ScriptRefusal.{ScriptRefusal}
 use Rattle.ldi.specs.declared.script.refusal.ScriptRefusal.TheVariants.{Limit, NoMemory, NotYet}

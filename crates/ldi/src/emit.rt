@@ -1,7 +1,7 @@
 //! The image: headers and bytes.
 
-ghost use Rattle.std.specs.Prelude.{◌≡◌, ◌++◌, List, IfOk, OnOk, ℕ, ◌==◌, if◌then◌else◌};
-ghost use Rattle.std.specs.Option.{ForSome, option_copied};
+ghost use Rattle.std.specs.Prelude.{◌≡◌, ◌++◌, List, IfOk, OnOk, ◌==◌, if◌then◌else◌};
+ghost use Rattle.std.specs.Option.{ForSome};
 ghost use Rattle.std.specs.Int.{to_le_bytes, w16, w32, w64};
 ghost use Rattle.ldi.specs.Gathering.{Piece};
 ghost use Rattle.ldi.specs.Image.{elf_header, load_header, flags_of, headers, image_of};

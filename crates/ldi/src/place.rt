@@ -1,6 +1,6 @@
 //! Layout: where output sections stand.
 
-ghost use Rattle.std.specs.Prelude.{◌≡◌, ◌≤◌, ◌<◌, ◌+◌, ◌^◌, ◌⊎◌, ◌∷◌, [], max, IfSome, IfNone, IfOk, List, Some};
+ghost use Rattle.std.specs.Prelude.{◌≡◌, ◌≤◌, ◌<◌, ◌+◌, ◌^◌, ◌∷◌, [], max, IfSome, IfNone, IfOk, List, Some};
 ghost use Rattle.std.specs.Option.{ForSome};
 ghost use Rattle.std.specs.Int.{next_multiple_of};
 ghost use Rattle.ldi.specs.Gathering.{piece_of};

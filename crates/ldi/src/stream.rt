@@ -1,6 +1,6 @@
 //! The command stream: commands are read, edits made, and each command answered in turn.
 
-ghost use Rattle.std.specs.Prelude.{◌≡◌, List, ℕ, IfOk, IfSome};
+ghost use Rattle.std.specs.Prelude.{List, ℕ, IfOk, IfSome};
 ghost use Rattle.std.specs.Io.KnownBytes.{Appends};
 ghost use Rattle.ldi.specs.Answers.{Answers};
 ghost use Rattle.ldi.specs.Stepped.{Ran, FaultsCounted, Flushed, world};

@@ -1,13 +1,12 @@
 //! The plain linker: it links from scratch after every edit.
 
-ghost use Rattle.std.specs.Prelude.{◌≡◌, ◌≤◌, [], ◌∷◌, IfOk, OnErr, length};
+ghost use Rattle.std.specs.Prelude.{◌≡◌, [], ◌∷◌, IfOk, OnErr};
 ghost use Rattle.std.specs.List.{list_all};
 ghost use Rattle.elfobj.specs.Names.{is_graphic};
 ghost use Rattle.ldi.specs.Edits.{Add, SetScript, early_refusal, is_in_use, is_object_name, is_payload_too_long, is_over_limit};
 ghost use Rattle.ldi.specs.Applied.{Applied, object_refused, script_refused};
 ghost use Rattle.ldi.specs.Project.{Project, empty_project};
 ghost use Rattle.ldi.specs.Link.{link, linked_of};
-ghost use Rattle.ldi.specs.EditMeaning.{change_of};
 
 use crate::linker::Linker;
 use crate::linker::edit::{Edit, EditRefusal, Linked, MAX_OBJECT_NAME, MAX_OBJECTS, MAX_PAYLOAD};

@@ -2,7 +2,7 @@
 
 ghost use Rattle.std.specs.Prelude.{◌≡◌, ◌<◌, ◌≤◌, ◌^◌, ℕ};
 ghost use Rattle.ldi.specs.Tokens.{spelled_token};
-ghost use Rattle.ldi.specs.Modes.{mode_of, is_stretch_word, depth_after, opened, closed, stretch_after, state_after, at_start, IsShallow, IsShortStretch};
+ghost use Rattle.ldi.specs.Modes.{mode_of, is_stretch_word, depth_after, opened, closed, state_after, at_start, IsShallow, IsShortStretch};
 
 use super::token::{LexState, Mark, Mode, Stretch, TokenKind};
 use super::words::is_one_of;

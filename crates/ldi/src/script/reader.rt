@@ -1,6 +1,6 @@
 //! The scripts that this version reads.
 
-ghost use Rattle.std.specs.Prelude.{◌≡◌, ◌∷◌, [], ◌⊎◌, ℕ, List, MatchOption, IfOk, IfErr};
+ghost use Rattle.std.specs.Prelude.{◌≡◌, ◌⊎◌, ℕ, List, MatchOption, IfOk, IfErr};
 ghost use Rattle.ldi.specs.Tokens.{Token};
 ghost use Rattle.ldi.specs.Tree.{Tree};
 ghost use Rattle.ldi.specs.ScriptForm.{start_tokens, head_tokens, body_tokens, form_tokens, IsAllowed, IsFormOf, IsForm, IsScript, IsScriptRefusal};
