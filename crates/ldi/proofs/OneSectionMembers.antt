@@ -13,13 +13,14 @@ use Rattle.ldi.specs.Gathering.{Member, members}
 use Rattle.ldi.specs.Placement.{is_nobits}
 
 -- what is read of the first section of the first object
-pub record IsFirst (objects : List NamedObject) (o : NamedObject) (s : Section) (name bytes : List ℕ) : Type 0 where
+pub record IsFirst (objects : List NamedObject) (o : NamedObject) (s : Section) (name bytes : List ℕ) (relocations : List Relocation) : Type 0 where
   pub few : length objects ≤ 1
   pub first : slice_get objects 0 ≡ Some o
   pub fewer : length o.object.sections ≤ 1
   pub section : slice_get (map section_of o.object.sections) 0 ≡ Some s
   pub named : slice_get (map (λ (x : LinkedSection). x.name) o.object.sections) 0 ≡ Some name
   pub holds : slice_get (map (λ (x : LinkedSection). x.bytes) o.object.sections) 0 ≡ Some bytes
+  pub relocated : slice_get (map (λ (x : LinkedSection). x.relocations) o.object.sections) 0 ≡ Some relocations
   pub limits : All IsSectionOfProfile o.object.sections
 
 abbrev pub shown : List ℕ → Section → List ℕ → List ℕ → List Relocation → Member
@@ -28,24 +29,23 @@ shown object s name bytes relocations = record {
   section = record { number = s.number; name = name; kind = s.kind; flags = s.flags; size = s.size; alignment = s.alignment; bytes = bytes; relocations = relocations };
 }
 
-section_one : (ss : List LinkedSection) (object : List ℕ) (s : Section) (name bytes : List ℕ) → length ss ≤ 1 → slice_get (map section_of ss) 0 ≡ Some s
-    → slice_get (map (λ (x : LinkedSection). x.name) ss) 0 ≡ Some name → slice_get (map (λ (x : LinkedSection). x.bytes) ss) 0 ≡ Some bytes → All IsSectionOfProfile ss
-    → map (λ (t : LinkedSection). shown object (section_of t) t.name t.bytes t.relocations) ss ≡ shown object s name bytes [] ∷ []
-section_one [] object s name bytes few e n b limits = cc
-section_one (t ∷ []) object s name bytes few e n b limits =
-    let rel : t.relocations ≡ [] = (limits 0 t (omega arith)).relocations in
+section_one : (ss : List LinkedSection) (object : List ℕ) (s : Section) (name bytes : List ℕ) (relocations : List Relocation) → length ss ≤ 1 → slice_get (map section_of ss) 0 ≡ Some s
+    → slice_get (map (λ (x : LinkedSection). x.name) ss) 0 ≡ Some name → slice_get (map (λ (x : LinkedSection). x.bytes) ss) 0 ≡ Some bytes → slice_get (map (λ (x : LinkedSection). x.relocations) ss) 0 ≡ Some relocations
+    → map (λ (t : LinkedSection). shown object (section_of t) t.name t.bytes t.relocations) ss ≡ shown object s name bytes relocations ∷ []
+section_one [] object s name bytes relocations few e n b rel = cc
+section_one (t ∷ []) object s name bytes relocations few e n b rel =
     ap (λ (x : Section). shown object x t.name t.bytes t.relocations ∷ []) (same_Some _ _ e)
     ∙ ap (λ (x : List ℕ). shown object s x t.bytes t.relocations ∷ []) (same_Some _ _ n)
     ∙ ap (λ (x : List ℕ). shown object s name x t.relocations ∷ []) (same_Some _ _ b)
-    ∙ ap (λ (x : List Relocation). shown object s name bytes x ∷ []) rel
-section_one (t ∷ u ∷ ss) object s name bytes few e n b limits = absurd (omega (arith, few))
+    ∙ ap (λ (x : List Relocation). shown object s name bytes x ∷ []) (same_Some _ _ rel)
+section_one (t ∷ u ∷ ss) object s name bytes relocations few e n b rel = absurd (omega (arith, few))
 
-pub members_one : (objects : List NamedObject) (o : NamedObject) (s : Section) (name bytes : List ℕ) → IsFirst objects o s name bytes → members objects ≡ shown o.name s name bytes [] ∷ []
-members_one [] o s name bytes f = let e = f.first in cc
-members_one (x ∷ []) o s name bytes f =
+pub members_one : (objects : List NamedObject) (o : NamedObject) (s : Section) (name bytes : List ℕ) (relocations : List Relocation) → IsFirst objects o s name bytes relocations → members objects ≡ shown o.name s name bytes relocations ∷ []
+members_one [] o s name bytes relocations f = let e = f.first in cc
+members_one (x ∷ []) o s name bytes relocations f =
     let same : x ≡ o = same_Some _ _ f.first in
-    rw same (append-nil _ ∙ section_one o.object.sections o.name s name bytes f.fewer f.section f.named f.holds f.limits)
-members_one (x ∷ y ∷ r) o s name bytes f = absurd (omega (arith, f.few))
+    rw same (append-nil _ ∙ section_one o.object.sections o.name s name bytes relocations f.fewer f.section f.named f.holds f.relocated)
+members_one (x ∷ y ∷ r) o s name bytes relocations f = absurd (omega (arith, f.few))
 
 whole : (kind : SectionKind) (n size : ℕ) → n ≡ size_in_file kind size → is_nobits kind ≡ false → n ≡ size
 whole Progbits n size e f = e
@@ -65,5 +65,5 @@ bytes_one (t ∷ []) s bytes few e b limits has =
     rw (← held, ← same) (whole t.kind (length t.bytes) t.size (limits 0 t (omega arith)).bytes (rw (← same) at has))
 bytes_one (t ∷ u ∷ ss) s bytes few e b limits has = absurd (omega (arith, few))
 
-pub whole_one : (objects : List NamedObject) (o : NamedObject) (s : Section) (name bytes : List ℕ) → IsFirst objects o s name bytes → is_nobits s.kind ≡ false → length bytes ≡ s.size
-whole_one objects o s name bytes f has = bytes_one o.object.sections s bytes f.fewer f.section f.holds f.limits has
+pub whole_one : (objects : List NamedObject) (o : NamedObject) (s : Section) (name bytes : List ℕ) (relocations : List Relocation) → IsFirst objects o s name bytes relocations → is_nobits s.kind ≡ false → length bytes ≡ s.size
+whole_one objects o s name bytes relocations f has = bytes_one o.object.sections s bytes f.fewer f.section f.holds f.limits has

@@ -1,13 +1,14 @@
 -- What `apply` leaves, by cases on its result.
-use Rattle.std.specs.Prelude.{◌≡◌, Result, Ok, Err}
-use Rattle.ldi.specs.Project.{Project}
+use Rattle.std.specs.Prelude.{◌≡◌, ◌⊎◌, [], ◌∷◌, Result, Ok, Err, true, false}
+use Rattle.ldi.specs.Project.{Project, NamedObject}
+use Rattle.ldi.specs.NotYet.{is_beyond}
 use Rattle.elfobj.specs.RefusalNumber.{refusal_number}
 use Rattle.elfobj.specs.declared.refusal.ObjectRefusal.{ObjectRefusal}
 use Rattle.elfobj.specs.declared.refusal.ObjectRefusal.TheVariants as object
 use Rattle.ldi.specs.declared.script.refusal.ScriptRefusal.{ScriptRefusal}
 use Rattle.ldi.specs.declared.script.refusal.ScriptRefusal.TheVariants as script
 use Rattle.ldi.specs.ScriptForm.{script_refusal_number}
-use Rattle.ldi.specs.Edits.{Change, After, RefusedAs, refusal, no_memory}
+use Rattle.ldi.specs.Edits.{Change, After, RefusedAs, refusal, no_memory, not_yet}
 use Rattle.ldi.specs.Link.{link, linked_of}
 use Rattle.ldi.specs.declared.linker.edit.Linked.{Linked}
 use Rattle.ldi.specs.declared.linker.edit.EditRefusal.{EditRefusal}
@@ -16,6 +17,11 @@ use Rattle.ldi.specs.declared.linker.edit.EditRefusal.{EditRefusal}
 abbrev pub Applied : Project → Change → Project → Result Linked EditRefusal → Type 0
 Applied old change new (Ok l) = After old change (Ok new) × (l ≡ linked_of (link new))
 Applied old change new (Err r) = RefusedAs old change r × (new ≡ old)
+
+-- an object that is taken in as the first one: it is linked; or it isn't linked yet; or memory was wanting
+abbrev pub Taken : Project → NamedObject → Project → Result Linked EditRefusal → Type 0
+Taken old o new (Ok l) = (is_beyond o.object ≡ false) × (new ≡ record old { objects = o ∷ [] }) × (l ≡ linked_of (link new))
+Taken old o new (Err r) = (((is_beyond o.object ≡ true) × (r ≡ not_yet)) ⊎ (r ≡ no_memory)) × (new ≡ old)
 
 -- how a linker tells a reader's refusal
 abbrev pub object_refused : ObjectRefusal → EditRefusal

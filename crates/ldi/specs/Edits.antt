@@ -1,5 +1,5 @@
 -- What an edit makes of a project, or why it is refused.
-use Rattle.std.specs.Prelude.{◌≡◌, ◌⊎◌, ℕ, ◌^◌, List, length, insert, Option, Some, None, Result, Ok, Err, Bool, not, ◌||◌, ◌&&◌, nat_lt, nat_le, if◌then◌else◌, bytes_eq}
+use Rattle.std.specs.Prelude.{◌≡◌, ◌⊎◌, ℕ, ◌^◌, List, length, insert, Option, Some, None, Result, Ok, Err, Bool, not, ◌||◌, ◌&&◌, true, false, nat_lt, nat_le, if◌then◌else◌, bytes_eq}
 use Rattle.std.specs.List.{list_any, list_all}
 use Rattle.elfobj.specs.Object.{object_of}
 use Rattle.elfobj.specs.Refusal.{object_refusal}
@@ -7,6 +7,7 @@ use Rattle.elfobj.specs.RefusalNumber.{refusal_number}
 use Rattle.elfobj.specs.declared.refusal.ObjectRefusal.{ObjectRefusal}
 use Rattle.elfobj.specs.Names.{is_graphic}
 use Rattle.ldi.specs.Project.{Project, NamedObject}
+use Rattle.ldi.specs.NotYet.{is_beyond}
 use Rattle.ldi.specs.Tree.{Tree}
 use Rattle.ldi.specs.ScriptForm.{IsScript, IsScriptRefusal, script_refusal_number}
 use Rattle.ldi.specs.declared.script.refusal.ScriptRefusal.{ScriptRefusal}
@@ -52,12 +53,22 @@ early_refusal p (SetScript text) = if is_payload_too_long text then Some (refusa
 -- the next project
 abbrev pub Accepts : Project → Change → Project → Type 0
 Accepts p (Add name at bytes) q =
-    (object_refusal bytes ≡ None) × (q ≡ record p { objects = insert p.objects at (record { name = name; object = object_of bytes }) })
+    (object_refusal bytes ≡ None) × (is_beyond (object_of bytes) ≡ false) × (q ≡ record p { objects = insert p.objects at (record { name = name; object = object_of bytes }) })
 Accepts p (SetScript text) q = (tree : Tree) × IsScript text tree × (q ≡ record p { script = tree })
+
+-- an object of the profile that this version doesn't link yet
+abbrev pub not_yet : EditRefusal
+not_yet = refusal 4 15
+
+-- bytes that are no object, or one that isn't linked yet
+abbrev pub RefusesObject : List ℕ → EditRefusal → Type 0
+RefusesObject bytes r =
+    ((why : ObjectRefusal) × (object_refusal bytes ≡ Some why) × (r ≡ refusal 4 (refusal_number why)))
+    ⊎ ((object_refusal bytes ≡ None) × (is_beyond (object_of bytes) ≡ true) × (r ≡ not_yet))
 
 -- refusals 4 (object) and 5 (script), with the reader's own number
 abbrev pub Refuses : Project → Change → EditRefusal → Type 0
-Refuses p (Add name at bytes) r = (why : ObjectRefusal) × (object_refusal bytes ≡ Some why) × (r ≡ refusal 4 (refusal_number why))
+Refuses p (Add name at bytes) r = RefusesObject bytes r
 Refuses p (SetScript text) r = (why : ScriptRefusal) × IsScriptRefusal text why × (r ≡ refusal 5 (script_refusal_number why))
 
 abbrev pub After : Project → Change → Result Project EditRefusal → Type 0

@@ -4,6 +4,7 @@ pub mod Modes
 pub mod Tree
 pub mod ScriptForm
 pub mod Project
+pub mod NotYet
 pub mod Edits
 pub mod Gathering
 pub mod Placement

@@ -27,7 +27,7 @@ member_of m = record {
     size = m.section.size;
     alignment = m.section.alignment;
     bytes = m.bytes.now;
-    relocations = [];
+    relocations = m.relocations.now;
   };
 }
 

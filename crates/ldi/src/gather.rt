@@ -6,6 +6,7 @@ ghost use Rattle.ldi.specs.declared.gather.Gathered.TheVariants.{Orphan, Row};
 ghost use Rattle.ldi.specs.OneSection.{members_of, GatheredAs, IsWhole, IsWholeRow};
 
 use crate::script::form::Script;
+use elfobj::relocation::Relocation;
 use elfobj::section::Section;
 
 /// A linked section of a named object.
@@ -19,6 +20,8 @@ pub struct Member<'a> {
     pub section: Section,
     /// Its bytes; none where it has no bytes in the file.
     pub bytes: &'a [u8],
+    /// Its relocations, in the order of their table.
+    pub relocations: &'a [Relocation],
 }
 
 /// What comes of gathering.

@@ -12,6 +12,7 @@ use elfobj::meter::Meter;
 pub mod edit;
 pub mod link;
 pub mod named;
+pub mod not_yet;
 pub mod options;
 pub mod plain;
 

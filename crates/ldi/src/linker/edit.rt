@@ -47,4 +47,6 @@ pub struct EditRefusal {
 impl EditRefusal {
     /// Want of memory.
     pub const NO_MEMORY: EditRefusal = EditRefusal { n: 7, m: 0 };
+    /// An object of the profile that this version doesn't link yet.
+    pub const NOT_YET: EditRefusal = EditRefusal { n: 4, m: 15 };
 }

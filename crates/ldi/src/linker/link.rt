@@ -1,7 +1,9 @@
 //! A link from scratch.
 
 ghost use Rattle.std.specs.Prelude.{◌≡◌, ◌≤◌, IfOk, IfSome, length};
+ghost use Rattle.std.specs.List.{All};
 ghost use Rattle.std.specs.Option.{ForSome};
+ghost use Rattle.ldi.specs.NotYet.{IsLinkable};
 ghost use Rattle.ldi.specs.Gathering.{members};
 ghost use Rattle.ldi.specs.Placement.{placement};
 ghost use Rattle.ldi.specs.Segments.{segments};
@@ -71,7 +73,8 @@ impl Linkage {
 
 /// The linked section of the project, if it has one.
 fn only_member(objects: &[NamedObject]) -> Option<Member<'_>>
-    requires { length objects.now ≤ 1 }
+    requires few { length objects.now ≤ 1 }
+    requires linkable { All IsLinkable objects.now }
     ensures members { members objects.now ≡ members_of result }
     ensures whole { IfSome result IsWhole }
 {
@@ -83,6 +86,7 @@ fn only_member(objects: &[NamedObject]) -> Option<Member<'_>>
         name: object.section_name(0),
         section,
         bytes: object.section_bytes(0),
+        relocations: object.relocations(0),
     })
 }
 
@@ -113,7 +117,8 @@ fn with_row(alloc: Global, script: &Script, row: Option<Member<'_>>) -> Result<L
 /// Links the objects by the script: gathers their sections, places them, and writes the image.
 #[tactic(auto, unfolding(crate::specs::Link::link_of))]
 pub fn link(alloc: Global, objects: &[NamedObject], script: &Script) -> Result<Linkage, AllocError>
-    requires { length objects.now ≤ 1 }
+    requires few { length objects.now ≤ 1 }
+    requires linkable { All IsLinkable objects.now }
     ensures { IfOk result (λ l. l ≡ link_of script.now (members objects.now)) }
 {
     match gather(script, only_member(objects)) {

@@ -1,10 +1,11 @@
 //! The plain linker: it links from scratch after every edit.
 
-ghost use Rattle.std.specs.Prelude.{◌≡◌, [], ◌∷◌, IfOk, OnErr};
+ghost use Rattle.std.specs.Prelude.{◌≡◌, [], ◌∷◌, false, IfOk, OnErr};
 ghost use Rattle.std.specs.List.{list_all};
 ghost use Rattle.elfobj.specs.Names.{is_graphic};
 ghost use Rattle.ldi.specs.Edits.{Add, SetScript, early_refusal, is_in_use, is_object_name, is_payload_too_long, is_over_limit};
-ghost use Rattle.ldi.specs.Applied.{Applied, object_refused, script_refused};
+ghost use Rattle.ldi.specs.NotYet.{is_beyond};
+ghost use Rattle.ldi.specs.Applied.{Applied, Taken, object_refused, script_refused};
 ghost use Rattle.ldi.specs.Project.{Project, empty_project};
 ghost use Rattle.ldi.specs.Link.{link, linked_of};
 
@@ -12,6 +13,7 @@ use crate::linker::Linker;
 use crate::linker::edit::{Edit, EditRefusal, Linked, MAX_OBJECT_NAME, MAX_OBJECTS, MAX_PAYLOAD};
 use crate::linker::link::{Linkage, link};
 use crate::linker::named::NamedObject;
+use crate::linker::not_yet::is_beyond;
 use crate::linker::options::Options;
 use crate::script::form::Script;
 use crate::script::refusal::ScriptRefusal;
@@ -149,7 +151,8 @@ impl Plain {
 
     /// Takes the first object in, and links.
     fn take_object(&mut self, name: &[u8], object: Object) -> Result<Linked, AllocError>
-        requires { self.old.objects ≡ [] }
+        requires first { self.old.objects ≡ [] }
+        requires linkable { is_beyond object ≡ false }
         ensures taken { IfOk result (λ l. (self.new ≡ record self.old { objects = record { name = name.now; object = object } ∷ [] }) × (l ≡ linked_of (link self.new))) }
         ensures unchanged { OnErr result (self.new ≡ self.old) }
     {
@@ -173,6 +176,20 @@ impl Plain {
         Ok(self.linkage.summary())
     }
 
+    /// Takes an object of the profile in as the first one, if this version links it.
+    fn add_object(&mut self, name: &[u8], object: Object) -> Result<Linked, EditRefusal>
+        requires { self.old.objects ≡ [] }
+        ensures { Taken self.old (record { name = name.now; object = object }) self.new result }
+    {
+        if is_beyond(&object) {
+            return Err(EditRefusal::NOT_YET);
+        }
+        match self.take_object(name, object) {
+            Err(_) => Err(EditRefusal::NO_MEMORY),
+            Ok(linked) => Ok(linked),
+        }
+    }
+
     fn add(
         &mut self,
         name: &[u8],
@@ -187,10 +204,7 @@ impl Plain {
         }
         match Object::read(self.alloc, bytes, meter) {
             Err((_bytes, why)) => Err(object_refused(why)),
-            Ok(object) => match self.take_object(name, object) {
-                Err(_) => Err(EditRefusal::NO_MEMORY),
-                Ok(linked) => Ok(linked),
-            },
+            Ok(object) => self.add_object(name, object),
         }
     }
 
