@@ -2,6 +2,7 @@ pub mod OneSectionGathering
 pub mod OneSectionPlacement
 pub mod OneSectionImage
 pub mod OneSectionMembers
+pub mod OneSectionRelocating
 pub mod OneObject
 pub mod ScriptCut
 pub mod ScriptNumber

@@ -4,11 +4,10 @@ use Rattle.std.specs.Prelude.{◌≡◌, ◌≤◌, List, length}
 use Rattle.std.specs.List.{All}
 use Rattle.ldi.specs.Tree.{Tree}
 use Rattle.ldi.specs.Project.{NamedObject}
-use Rattle.ldi.specs.Gathering.{members}
 use Rattle.ldi.specs.NotYet.{IsLinkable}
 use Rattle.ldi.specs.Link.{Link, link_of}
 
 pub record IsLinked (objects : List NamedObject) (script : Tree) (result : Link) : Type 0 where
   pub few : length objects ≤ 1
   pub linkable : All IsLinkable objects
-  pub linked : result ≡ link_of script (members objects)
+  pub linked : result ≡ link_of script objects

@@ -10,6 +10,7 @@ pub mod Gathering
 pub mod Placement
 pub mod Segments
 pub mod Image
+pub mod Relocating
 pub mod Link
 pub mod OneSection
 pub mod EditMeaning

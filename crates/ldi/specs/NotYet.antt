@@ -1,8 +1,7 @@
 -- What this version doesn't link yet of the objects of the profile.
-use Rattle.std.specs.Prelude.{◌≡◌, List, Bool, true, false, not, ◌||◌, ◌==◌, nat_lt, length, map}
+use Rattle.std.specs.Prelude.{◌≡◌, Bool, true, false, ◌||◌, nat_lt, length, map}
 use Rattle.std.specs.List.{list_any}
 use Rattle.elfobj.specs.Object.{ObjectData, NamedSymbol}
-use Rattle.elfobj.specs.Sections.{LinkedSection}
 use Rattle.elfobj.specs.declared.symbol.Binding.{Binding}
 use Rattle.elfobj.specs.declared.symbol.Binding.TheVariants.{Local, Global, Weak}
 use Rattle.elfobj.specs.declared.symbol.Symbol.{Symbol}
@@ -17,15 +16,11 @@ is_shared_by Weak = true
 abbrev pub is_shared : Symbol → Bool
 is_shared s = is_shared_by s.binding
 
-abbrev pub has_relocations : LinkedSection → Bool
-has_relocations s = not (length s.relocations == 0)
-
--- more than one linked section, a non-local symbol, or a relocation
+-- more than one linked section, or a symbol that isn't local
 unfoldable pub is_beyond : ObjectData → Bool
 is_beyond o =
     nat_lt 1 (length o.sections)
     || list_any is_shared (map (λ (s : NamedSymbol). s.symbol) o.symbols)
-    || list_any has_relocations o.sections
 
 -- an object that this version links
 abbrev pub IsLinkable : NamedObject → Type 0

@@ -1,7 +1,21 @@
 -- What links of this version come to: at most one object, with at most one linked section, and at most one output
 -- section. Each word here is one of the general definitions at such a project.
-use Rattle.std.specs.Prelude.{◌≡◌, ◌⊎◌, ◌≤◌, ◌<◌, List, [], ◌∷◌, length, map, Option, Some, None, Result, Ok, Err, true, false, ◌==◌, option_to_list}
-use Rattle.std.specs.Option.{option_map, ForSome}
+use Rattle.std.specs.Prelude.{◌≡◌, ◌⊎◌, ◌≤◌, ◌<◌, ◌+◌, ◌%◌, ◌^◌, ℕ, List, [], ◌∷◌, length, map, filter, slice_get, if◌then◌else◌, Vec, Option, Some, None, Result, Ok, Err, true, false, ◌==◌, option_to_list}
+use Rattle.std.specs.List.{All, Contains}
+use Rattle.std.specs.Option.{option_map, option_and_then, ForSome}
+use Rattle.elfobj.specs.Profile.{AreApart, IsRelocationOfProfile}
+use Rattle.elfobj.specs.declared.relocation.Relocation.{Relocation}
+use Rattle.elfobj.specs.declared.relocation.SymbolIndex.{SymbolIndex}
+use Rattle.elfobj.specs.declared.symbol.Symbol.{Symbol}
+use Rattle.elfobj.specs.declared.symbol.SymbolPlace.{SymbolPlace}
+use Rattle.elfobj.specs.declared.symbol.SymbolPlace.TheVariants as place
+use Rattle.emit.specs.Fields.{field_of}
+use Rattle.emit.specs.Patches.{Patch, patched}
+use Rattle.emit.specs.declared.site.Site.{Site}
+use Rattle.ldi.specs.Project.{NamedObject}
+use Rattle.ldi.specs.Relocating.{field_or_none, is_evaluated_by, symbols_of}
+use Rattle.ldi.specs.declared.relocate.RelocateFault.{RelocateFault}
+use Rattle.ldi.specs.declared.relocate.RelocateFault.TheVariants.{NoMemory}
 use Rattle.ldi.specs.Tree.{Tree}
 use Rattle.ldi.specs.Gathering as gathering
 use Rattle.ldi.specs.Gathering.{Piece, piece_of, orphans, rows}
@@ -69,14 +83,55 @@ abbrev pub segment_of : Option Segment → List Piece → List segments.Segment
 segment_of None row = []
 segment_of (Some g) row = one_segment g row ∷ []
 
--- a member has the bytes that its size says, unless it is one without bytes in the file
-abbrev pub IsWhole : Member → Type 0
-IsWhole m = is_nobits m.section.kind ≡ false → length m.bytes.now ≡ m.section.size
+-- a member has the bytes that its size says, unless it is one without bytes in the file; its relocations lie inside
+-- it and share no byte
+pub record IsWhole (m : Member) : Type 0 where
+  pub bytes : is_nobits m.section.kind ≡ false → length m.bytes.now ≡ m.section.size
+  pub fields : All (IsRelocationOfProfile (length m.symbols.now) m.section.size) m.relocations.now
+  pub apart : AreApart m.relocations.now
 
--- a row of such a member, or of none
-abbrev pub IsWholeRow : Gathered → Type 0
-IsWholeRow Orphan = Unit {0}
-IsWholeRow (Row row) = ForSome row IsWhole
+-- a row holds the member, or nothing
+abbrev pub IsRowOf : Option Member → Gathered → Type 0
+IsRowOf member Orphan = Unit {0}
+IsRowOf member (Row row) = ForSome row (λ m. member ≡ Some m)
+
+-- the value of a local symbol of the one object, whose linked section starts at an address
+abbrev pub one_value : Member → ℕ → SymbolPlace → ℕ → Option ℕ
+one_value m start place.Undefined v = Some 0
+one_value m start place.Absolute v = Some v
+one_value m start place.Common v = None
+one_value m start (place.Section k) v = if m.section.number.0 == k.0 then Some ((start + v) % 2 ^ 64) else None
+
+abbrev pub one_target : Member → ℕ → SymbolIndex → Option ℕ
+one_target m start k = option_and_then (λ (s : Symbol). one_value m start s.place s.value) (slice_get m.symbols.now k.0)
+
+abbrev pub one_field : Member → ℕ → Relocation → Option Patch
+one_field m start r = option_and_then (λ s. field_or_none r (field_of r s (start + r.offset))) (one_target m start r.symbol)
+
+abbrev pub evaluated : List Relocation → List Relocation
+evaluated rs = filter (λ (r : Relocation). is_evaluated_by r.kind) rs
+
+-- all fields of the member; or a relocation that has none
+abbrev pub RelocatedAs : Member → ℕ → Result (Vec Site) RelocateFault → Type 0
+RelocatedAs m start (Ok v) = map (one_field m start) (evaluated m.relocations.now) ≡ map Some v.items
+RelocatedAs m start (Err NoMemory) = Unit {0}
+RelocatedAs m start (Err f) = (r : Relocation) × Contains (evaluated m.relocations.now) r × (one_field m start r ≡ None)
+
+-- the same of the output section, which has no fields without a row
+abbrev pub RowRelocatedAs : Option Placed → Option Member → Result (Vec Site) RelocateFault → Type 0
+RowRelocatedAs (Some p) (Some m) result = RelocatedAs m p.start result
+RowRelocatedAs p m (Ok v) = v.items ≡ []
+RowRelocatedAs p m (Err NoMemory) = Unit {0}
+RowRelocatedAs p m (Err f) = ⊥
+
+-- a member is the only object's, if there is one
+abbrev pub IsOf : List NamedObject → Option Member → Type 0
+IsOf objects None = Unit {0}
+IsOf objects (Some m) = (o : NamedObject) × (objects ≡ o ∷ []) × (o.name ≡ m.object.now) × (symbols_of o ≡ m.symbols.now)
+
+-- the row with these fields
+abbrev pub patched_row : List Patch → List Piece → List Piece
+patched_row fields row = map (λ (x : Piece). record x { section = record x.section { bytes = patched x.section.bytes fields } }) row
 
 -- the output section has no file bytes, or just those of its one piece
 abbrev pub IsFilledBy : Placed → Option Member → Type 0

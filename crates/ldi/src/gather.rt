@@ -1,13 +1,13 @@
 //! Which section stands in which output section.
 
 ghost use Rattle.std.specs.Prelude.{◌≡◌, [], None, ◌==◌, if◌then◌else◌};
-ghost use Rattle.std.specs.Option.{ForSome};
 ghost use Rattle.ldi.specs.declared.gather.Gathered.TheVariants.{Orphan, Row};
-ghost use Rattle.ldi.specs.OneSection.{members_of, GatheredAs, IsWhole, IsWholeRow};
+ghost use Rattle.ldi.specs.OneSection.{members_of, GatheredAs, IsRowOf};
 
 use crate::script::form::Script;
 use elfobj::relocation::Relocation;
 use elfobj::section::Section;
+use elfobj::symbol::Symbol;
 
 /// A linked section of a named object.
 #[derive(Clone, Copy, Debug)]
@@ -22,6 +22,8 @@ pub struct Member<'a> {
     pub bytes: &'a [u8],
     /// Its relocations, in the order of their table.
     pub relocations: &'a [Relocation],
+    /// The symbols of the object, which the relocations name by their numbers.
+    pub symbols: &'a [Symbol],
 }
 
 /// What comes of gathering.
@@ -46,9 +48,8 @@ fn untaken(m: Member<'_>) -> Gathered<'_>
 
 /// Gives the section, if there is one, to the first input statement that takes it.
 pub fn gather<'a>(script: &Script, member: Option<Member<'a>>) -> Gathered<'a>
-    requires { ForSome member IsWhole }
     ensures gathered { GatheredAs script.now (members_of member.entry) result }
-    ensures whole { IsWholeRow result }
+    ensures row { IsRowOf member.entry result }
 {
     let Some(m) = member else {
         return no_section(script);
@@ -68,7 +69,7 @@ pub fn gather<'a>(script: &Script, member: Option<Member<'a>>) -> Gathered<'a>
 /// Without a section there is nothing to take.
 fn no_section<'a>(script: &Script) -> Gathered<'a>
     ensures gathered { GatheredAs script.now [] result }
-    ensures whole { IsWholeRow result }
+    ensures row { IsRowOf None result }
 {
     match script.form() {
         None => Gathered::Row(None),

@@ -17,10 +17,11 @@ use std::io::{BufReader, BufWriter};
 use std::process::ExitCode;
 use std::{env, io};
 
-mod emit;
+mod image_writer;
 mod gather;
 mod linker;
 mod place;
+mod relocate;
 mod script;
 mod stream;
 #[cfg(test)]

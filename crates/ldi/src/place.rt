@@ -106,6 +106,7 @@ pub fn place(script: &Script, row: Option<Member<'_>>) -> Result<Option<Placed>,
     requires { ForSome row IsWhole }
     ensures placed { PlacedAs (placement script.now (rows_with script.now (row_of row.entry))) (row_of row.entry) result }
     ensures filled { IfOk result (λ p. IfSome p (λ q. IsFilledBy q row.entry)) }
+    ensures below { IfOk result (λ p. IfSome p (λ q. q.start + q.size < 2 ^ 64)) }
 {
     let Some(form) = script.form() else {
         return Ok(None);

@@ -8,15 +8,21 @@ ghost use Rattle.ldi.specs.Gathering.{members};
 ghost use Rattle.ldi.specs.Placement.{placement};
 ghost use Rattle.ldi.specs.Segments.{segments};
 ghost use Rattle.ldi.specs.Image.{image_of};
-ghost use Rattle.ldi.specs.Link.{faulty, linked_by, linked_of, link_of};
-ghost use Rattle.ldi.specs.OneSection.{members_of, row_of, rows_with, laid, IsWhole, IsFilledBy};
+ghost use Rattle.ldi.specs.Link.{faulty, linked_by, linked_placed, linked_of, link_of};
+ghost use Rattle.ldi.specs.OneSection.{members_of, row_of, rows_with, patched_row, laid, IsWhole, IsFilledBy, IsOf};
+ghost use Rattle.emit.specs.Patches.{IsInOrder};
+ghost use Rattle.ldi.specs.Project.{NamedObject};
 
-use crate::emit::image;
+use crate::image_writer::image;
 use crate::gather::{Gathered, Member, gather};
 use crate::linker::edit::Linked;
 use crate::linker::named::NamedObject;
 use crate::place::{Placed, place, segments};
+use crate::relocate::{RelocateFault, relocate};
 use crate::script::form::Script;
+use elfobj::meter::Meter;
+use emit::canvas::Canvas;
+use emit::site::{Site, in_order};
 use std::alloc::{AllocError, Global};
 use std::marker::Model;
 
@@ -24,7 +30,7 @@ use std::marker::Model;
 #[derive(Drop)]
 pub struct Linkage {
     status: u8,
-    image: Vec<u8>,
+    image: Canvas,
 }
 
 impl Model for Linkage {
@@ -32,7 +38,7 @@ impl Model for Linkage {
 
     ghost Value = { Link };
 
-    ghost view = { λ l. record { status = l.status; image = l.image.items } };
+    ghost view = { λ l. record { status = l.status; image = l.image.bytes } };
 }
 
 impl Linkage {
@@ -42,7 +48,7 @@ impl Linkage {
     {
         Linkage {
             status: 1,
-            image: Vec::new(alloc),
+            image: Canvas::new(alloc),
         }
     }
 
@@ -57,7 +63,7 @@ impl Linkage {
     pub fn image(&self) -> &[u8]
         ensures { result.now ≡ self.now.image }
     {
-        &self.image
+        self.image.bytes()
     }
 
     /// The status and the length of the image.
@@ -77,6 +83,7 @@ fn only_member(objects: &[NamedObject]) -> Option<Member<'_>>
     requires linkable { All IsLinkable objects.now }
     ensures members { members objects.now ≡ members_of result }
     ensures whole { IfSome result IsWhole }
+    ensures object { IsOf objects.now result }
 {
     let named = objects.first()?;
     let object = named.object();
@@ -87,42 +94,78 @@ fn only_member(objects: &[NamedObject]) -> Option<Member<'_>>
         section,
         bytes: object.section_bytes(0),
         relocations: object.relocations(0),
+        symbols: object.symbols(),
     })
 }
 
-/// The link of an output section that is placed, or of none.
+/// The link of an output section that is placed, or of none, with the fields of its piece.
 fn with_image(
     alloc: Global,
     placed: Option<Placed>,
     row: Option<Member<'_>>,
+    sites: &[Site],
+    meter: &mut Meter,
 ) -> Result<Linkage, AllocError>
-    requires { ForSome placed (λ q. IsFilledBy q row) }
-    ensures { IfOk result (λ l. l ≡ record { status = 0; image = image_of 0 (segments (laid placed (row_of row.entry))) }) }
+    requires filled { ForSome placed (λ q. IsFilledBy q row) }
+    requires order { ForSome row (λ m. IsInOrder 0 (length m.bytes.now) sites.now) }
+    ensures { IfOk result (λ l. l ≡ record { status = 0; image = image_of 0 (segments (laid placed (patched_row sites.now (row_of row.entry)))) }) }
 {
-    let image = image(alloc, segments(placed), row)?;
+    let image = image(alloc, segments(placed), row, sites, meter)?;
     Ok(Linkage { status: 0, image })
 }
 
-/// The link of a script whose output section has this row.
-fn with_row(alloc: Global, script: &Script, row: Option<Member<'_>>) -> Result<Linkage, AllocError>
-    requires { ForSome row IsWhole }
-    ensures { IfOk result (λ l. l ≡ linked_by (placement script.now (rows_with script.now (row_of row.entry)))) }
+/// The link of an output section that is placed, or of none.
+fn with_fields(
+    alloc: Global,
+    placed: Option<Placed>,
+    row: Option<Member<'_>>,
+    meter: &mut Meter,
+) -> Result<Linkage, AllocError>
+    requires filled { ForSome placed (λ q. IsFilledBy q row) }
+    requires below { ForSome placed (λ q. q.start + q.size < 2 ^ 64) }
+    requires whole { ForSome row IsWhole }
+    ensures { IfOk result (λ l. (objects : List NamedObject) → IsOf objects row.entry → l ≡ linked_placed objects (laid placed (row_of row.entry))) }
 {
-    match place(script, row) {
+    match relocate(alloc, placed, row, meter) {
+        Err(RelocateFault::NoMemory) => Err(AllocError),
         Err(_fault) => Ok(Linkage::faulty(alloc)),
-        Ok(placed) => with_image(alloc, placed, row),
+        Ok(sites) => {
+            let sites = in_order(sites)?;
+            with_image(alloc, placed, row, &sites, meter)
+        }
     }
 }
 
-/// Links the objects by the script: gathers their sections, places them, and writes the image.
+/// The link of a script whose output section has this row.
+fn with_row(
+    alloc: Global,
+    script: &Script,
+    row: Option<Member<'_>>,
+    meter: &mut Meter,
+) -> Result<Linkage, AllocError>
+    requires { ForSome row IsWhole }
+    ensures { IfOk result (λ l. (objects : List NamedObject) → IsOf objects row.entry → l ≡ linked_by objects (placement script.now (rows_with script.now (row_of row.entry)))) }
+{
+    match place(script, row) {
+        Err(_fault) => Ok(Linkage::faulty(alloc)),
+        Ok(placed) => with_fields(alloc, placed, row, meter),
+    }
+}
+
+/// Links the objects by the script: gathers their sections, places them, relocates them, and writes the image.
 #[tactic(auto, unfolding(crate::specs::Link::link_of))]
-pub fn link(alloc: Global, objects: &[NamedObject], script: &Script) -> Result<Linkage, AllocError>
+pub fn link(
+    alloc: Global,
+    objects: &[NamedObject],
+    script: &Script,
+    meter: &mut Meter,
+) -> Result<Linkage, AllocError>
     requires few { length objects.now ≤ 1 }
     requires linkable { All IsLinkable objects.now }
-    ensures { IfOk result (λ l. l ≡ link_of script.now (members objects.now)) }
+    ensures { IfOk result (λ l. l ≡ link_of script.now objects.now) }
 {
     match gather(script, only_member(objects)) {
         Gathered::Orphan => Ok(Linkage::faulty(alloc)),
-        Gathered::Row(row) => with_row(alloc, script, row),
+        Gathered::Row(row) => with_row(alloc, script, row, meter),
     }
 }

@@ -139,7 +139,7 @@ impl Plain {
     {
         let objects = Vec::new(alloc);
         let script = Script::empty();
-        let linkage = link(alloc, &objects, &script)?;
+        let linkage = link(alloc, &objects, &script, &mut Meter::new())?;
         Ok(Plain {
             alloc,
             objects,
@@ -150,7 +150,7 @@ impl Plain {
     }
 
     /// Takes the first object in, and links.
-    fn take_object(&mut self, name: &[u8], object: Object) -> Result<Linked, AllocError>
+    fn take_object(&mut self, name: &[u8], object: Object, meter: &mut Meter) -> Result<Linked, AllocError>
         requires first { self.old.objects ≡ [] }
         requires linkable { is_beyond object ≡ false }
         ensures taken { IfOk result (λ l. (self.new ≡ record self.old { objects = record { name = name.now; object = object } ∷ [] }) × (l ≡ linked_of (link self.new))) }
@@ -159,32 +159,32 @@ impl Plain {
         let named = NamedObject::new(self.alloc, name, object)?;
         let mut objects = Vec::new(self.alloc);
         objects.push(named)?;
-        let linkage = link(self.alloc, &objects, &self.script)?;
+        let linkage = link(self.alloc, &objects, &self.script, meter)?;
         self.objects = objects;
         self.linkage = linkage;
         Ok(self.linkage.summary())
     }
 
     /// Takes another script, and links.
-    fn take_script(&mut self, script: Script) -> Result<Linked, AllocError>
+    fn take_script(&mut self, script: Script, meter: &mut Meter) -> Result<Linked, AllocError>
         ensures taken { IfOk result (λ l. (self.new ≡ record self.old { script = script }) × (l ≡ linked_of (link self.new))) }
         ensures unchanged { OnErr result (self.new ≡ self.old) }
     {
-        let linkage = link(self.alloc, &self.objects, &script)?;
+        let linkage = link(self.alloc, &self.objects, &script, meter)?;
         self.script = script;
         self.linkage = linkage;
         Ok(self.linkage.summary())
     }
 
     /// Takes an object of the profile in as the first one, if this version links it.
-    fn add_object(&mut self, name: &[u8], object: Object) -> Result<Linked, EditRefusal>
+    fn add_object(&mut self, name: &[u8], object: Object, meter: &mut Meter) -> Result<Linked, EditRefusal>
         requires { self.old.objects ≡ [] }
         ensures { Taken self.old (record { name = name.now; object = object }) self.new result }
     {
         if is_beyond(&object) {
             return Err(EditRefusal::NOT_YET);
         }
-        match self.take_object(name, object) {
+        match self.take_object(name, object, meter) {
             Err(_) => Err(EditRefusal::NO_MEMORY),
             Ok(linked) => Ok(linked),
         }
@@ -204,11 +204,11 @@ impl Plain {
         }
         match Object::read(self.alloc, bytes, meter) {
             Err((_bytes, why)) => Err(object_refused(why)),
-            Ok(object) => self.add_object(name, object),
+            Ok(object) => self.add_object(name, object, meter),
         }
     }
 
-    fn set_script(&mut self, text: &[u8]) -> Result<Linked, EditRefusal>
+    fn set_script(&mut self, text: &[u8], meter: &mut Meter) -> Result<Linked, EditRefusal>
         ensures { Applied self.old (SetScript text.now) self.new result }
     {
         if is_payload_too_long(text) {
@@ -216,7 +216,7 @@ impl Plain {
         }
         match Script::read(self.alloc, text) {
             Err(why) => Err(script_refused(why)),
-            Ok(script) => match self.take_script(script) {
+            Ok(script) => match self.take_script(script, meter) {
                 Err(_) => Err(EditRefusal::NO_MEMORY),
                 Ok(linked) => Ok(linked),
             },
@@ -230,7 +230,7 @@ impl Linker for Plain {
     fn apply(&mut self, edit: Edit<'_>, meter: &mut Meter) -> Result<Linked, EditRefusal> {
         match edit {
             Edit::Add { name, at, bytes } => self.add(name, at, bytes, meter),
-            Edit::Script { text } => self.set_script(text),
+            Edit::Script { text } => self.set_script(text, meter),
         }
     }
 

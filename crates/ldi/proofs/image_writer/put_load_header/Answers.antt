@@ -1,6 +1,6 @@
 use Rattle.std.proofs.Common.{append_assoc}
 use Rattle.ldi.specs.Image.{load_header}
-use Rattle.ldi.proofs.emit.put_load_header.Goals as goal
+use Rattle.ldi.proofs.image_writer.put_load_header.Goals as goal
 
 pub returns : goal.returns
 unfolding load_header

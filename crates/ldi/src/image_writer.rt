@@ -1,16 +1,20 @@
 //! The image: headers and bytes.
 
-ghost use Rattle.std.specs.Prelude.{◌≡◌, ◌++◌, List, IfOk, OnOk, ◌==◌, if◌then◌else◌};
+ghost use Rattle.std.specs.Prelude.{◌≡◌, ◌++◌, List, IfOk, OnOk, ◌==◌, if◌then◌else◌, length, replicate};
 ghost use Rattle.std.specs.Option.{ForSome};
 ghost use Rattle.std.specs.Int.{to_le_bytes, w16, w32, w64};
 ghost use Rattle.ldi.specs.Gathering.{Piece};
 ghost use Rattle.ldi.specs.Image.{elf_header, load_header, flags_of, headers, image_of};
 ghost use Rattle.ldi.specs.Segments.{file_size};
-ghost use Rattle.ldi.specs.OneSection.{row_of, one_segment, segment_of, IsWritable};
+ghost use Rattle.ldi.specs.OneSection.{row_of, patched_row, one_segment, segment_of, IsWritable};
+ghost use Rattle.emit.specs.Patches.{IsInOrder};
 
 use crate::gather::Member;
 use crate::place::{EHSIZE, PAGE, PHENTSIZE, Segment};
 use elfobj::constants::EM_X86_64;
+use elfobj::meter::Meter;
+use emit::canvas::Canvas;
+use emit::site::Site;
 use std::alloc::{AllocError, Global};
 
 /// Identification of a little-endian 64-bit file of version 1.
@@ -128,26 +132,49 @@ pub fn headers(alloc: Global, entry: u64, segment: Option<Segment>) -> Result<Ve
     Ok(out)
 }
 
-/// The image of a link with the row of its output section.
+/// A canvas with so many bytes, all zero.
+fn blank(alloc: Global, length: usize) -> Result<Canvas, AllocError>
+    ensures { IfOk result (λ c. c.bytes ≡ replicate length 0) }
+{
+    let mut canvas = Canvas::new(alloc);
+    canvas.reserve(length)?;
+    canvas.resize_reserved(length);
+    Ok(canvas)
+}
+
+/// A canvas with the headers alone.
+fn with_headers(alloc: Global, headers: &[u8], meter: &mut Meter) -> Result<Canvas, AllocError>
+    ensures { IfOk result (λ c. c.bytes ≡ headers.now) }
+{
+    let mut canvas = blank(alloc, headers.len())?;
+    canvas.write(0, headers, meter);
+    Ok(canvas)
+}
+
+/// The image of a link with the row of its output section, and the fields of its piece.
 pub fn image(
     alloc: Global,
     segment: Option<Segment>,
     row: Option<Member<'_>>,
-) -> Result<Vec<u8>, AllocError>
-    requires { ForSome segment (λ g. IsWritable g row) }
-    ensures { IfOk result (λ v. v.items ≡ image_of 0 (segment_of segment (row_of row.entry))) }
+    sites: &[Site],
+    meter: &mut Meter,
+) -> Result<Canvas, AllocError>
+    requires writable { ForSome segment (λ g. IsWritable g row) }
+    requires order { ForSome row (λ m. IsInOrder 0 (length m.bytes.now) sites.now) }
+    ensures { IfOk result (λ c. c.bytes ≡ image_of 0 (segment_of segment (patched_row sites.now (row_of row.entry)))) }
 {
-    let mut image = headers(alloc, 0, segment)?;
+    let headers = headers(alloc, 0, segment)?;
     let Some(g) = segment else {
-        return Ok(image);
+        return with_headers(alloc, &headers, meter);
     };
     if g.placed.load_size == 0 {
-        return Ok(image);
+        return with_headers(alloc, &headers, meter);
     }
     let Some(m) = row else {
-        return Ok(image);
+        return with_headers(alloc, &headers, meter);
     };
-    image.resize(g.offset as usize, 0)?;
-    image.extend_from_slice(m.bytes)?;
-    Ok(image)
+    let mut canvas = blank(alloc, g.offset as usize + m.bytes.len())?;
+    canvas.write(0, &headers, meter);
+    canvas.write_piece(g.offset as usize, m.bytes, sites, meter);
+    Ok(canvas)
 }

@@ -1,6 +1,6 @@
 use Rattle.std.proofs.Common.{refl}
 use Rattle.ldi.proofs.OneSectionImage.{headers_one, memory_size_one}
-use Rattle.ldi.proofs.emit.headers.Goals as goal
+use Rattle.ldi.proofs.image_writer.headers.Goals as goal
 
 pub returns : goal.returns
 returns c = λ row.

@@ -2,7 +2,7 @@ use Rattle.std.proofs.Common.{◌∙◌, [], ◌∷◌, ◌++◌, inl, inr, ap}
 use Rattle.ldi.specs.OneSection.{row_of, member_of}
 use Rattle.ldi.specs.Gathering.{piece_of}
 use Rattle.ldi.proofs.OneSectionImage.{image_of_none, image_of_nobits, image_of_resized, IsFilled}
-use Rattle.ldi.proofs.emit.image.Goals as goal
+use Rattle.ldi.proofs.image_writer.image.Goals as goal
 
 pub returns-in_default : goal.returns-in_default
 returns-in_default c = rw c.in_default.is (c.in_ok-image.ensures [] ∙ rw c.in_default.is (image_of_none 0))
