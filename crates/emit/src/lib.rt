@@ -1,0 +1,7 @@
+//! What the image is made of: relocation fields, and the canvas that it is written on.
+#![tactic(auto)]
+
+pub mod canvas;
+pub mod field;
+#[cfg(test)]
+mod tests;
