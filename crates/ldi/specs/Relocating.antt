@@ -3,7 +3,7 @@
 use Rattle.std.specs.Prelude.{ℕ, ◌+◌, ◌%◌, ◌^◌, List, [], length, map, find, filter, slice_get, Option, Some, None, Result, Ok, Err, Bool, true, false, ◌&&◌, ◌==◌, bytes_eq, is_none}
 use Rattle.std.specs.List.{flat_map, filter_map}
 use Rattle.std.specs.Option.{option_map, option_map_or, option_and_then}
-use Rattle.elfobj.specs.Object.{NamedSymbol}
+use Rattle.elfobj.specs.Symbols.{NamedSymbol}
 use Rattle.elfobj.specs.declared.relocation.Relocation.{Relocation}
 use Rattle.elfobj.specs.declared.relocation.RelocationKind.{RelocationKind}
 use Rattle.elfobj.specs.declared.relocation.RelocationKind.TheVariants as kind
