@@ -1,6 +1,6 @@
 //! Fields as the psABI's table gives them, and a canvas that grows, shrinks and grows again.
 
-ghost use Rattle.std.specs.Prelude.{◌≢◌};
+ghost use Rattle.std.specs.Prelude.{◌≡◌, ◌≢◌};
 
 use crate::canvas::Canvas;
 use crate::field::Overflow;
@@ -11,7 +11,9 @@ use std::process::Abort;
 use std::test::Fail;
 
 /// A relocation of a kind with an addend.
-fn relocation(kind: RelocationKind, addend: i64) -> Relocation {
+fn relocation(kind: RelocationKind, addend: i64) -> Relocation
+    ensures { result.kind ≡ kind }
+{
     Relocation {
         offset: 0,
         symbol: SymbolIndex(1),
