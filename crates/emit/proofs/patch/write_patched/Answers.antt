@@ -37,12 +37,12 @@ loop-patch-preserved c =
       room = w.room ∙ c.loop-patch.invariant.room;
       within = omega arith;
       counted = λ n. (
-        let sum : c.loop-patch.done + (written + n) ≡ c.write_up_to-done.result + n = omega arith in
-        ap (λ (m : Counts). raised m Bytes n) w.counted
-        ∙ raised_more c.loop-patch.meter written n (written + n) refl
-        ∙ c.loop-patch.invariant.counted (written + n)
-        ∙ ap (λ (k : ℕ). raised c.args.meter.now Bytes k) sum
-      );
+          let sum : c.loop-patch.done + (written + n) ≡ c.write_up_to-done.result + n = omega arith in
+          ap (λ (m : Counts). raised m Bytes n) w.counted
+          ∙ raised_more c.loop-patch.meter written n (written + n) refl
+          ∙ c.loop-patch.invariant.counted (written + n)
+          ∙ ap (λ (k : ℕ). raised c.args.meter.now Bytes k) sum
+          );
     }
 
 pub returns-clause-written : goal.returns-clause-written
