@@ -1,1 +1,3 @@
 pub mod FieldBytes
+pub mod Patches
+pub mod Runs

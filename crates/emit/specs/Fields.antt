@@ -1,6 +1,6 @@
 -- Relocations (System V ABI, AMD64 supplement, "Relocation", table "Relocation Types"; little-endian fields: "Data
 -- Representation"). S is the value of the symbol, A the addend, P the place: the address of the field.
-use Rattle.std.specs.Prelude.{ℕ, zero, suc, ◌+◌, ◌-◌, ◌%◌, ◌^◌, List, Result, Ok, Err, Bool, true, ◌&&◌, nat_lt, ℤ, pos, negsuc, neg_ℤ, ◌+ℤ◌, ◌-ℤ◌, int_le, if◌then◌else◌}
+use Rattle.std.specs.Prelude.{ℕ, ◌-◌, ◌%◌, ◌^◌, List, Result, Ok, Err, Bool, true, ◌&&◌, nat_lt, ℤ, pos, negsuc, neg_ℤ, ◌+ℤ◌, ◌-ℤ◌, int_le, if◌then◌else◌}
 use Rattle.std.specs.Int.{cast_signed, w64}
 use Rattle.byteorder.specs.Endian.{little_bytes}
 use Rattle.elfobj.specs.declared.relocation.Relocation.{Relocation}
@@ -17,7 +17,7 @@ modulo_64_bits (negsuc n) = 2 ^ 64 - 1 - n % 2 ^ 64
 abbrev pub signed : ℕ → ℤ
 signed v = cast_signed w64 v
 
--- S + A and S + A - P, as integers
+-- column "Calculation" of the table, as an integer; in a static link PLT32 counts from the symbol itself, as PC32 does
 abbrev pub calculation : RelocationKind → ℤ → ℤ → ℤ → ℤ
 calculation None s a p = pos 0
 calculation Abs64 s a p = s +ℤ a
@@ -35,7 +35,7 @@ calculation Pc64 s a p = s +ℤ a -ℤ p
 abbrev pub value : Relocation → ℕ → ℕ → ℕ
 value r s p = modulo_64_bits (calculation r.kind (pos s) r.addend (pos p))
 
--- how many bytes its field has: word8, word16, word32, word64
+-- how many bytes its field has: word8, word16, word32 or word64 of the table; NONE has no field
 abbrev pub width : RelocationKind → ℕ
 width None = 0
 width Abs64 = 8
@@ -53,8 +53,8 @@ width Pc64 = 8
 abbrev pub is_between : ℤ → ℤ → ℕ → Bool
 is_between low high v = int_le low (signed v) && int_le (signed v) high
 
--- whether a value is in range. The psABI: 32 must zero-extend to the value, 32S sign-extend to it; the ranges of
--- 16, PC16, 8 and PC8 are this linker's choice where it leaves them open
+-- whether a value is in its range. The psABI: 32 must zero-extend to the value, 32S sign-extend. It leaves the others
+-- open; here PC32, PLT32, PC16 and PC8 sign-extend too, and 16 and 8 do one of the two
 abbrev pub fits : RelocationKind → ℕ → Bool
 fits None v = true
 fits Abs64 v = true

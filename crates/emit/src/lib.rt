@@ -3,5 +3,6 @@
 
 pub mod canvas;
 pub mod field;
+pub mod patch;
 #[cfg(test)]
 mod tests;

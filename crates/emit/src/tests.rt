@@ -1,17 +1,20 @@
-//! Fields as the psABI's table gives them, and a canvas that grows, shrinks and grows again.
+//! Fields as the psABI's table gives them, a canvas that grows, shrinks and grows again, and pieces with fields.
 
-ghost use Rattle.std.specs.Prelude.{◌≢◌};
+ghost use Rattle.std.specs.Prelude.{◌≡◌, ◌≢◌};
 
 use crate::canvas::Canvas;
 use crate::field::Overflow;
 use crate::field::evaluate::field;
+use crate::patch::{Patch, write_patched};
 use elfobj::meter::Meter;
 use elfobj::relocation::{Relocation, RelocationKind, SymbolIndex};
 use std::process::Abort;
 use std::test::Fail;
 
 /// A relocation of a kind with an addend.
-fn relocation(kind: RelocationKind, addend: i64) -> Relocation {
+fn relocation(kind: RelocationKind, addend: i64) -> Relocation
+    ensures { result.kind ≡ kind }
+{
     Relocation {
         offset: 0,
         symbol: SymbolIndex(1),
@@ -174,5 +177,69 @@ fn canvas_keeps_bytes_in_reserve(rt: HostRuntime) -> Result<(), Fail> {
     assert_eq!(rt; canvas.bytes(), [7, 8].as_slice());
     canvas.resize_reserved(4);
     assert_eq!(rt; canvas.bytes(), [7, 8, 0, 0].as_slice());
+    Ok(())
+}
+
+/// A piece goes out with the fields that lie in it, and each byte is counted once.
+#[test]
+fn pieces_go_out_with_their_fields(rt: HostRuntime) -> Result<(), Fail> {
+    let mut canvas = Canvas::new(rt.alloc());
+    let mut meter = Meter::new();
+    let two = field(
+        &relocation(RelocationKind::Abs16, 0x34),
+        0x1200,
+        0,
+        &mut meter,
+    )?;
+    let one = field(&relocation(RelocationKind::Pc8, 0), 0x80, 1, &mut meter)?;
+    assert_eq!(rt; two.bytes().len(), 2);
+    assert_eq!(rt; one.bytes().len(), 1);
+    let patches = [
+        Patch {
+            offset: 1,
+            field: two,
+        },
+        Patch {
+            offset: 4,
+            field: one,
+        },
+    ];
+    canvas.reserve(10)?;
+    canvas.resize_reserved(10);
+    write_patched(&mut canvas, 2, &[1, 2, 3, 4, 5, 6], &patches, &mut meter);
+    assert_eq!(rt;
+        canvas.bytes(),
+        [0, 0, 1, 0x34, 0x12, 4, 0x7f, 6, 0, 0].as_slice()
+    );
+    assert_eq!(rt; meter.bytes(), 6);
+    assert_eq!(rt; meter.fields(), 2);
+    Ok(())
+}
+
+/// Fields may touch each other and both ends of their piece; a piece without fields goes out as it is.
+#[test]
+fn fields_may_fill_a_piece(rt: HostRuntime) -> Result<(), Fail> {
+    let mut canvas = Canvas::new(rt.alloc());
+    let mut meter = Meter::new();
+    let low = field(&relocation(RelocationKind::Abs8, 0), 0xaa, 0, &mut meter)?;
+    let high = field(&relocation(RelocationKind::Abs8, 0), 0xbb, 0, &mut meter)?;
+    assert_eq!(rt; low.bytes().len(), 1);
+    assert_eq!(rt; high.bytes().len(), 1);
+    let patches = [
+        Patch {
+            offset: 0,
+            field: low,
+        },
+        Patch {
+            offset: 1,
+            field: high,
+        },
+    ];
+    canvas.reserve(4)?;
+    canvas.resize_reserved(4);
+    write_patched(&mut canvas, 0, &[1, 2], &patches, &mut meter);
+    write_patched(&mut canvas, 2, &[3, 4], &[], &mut meter);
+    assert_eq!(rt; canvas.bytes(), [0xaa, 0xbb, 3, 4].as_slice());
+    assert_eq!(rt; meter.bytes(), 4);
     Ok(())
 }
