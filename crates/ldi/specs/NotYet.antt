@@ -1,7 +1,8 @@
 -- What this version doesn't link yet of the objects of the profile.
 use Rattle.std.specs.Prelude.{◌≡◌, List, Bool, true, false, not, ◌||◌, ◌==◌, nat_lt, length, map}
 use Rattle.std.specs.List.{list_any}
-use Rattle.elfobj.specs.Object.{ObjectData, NamedSymbol}
+use Rattle.elfobj.specs.Object.{ObjectData}
+use Rattle.elfobj.specs.Symbols.{NamedSymbol}
 use Rattle.elfobj.specs.Sections.{LinkedSection}
 use Rattle.elfobj.specs.declared.symbol.Binding.{Binding}
 use Rattle.elfobj.specs.declared.symbol.Binding.TheVariants.{Local, Global, Weak}

@@ -32,7 +32,7 @@ fn has_relocations(object: &Object) -> bool
     if object.sections().is_empty() {
         return false;
     }
-    !object.relocations(0).is_empty()
+    object.relocations(0).len() != 0
 }
 
 /// Whether an object has more than this version links: a second linked section, a symbol that is not local, or
