@@ -1,10 +1,14 @@
 -- The first object of a project.
-use Rattle.std.proofs.Common.{◌≡◌, ◌||◌, ℕ, suc, inl, inr, List, [], ◌∷◌, length, Bool, true, false, cond, Option, Some, None, refl, sym, ap, ◌∙◌, arith, insert, nat_le, nat_lt}
+use Rattle.std.proofs.Common.{◌≡◌, ◌||◌, ℕ, suc, inl, inr, List, [], ◌∷◌, length, Bool, true, false, cond, Option, Some, None, Result, Ok, Err, refl, sym, ap, ◌∙◌, arith, insert, nat_le, nat_lt}
 use Rattle.std.proofs.lemmas.Bool.{true≢false}
 use Rattle.std.proofs.lemmas.Bool.Decides.{leb_tells}
+use Rattle.elfobj.specs.Object.{object_of}
+use Rattle.elfobj.specs.Refusal.{object_refusal}
 use Rattle.ldi.specs.Project.{Project, NamedObject}
 use Rattle.ldi.specs.Edits.{Add, early_refusal, is_over_limit, is_in_use}
+use Rattle.ldi.specs.Applied.{Taken, Applied}
 use Rattle.ldi.specs.declared.linker.edit.EditRefusal.{EditRefusal}
+use Rattle.ldi.specs.declared.linker.edit.Linked.{Linked}
 
 passes : (b : Bool) (r : EditRefusal) (later : Option EditRefusal) → cond b (Some r) later ≡ None → (b ≡ false) × (later ≡ None)
 passes true r later e = cc
@@ -39,3 +43,11 @@ first p name at bytes e =
 -- it stands before nothing
 pub inserted : (p : Project) (at : ℕ) (o : NamedObject) → IsFirst p at → record p { objects = o ∷ [] } ≡ record p { objects = insert p.objects at o }
 inserted p at o f = rw (f.none, f.front) refl
+
+-- what comes of an object that is taken in as the first one
+pub taken_applied : (p : Project) (name : List ℕ) (at : ℕ) (bytes : List ℕ) (q : Project) (result : Result Linked EditRefusal) → early_refusal p (Add name at bytes) ≡ None → object_refusal bytes ≡ None
+    → Taken p (record { name = name; object = object_of bytes }) q result → Applied p (Add name at bytes) q result
+taken_applied p name at bytes q (Ok l) none is t =
+    let here = first p name at bytes none in
+    ((none, (is, t.0, t.1 ∙ inserted p at (record { name = name; object = object_of bytes }) here)), t.2)
+taken_applied p name at bytes q (Err r) none is t = (elim t.0 [ inl beyond ↦ inl (inr (none, inr (is, beyond.0, beyond.1))) | inr memory ↦ inr (none, memory) ], t.1)

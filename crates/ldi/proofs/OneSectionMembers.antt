@@ -1,5 +1,7 @@
 -- The linked sections of a project that has at most one.
-use Rattle.std.proofs.Common.{◌≡◌, ℕ, ◌≤◌, List, [], ◌∷◌, length, map, false, Some, ap, ◌∙◌, arith, append-nil}
+use Rattle.std.proofs.Common.{◌≡◌, ◌||◌, inl, inr, ℕ, ◌≤◌, List, [], ◌∷◌, length, map, Bool, false, Some, refl, sym, ap, ◌∙◌, arith, append-nil, nat_lt}
+use Rattle.std.proofs.lemmas.Bool.{true≢false}
+use Rattle.std.proofs.lemmas.Bool.Decides.{leb_tells}
 use Rattle.std.specs.List.{All, slice_get}
 use Rattle.elfobj.specs.Sections.{LinkedSection, section_of}
 use Rattle.elfobj.specs.Profile.{IsSectionOfProfile, size_in_file}
@@ -9,6 +11,7 @@ use Rattle.elfobj.specs.declared.section.Section.{Section}
 use Rattle.elfobj.specs.declared.section.SectionKind.{SectionKind}
 use Rattle.elfobj.specs.declared.section.SectionKind.TheVariants.{Progbits, Nobits, Note, InitArray, FiniArray, PreinitArray, Unwind}
 use Rattle.ldi.specs.Project.{NamedObject}
+use Rattle.ldi.specs.NotYet.{IsLinkable, is_beyond}
 use Rattle.ldi.specs.Gathering.{Member, members}
 use Rattle.ldi.specs.Placement.{is_nobits}
 
@@ -16,12 +19,19 @@ use Rattle.ldi.specs.Placement.{is_nobits}
 pub record IsFirst (objects : List NamedObject) (o : NamedObject) (s : Section) (name bytes : List ℕ) (relocations : List Relocation) : Type 0 where
   pub few : length objects ≤ 1
   pub first : slice_get objects 0 ≡ Some o
-  pub fewer : length o.object.sections ≤ 1
+  pub linkable : All IsLinkable objects
   pub section : slice_get (map section_of o.object.sections) 0 ≡ Some s
   pub named : slice_get (map (λ (x : LinkedSection). x.name) o.object.sections) 0 ≡ Some name
   pub holds : slice_get (map (λ (x : LinkedSection). x.bytes) o.object.sections) 0 ≡ Some bytes
   pub relocated : slice_get (map (λ (x : LinkedSection). x.relocations) o.object.sections) 0 ≡ Some relocations
   pub limits : All IsSectionOfProfile o.object.sections
+
+few_sections : (b c : Bool) (n : ℕ) → (nat_lt 1 n || b || c) ≡ false → n ≤ 1
+few_sections b c n e = elim (leb_tells 2 n) [ inl t ↦ absurd (true≢false (sym (rw t.0 refl) ∙ e)) | inr f ↦ omega (arith, f.1) ]
+
+fewer : (o : NamedObject) → IsLinkable o → length o.object.sections ≤ 1
+unfolding is_beyond
+fewer o e = few_sections _ _ (length o.object.sections) e
 
 abbrev pub shown : List ℕ → Section → List ℕ → List ℕ → List Relocation → Member
 shown object s name bytes relocations = record {
@@ -44,7 +54,8 @@ pub members_one : (objects : List NamedObject) (o : NamedObject) (s : Section) (
 members_one [] o s name bytes relocations f = let e = f.first in cc
 members_one (x ∷ []) o s name bytes relocations f =
     let same : x ≡ o = same_Some _ _ f.first in
-    rw same (append-nil _ ∙ section_one o.object.sections o.name s name bytes relocations f.fewer f.section f.named f.holds f.relocated)
+    let few = fewer o (rw same at (f.linkable 0 x (omega arith))) in
+    rw same (append-nil _ ∙ section_one o.object.sections o.name s name bytes relocations few f.section f.named f.holds f.relocated)
 members_one (x ∷ y ∷ r) o s name bytes relocations f = absurd (omega (arith, f.few))
 
 whole : (kind : SectionKind) (n size : ℕ) → n ≡ size_in_file kind size → is_nobits kind ≡ false → n ≡ size
@@ -66,4 +77,9 @@ bytes_one (t ∷ []) s bytes few e b limits has =
 bytes_one (t ∷ u ∷ ss) s bytes few e b limits has = absurd (omega (arith, few))
 
 pub whole_one : (objects : List NamedObject) (o : NamedObject) (s : Section) (name bytes : List ℕ) (relocations : List Relocation) → IsFirst objects o s name bytes relocations → is_nobits s.kind ≡ false → length bytes ≡ s.size
-whole_one objects o s name bytes relocations f has = bytes_one o.object.sections s bytes f.fewer f.section f.holds f.limits has
+whole_one [] o s name bytes relocations f has = let e = f.first in cc
+whole_one (x ∷ []) o s name bytes relocations f has =
+    let same : x ≡ o = same_Some _ _ f.first in
+    let few = fewer o (rw same at (f.linkable 0 x (omega arith))) in
+    bytes_one o.object.sections s bytes few f.section f.holds f.limits has
+whole_one (x ∷ y ∷ r) o s name bytes relocations f has = absurd (omega (arith, f.few))

@@ -1,21 +1,22 @@
 use Rattle.std.proofs.Common.{sym}
 use Rattle.ldi.proofs.OneSectionMembers.{IsFirst, members_one, whole_one}
 use Rattle.ldi.proofs.linker.link.only_member.Goals as goal
-use Rattle.ldi.proofs.linker.link.only_member.Goals.{After-section_bytes}
+use Rattle.ldi.proofs.linker.link.only_member.Goals.{After-relocations}
 
-first : (c : After-section_bytes) → IsFirst c.args.objects.now c.in_ok-named.named.now c.in_ok-section.field-0.now c.section_name.result.now c.section_bytes.result.now
+first : (c : After-relocations) → IsFirst c.args.objects.now c.in_ok-named.named.now c.in_ok-section.field-0.now c.section_name.result.now c.section_bytes.result.now c.relocations.result.now
 first c = record {
-  few = c.requires;
+  few = c.requires.few;
   first = sym c.in_ok-named.ensures.value;
-  fewer = rw (← c.object-object.ensures) c.sections.ensures.one;
+  linkable = c.requires.linkable;
   section = rw (← c.object-object.ensures) (rw c.sections.ensures.value at (sym c.in_ok-section.ensures.value));
   named = rw (← c.object-object.ensures) c.section_name.ensures;
   holds = rw (← c.object-object.ensures) c.section_bytes.ensures;
+  relocated = rw (← c.object-object.ensures) c.relocations.ensures.value;
   limits = rw (← c.object-object.ensures) c.sections.ensures.limits;
 }
 
 pub returns-clause-members : goal.returns-clause-members
-returns-clause-members c = rw c.name.ensures (members_one _ _ _ _ _ (first c))
+returns-clause-members c = rw c.name.ensures (members_one _ _ _ _ _ _ (first c))
 
 pub returns-clause-whole : goal.returns-clause-whole
-returns-clause-whole c = whole_one _ _ _ _ _ (first c)
+returns-clause-whole c = whole_one _ _ _ _ _ _ (first c)
