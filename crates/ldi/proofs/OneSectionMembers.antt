@@ -26,12 +26,12 @@ pub record IsFirst (objects : List NamedObject) (o : NamedObject) (s : Section) 
   pub relocated : slice_get (map (λ (x : LinkedSection). x.relocations) o.object.sections) 0 ≡ Some relocations
   pub limits : All IsSectionOfProfile o.object.sections
 
-few_sections : (b c : Bool) (n : ℕ) → (nat_lt 1 n || b || c) ≡ false → n ≤ 1
-few_sections b c n e = elim (leb_tells 2 n) [ inl t ↦ absurd (true≢false (sym (rw t.0 refl) ∙ e)) | inr f ↦ omega (arith, f.1) ]
+few_sections : (b : Bool) (n : ℕ) → (nat_lt 1 n || b) ≡ false → n ≤ 1
+few_sections b n e = elim (leb_tells 2 n) [ inl t ↦ absurd (true≢false (sym (rw t.0 refl) ∙ e)) | inr f ↦ omega (arith, f.1) ]
 
 fewer : (o : NamedObject) → IsLinkable o → length o.object.sections ≤ 1
 unfolding is_beyond
-fewer o e = few_sections _ _ (length o.object.sections) e
+fewer o e = few_sections _ (length o.object.sections) e
 
 abbrev pub shown : List ℕ → Section → List ℕ → List ℕ → List Relocation → Member
 shown object s name bytes relocations = record {

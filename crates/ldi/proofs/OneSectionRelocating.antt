@@ -1,5 +1,5 @@
 -- Relocation where there is one object with one linked section.
-use Rattle.std.proofs.Common.{◌≡◌, ◌+◌, ◌%◌, ◌^◌, ℕ, List, [], ◌∷◌, length, map, filter, slice_get, Bool, true, false, cond, Option, Some, None, refl, sym, ap, ◌∙◌, append-nil, nat_eq, is_none}
+use Rattle.std.proofs.Common.{◌≡◌, ◌+◌, ◌%◌, ◌^◌, ℕ, List, [], ◌∷◌, length, map, filter, slice_get, Bool, true, false, cond, Option, Some, None, refl, sym, ap, ◌∙◌, append-nil, nat_eq, is_none, rules}
 use Rattle.std.specs.List.{Contains, filter_map}
 use Rattle.std.specs.Option.{option_map, option_and_then}
 use Rattle.std.specs.Str.{bytes_eq}
@@ -10,7 +10,7 @@ use Rattle.elfobj.specs.declared.section.SectionIndex.{SectionIndex}
 use Rattle.elfobj.specs.declared.symbol.Symbol.{Symbol}
 use Rattle.elfobj.specs.declared.symbol.SymbolPlace.{SymbolPlace}
 use Rattle.elfobj.specs.declared.symbol.SymbolPlace.TheVariants as place
-use Rattle.emit.specs.Patches.{Patch, patched}
+use Rattle.emit.specs.declared.patch.Patch.{Patch}
 use Rattle.ldi.specs.Project.{NamedObject}
 use Rattle.ldi.specs.Gathering.{Piece, piece_of}
 use Rattle.ldi.specs.Placement.{PlacedPiece, Laid}

@@ -1,6 +1,6 @@
 -- What links of this version come to: at most one object, with at most one linked section, and at most one output
 -- section. Each word here is one of the general definitions at such a project.
-use Rattle.std.specs.Prelude.{◌≡◌, ◌⊎◌, ◌≤◌, ◌<◌, ◌+◌, ◌%◌, ◌^◌, ℕ, List, [], ◌∷◌, length, map, filter, slice_get, if◌then◌else◌, Vec, Option, Some, None, Result, Ok, Err, true, false, ◌==◌, option_to_list}
+use Rattle.std.specs.Prelude.{◌≡◌, ◌⊎◌, ◌≤◌, ◌<◌, ◌+◌, ◌%◌, ◌^◌, ℕ, List, [], ◌∷◌, length, map, filter, slice_get, if◌then◌else◌, Option, Some, None, Result, Ok, Err, true, false, ◌==◌, option_to_list}
 use Rattle.std.specs.List.{All, Contains}
 use Rattle.std.specs.Option.{option_map, option_and_then, ForSome}
 use Rattle.elfobj.specs.Profile.{AreApart, IsRelocationOfProfile}
@@ -10,10 +10,9 @@ use Rattle.elfobj.specs.declared.symbol.Symbol.{Symbol}
 use Rattle.elfobj.specs.declared.symbol.SymbolPlace.{SymbolPlace}
 use Rattle.elfobj.specs.declared.symbol.SymbolPlace.TheVariants as place
 use Rattle.emit.specs.Fields.{field_of}
-use Rattle.emit.specs.Patches.{Patch, patched}
-use Rattle.emit.specs.declared.site.Site.{Site}
+use Rattle.emit.specs.declared.patch.Patch.{Patch}
 use Rattle.ldi.specs.Project.{NamedObject}
-use Rattle.ldi.specs.Relocating.{field_or_none, is_evaluated_by, symbols_of}
+use Rattle.ldi.specs.Relocating.{field_or_none, is_evaluated_by, patched, symbols_of}
 use Rattle.ldi.specs.declared.relocate.RelocateFault.{RelocateFault}
 use Rattle.ldi.specs.declared.relocate.RelocateFault.TheVariants.{NoMemory}
 use Rattle.ldi.specs.Tree.{Tree}
@@ -112,17 +111,17 @@ abbrev pub evaluated : List Relocation → List Relocation
 evaluated rs = filter (λ (r : Relocation). is_evaluated_by r.kind) rs
 
 -- all fields of the member; or a relocation that has none
-abbrev pub RelocatedAs : Member → ℕ → Result (Vec Site) RelocateFault → Type 0
-RelocatedAs m start (Ok v) = map (one_field m start) (evaluated m.relocations.now) ≡ map Some v.items
-RelocatedAs m start (Err NoMemory) = Unit {0}
-RelocatedAs m start (Err f) = (r : Relocation) × Contains (evaluated m.relocations.now) r × (one_field m start r ≡ None)
+abbrev pub RelocatedAs : {X : Type 0} → (X → List Patch) → Member → ℕ → Result X RelocateFault → Type 0
+RelocatedAs fields m start (Ok v) = map (one_field m start) (evaluated m.relocations.now) ≡ map Some (fields v)
+RelocatedAs fields m start (Err NoMemory) = Unit {0}
+RelocatedAs fields m start (Err f) = (r : Relocation) × Contains (evaluated m.relocations.now) r × (one_field m start r ≡ None)
 
 -- the same of the output section, which has no fields without a row
-abbrev pub RowRelocatedAs : Option Placed → Option Member → Result (Vec Site) RelocateFault → Type 0
-RowRelocatedAs (Some p) (Some m) result = RelocatedAs m p.start result
-RowRelocatedAs p m (Ok v) = v.items ≡ []
-RowRelocatedAs p m (Err NoMemory) = Unit {0}
-RowRelocatedAs p m (Err f) = ⊥
+abbrev pub RowRelocatedAs : {X : Type 0} → (X → List Patch) → Option Placed → Option Member → Result X RelocateFault → Type 0
+RowRelocatedAs fields (Some p) (Some m) result = RelocatedAs fields m p.start result
+RowRelocatedAs fields p m (Ok v) = fields v ≡ []
+RowRelocatedAs fields p m (Err NoMemory) = Unit {0}
+RowRelocatedAs fields p m (Err f) = ⊥
 
 -- a member is the only object's, if there is one
 abbrev pub IsOf : List NamedObject → Option Member → Type 0
@@ -137,6 +136,11 @@ patched_row fields row = map (λ (x : Piece). record x { section = record x.sect
 abbrev pub IsFilledBy : Placed → Option Member → Type 0
 IsFilledBy p None = p.load_size ≡ 0
 IsFilledBy p (Some m) = (p.load_size ≡ 0) ⊎ ((p.size ≡ m.section.size) × (length m.bytes.now ≡ p.size))
+
+-- the section of a member that starts where the output section does ends below 2^64
+abbrev pub EndsBelow : Placed → Option Member → Type 0
+EndsBelow p None = Unit {0}
+EndsBelow p (Some m) = p.start + m.section.size < 2 ^ 64
 
 -- a segment that isn't empty, behind the headers, and filled by the row
 pub record IsWritable (g : Segment) (row : Option Member) : Type 0 where

@@ -1,7 +1,7 @@
 -- Relocated pieces (System V ABI, AMD64 supplement, "Relocation"): what a relocation of a piece in the output
 -- names, and the bytes of the piece with its fields. In this version all symbols are local.
 use Rattle.std.specs.Prelude.{ℕ, ◌+◌, ◌%◌, ◌^◌, List, [], length, map, find, filter, slice_get, Option, Some, None, Result, Ok, Err, Bool, true, false, ◌&&◌, ◌==◌, bytes_eq, is_none}
-use Rattle.std.specs.List.{flat_map, filter_map}
+use Rattle.std.specs.List.{flat_map, filter_map, range_with_len}
 use Rattle.std.specs.Option.{option_map, option_map_or, option_and_then}
 use Rattle.elfobj.specs.Symbols.{NamedSymbol}
 use Rattle.elfobj.specs.declared.relocation.Relocation.{Relocation}
@@ -13,7 +13,8 @@ use Rattle.elfobj.specs.declared.symbol.Symbol.{Symbol}
 use Rattle.elfobj.specs.declared.symbol.SymbolPlace.{SymbolPlace}
 use Rattle.elfobj.specs.declared.symbol.SymbolPlace.TheVariants as place
 use Rattle.emit.specs.Fields.{field_of}
-use Rattle.emit.specs.Patches.{Patch, patched}
+use Rattle.emit.specs.Patches.{patched_byte}
+use Rattle.emit.specs.declared.patch.Patch.{Patch}
 use Rattle.emit.specs.declared.field.Overflow.{Overflow}
 use Rattle.ldi.specs.Project.{NamedObject}
 use Rattle.ldi.specs.Placement.{PlacedPiece, Laid}
@@ -50,7 +51,7 @@ target_value objects sections object k =
     option_and_then (λ (s : Symbol). symbol_value sections object s.place s.value) (slice_get (symbols_under objects object) k.0)
 
 abbrev pub field_or_none : Relocation → Result (List ℕ) Overflow → Option Patch
-field_or_none r (Ok bytes) = Some (record { offset = r.offset; bytes = bytes })
+field_or_none r (Ok bytes) = Some (record { offset = r.offset; field = bytes })
 field_or_none r (Err e) = None
 
 -- the field of a relocation of a piece; none where its target is not in the output or its value out of range
@@ -74,7 +75,11 @@ faults_in objects sections x = filter (λ r. is_none (field_in objects sections 
 abbrev pub relocation_faults : List NamedObject → List Laid → List Relocation
 relocation_faults objects sections = flat_map (faults_in objects sections) (pieces_of sections)
 
--- the bytes of a piece with its fields: each is that of the field that covers it, else the piece's own
+-- bytes with fields over them: each is that of the field that covers it, else the one below
+unfoldable pub patched : List ℕ → List Patch → List ℕ
+patched bytes fields = map (patched_byte bytes fields) (range_with_len 0 (length bytes))
+
+-- the bytes of a piece with its fields
 abbrev pub relocated_bytes : List NamedObject → List Laid → PlacedPiece → List ℕ
 relocated_bytes objects sections x = patched x.piece.section.bytes (filter_map (field_in objects sections x) (sites x))
 

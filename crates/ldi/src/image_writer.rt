@@ -7,14 +7,14 @@ ghost use Rattle.ldi.specs.Gathering.{Piece};
 ghost use Rattle.ldi.specs.Image.{elf_header, load_header, flags_of, headers, image_of};
 ghost use Rattle.ldi.specs.Segments.{file_size};
 ghost use Rattle.ldi.specs.OneSection.{row_of, patched_row, one_segment, segment_of, IsWritable};
-ghost use Rattle.emit.specs.Patches.{IsInOrder};
+ghost use Rattle.emit.specs.Patches.{AreInOrder};
 
 use crate::gather::Member;
 use crate::place::{EHSIZE, PAGE, PHENTSIZE, Segment};
 use elfobj::constants::EM_X86_64;
 use elfobj::meter::Meter;
 use emit::canvas::Canvas;
-use emit::site::Site;
+use emit::patch::{Patch, write_patched};
 use std::alloc::{AllocError, Global};
 
 /// Identification of a little-endian 64-bit file of version 1.
@@ -156,12 +156,12 @@ pub fn image(
     alloc: Global,
     segment: Option<Segment>,
     row: Option<Member<'_>>,
-    sites: &[Site],
+    patches: &[Patch],
     meter: &mut Meter,
 ) -> Result<Canvas, AllocError>
     requires writable { ForSome segment (λ g. IsWritable g row) }
-    requires order { ForSome row (λ m. IsInOrder 0 (length m.bytes.now) sites.now) }
-    ensures { IfOk result (λ c. c.bytes ≡ image_of 0 (segment_of segment (patched_row sites.now (row_of row.entry)))) }
+    requires order { ForSome row (λ m. AreInOrder 0 (length m.bytes.now) patches.now) }
+    ensures { IfOk result (λ c. c.bytes ≡ image_of 0 (segment_of segment (patched_row patches.now (row_of row.entry)))) }
 {
     let headers = headers(alloc, 0, segment)?;
     let Some(g) = segment else {
@@ -175,6 +175,6 @@ pub fn image(
     };
     let mut canvas = blank(alloc, g.offset as usize + m.bytes.len())?;
     canvas.write(0, &headers, meter);
-    canvas.write_piece(g.offset as usize, m.bytes, sites, meter);
+    write_patched(&mut canvas, g.offset as usize, m.bytes, patches, meter);
     Ok(canvas)
 }

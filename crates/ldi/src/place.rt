@@ -7,7 +7,7 @@ ghost use Rattle.ldi.specs.Gathering.{piece_of};
 ghost use Rattle.ldi.specs.Placement.{placed, placement, is_nobits};
 ghost use Rattle.ldi.specs.Gathering.{Piece};
 ghost use Rattle.ldi.specs.Segments.{segments, headers_end};
-ghost use Rattle.ldi.specs.OneSection.{member_of, row_of, rows_with, PlacedAs, IsWhole, IsFilledBy, laid, segment_of};
+ghost use Rattle.ldi.specs.OneSection.{member_of, row_of, rows_with, PlacedAs, IsWhole, IsFilledBy, EndsBelow, laid, segment_of};
 
 use crate::gather::Member;
 use crate::script::form::Script;
@@ -106,7 +106,7 @@ pub fn place(script: &Script, row: Option<Member<'_>>) -> Result<Option<Placed>,
     requires { ForSome row IsWhole }
     ensures placed { PlacedAs (placement script.now (rows_with script.now (row_of row.entry))) (row_of row.entry) result }
     ensures filled { IfOk result (λ p. IfSome p (λ q. IsFilledBy q row.entry)) }
-    ensures below { IfOk result (λ p. IfSome p (λ q. q.start + q.size < 2 ^ 64)) }
+    ensures below { IfOk result (λ p. IfSome p (λ q. EndsBelow q row.entry)) }
 {
     let Some(form) = script.form() else {
         return Ok(None);

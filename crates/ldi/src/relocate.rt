@@ -1,16 +1,18 @@
 //! Relocation of the output section's piece (System V ABI, AMD64 supplement, "Relocation").
 
-ghost use Rattle.std.specs.Prelude.{◌≡◌, ◌≤◌, ◌<◌, ◌+◌, ◌^◌, length};
+ghost use Rattle.std.specs.Prelude.{◌≡◌, ◌<◌, ◌+◌, ◌^◌, IfErr, IfOk, None, Some, true};
+ghost use Rattle.std.specs.Option.{ForSome};
 ghost use Rattle.ldi.specs.Relocating.{is_evaluated_by};
-ghost use Rattle.ldi.specs.OneSection.{one_value, one_target, one_field, IsWhole, RelocatedAs};
+ghost use Rattle.ldi.specs.OneSection.{one_value, one_target, one_field, EndsBelow, IsWhole, RelocatedAs, RowRelocatedAs};
 
 use crate::gather::Member;
+use crate::place::Placed;
 use elfobj::meter::Meter;
 use elfobj::relocation::{Relocation, RelocationKind, SymbolIndex};
 use elfobj::symbol::SymbolPlace;
 use emit::field::evaluate::field;
-use emit::site::Site;
-use std::alloc::{AllocError, Global};
+use emit::patch::Patch;
+use std::alloc::Global;
 
 /// Why a piece is not relocated.
 #[derive(Clone, Copy, Debug, PartialEq, Eq)]
@@ -58,12 +60,12 @@ fn is_evaluated(kind: RelocationKind) -> bool
 }
 
 /// The field of a relocation.
-fn site(
+fn patch(
     m: &Member<'_>,
     start: u64,
     relocation: &Relocation,
     meter: &mut Meter,
-) -> Result<Site, RelocateFault>
+) -> Result<Patch, RelocateFault>
     requires evaluated { is_evaluated_by relocation.now.kind ≡ true }
     requires below { start + relocation.now.offset < 2 ^ 64 }
     ensures given { IfOk result (λ s. one_field m.now start relocation.now ≡ Some s) }
@@ -73,7 +75,10 @@ fn site(
         return Err(RelocateFault::NotInOutput);
     };
     match field(relocation, s, start + relocation.offset, meter) {
-        Ok(field) => Ok(Site::new(relocation.offset, field)),
+        Ok(field) => Ok(Patch {
+            offset: relocation.offset as usize,
+            field,
+        }),
         Err(_overflow) => Err(RelocateFault::OutOfRange),
     }
 }
@@ -84,22 +89,22 @@ fn fields_of(
     m: &Member<'_>,
     start: u64,
     meter: &mut Meter,
-) -> Result<Vec<Site>, RelocateFault>
+) -> Result<Vec<Patch>, RelocateFault>
     requires whole { IsWhole m.now }
     requires below { start + m.now.section.size < 2 ^ 64 }
-    ensures { RelocatedAs m.now start result }
+    ensures { RelocatedAs (λ v. v.items) m.now start result }
 {
-    let mut sites = Vec::new(alloc);
+    let mut patches = Vec::new(alloc);
     for (_number, relocation) in m.relocations.iter().enumerate() {
         if !is_evaluated(relocation.kind) {
             continue;
         }
-        let site = site(m, start, relocation, meter)?;
-        if sites.push(site).is_err() {
+        let patch = patch(m, start, relocation, meter)?;
+        if patches.push(patch).is_err() {
             return Err(RelocateFault::NoMemory);
         }
     }
-    Ok(sites)
+    Ok(patches)
 }
 
 /// The fields of the piece in the output section, if there is one.
@@ -108,10 +113,10 @@ pub fn relocate(
     placed: Option<Placed>,
     row: Option<Member<'_>>,
     meter: &mut Meter,
-) -> Result<Vec<Site>, RelocateFault>
+) -> Result<Vec<Patch>, RelocateFault>
     requires whole { ForSome row IsWhole }
-    requires below { IfSome placed (λ p. p.start + p.size < 2 ^ 64) }
-    ensures { RowRelocatedAs placed row.entry result }
+    requires below { ForSome placed (λ p. EndsBelow p row) }
+    ensures { RowRelocatedAs (λ v. v.items) placed row.entry result }
 {
     let Some(p) = placed else {
         return Ok(Vec::new(alloc));

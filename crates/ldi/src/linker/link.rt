@@ -1,6 +1,6 @@
 //! A link from scratch.
 
-ghost use Rattle.std.specs.Prelude.{◌≡◌, ◌≤◌, IfOk, IfSome, length};
+ghost use Rattle.std.specs.Prelude.{◌≡◌, ◌≤◌, IfOk, IfSome, List, length};
 ghost use Rattle.std.specs.List.{All};
 ghost use Rattle.std.specs.Option.{ForSome};
 ghost use Rattle.ldi.specs.NotYet.{IsLinkable};
@@ -9,8 +9,8 @@ ghost use Rattle.ldi.specs.Placement.{placement};
 ghost use Rattle.ldi.specs.Segments.{segments};
 ghost use Rattle.ldi.specs.Image.{image_of};
 ghost use Rattle.ldi.specs.Link.{faulty, linked_by, linked_placed, linked_of, link_of};
-ghost use Rattle.ldi.specs.OneSection.{members_of, row_of, rows_with, patched_row, laid, IsWhole, IsFilledBy, IsOf};
-ghost use Rattle.emit.specs.Patches.{IsInOrder};
+ghost use Rattle.ldi.specs.OneSection.{members_of, row_of, rows_with, patched_row, laid, IsWhole, IsFilledBy, EndsBelow, IsOf};
+ghost use Rattle.emit.specs.Patches.{AreInOrder};
 ghost use Rattle.ldi.specs.Project.{NamedObject};
 
 use crate::image_writer::image;
@@ -22,7 +22,7 @@ use crate::relocate::{RelocateFault, relocate};
 use crate::script::form::Script;
 use elfobj::meter::Meter;
 use emit::canvas::Canvas;
-use emit::site::{Site, in_order};
+use emit::patch::{Patch, in_order};
 use std::alloc::{AllocError, Global};
 use std::marker::Model;
 
@@ -103,14 +103,14 @@ fn with_image(
     alloc: Global,
     placed: Option<Placed>,
     row: Option<Member<'_>>,
-    sites: &[Site],
+    patches: &[Patch],
     meter: &mut Meter,
 ) -> Result<Linkage, AllocError>
     requires filled { ForSome placed (λ q. IsFilledBy q row) }
-    requires order { ForSome row (λ m. IsInOrder 0 (length m.bytes.now) sites.now) }
-    ensures { IfOk result (λ l. l ≡ record { status = 0; image = image_of 0 (segments (laid placed (patched_row sites.now (row_of row.entry)))) }) }
+    requires order { ForSome row (λ m. AreInOrder 0 (length m.bytes.now) patches.now) }
+    ensures { IfOk result (λ l. l ≡ record { status = 0; image = image_of 0 (segments (laid placed (patched_row patches.now (row_of row.entry)))) }) }
 {
-    let image = image(alloc, segments(placed), row, sites, meter)?;
+    let image = image(alloc, segments(placed), row, patches, meter)?;
     Ok(Linkage { status: 0, image })
 }
 
@@ -122,16 +122,16 @@ fn with_fields(
     meter: &mut Meter,
 ) -> Result<Linkage, AllocError>
     requires filled { ForSome placed (λ q. IsFilledBy q row) }
-    requires below { ForSome placed (λ q. q.start + q.size < 2 ^ 64) }
+    requires below { ForSome placed (λ q. EndsBelow q row) }
     requires whole { ForSome row IsWhole }
     ensures { IfOk result (λ l. (objects : List NamedObject) → IsOf objects row.entry → l ≡ linked_placed objects (laid placed (row_of row.entry))) }
 {
     match relocate(alloc, placed, row, meter) {
         Err(RelocateFault::NoMemory) => Err(AllocError),
         Err(_fault) => Ok(Linkage::faulty(alloc)),
-        Ok(sites) => {
-            let sites = in_order(sites)?;
-            with_image(alloc, placed, row, &sites, meter)
+        Ok(patches) => {
+            let patches = in_order(patches)?;
+            with_image(alloc, placed, row, &patches, meter)
         }
     }
 }

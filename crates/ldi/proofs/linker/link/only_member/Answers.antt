@@ -1,9 +1,9 @@
 use Rattle.std.proofs.Common.{sym}
 use Rattle.ldi.proofs.OneSectionMembers.{IsFirst, members_one, whole_one}
 use Rattle.ldi.proofs.linker.link.only_member.Goals as goal
-use Rattle.ldi.proofs.linker.link.only_member.Goals.{After-relocations}
+use Rattle.ldi.proofs.linker.link.only_member.Goals.{After-symbols}
 
-first : (c : After-relocations) → IsFirst c.args.objects.now c.in_ok-named.named.now c.in_ok-section.field-0.now c.section_name.result.now c.section_bytes.result.now c.relocations.result.now
+first : (c : After-symbols) → IsFirst c.args.objects.now c.in_ok-named.named.now c.in_ok-section.field-0.now c.section_name.result.now c.section_bytes.result.now c.relocations.result.now
 first c = record {
   few = c.requires.few;
   first = sym c.in_ok-named.ensures.value;
