@@ -1,4 +1,4 @@
-use Rattle.std.proofs.Common.{◌≡◌, ℕ, List, Bool, true, false, cond, refl, ap, ◌∙◌, Option, Some, None, sym, ◌∷◌, [], ◌++◌}
+use Rattle.std.proofs.Common.{◌≡◌, ◌⊎◌, ℕ, List, Bool, true, false, cond, refl, ap, ◌∙◌, Option, Some, None, sym, ◌∷◌, [], ◌++◌, inl, inr, ⊎_elim}
 use Rattle.std.specs.List.{find}
 use Rattle.std.specs.Option.{option_or}
 use Rattle.std.proofs.lemmas.Option.{none-some, same_Some}
@@ -49,6 +49,18 @@ refused_by_symbols bytes r h = find-append (holds bytes) symbol_refusals relocat
 pub refused_by_relocations : (bytes : List ℕ) (o : Option ObjectRefusal) → find (holds bytes) symbol_refusals ≡ None → find (holds bytes) relocation_refusals ≡ o
     → find (holds bytes) (symbol_refusals ++ relocation_refusals) ≡ o
 refused_by_relocations bytes o h k = find-append (holds bytes) symbol_refusals relocation_refusals ∙ ap (λ x. option_or x (find (holds bytes) relocation_refusals)) h ∙ k
+
+-- the same of calls that may also want memory
+pub symbols_told : (bytes : List ℕ) (e : ObjectRefusal) → (e ≡ NoMemory) ⊎ (find (holds bytes) symbol_refusals ≡ Some e) → (e ≡ NoMemory) ⊎ (find (holds bytes) (symbol_refusals ++ relocation_refusals) ≡ Some e)
+symbols_told bytes e h = ⊎_elim (λ a. inl a) (λ a. inr (refused_by_symbols bytes e a)) h
+
+pub relocations_told : (bytes : List ℕ) (e : ObjectRefusal) → find (holds bytes) symbol_refusals ≡ None → (e ≡ NoMemory) ⊎ (find (holds bytes) relocation_refusals ≡ Some e)
+    → (e ≡ NoMemory) ⊎ (find (holds bytes) (symbol_refusals ++ relocation_refusals) ≡ Some e)
+relocations_told bytes e n h = ⊎_elim (λ a. inl a) (λ a. inr (refused_by_relocations bytes (Some e) n a)) h
+
+pub tables_told : (bytes : List ℕ) (e : ObjectRefusal) → find (holds bytes) header_refusals ≡ None → PassesTests bytes → (e ≡ NoMemory) ⊎ (find (holds bytes) (symbol_refusals ++ relocation_refusals) ≡ Some e)
+    → (e ≡ NoMemory) ⊎ (object_refusal bytes ≡ Some e)
+tables_told bytes e n t h = ⊎_elim (λ a. inl a) (λ a. inr (refused_by_tables bytes (Some e) n t a)) h
 
 found_or_later : (b : Bool) (q : ObjectRefusal) (o : Option ObjectRefusal) (r : ObjectRefusal) (p : ObjectRefusal → Bool) → p q ≡ b → cond b (Some q) o ≡ Some r → (o ≡ Some r → p r ≡ true) → p r ≡ true
 found_or_later true q o r p e h k = ap p (sym (same_Some q r h)) ∙ e

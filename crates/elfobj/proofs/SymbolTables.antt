@@ -141,3 +141,36 @@ no_table bytes h e = rw (h, e) refl
 pub wrong_symbol : (bytes : List ℕ) (t : SectionHeader) (b : Bool) → symbol_table bytes ≡ Some t → has_wrong_entry bytes t ≡ b → holds bytes WrongSymbol ≡ b
 unfolding holds has_wrong_symbol
 wrong_symbol bytes t b e k = rw e k
+
+-- what calls tell
+pub several_told : (bytes : List ℕ) (hs : List SectionHeader) (r b : Bool) → hs ≡ headers bytes → r ≡ nat_lt 1 (count_by is_symbol_table hs) → r ≡ b → nat_lt 1 (count_by is_symbol_table (headers bytes)) ≡ b
+several_told bytes hs r b e f g = ap (λ xs. nat_lt 1 (count_by is_symbol_table xs)) (sym e) ∙ sym f ∙ g
+
+pub table_told : (bytes : List ℕ) (hs : List SectionHeader) (r o : Option SectionHeader) → hs ≡ headers bytes → r ≡ find is_symbol_table hs → r ≡ o → symbol_table bytes ≡ o
+unfolding symbol_table
+table_told bytes hs r o e f g = ap (find is_symbol_table) (sym e) ∙ sym f ∙ g
+
+pub wrong_by_header : (bytes : List ℕ) (hs : List SectionHeader) (t : SectionHeader) → hs ≡ headers bytes → has_wrong_header hs t ≡ true → is_wrong_symbol_table bytes t ≡ true
+wrong_by_header bytes hs t e h = or_left _ _ (ap (λ xs. has_wrong_header xs t) (sym e) ∙ h)
+
+pub wrong_by_entries : (bytes : List ℕ) (t : SectionHeader) (es : List SymbolEntry) → es ≡ entries_of bytes t → has_misplaced_entry t es ≡ true → is_wrong_symbol_table bytes t ≡ true
+wrong_by_entries bytes t es e h = or_right _ _ (ap (has_misplaced_entry t) (sym e) ∙ h)
+
+pub right_table : (bytes : List ℕ) (hs : List SectionHeader) (t : SectionHeader) (es : List SymbolEntry) → hs ≡ headers bytes → es ≡ entries_of bytes t → has_wrong_header hs t ≡ false → has_misplaced_entry t es ≡ false → is_wrong_symbol_table bytes t ≡ false
+right_table bytes hs t es e f h k = or_from _ _ (ap (λ xs. has_wrong_header xs t) (sym e) ∙ h) (ap (has_misplaced_entry t) (sym f) ∙ k)
+
+pub count_told : (bytes : List ℕ) (t : SectionHeader) (es : List SymbolEntry) → es ≡ entries_of bytes t → length es ≡ t.sh_size / 24
+count_told bytes t es e = ap length e ∙ entries_length bytes t.sh_offset (t.sh_size / 24)
+
+pub entry_told : (bytes : List ℕ) (t s : SectionHeader) (n : ℕ) (strings : List ℕ) (es : List SymbolEntry) (b : Bool) → n ≡ e_shnum bytes → s ≡ header bytes t.sh_link → strings ≡ file_bytes bytes s → es ≡ entries_of bytes t
+    → list_any (is_wrong_symbol n strings) (drop 1 es) ≡ b → has_wrong_entry bytes t ≡ b
+entry_told bytes t s n strings es b e f g h k =
+    ap (λ m. list_any (is_wrong_symbol m (strings_of bytes t)) (drop 1 (entries_of bytes t))) (sym e)
+    ∙ ap (λ x. list_any (is_wrong_symbol n (file_bytes bytes x)) (drop 1 (entries_of bytes t))) (sym f)
+    ∙ ap (λ x. list_any (is_wrong_symbol n x) (drop 1 (entries_of bytes t))) (sym g)
+    ∙ ap (λ x. list_any (is_wrong_symbol n strings) (drop 1 x)) (sym h)
+    ∙ k
+
+pub names_told : (n : ℕ) (strings strings' : List ℕ) (es es' : List SymbolEntry) → strings ≡ strings' → es ≡ es' → list_any (is_wrong_symbol n strings) (drop 1 es) ≡ false → list_any (is_wrong_non_local strings') (drop 1 es') ≡ false
+names_told n strings strings' es es' e f h =
+    ap (λ x. list_any (is_wrong_non_local x) (drop 1 es')) (sym e) ∙ ap (λ x. list_any (is_wrong_non_local strings) (drop 1 x)) (sym f) ∙ names_right n strings (drop 1 es) h
