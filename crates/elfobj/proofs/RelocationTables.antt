@@ -1,4 +1,5 @@
 use Rattle.std.proofs.Common.{◌≡◌, ℕ, zero, suc, ◌+◌, ◌<◌, ◌≤◌, List, [], ◌∷◌, Bool, true, false, cond, ◌||◌, ◌&&◌, get_or, set, length, refl, ap, sym, ◌∙◌, arith, add-one, ◌≢◌, ⊎_elim, find, is_some, replicate, Option, Some, None, nat_le, eqb}
+use Rattle.std.specs.List.{position}
 use Rattle.std.specs.Option.{option_or}
 use Rattle.std.proofs.lemmas.Bool.{cases_Bool, cases_lt, or_parts, or_from, or_left, or_right, and_from, and_left, and_right, false≢true, eqb-true, eqb-false, le-leb, leb-false}
 use Rattle.std.proofs.lemmas.List.{get_or-replicate, get_or-set_same, get_or-set_other, length-replicate, length-set}
@@ -7,7 +8,7 @@ use Rattle.elfobj.specs.ElfHeader.{e_shnum}
 use Rattle.elfobj.specs.Reading.{AreTables, AreTablesBelow, entered, is_wrong_after}
 use Rattle.elfobj.specs.Relocations.{changes, is_relocation_section, relocation_section}
 use Rattle.elfobj.specs.SectionHeaders.{header, headers, headers_below}
-use Rattle.elfobj.specs.Symbols.{symbol_table_number}
+use Rattle.elfobj.specs.Symbols.{is_symbol_table, symbol_table_number}
 use Rattle.elfobj.specs.Tables.{is_linked, is_wrong_below, is_wrong_relocation_section, is_wrong_table}
 use Rattle.elfobj.specs.declared.section_header.SectionHeader.{SectionHeader}
 use Rattle.elfobj.proofs.Headers.{headers_length}
@@ -113,3 +114,10 @@ right_same bytes n h e f r =
 -- a relocation section that passes names a section
 pub changed_below : (all : List SectionHeader) (symtab : Option ℕ) (ts : List (Option SectionHeader)) (h : SectionHeader) → is_wrong_after all symtab ts h ≡ false → h.sh_info < length all
 changed_below all symtab ts h w = leb-false (length all) h.sh_info (or_parts _ _ w).0
+
+-- what calls tell
+pub after_told : (bytes : List ℕ) (hs : List SectionHeader) (symtab : Option ℕ) (ts ts' : List (Option SectionHeader)) (h : SectionHeader) (r b : Bool) → hs ≡ headers bytes → symtab ≡ position is_symbol_table hs → ts' ≡ ts
+    → r ≡ is_wrong_after hs symtab ts' h → r ≡ b → is_wrong_after (headers bytes) (symbol_table_number bytes) ts h ≡ b
+unfolding symbol_table_number
+after_told bytes hs symtab ts ts' h r b e f g k l =
+    ap (λ xs. is_wrong_after xs (position is_symbol_table xs) ts h) (sym e) ∙ ap (λ o. is_wrong_after hs o ts h) (sym f) ∙ ap (λ xs. is_wrong_after hs symtab xs h) (sym g) ∙ sym k ∙ l

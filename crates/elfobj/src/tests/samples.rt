@@ -23,7 +23,7 @@ pub type SymbolRow = (u32, u8, u16, u64, u64);
 pub type RelocationRow = (u64, u32, u32, i64);
 
 pub fn push_header(bytes: &mut Vec<u8>, row: HeaderRow) -> Result<(), AllocError> {
-    let ([name, sh_type], [flags, offset, size, alignment], [link, info, 0]) = row;
+    let ([name, sh_type], [flags, offset, size, alignment], [link, info, entry_size]) = row;
     bytes.extend_from_slice(&name.to_le_bytes())?;
     bytes.extend_from_slice(&sh_type.to_le_bytes())?;
     bytes.extend_from_slice(&flags.to_le_bytes())?;
