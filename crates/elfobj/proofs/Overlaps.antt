@@ -132,9 +132,10 @@ kept_counted b x xs = let e = one_more b x xs in omega arith
 meet_at : (q x : Relocation) → meets q x ≡ true → (covers (max q.offset x.offset) q ≡ true) × (covers (max q.offset x.offset) x ≡ true)
 unfolding covers
 meet_at q x h =
-    let l = ltb-true (max q.offset x.offset) (min (field_end q) (field_end x)) h in
-    (and_from (nat_le q.offset (max q.offset x.offset)) (nat_lt (max q.offset x.offset) (field_end q)) (le-leb q.offset (max q.offset x.offset) (omega arith)) (lt-ltb (max q.offset x.offset) (field_end q) (omega arith)),
-    and_from (nat_le x.offset (max q.offset x.offset)) (nat_lt (max q.offset x.offset) (field_end x)) (le-leb x.offset (max q.offset x.offset) (omega arith)) (lt-ltb (max q.offset x.offset) (field_end x) (omega arith)))
+    let l = ltb-true (max q.offset x.offset) (min (field_end q) (field_end x)) h in (
+      and_from (nat_le q.offset (max q.offset x.offset)) (nat_lt (max q.offset x.offset) (field_end q)) (le-leb q.offset (max q.offset x.offset) (omega arith)) (lt-ltb (max q.offset x.offset) (field_end q) (omega arith)),
+      and_from (nat_le x.offset (max q.offset x.offset)) (nat_lt (max q.offset x.offset) (field_end x)) (le-leb x.offset (max q.offset x.offset) (omega arith)) (lt-ltb (max q.offset x.offset) (field_end x) (omega arith)),
+    )
 
 covered_meet : (b : ℕ) (q x : Relocation) → covers b q ≡ true → covers b x ≡ true → meets q x ≡ true
 unfolding covers

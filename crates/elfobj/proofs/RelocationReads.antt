@@ -80,11 +80,11 @@ relocated_push ls all rs ps s a e f =
     let l = length-append all rs in
     record {
       lists = map_push (relocations_in (all ++ rs)) ps s
-        ∙ ap (λ xs. xs ++ relocations_in (all ++ rs) s ∷ []) (cuts_kept all rs ps a.within ∙ a.lists)
-        ∙ ap (λ x. ls ++ x ∷ []) (last_cut all rs s e f);
+          ∙ ap (λ xs. xs ++ relocations_in (all ++ rs) s ∷ []) (cuts_kept all rs ps a.within ∙ a.lists)
+          ∙ ap (λ x. ls ++ x ∷ []) (last_cut all rs s e f);
       within = All-push (IsInside (length (all ++ rs))) ps s
-        (All-weaker (IsInside (length all)) (IsInside (length (all ++ rs))) (λ p i. record { order = i.order; end = omega (arith, i.end) }) ps a.within)
-        (record { order = omega arith; end = omega arith });
+          (All-weaker (IsInside (length all)) (IsInside (length (all ++ rs))) (λ p i. record { order = i.order; end = omega (arith, i.end) }) ps a.within)
+          (record { order = omega arith; end = omega arith });
     }
 
 pub read_none : (bytes : List ℕ) (n : ℕ) → AreAllRead bytes n [] [] [] (record { symbol = false; kind = false; bounds = false; overlap = false })
@@ -104,7 +104,7 @@ pub read_more_section : (bytes : List ℕ) (n : ℕ) (ss : List Section) (i : �
     → AreAllRead bytes n (take (i + 1) ss) all' ps' f'
 read_more_section bytes n ss i d all all' ps ps' f f' g s l a e u v q o x y z w = record {
   lists = rw (take_more ss i d l, map_push (λ (r : Section). relocations_at bytes r.number.0) (take i ss) (get_or ss i d), e, q)
-    (relocated_push (map (λ (r : Section). relocations_at bytes r.number.0) (take i ss)) all (relocations_at bytes (get_or ss i d).number.0) ps s a.lists u (v ∙ ap length e));
+      (relocated_push (map (λ (r : Section). relocations_at bytes r.number.0) (take i ss)) all (relocations_at bytes (get_or ss i d).number.0) ps s a.lists u (v ∙ ap length e));
   faults = record {
     symbol = any_more (has_strange_symbol bytes n) ss i d f.symbol g.symbol f'.symbol l a.faults.symbol o.symbol x;
     kind = any_more (has_strange_type bytes) ss i d f.kind g.kind f'.kind l a.faults.kind o.kind y;

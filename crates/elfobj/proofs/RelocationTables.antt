@@ -32,9 +32,9 @@ pub tables_same : (bytes : List ℕ) (n : ℕ) (h : SectionHeader) (ts : List (O
 tables_same bytes n h ts e f t = record {
   count = t.count;
   each = λ k l. t.each k l
-    ∙ sym (find_more bytes n k
-    ∙ ap (λ b. option_or (find (changes k) (headers_below bytes n)) (cond b (Some (header bytes n)) None)) (ap (changes k) (sym e) ∙ and_left (is_relocation_section h) (eqb h.sh_info k) f)
-    ∙ or_none (find (changes k) (headers_below bytes n)));
+      ∙ sym (find_more bytes n k
+      ∙ ap (λ b. option_or (find (changes k) (headers_below bytes n)) (cond b (Some (header bytes n)) None)) (ap (changes k) (sym e) ∙ and_left (is_relocation_section h) (eqb h.sh_info k) f)
+      ∙ or_none (find (changes k) (headers_below bytes n)));
 }
 
 entered_same : (ts : List (Option SectionHeader)) (h : SectionHeader) (o : Option SectionHeader) → h.sh_info < length ts → get_or ts h.sh_info None ≡ o → get_or (entered ts h) h.sh_info None ≡ option_or o (Some h)
@@ -68,9 +68,9 @@ pub tables_more : (bytes : List ℕ) (n : ℕ) (h : SectionHeader) (ts ts' : Lis
 tables_more bytes n h ts ts' e f l g t = record {
   count = ap length g ∙ entered_length ts h (get_or ts h.sh_info None) refl ∙ t.count;
   each = λ k m. ap (λ xs. get_or xs k None) g ∙ entered_at ts h k (omega (arith, t.count)) f
-    ∙ ap (λ o. option_or o (cond (changes k h) (Some h) None)) (t.each k m)
-    ∙ ap (λ x. option_or (find (changes k) (headers_below bytes n)) (cond (changes k x) (Some x) None)) e
-    ∙ sym (find_more bytes n k);
+      ∙ ap (λ o. option_or o (cond (changes k h) (Some h) None)) (t.each k m)
+      ∙ ap (λ x. option_or (find (changes k) (headers_below bytes n)) (cond (changes k x) (Some x) None)) e
+      ∙ sym (find_more bytes n k);
 }
 
 pub tables_all : (bytes : List ℕ) (n : ℕ) (ts : List (Option SectionHeader)) → n ≡ e_shnum bytes → AreTablesBelow bytes n ts → AreTables bytes ts

@@ -72,10 +72,7 @@ fn reads_a_calling_object(rt: HostRuntime) -> Result<(), Fail> {
 #[test]
 fn reads_a_local_symbol(rt: HostRuntime) -> Result<(), Fail> {
     let changes = [(116, 0x00), (118, 0x01), (332, 0x02)];
-    let object = read(
-        rt.alloc(),
-        changed(calling_object(rt.alloc())?, &changes),
-    )?;
+    let object = read(rt.alloc(), changed(calling_object(rt.alloc())?, &changes))?;
     let local = Symbol {
         place: SymbolPlace::Section(SectionIndex(1)),
         ..NULL
@@ -98,13 +95,22 @@ fn reads_symbols_of_each_kind(rt: HostRuntime) -> Result<(), Fail> {
         (11, 0x11, 0xfff2, 8, 0x8000_0000),
         (1, 0x25, 0, 0, 0),
     ];
-    let object = read(
-        rt.alloc(),
-        object_of(rt.alloc(), 3, &rows, &[], &[TEXT])?,
-    )?;
+    let object = read(rt.alloc(), object_of(rt.alloc(), 3, &rows, &[], &[TEXT])?)?;
     let kinds = [
-        (Binding::Local, SymbolKind::NoType, SymbolPlace::Undefined, 0, 0),
-        (Binding::Local, SymbolKind::File, SymbolPlace::Absolute, 0, 0),
+        (
+            Binding::Local,
+            SymbolKind::NoType,
+            SymbolPlace::Undefined,
+            0,
+            0,
+        ),
+        (
+            Binding::Local,
+            SymbolKind::File,
+            SymbolPlace::Absolute,
+            0,
+            0,
+        ),
         (
             Binding::Local,
             SymbolKind::Section,
@@ -133,7 +139,13 @@ fn reads_symbols_of_each_kind(rt: HostRuntime) -> Result<(), Fail> {
             8,
             0x8000_0000,
         ),
-        (Binding::Weak, SymbolKind::Common, SymbolPlace::Undefined, 0, 0),
+        (
+            Binding::Weak,
+            SymbolKind::Common,
+            SymbolPlace::Undefined,
+            0,
+            0,
+        ),
     ];
     let names: [&[u8]; 7] = [b"", b"", b"", b"w", b"v", b"c", b".text"];
     assert_eq!(rt; object.symbols().len(), 7);
@@ -147,7 +159,11 @@ fn reads_symbols_of_each_kind(rt: HostRuntime) -> Result<(), Fail> {
             size,
         };
         assert_eq!(rt; *symbol, want, "at {i}");
-        assert_eq!(rt; object.name_of(SymbolIndex(i as u32)), names[i % 7], "at {i}");
+        assert_eq!(rt;
+            object.name_of(SymbolIndex(i as u32)),
+            names[i % 7],
+            "at {i}"
+        );
     }
     Ok(())
 }

@@ -1,7 +1,7 @@
 //! Which refusal a change gives.
 
 use super::samples::{
-    Change, SAME, calling_object, changed, number_of, plain_object, push_header, refusal,
+    SAME, calling_object, changed, number_of, plain_object, push_header, refusal,
 };
 use crate::refusal::ObjectRefusal;
 use std::test::Fail;
@@ -42,8 +42,9 @@ fn refuses_a_changed_plain_object(rt: HostRuntime) -> Result<(), Fail> {
 
 #[test]
 fn refuses_a_changed_calling_object(rt: HostRuntime) -> Result<(), Fail> {
-    let cases: [([Change; 2], u8); 26] = [
+    for (changes, number) in [
         ([SAME, SAME], 0),
+        // the symbol table's header
         ([(332, 0x03), SAME], 8),
         ([(332, 0x02), SAME], 8),
         ([(332, 0x00), SAME], 8),
@@ -51,12 +52,23 @@ fn refuses_a_changed_calling_object(rt: HostRuntime) -> Result<(), Fail> {
         ([(320, 0x00), SAME], 8),
         ([(320, 0x31), SAME], 8),
         ([(328, 0x01), SAME], 8),
+        // the symbol
         ([(112, 0x09), SAME], 9),
         ([(112, 0x06), SAME], 9),
         ([(116, 0x30), SAME], 9),
         ([(116, 0x13), SAME], 9),
         ([(116, 0x16), SAME], 9),
         ([(118, 0x05), SAME], 9),
+    ] {
+        let bytes = changed(calling_object(rt.alloc())?, &changes);
+        assert_eq!(rt; number_of(rt.alloc(), bytes), number, "at {changes:?}");
+    }
+    Ok(())
+}
+
+#[test]
+fn refuses_changed_relocations(rt: HostRuntime) -> Result<(), Fail> {
+    for (changes, number) in [
         ([(148, 0x02), SAME], 10),
         ([(420, 0x09), SAME], 10),
         ([(456, 0x03), SAME], 10),
@@ -69,9 +81,9 @@ fn refuses_a_changed_calling_object(rt: HostRuntime) -> Result<(), Fail> {
         // the lowest number is told
         ([(332, 0x03), (112, 0x09)], 8),
         ([(116, 0x30), (420, 0x09)], 9),
+        ([(144, 0x09), (148, 0x02)], 10),
         ([(144, 0x09), (136, 0x02)], 11),
-    ];
-    for (changes, number) in cases {
+    ] {
         let bytes = changed(calling_object(rt.alloc())?, &changes);
         assert_eq!(rt; number_of(rt.alloc(), bytes), number, "at {changes:?}");
     }

@@ -22,12 +22,9 @@ fn reads_each_type(rt: HostRuntime) -> Result<(), Fail> {
         (15, RelocationKind::Pc8, 1),
         (24, RelocationKind::Pc64, 8),
     ] {
-        let last = 16 - width;
+        let last = 16u64.saturating_sub(width);
         let row = (last, 0, number, i64::MIN);
-        let object = read(
-            rt.alloc(),
-            object_of(rt.alloc(), 1, &[], &[row], &[TEXT])?,
-        )?;
+        let object = read(rt.alloc(), object_of(rt.alloc(), 1, &[], &[row], &[TEXT])?)?;
         let want = Relocation {
             offset: last,
             symbol: SymbolIndex(0),
@@ -38,7 +35,13 @@ fn reads_each_type(rt: HostRuntime) -> Result<(), Fail> {
         assert_eq!(rt; object.relocations(0), [want].as_slice(), "at {number}");
         assert_eq!(rt; kind.width(), width, "at {number}");
         // one byte further it lies past the end
-        let bytes = object_of(rt.alloc(), 1, &[], &[(last + 1, 0, number, 0)], &[TEXT])?;
+        let bytes = object_of(
+            rt.alloc(),
+            1,
+            &[],
+            &[(last.saturating_add(1), 0, number, 0)],
+            &[TEXT],
+        )?;
         assert_eq!(rt; number_of(rt.alloc(), bytes), 12, "at {number}");
     }
     for number in [3, 5, 9, 16, 23, 25, 0x100, 0x8000_0001] {
@@ -108,35 +111,39 @@ fn keeps_the_order_of_the_table(rt: HostRuntime) -> Result<(), Fail> {
 fn refuses_relocation_sections(rt: HostRuntime) -> Result<(), Fail> {
     let space: HeaderRow = ([1, 8], [3, 0, 16, 1], [0, 0, 0]);
     let debug: HeaderRow = ([0, 1], [0, 64, 16, 1], [0, 0, 0]);
-    for (first, second, relocations, number) in [
+    for (first, second, has_entry, number) in [
         // without entries
-        (TEXT, debug, 0, 0),
-        (space, debug, 0, 0),
+        (TEXT, debug, false, 0),
+        (space, debug, false, 0),
         // a field, or none, in a section that has no bytes
-        (space, debug, 1, 12),
+        (space, debug, true, 12),
         // of a section that is not linked, whatever its entries are
-        (debug, TEXT, 1, 0),
-        (TEXT, ([0, 4], [0, 64, 7, 1], [9, 1, 24]), 0, 0),
-        (TEXT, ([0, 9], [0, 64, 16, 1], [9, 2, 24]), 0, 0),
-        (TEXT, ([0, 4], [0, 64, 7, 1], [9, 0, 24]), 0, 0),
+        (debug, TEXT, true, 0),
+        (TEXT, ([0, 4], [0, 64, 7, 1], [9, 1, 24]), false, 0),
+        (TEXT, ([0, 9], [0, 64, 16, 1], [9, 2, 24]), false, 0),
+        (TEXT, ([0, 4], [0, 64, 7, 1], [9, 0, 24]), false, 0),
         // of a section that isn't there
-        (TEXT, ([0, 4], [0, 64, 0, 1], [2, 6, 24]), 0, 10),
-        (TEXT, ([0, 9], [0, 64, 0, 1], [2, 0x0001_0004, 24]), 0, 10),
+        (TEXT, ([0, 4], [0, 64, 0, 1], [2, 6, 24]), false, 10),
+        (
+            TEXT,
+            ([0, 9], [0, 64, 0, 1], [2, 0x0001_0004, 24]),
+            false,
+            10,
+        ),
         // the second of its section, with addends or without
-        (TEXT, ([0, 4], [0, 64, 0, 1], [2, 4, 24]), 0, 10),
-        (TEXT, ([0, 9], [0, 64, 0, 1], [2, 4, 24]), 0, 10),
+        (TEXT, ([0, 4], [0, 64, 0, 1], [2, 4, 24]), false, 10),
+        (TEXT, ([0, 9], [0, 64, 0, 1], [2, 4, 24]), false, 10),
         // a second symbol table
-        (TEXT, ([0, 2], [0, 144, 24, 8], [1, 1, 24]), 0, 8),
+        (TEXT, ([0, 2], [0, 144, 24, 8], [1, 1, 24]), false, 8),
     ] {
-        let rows: [RelocationRow; 1] = [(16, 0, 0, 0)];
-        let bytes = object_of(
-            rt.alloc(),
-            1,
-            &[],
-            &rows[..relocations],
-            &[first, second],
-        )?;
-        assert_eq!(rt; number_of(rt.alloc(), bytes), number, "at {first:?} {second:?}");
+        let row: RelocationRow = (16, 0, 0, 0);
+        let relocations = if has_entry { [row].as_slice() } else { &[] };
+        let bytes = object_of(rt.alloc(), 1, &[], relocations, &[first, second])?;
+        assert_eq!(rt;
+            number_of(rt.alloc(), bytes),
+            number,
+            "at {first:?} {second:?}"
+        );
     }
     Ok(())
 }

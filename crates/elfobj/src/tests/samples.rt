@@ -139,7 +139,11 @@ pub fn object_of(
     )?;
     push_header(
         &mut bytes,
-        ([0, 4], [0, 144 + symbols_size, relocations_size, 8], [2, 4, 24]),
+        (
+            [0, 4],
+            [0, 144 + symbols_size, relocations_size, 8],
+            [2, 4, 24],
+        ),
     )?;
     for row in rows {
         push_header(&mut bytes, *row)?;

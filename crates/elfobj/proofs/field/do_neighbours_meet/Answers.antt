@@ -21,12 +21,12 @@ pub loop-relocation-preserved : goal.loop-relocation-preserved
 loop-relocation-preserved c =
     elim c.if-size-gt0.branch [
       | then-size-gt0+else-relocation-offset w ↦
-        let low = c.loop-relocation.invariant.low c.loop-relocation.relocation-index none_yet (omega arith) c.loop-relocation-test.true in
-        rw (w.offset-is, w.width-is, c.width-size.ensures) (apart_more c.args.relocations.now c.loop-relocation.relocation-index c.loop-relocation.offset c.loop-relocation.width none_yet c.requires c.loop-relocation-test.true
-        (omega (arith, w.if-relocation-offset.false)) c.loop-relocation.invariant)
+          let low = c.loop-relocation.invariant.low c.loop-relocation.relocation-index none_yet (omega arith) c.loop-relocation-test.true in
+          rw (w.offset-is, w.width-is, c.width-size.ensures) (apart_more c.args.relocations.now c.loop-relocation.relocation-index c.loop-relocation.offset c.loop-relocation.width none_yet c.requires c.loop-relocation-test.true
+          (omega (arith, w.if-relocation-offset.false)) c.loop-relocation.invariant)
       | else-size-gt0 w ↦
-        rw (w.offset-is, w.width-is) (apart_thin c.args.relocations.now c.loop-relocation.relocation-index c.loop-relocation.offset c.loop-relocation.width none_yet c.loop-relocation-test.true
-        (omega (arith, c.width-size.ensures, w.if-size-gt0.false)) c.loop-relocation.invariant)
+          rw (w.offset-is, w.width-is) (apart_thin c.args.relocations.now c.loop-relocation.relocation-index c.loop-relocation.offset c.loop-relocation.width none_yet c.loop-relocation-test.true
+          (omega (arith, c.width-size.ensures, w.if-size-gt0.false)) c.loop-relocation.invariant)
     ]
 
 pub returns : goal.returns
