@@ -136,8 +136,8 @@ fn refuses_relocation_sections(rt: HostRuntime) -> Result<(), Fail> {
         // a second symbol table
         (TEXT, ([0, 2], [0, 144, 24, 8], [1, 1, 24]), false, 8),
     ] {
-        let row: RelocationRow = (16, 0, 0, 0);
-        let relocations = if has_entry { [row].as_slice() } else { &[] };
+        let rows: [RelocationRow; 1] = [(16, 0, 0, 0)];
+        let relocations: &[RelocationRow] = if has_entry { &rows } else { &[] };
         let bytes = object_of(rt.alloc(), 1, &[], relocations, &[first, second])?;
         assert_eq!(rt;
             number_of(rt.alloc(), bytes),
