@@ -13,5 +13,5 @@ unfoldable pub u64_at : List ℕ → ℕ → ℕ
 u64_at bytes at = little_number 8 (drop at bytes)
 
 -- in two's complement
-unfoldable pub i64_at : List ℕ → ℕ → ℤ
-i64_at bytes at = cast_signed w64 (little_number 8 (drop at bytes))
+abbrev pub i64_at : List ℕ → ℕ → ℤ
+i64_at bytes at = cast_signed w64 (u64_at bytes at)

@@ -49,10 +49,10 @@ abbrev pub relocations_in : List Relocation → Span → List Relocation
 relocations_in all s = slice_range all s.start s.end
 
 -- the symbols as callers see them, and the places of their names
-pub record AreNamed (file : List ℕ) (named : List NamedSymbol) (read : List Symbol) (names : List Span) : Type 0 where
+pub record AreNamed (file : List ℕ) (named : List NamedSymbol) (read : List Symbol) (places : List Span) : Type 0 where
   pub symbols : read ≡ map (λ s. s.symbol) named
-  pub names : map (bytes_at file) names ≡ map (λ s. s.name) named
-  pub within : All (IsInside (length file)) names
+  pub names : map (bytes_at file) places ≡ map (λ s. s.name) named
+  pub within : All (IsInside (length file)) places
 
 -- the relocations of each section, one section after another, and the places of each section's
 pub record AreRelocated (lists_of : List (List Relocation)) (all : List Relocation) (places : List Span) : Type 0 where

@@ -14,7 +14,6 @@ use Rattle.elfobj.specs.declared.section.SectionKind.TheVariants.{Nobits}
 use Rattle.elfobj.specs.declared.symbol.Binding.{Binding}
 use Rattle.elfobj.specs.declared.symbol.Binding.TheVariants.{Local, Global}
 use Rattle.elfobj.specs.declared.symbol.Symbol.{Symbol}
-use Rattle.elfobj.specs.declared.symbol.SymbolPlace.{SymbolPlace}
 use Rattle.elfobj.specs.declared.symbol.SymbolPlace.TheVariants.{Common}
 
 -- how many bytes of the file a section of so many bytes has

@@ -1,11 +1,11 @@
 -- What the reader of the relocation sections has found so far.
-use Rattle.std.specs.Prelude.{◌≡◌, ℕ, ◌<◌, List, length, map, get_or, find, Option, Some, None, Bool, if◌then◌else◌}
+use Rattle.std.specs.Prelude.{◌≡◌, ℕ, ◌<◌, List, length, map, get_or, find, Option, Some, None, Bool, ◌&&◌, ◌||◌, if◌then◌else◌, is_some, nat_le, slice_set}
 use Rattle.std.specs.List.{list_any}
 use Rattle.elfobj.specs.ElfHeader.{e_shnum}
 use Rattle.elfobj.specs.Places.{AreRelocated}
 use Rattle.elfobj.specs.Relocations.{changes, relocation_section, relocations_at}
 use Rattle.elfobj.specs.SectionHeaders.{headers_below}
-use Rattle.elfobj.specs.Tables.{has_strange_symbol, has_strange_type, has_field_outside, has_shared_bytes}
+use Rattle.elfobj.specs.Tables.{is_linked, is_wrong_table, has_strange_symbol, has_strange_type, has_field_outside, has_shared_bytes}
 use Rattle.elfobj.specs.declared.place.Span.{Span}
 use Rattle.elfobj.specs.declared.refusal.ObjectRefusal.{ObjectRefusal}
 use Rattle.elfobj.specs.declared.refusal.ObjectRefusal.TheVariants.{RelocationSection, RelocationType, FieldBounds, FieldOverlap}
@@ -23,6 +23,15 @@ pub record AreTablesBelow (bytes : List ℕ) (n : ℕ) (tables : List (Option Se
 pub record AreTables (bytes : List ℕ) (tables : List (Option SectionHeader)) : Type 0 where
   pub count : length tables ≡ e_shnum bytes
   pub each : (k : ℕ) → k < e_shnum bytes → get_or tables k None ≡ relocation_section bytes k
+
+-- the same after one more relocation section
+abbrev pub entered : List (Option SectionHeader) → SectionHeader → List (Option SectionHeader)
+entered tables h = if is_some (get_or tables h.sh_info None) then tables else slice_set tables h.sh_info (Some h)
+
+-- whether a relocation section is outside the profile, past those of the tables
+abbrev pub is_wrong_after : List SectionHeader → Option ℕ → List (Option SectionHeader) → SectionHeader → Bool
+is_wrong_after all symtab tables h =
+    nat_le (length all) h.sh_info || (is_linked all h.sh_info && (is_some (get_or tables h.sh_info None) || is_wrong_table symtab h))
 
 -- whether the relocations of one of these sections are outside the profile, in each of the ways; n is the number of symbols
 pub record AreFaults (bytes : List ℕ) (n : ℕ) (sections : List Section) (f : Faults) : Type 0 where

@@ -33,10 +33,9 @@ pub fn read_u64(bytes: &[u8], at: usize) -> u64
 }
 
 /// The `Elf64_Sxword` in the eight bytes from `at` on.
-#[tactic(auto, unfolding(crate::specs::Numbers::i64_at))]
 pub fn read_i64(bytes: &[u8], at: usize) -> i64
     requires { at + 8 ≤ length bytes.now }
     ensures { result ≡ i64_at bytes.now at }
 {
-    LittleEndian::read_i64(&bytes[at..])
+    read_u64(bytes, at).cast_signed()
 }

@@ -1,11 +1,11 @@
 //! The relocation sections: their tests, and the relocations that they hold.
 
-ghost use Rattle.std.specs.Prelude.{◌≡◌, ◌≤◌, ◌+◌, ◌⊎◌, ◌++◌, ◌||◌, IfErr, IfOk, IfSome, OnOk, None, Some, false, true, find, length, map};
+ghost use Rattle.std.specs.Prelude.{◌≡◌, ◌≤◌, ◌<◌, ◌+◌, ◌⊎◌, ◌++◌, ◌||◌, IfErr, IfOk, IfSome, OnOk, None, Some, false, true, find, length, map, replicate};
 ghost use Rattle.std.specs.List.{list_any};
 ghost use Rattle.elfobj.specs.ElfHeader.{e_shnum};
 ghost use Rattle.elfobj.specs.Linkable.{PassesTests};
 ghost use Rattle.elfobj.specs.Places.{AreRelocated};
-ghost use Rattle.elfobj.specs.Reading.{AreAllRead, AreFaultsOf, AreTables, first_fault};
+ghost use Rattle.elfobj.specs.Reading.{AreAllRead, AreFaultsOf, AreTables, entered, first_fault, is_wrong_after};
 ghost use Rattle.elfobj.specs.Refusal.{holds, relocation_refusals};
 ghost use Rattle.elfobj.specs.Relocations.{entries_in, relocation_of, relocation_section, relocations_at};
 ghost use Rattle.elfobj.specs.SectionHeaders.{headers as headers_of};
@@ -67,6 +67,45 @@ fn is_wrong_table(table: &SectionHeader, symtab: Option<usize>) -> bool
     table.sh_type == SHT_REL || table.sh_entsize != 24 || table.sh_size % 24 != 0 || !is_of_symtab
 }
 
+/// Whether a relocation section changes no section, or a linked one in a way outside the profile. `tables` has for each
+/// section number the first relocation section before this one that changes it.
+fn is_wrong_section(
+    headers: &[SectionHeader],
+    tables: &[Option<SectionHeader>],
+    table: &SectionHeader,
+    symtab: Option<usize>,
+) -> bool
+    requires { length tables.now ≡ length headers.now }
+    ensures { result ≡ is_wrong_after headers.now symtab tables.now table.now }
+{
+    let changed = table.sh_info as usize;
+    if changed >= headers.len() {
+        return true;
+    }
+    is_linked(headers, changed) && (tables[changed].is_some() || is_wrong_table(table, symtab))
+}
+
+/// Enters a relocation section at the section number that it changes, if it is the first one for it.
+fn enter(tables: &mut [Option<SectionHeader>], table: &SectionHeader)
+    requires { table.now.sh_info < length tables.old }
+    ensures { tables.new ≡ entered tables.old table.now }
+{
+    let changed = table.sh_info as usize;
+    if tables[changed].is_none() {
+        tables[changed] = Some(*table);
+    }
+}
+
+fn no_tables(alloc: Global, count: usize) -> Result<Vec<Option<SectionHeader>>, AllocError>
+    ensures { IfOk result (λ v. v.items ≡ replicate count None) }
+{
+    let mut tables = Vec::with_capacity(alloc, count)?;
+    for _ in 0..count {
+        tables.push(None)?;
+    }
+    Ok(tables)
+}
+
 /// For each section number the relocation section that changes it; or `RelocationSection`, where one of them is outside
 /// the profile for what its header says.
 fn changing_tables(
@@ -81,22 +120,15 @@ fn changing_tables(
     ensures wrong { IfErr result (λ e. (e ≡ NoMemory) ⊎ ((e ≡ RelocationSection) × (is_wrong_below bytes.now (e_shnum bytes.now) ≡ true))) }
 {
     let symtab = symbol_table_number(headers);
-    let Ok(mut tables) = vec![in alloc; None; headers.len()] else {
+    let Ok(mut tables) = no_tables(alloc, headers.len()) else {
         return Err(ObjectRefusal::NoMemory);
     };
     for (number, table) in headers.iter().enumerate() {
         if table.is_relocation_section() {
-            let changed = table.sh_info as usize;
-            if changed >= headers.len() {
+            if is_wrong_section(headers, &tables, table, symtab) {
                 return Err(ObjectRefusal::RelocationSection);
             }
-            let is_second = tables[changed].is_some();
-            if is_linked(headers, changed) && (is_second || is_wrong_table(table, symtab)) {
-                return Err(ObjectRefusal::RelocationSection);
-            }
-            if !is_second {
-                tables[changed] = Some(*table);
-            }
+            enter(&mut tables, table);
         }
     }
     Ok(tables)

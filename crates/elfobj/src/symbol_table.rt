@@ -117,10 +117,26 @@ fn has_misplaced_entry(table: &SectionHeader, entries: &[SymbolEntry]) -> bool
     !are_all_local(&entries[1..first]) || is_any_local(&entries[first..])
 }
 
-fn is_any_wrong(entries: &[SymbolEntry], sections: u16, strings: &[u8]) -> bool
+/// The entries past the null entry.
+fn past_null(entries: &[SymbolEntry]) -> &[SymbolEntry]
+    requires { 0 < length entries.now }
+    ensures { result.now ≡ drop 1 entries.now }
+{
+    &entries[1..]
+}
+
+fn is_wrong_among(entries: &[SymbolEntry], sections: u16, strings: &[u8]) -> bool
     ensures { result ≡ list_any (is_wrong_symbol sections strings.now) entries.now }
 {
     entries.iter().any(|e| e.is_wrong(sections, strings))
+}
+
+/// Whether an entry past the null entry is outside the profile.
+fn is_any_wrong(entries: &[SymbolEntry], sections: u16, strings: &[u8]) -> bool
+    requires { 0 < length entries.now }
+    ensures { result ≡ list_any (is_wrong_symbol sections strings.now) (drop 1 entries.now) }
+{
+    is_wrong_among(past_null(entries), sections, strings)
 }
 
 /// Where the name of an entry lies in the file, whose string table `strings` is the header of.
@@ -203,11 +219,8 @@ pub fn read_symbols(
         return Err(ObjectRefusal::SymbolTable);
     }
     let strings = headers[table.sh_link as usize];
-    if is_any_wrong(
-        &entries[1..],
-        headers.len() as u16,
-        strings.file_bytes(bytes),
-    ) {
+    let count = headers.len() as u16;
+    if is_any_wrong(&entries, count, strings.file_bytes(bytes)) {
         return Err(ObjectRefusal::Symbol);
     }
     match named_symbols(alloc, bytes, &strings, &entries) {
