@@ -1,3 +1,4 @@
 pub mod FieldBytes
+pub mod Order
 pub mod Patches
 pub mod Runs

@@ -1,5 +1,5 @@
 -- Pieces with the fields that lie in them.
-use Rattle.std.specs.Prelude.{ℕ, ◌+◌, ◌-◌, ◌≤◌, List, [], ◌∷◌, length, slice_index, Bool, ◌&&◌, nat_le, nat_lt, if◌then◌else◌}
+use Rattle.std.specs.Prelude.{◌≡◌, ℕ, ◌+◌, ◌-◌, ◌<◌, ◌≤◌, max, min, List, [], ◌∷◌, length, slice_index, AllPairs, Bool, false, ◌&&◌, nat_le, nat_lt, if◌then◌else◌}
 use Rattle.emit.specs.declared.patch.Patch.{Patch}
 
 -- where a field ends in its piece
@@ -18,3 +18,16 @@ patched_byte bytes (p ∷ ps) i = if covers p i then slice_index p.field (i - p.
 abbrev pub AreInOrder : ℕ → ℕ → List Patch → Type 0
 AreInOrder from limit [] = from ≤ limit
 AreInOrder from limit (p ∷ ps) = (from ≤ p.offset) × AreInOrder (patch_end p) limit ps
+
+-- two fields share a byte
+abbrev pub meets : Patch → Patch → Bool
+meets p q = nat_lt (max p.offset q.offset) (min (patch_end p) (patch_end q))
+
+-- no two fields share a byte
+abbrev pub AreApart : List Patch → Type 0
+AreApart ps = AllPairs (λ p q. meets p q ≡ false) ps
+
+-- a field with a byte, and none of its bytes past the limit
+pub record IsWithin (limit : ℕ) (p : Patch) : Type 0 where
+  pub some : 0 < length p.field
+  pub end : patch_end p ≤ limit

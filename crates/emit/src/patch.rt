@@ -1,12 +1,14 @@
 //! Pieces with the fields that lie in them.
 
-ghost use Rattle.std.specs.Prelude.{◌≡◌, ◌≤◌, ◌<◌, ◌+◌, ◌-◌, ℕ, length, slice_index};
+ghost use Rattle.std.specs.Prelude.{◌≡◌, ◌≤◌, ◌<◌, ◌+◌, ◌-◌, ℕ, All, IfOk, List, length, slice_index, true};
+ghost use Rattle.std.specs.List.Sorted.{IsNonDecreasingBy};
 ghost use Rattle.elfobj.specs.Raised.{raised};
-ghost use Rattle.emit.specs.Patches.{AreInOrder, patch_end, patched_byte};
+ghost use Rattle.emit.specs.Patches.{AreApart, AreInOrder, IsWithin, patch_end, patched_byte};
 
 use crate::canvas::Canvas;
 use crate::field::Field;
 use elfobj::meter::{Count, Meter};
+use std::alloc::AllocError;
 
 /// A field and where it lies.
 #[derive(Debug, Drop)]
@@ -15,6 +17,33 @@ pub struct Patch {
     pub offset: usize,
     /// Its bytes.
     pub field: Field,
+}
+
+/// Whether these are in the order of their offsets.
+fn is_ascending(patches: &[Patch]) -> bool
+    ensures { result ≡ true → IsNonDecreasingBy (λ p. p.offset) patches.now }
+{
+    for k in 1..patches.len() {
+        if patches[k].offset < patches[k - 1].offset {
+            return false;
+        }
+    }
+    true
+}
+
+/// Puts the fields of one piece, no two of which share a byte, into the order of their offsets. One pass, and no memory,
+/// where they are in that order already, as assemblers write them; else they are sorted.
+///
+/// An error says that there was no memory for the sort.
+pub fn in_order(mut patches: Vec<Patch>) -> Result<Vec<Patch>, AllocError>
+    requires { AreApart patches.items }
+    ensures order { IfOk result (λ v. (n : ℕ) → All (IsWithin n) patches.items → AreInOrder 0 n v.items) }
+    ensures same { IfOk result (λ v. (bytes : List ℕ) (i : ℕ) → patched_byte bytes v.items i ≡ patched_byte bytes patches.items i) }
+{
+    if !is_ascending(&patches) {
+        patches.sort_by_key(|p| p.offset)?;
+    }
+    Ok(patches)
 }
 
 /// Writes the bytes of a piece from the offset `done` up to a field, and the field; returns its end.

@@ -5,7 +5,7 @@ ghost use Rattle.std.specs.Prelude.{◌≡◌, ◌≢◌};
 use crate::canvas::Canvas;
 use crate::field::Overflow;
 use crate::field::evaluate::field;
-use crate::patch::{Patch, write_patched};
+use crate::patch::{Patch, in_order, write_patched};
 use elfobj::meter::Meter;
 use elfobj::relocation::{Relocation, RelocationKind, SymbolIndex};
 use std::process::Abort;
