@@ -1,5 +1,6 @@
 pub mod OneSectionGathering
 pub mod OneSectionPlacement
+pub mod Patched
 pub mod OneSectionImage
 pub mod OneSectionMembers
 pub mod OneSectionRelocating

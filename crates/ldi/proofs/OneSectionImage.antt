@@ -2,9 +2,7 @@
 use Rattle.std.proofs.Common.{◌≡◌, ◌≢◌, ℕ, suc, ◌+◌, ◌-◌, ◌<◌, ◌≤◌, inl, inr, List, [], ◌∷◌, ◌++◌, length, get_or, true, false, Some, refl, sym, ap, ◌∙◌, arith, nat_eq, nat_lt, nat_le, append-nil, length-append, take}
 use Rattle.std.proofs.lemmas.Bool.{lt-ltb, le-leb, ne_eqb}
 use Rattle.std.proofs.lemmas.Bool.Decides.{leb_tells}
-use Rattle.std.proofs.lemmas.List.{get_or-replicate, length-replicate, take_all, get_or-append_right, get_or_append_left}
 use Rattle.std.proofs.lemmas.List.FromFn.{fill_by_all}
-use Rattle.std.specs.Prelude.{replicate}
 use Rattle.ldi.specs.Gathering.{Piece}
 use Rattle.ldi.specs.Segments as segments
 use Rattle.ldi.specs.Segments.{length_of, file_size, memory_size, headers_end}
@@ -46,7 +44,7 @@ module _ (g : Segment) (row : List Piece) where
   pub headers_one : (entry : ℕ) → headers entry (segment_of (Some g) row) ≡ elf_header entry 1 ++ program_header (one_segment g row)
   headers_one entry = simp append-nil
 
-  length-headers : (entry : ℕ) → length (headers entry (segment_of (Some g) row)) ≡ 120
+  pub length-headers : (entry : ℕ) → length (headers entry (segment_of (Some g) row)) ≡ 120
   length-headers entry = rw headers_one (rw length-append (rw (length-elf_header, length-load_header) refl))
 
   header_byte : (entry o : ℕ) → o < 120 → byte_at entry (segment_of (Some g) row) o ≡ get_or (headers entry (segment_of (Some g) row)) o 0
@@ -104,61 +102,32 @@ module _ (g : Segment) (p : Piece) (filled : IsFilled g p) where
         back,
       ) refl
 
-  -- the headers, zeros up to the segment's offset, and the bytes
-  laid_out : ℕ → List ℕ
-  laid_out entry = (headers entry (segment_of (Some g) (p ∷ [])) ++ replicate (g.offset - 120) 0) ++ p.section.bytes
+  -- bytes that are the headers, zeros up to the segment's offset, and those of the piece
+  pub record IsLaidOut (entry : ℕ) (xs : List ℕ) : Type 0 where
+    pub len : length xs ≡ g.offset + length p.section.bytes
+    pub front : (o : ℕ) → o < 120 → get_or xs o 0 ≡ get_or (headers entry (segment_of (Some g) (p ∷ []))) o 0
+    pub gap : (o : ℕ) → 120 ≤ o → o < g.offset → get_or xs o 0 ≡ 0
+    pub piece : (i : ℕ) → i < length p.section.bytes → get_or xs (g.offset + i) 0 ≡ get_or p.section.bytes i 0
 
-  front_length : (entry : ℕ) → length (headers entry (segment_of (Some g) (p ∷ [])) ++ replicate (g.offset - 120) 0) ≡ g.offset
-  front_length entry =
-      length-append (headers entry (segment_of (Some g) (p ∷ []))) (replicate (g.offset - 120) 0)
-      ∙ rw (length-headers g (p ∷ []) entry, length-replicate) (omega (arith, filled.behind))
-
-  length-laid_out : (entry : ℕ) → length (laid_out entry) ≡ length_of (segment_of (Some g) (p ∷ []))
-  unfolding laid_out
-  length-laid_out entry = length-append _ p.section.bytes ∙ rw (front_length entry, filled.bytes) (sym length_of_one)
-
-  in_headers : (entry o : ℕ) → o < 120 → get_or (laid_out entry) o 0 ≡ byte_at entry (segment_of (Some g) (p ∷ [])) o
-  unfolding laid_out
-  in_headers entry o h =
-      get_or_append_left _ p.section.bytes 0 o (rw (front_length entry) (omega (arith, filled.behind)))
-      ∙ get_or_append_left _ (replicate (g.offset - 120) 0) 0 o (rw (length-headers g (p ∷ []) entry) h)
-      ∙ sym (header_byte g (p ∷ []) entry o h)
-
-  in_gap : (entry o : ℕ) → 120 ≤ o → o < g.offset → get_or (laid_out entry) o 0 ≡ byte_at entry (segment_of (Some g) (p ∷ [])) o
-  unfolding laid_out
-  in_gap entry o low high =
-      get_or_append_left _ p.section.bytes 0 o (rw (front_length entry) high)
-      ∙ get_or-append_right _ (replicate (g.offset - 120) 0) 120 o 0 (length-headers g (p ∷ []) entry) low
-      ∙ get_or-replicate (g.offset - 120) (o - 120) 0 0 (omega arith)
-      ∙ sym (behind_byte g (p ∷ []) entry o low ∙ gap_byte o high)
-
-  in_piece : (entry o : ℕ) → g.offset ≤ o → o < g.offset + g.placed.size → get_or (laid_out entry) o 0 ≡ byte_at entry (segment_of (Some g) (p ∷ [])) o
-  unfolding laid_out
-  in_piece entry o low high =
+  in_piece : (entry o : ℕ) (xs : List ℕ) → IsLaidOut entry xs → g.offset ≤ o → o < g.offset + g.placed.size → get_or xs o 0 ≡ byte_at entry (segment_of (Some g) (p ∷ [])) o
+  in_piece entry o xs laid low high =
       let at : g.offset + (o - g.offset) ≡ o = omega arith in
-      let byte = piece_byte (o - g.offset) (omega arith) in
-      get_or-append_right _ p.section.bytes g.offset o 0 (front_length entry) low
-      ∙ sym (behind_byte g (p ∷ []) entry o (omega (arith, filled.behind)) ∙ (rw at at byte))
+      let near : o - g.offset < g.placed.size = omega arith in
+      let inside : o - g.offset < length p.section.bytes = omega (arith, near, filled.bytes) in
+      let byte = piece_byte (o - g.offset) near in
+      let mine = laid.piece (o - g.offset) inside in
+      (rw at at mine) ∙ sym (behind_byte g (p ∷ []) entry o (omega (arith, filled.behind)) ∙ (rw at at byte))
 
-  each_byte : (entry o : ℕ) → o < length_of (segment_of (Some g) (p ∷ [])) → get_or (laid_out entry) o 0 ≡ byte_at entry (segment_of (Some g) (p ∷ [])) o
-  each_byte entry o h =
+  each_byte : (entry o : ℕ) (xs : List ℕ) → IsLaidOut entry xs → o < length_of (segment_of (Some g) (p ∷ [])) → get_or xs o 0 ≡ byte_at entry (segment_of (Some g) (p ∷ [])) o
+  each_byte entry o xs laid h =
       elim (leb_tells 120 o) [
         | inl low ↦ elim (leb_tells g.offset o) [
-          | inl far ↦ in_piece entry o far.1 (rw length_of_one at h)
-          | inr near ↦ in_gap entry o low.1 near.1
+          | inl far ↦ in_piece entry o xs laid far.1 (rw length_of_one at h)
+          | inr near ↦ laid.gap o low.1 near.1 ∙ sym (behind_byte g (p ∷ []) entry o low.1 ∙ gap_byte o near.1)
         ]
-        | inr low ↦ in_headers entry o low.1
+        | inr low ↦ laid.front o low.1 ∙ sym (header_byte g (p ∷ []) entry o low.1)
       ]
 
-  pub image_of_bytes : (entry : ℕ) (xs : List ℕ) → xs ≡ (headers entry (segment_of (Some g) (p ∷ [])) ++ replicate (g.offset - 120) 0) ++ p.section.bytes
-      → xs ≡ image_of entry (segment_of (Some g) (p ∷ []))
-  unfolding laid_out
-  image_of_bytes entry xs e = e ∙ image_is entry (segment_of (Some g) (p ∷ [])) (laid_out entry) (length-laid_out entry) (each_byte entry)
-
-  -- the same after a resize of the headers
-  pub image_of_resized : (entry : ℕ) (items xs : List ℕ) (len : ℕ) → items ≡ headers entry (segment_of (Some g) (p ∷ [])) → len ≡ length items
-      → xs ≡ (take g.offset items ++ replicate (g.offset - len) 0) ++ p.section.bytes → xs ≡ image_of entry (segment_of (Some g) (p ∷ []))
-  image_of_resized entry items xs len is long e =
-      let known : len ≡ 120 = long ∙ ap length is ∙ length-headers g (p ∷ []) entry in
-      let short : length items ≤ g.offset = omega (arith, filled.behind, known, long) in
-      image_of_bytes entry xs (e ∙ (rw (take_all g.offset items short, known, is) refl))
+  pub image_of_laid_out : (entry : ℕ) (xs : List ℕ) → IsLaidOut entry xs → xs ≡ image_of entry (segment_of (Some g) (p ∷ []))
+  image_of_laid_out entry xs laid =
+      image_is entry (segment_of (Some g) (p ∷ [])) xs (laid.len ∙ (rw (filled.bytes, length_of_one) refl)) (λ o h. each_byte entry o xs laid h)

@@ -4,7 +4,8 @@ use Rattle.std.proofs.lemmas.Bool.{true≢false}
 use Rattle.std.proofs.lemmas.Bool.Decides.{leb_tells}
 use Rattle.std.specs.List.{All, slice_get}
 use Rattle.elfobj.specs.Sections.{LinkedSection, section_of}
-use Rattle.elfobj.specs.Profile.{IsSectionOfProfile, size_in_file}
+use Rattle.elfobj.specs.Relocations.{field_end}
+use Rattle.elfobj.specs.Profile.{AreApart, HasRelocationsOfProfile, IsRelocationOfProfile, IsSectionOfProfile, size_in_file}
 use Rattle.std.proofs.lemmas.Option.{same_Some}
 use Rattle.elfobj.specs.declared.relocation.Relocation.{Relocation}
 use Rattle.elfobj.specs.declared.section.Section.{Section}
@@ -25,6 +26,7 @@ pub record IsFirst (objects : List NamedObject) (o : NamedObject) (s : Section) 
   pub holds : slice_get (map (λ (x : LinkedSection). x.bytes) o.object.sections) 0 ≡ Some bytes
   pub relocated : slice_get (map (λ (x : LinkedSection). x.relocations) o.object.sections) 0 ≡ Some relocations
   pub limits : All IsSectionOfProfile o.object.sections
+  pub fields : All (HasRelocationsOfProfile (length o.object.symbols)) o.object.sections
 
 few_sections : (b : Bool) (n : ℕ) → (nat_lt 1 n || b) ≡ false → n ≤ 1
 few_sections b n e = elim (leb_tells 2 n) [ inl t ↦ absurd (true≢false (sym (rw t.0 refl) ∙ e)) | inr f ↦ omega (arith, f.1) ]
@@ -75,6 +77,51 @@ bytes_one (t ∷ []) s bytes few e b limits has =
     let held : t.bytes ≡ bytes = same_Some _ _ b in
     rw (← held, ← same) (whole t.kind (length t.bytes) t.size (limits 0 t (omega arith)).bytes (rw (← same) at has))
 bytes_one (t ∷ u ∷ ss) s bytes few e b limits has = absurd (omega (arith, few))
+
+-- what the relocations of one section lie in, by its own bytes
+pub record HasFields (size : ℕ) (bytes : List ℕ) (relocations : List Relocation) : Type 0 where
+  pub small : length bytes ≤ size
+  pub fields : All (λ r. field_end r ≤ length bytes) relocations
+  pub apart : AreApart relocations
+
+in_bytes : (kind : SectionKind) (n : ℕ) (size : ℕ) (bytes : List ℕ) (relocations : List Relocation) → length bytes ≡ size_in_file kind size → (kind ≡ Nobits → relocations ≡ [])
+    → All (IsRelocationOfProfile n size) relocations → AreApart relocations → HasFields size bytes relocations
+in_bytes Nobits n size bytes relocations long none each apart =
+    let e : relocations ≡ [] = none refl in
+    record { small = omega (arith, long); fields = rw e (λ i r low. absurd (omega (arith, low))); apart = apart }
+in_bytes Progbits n size bytes relocations long none each apart = record { small = omega (arith, long); fields = λ i r low. rw long ((each i r low).field); apart = apart }
+in_bytes Note n size bytes relocations long none each apart = record { small = omega (arith, long); fields = λ i r low. rw long ((each i r low).field); apart = apart }
+in_bytes InitArray n size bytes relocations long none each apart = record { small = omega (arith, long); fields = λ i r low. rw long ((each i r low).field); apart = apart }
+in_bytes FiniArray n size bytes relocations long none each apart = record { small = omega (arith, long); fields = λ i r low. rw long ((each i r low).field); apart = apart }
+in_bytes PreinitArray n size bytes relocations long none each apart = record { small = omega (arith, long); fields = λ i r low. rw long ((each i r low).field); apart = apart }
+in_bytes Unwind n size bytes relocations long none each apart = record { small = omega (arith, long); fields = λ i r low. rw long ((each i r low).field); apart = apart }
+
+has_fields : (ss : List LinkedSection) (n : ℕ) (s : Section) (bytes : List ℕ) (relocations : List Relocation) → length ss ≤ 1 → slice_get (map section_of ss) 0 ≡ Some s
+    → slice_get (map (λ (x : LinkedSection). x.bytes) ss) 0 ≡ Some bytes → slice_get (map (λ (x : LinkedSection). x.relocations) ss) 0 ≡ Some relocations
+    → All IsSectionOfProfile ss → All (HasRelocationsOfProfile n) ss → HasFields s.size bytes relocations
+has_fields [] n s bytes relocations few e b rel limits fields = cc
+has_fields (t ∷ []) n s bytes relocations few e b rel limits fields =
+    let same : section_of t ≡ s = same_Some _ _ e in
+    let own : t.bytes ≡ bytes = same_Some _ _ b in
+    let held : t.relocations ≡ relocations = same_Some _ _ rel in
+    let all = fields 0 t (omega arith) in
+    rw (← held, ← own, ← same) (in_bytes t.kind n t.size t.bytes t.relocations (limits 0 t (omega arith)).bytes all.none all.each all.apart)
+has_fields (t ∷ u ∷ ss) n s bytes relocations few e b rel limits fields = absurd (omega (arith, few))
+
+-- its relocations lie in the section's bytes, and no two fields share a byte
+pub fields_one : (objects : List NamedObject) (o : NamedObject) (s : Section) (name bytes : List ℕ) (relocations : List Relocation) → IsFirst objects o s name bytes relocations
+    → HasFields s.size bytes relocations
+fields_one [] o s name bytes relocations f = let e = f.first in cc
+fields_one (x ∷ []) o s name bytes relocations f =
+    let same : x ≡ o = same_Some _ _ f.first in
+    let few = fewer o (rw same at (f.linkable 0 x (omega arith))) in
+    has_fields o.object.sections (length o.object.symbols) s bytes relocations few f.section f.holds f.relocated f.limits f.fields
+fields_one (x ∷ y ∷ r) o s name bytes relocations f = absurd (omega (arith, f.few))
+
+pub only_one : (objects : List NamedObject) (o : NamedObject) → length objects ≤ 1 → slice_get objects 0 ≡ Some o → objects ≡ o ∷ []
+only_one [] o few e = cc
+only_one (x ∷ []) o few e = ap (λ y. y ∷ []) (same_Some _ _ e)
+only_one (x ∷ y ∷ r) o few e = absurd (omega (arith, few))
 
 pub whole_one : (objects : List NamedObject) (o : NamedObject) (s : Section) (name bytes : List ℕ) (relocations : List Relocation) → IsFirst objects o s name bytes relocations → is_nobits s.kind ≡ false → length bytes ≡ s.size
 whole_one [] o s name bytes relocations f has = let e = f.first in cc

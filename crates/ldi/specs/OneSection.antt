@@ -3,7 +3,9 @@
 use Rattle.std.specs.Prelude.{◌≡◌, ◌⊎◌, ◌≤◌, ◌<◌, ◌+◌, ◌%◌, ◌^◌, ℕ, List, [], ◌∷◌, length, map, filter, slice_get, if◌then◌else◌, Option, Some, None, Result, Ok, Err, true, false, ◌==◌, option_to_list}
 use Rattle.std.specs.List.{All, Contains}
 use Rattle.std.specs.Option.{option_map, option_and_then, ForSome}
-use Rattle.elfobj.specs.Profile.{AreApart, IsRelocationOfProfile}
+use Rattle.elfobj.specs.Profile.{AreApart}
+use Rattle.elfobj.specs.Relocations.{field_end}
+use Rattle.emit.specs.Patches.{patch_end}
 use Rattle.elfobj.specs.declared.relocation.Relocation.{Relocation}
 use Rattle.elfobj.specs.declared.relocation.SymbolIndex.{SymbolIndex}
 use Rattle.elfobj.specs.declared.symbol.Symbol.{Symbol}
@@ -86,7 +88,8 @@ segment_of (Some g) row = one_segment g row ∷ []
 -- it and share no byte
 pub record IsWhole (m : Member) : Type 0 where
   pub bytes : is_nobits m.section.kind ≡ false → length m.bytes.now ≡ m.section.size
-  pub fields : All (IsRelocationOfProfile (length m.symbols.now) m.section.size) m.relocations.now
+  pub small : length m.bytes.now ≤ m.section.size
+  pub fields : All (λ r. field_end r ≤ length m.bytes.now) m.relocations.now
   pub apart : AreApart m.relocations.now
 
 -- a row holds the member, or nothing
@@ -110,9 +113,21 @@ one_field m start r = option_and_then (λ s. field_or_none r (field_of r s (star
 abbrev pub evaluated : List Relocation → List Relocation
 evaluated rs = filter (λ (r : Relocation). is_evaluated_by r.kind) rs
 
+-- where a field begins and ends
+abbrev pub span_of : Relocation → ℕ × ℕ
+span_of r = (r.offset, field_end r)
+
+abbrev pub span_of_patch : Patch → ℕ × ℕ
+span_of_patch p = (p.offset, patch_end p)
+
+-- the fields of relocations, in their places
+pub record AreFields (m : Member) (start : ℕ) (rs : List Relocation) (fields : List Patch) : Type 0 where
+  pub bytes : map (one_field m start) rs ≡ map Some fields
+  pub places : map span_of rs ≡ map span_of_patch fields
+
 -- all fields of the member; or a relocation that has none
 abbrev pub RelocatedAs : {X : Type 0} → (X → List Patch) → Member → ℕ → Result X RelocateFault → Type 0
-RelocatedAs fields m start (Ok v) = map (one_field m start) (evaluated m.relocations.now) ≡ map Some (fields v)
+RelocatedAs fields m start (Ok v) = AreFields m start (evaluated m.relocations.now) (fields v)
 RelocatedAs fields m start (Err NoMemory) = Unit {0}
 RelocatedAs fields m start (Err f) = (r : Relocation) × Contains (evaluated m.relocations.now) r × (one_field m start r ≡ None)
 
@@ -142,8 +157,9 @@ abbrev pub EndsBelow : Placed → Option Member → Type 0
 EndsBelow p None = Unit {0}
 EndsBelow p (Some m) = p.start + m.section.size < 2 ^ 64
 
--- a segment that isn't empty, behind the headers, and filled by the row
+-- a segment that isn't empty, behind the headers and near them, and filled by the row
 pub record IsWritable (g : Segment) (row : Option Member) : Type 0 where
   pub some : 0 < g.placed.size
   pub behind : headers_end 1 ≤ g.offset
+  pub near : g.offset < 8192
   pub filled : IsFilledBy g.placed row

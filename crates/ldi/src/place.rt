@@ -135,6 +135,7 @@ pub fn segments(placed: Option<Placed>) -> Option<Segment>
     ensures placed { IfSome result (λ g. placed ≡ Some g.placed) }
     ensures some { IfSome result (λ g. 0 < g.placed.size) }
     ensures behind { IfSome result (λ g. headers_end 1 ≤ g.offset) }
+    ensures near { IfSome result (λ g. g.offset < 8192) }
 {
     let p = placed?;
     if p.size == 0 {

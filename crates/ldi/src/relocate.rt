@@ -3,7 +3,7 @@
 ghost use Rattle.std.specs.Prelude.{◌≡◌, ◌<◌, ◌+◌, ◌^◌, IfErr, IfOk, None, Some, true};
 ghost use Rattle.std.specs.Option.{ForSome};
 ghost use Rattle.ldi.specs.Relocating.{is_evaluated_by};
-ghost use Rattle.ldi.specs.OneSection.{one_value, one_target, one_field, EndsBelow, IsWhole, RelocatedAs, RowRelocatedAs};
+ghost use Rattle.ldi.specs.OneSection.{one_value, one_target, one_field, span_of, span_of_patch, EndsBelow, IsWhole, RelocatedAs, RowRelocatedAs};
 
 use crate::gather::Member;
 use crate::place::Placed;
@@ -69,6 +69,7 @@ fn patch(
     requires evaluated { is_evaluated_by relocation.now.kind ≡ true }
     requires below { start + relocation.now.offset < 2 ^ 64 }
     ensures given { IfOk result (λ s. one_field m.now start relocation.now ≡ Some s) }
+    ensures place { IfOk result (λ s. span_of_patch s ≡ span_of relocation.now) }
     ensures none { IfErr result (λ e. one_field m.now start relocation.now ≡ None) }
 {
     let Some(s) = target(m, start, relocation.symbol) else {
@@ -95,13 +96,17 @@ fn fields_of(
     ensures { RelocatedAs (λ v. v.items) m.now start result }
 {
     let mut patches = Vec::new(alloc);
-    for (_number, relocation) in m.relocations.iter().enumerate() {
+    for relocation in m.relocations {
         if !is_evaluated(relocation.kind) {
             continue;
         }
-        let patch = patch(m, start, relocation, meter)?;
-        if patches.push(patch).is_err() {
-            return Err(RelocateFault::NoMemory);
+        match patch(m, start, relocation, meter) {
+            Err(fault) => return Err(fault),
+            Ok(patch) => {
+                if patches.push(patch).is_err() {
+                    return Err(RelocateFault::NoMemory);
+                }
+            }
         }
     }
     Ok(patches)

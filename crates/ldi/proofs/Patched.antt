@@ -1,0 +1,14 @@
+-- Bytes with fields over them.
+use Rattle.std.proofs.Common.{◌≡◌, ◌<◌, ℕ, List, length, get_or, arith}
+use Rattle.std.proofs.lemmas.List.FromFn.{get_or-map-range_with_len, length-map-range_with_len}
+use Rattle.emit.specs.Patches.{patched_byte}
+use Rattle.emit.specs.declared.patch.Patch.{Patch}
+use Rattle.ldi.specs.Relocating.{patched}
+
+pub patched_at : (bytes : List ℕ) (fields : List Patch) (i : ℕ) → i < length bytes → get_or (patched bytes fields) i 0 ≡ patched_byte bytes fields i
+unfolding patched
+patched_at bytes fields i h = get_or-map-range_with_len (patched_byte bytes fields) 0 (length bytes) i i 0 h (omega arith)
+
+pub length-patched : (bytes : List ℕ) (fields : List Patch) → length (patched bytes fields) ≡ length bytes
+unfolding patched
+length-patched bytes fields = length-map-range_with_len (patched_byte bytes fields) 0 (length bytes)
