@@ -1,5 +1,5 @@
 -- Fields of which no two share a byte, put into the order of their offsets.
-use Rattle.std.proofs.Common.{◌≡◌, ◌+◌, ◌-◌, ◌<◌, ◌≤◌, ℕ, zero, suc, List, [], ◌∷◌, length, get_or, Bool, true, false, if◌then◌else◌, All, ◌⊎◌, inl, inr, refl, sym, ap, ◌∙◌, max, min, nat_lt, arith}
+use Rattle.std.proofs.Common.{◌≡◌, ◌-◌, ◌<◌, ◌≤◌, ℕ, zero, suc, List, [], ◌∷◌, length, get_or, Bool, true, false, if◌then◌else◌, All, ◌⊎◌, inl, inr, refl, sym, ap, ◌∙◌, max, min, nat_lt, arith}
 use Rattle.std.proofs.Math.Nat.{max_comm, min_comm}
 use Rattle.std.specs.List.{Contains, IsDistinct}
 use Rattle.std.specs.List.Sorted.{IsNonDecreasingBy, IsPermutation}
