@@ -1,5 +1,5 @@
 -- Fields of which no two share a byte, put into the order of their offsets.
-use Rattle.std.proofs.Common.{◌≡◌, ◌+◌, ◌-◌, ◌<◌, ◌≤◌, ℕ, zero, suc, List, [], ◌∷◌, length, get_or, Bool, true, false, if◌then◌else◌, All, ◌⊎◌, inl, inr, refl, sym, ap, ◌∙◌, max, min, nat_lt, arith}
+use Rattle.std.proofs.Common.{◌≡◌, ◌-◌, ◌<◌, ◌≤◌, ℕ, zero, suc, List, [], ◌∷◌, length, get_or, Bool, true, false, if◌then◌else◌, All, ◌⊎◌, inl, inr, refl, sym, ap, ◌∙◌, max, min, nat_lt, arith}
 use Rattle.std.proofs.Math.Nat.{max_comm, min_comm}
 use Rattle.std.specs.List.{Contains, IsDistinct}
 use Rattle.std.specs.List.Sorted.{IsNonDecreasingBy, IsPermutation}
@@ -35,14 +35,13 @@ pub ordered : (from n : ℕ) (ps : List Patch) → from ≤ n → ((i : ℕ) (d 
     → IsNonDecreasingBy (λ (p : Patch). p.offset) ps → AreApart ps → All (IsWithin n) ps → AreInOrder from n ps
 ordered from n [] low above up apart within = low
 ordered from n (p ∷ ps) low above up apart within =
-    let w : IsWithin n p = within 0 p (omega arith) in
-    (
+    let w : IsWithin n p = within 0 p (omega arith) in (
       above 0 p (omega arith),
       ordered (patch_end p) n ps w.end
-        (λ i d a. behind n p (get_or ps i d) (up 0 (suc i) d (omega arith) (omega arith)) (apart 0 (suc i) d (omega arith) (omega arith)) w (within (suc i) d (omega arith)))
-        (λ i j d a b. up (suc i) (suc j) d (omega arith) (omega arith))
-        (apart_tail p ps apart)
-        (λ k d a. within (suc k) d (omega arith))
+          (λ i d a. behind n p (get_or ps i d) (up 0 (suc i) d (omega arith) (omega arith)) (apart 0 (suc i) d (omega arith) (omega arith)) w (within (suc i) d (omega arith)))
+          (λ i j d a b. up (suc i) (suc j) d (omega arith) (omega arith))
+          (apart_tail p ps apart)
+          (λ k d a. within (suc k) d (omega arith)),
     )
 
 if_true : (b : Bool) (x y : ℕ) → b ≡ true → (if b then x else y) ≡ x

@@ -1,6 +1,6 @@
 //! Fields as the psABI's table gives them, a canvas that grows, shrinks and grows again, and pieces with fields.
 
-ghost use Rattle.std.specs.Prelude.{◌≡◌, ◌≢◌};
+ghost use Rattle.std.specs.Prelude.{◌≡◌, ◌≢◌, ◌<◌};
 
 use crate::canvas::Canvas;
 use crate::field::Overflow;
@@ -8,6 +8,7 @@ use crate::field::evaluate::field;
 use crate::patch::{Patch, in_order, write_patched};
 use elfobj::meter::Meter;
 use elfobj::relocation::{Relocation, RelocationKind, SymbolIndex};
+use std::alloc::Global;
 use std::process::Abort;
 use std::test::Fail;
 
@@ -241,5 +242,49 @@ fn fields_may_fill_a_piece(rt: HostRuntime) -> Result<(), Fail> {
     write_patched(&mut canvas, 2, &[3, 4], &[], &mut meter);
     assert_eq!(rt; canvas.bytes(), [0xaa, 0xbb, 3, 4].as_slice());
     assert_eq!(rt; meter.bytes(), 4);
+    Ok(())
+}
+
+/// Two fields of a byte, put into order, go out in a piece of 4 bytes.
+fn assert_two_fields(
+    rt: &impl Abort,
+    alloc: Global,
+    first: usize,
+    second: usize,
+    wanted: [u8; 4],
+) -> Result<(), Fail>
+    requires apart { first ≢ second }
+    requires first_within { first < 4 }
+    requires second_within { second < 4 }
+{
+    let mut canvas = Canvas::new(alloc);
+    let mut meter = Meter::new();
+    let one = field(&relocation(RelocationKind::Abs8, 0), 0xaa, 0, &mut meter)?;
+    let other = field(&relocation(RelocationKind::Abs8, 0), 0xbb, 0, &mut meter)?;
+    assert_eq!(rt; one.bytes().len(), 1);
+    assert_eq!(rt; other.bytes().len(), 1);
+    let patches = vec![in alloc;
+        Patch {
+            offset: first,
+            field: one
+        },
+        Patch {
+            offset: second,
+            field: other
+        },
+    ]?;
+    let patches = in_order(patches)?;
+    canvas.reserve(4)?;
+    canvas.resize_reserved(4);
+    write_patched(&mut canvas, 0, &[1, 2, 3, 4], &patches, &mut meter);
+    assert_eq!(rt; canvas.bytes(), wanted.as_slice());
+    Ok(())
+}
+
+/// Fields go out alike whether they are in order or not.
+#[test]
+fn fields_come_into_order(rt: HostRuntime) -> Result<(), Fail> {
+    assert_two_fields(&rt, rt.alloc(), 1, 2, [1, 0xaa, 0xbb, 4])?;
+    assert_two_fields(&rt, rt.alloc(), 3, 0, [0xbb, 2, 3, 0xaa])?;
     Ok(())
 }
