@@ -125,18 +125,29 @@ pub record AreFields (m : Member) (start : ℕ) (rs : List Relocation) (fields :
   pub bytes : map (one_field m start) rs ≡ map Some fields
   pub places : map span_of rs ≡ map span_of_patch fields
 
+-- a relocation has no field; want of memory says nothing of it
+abbrev pub MissesField : Member → ℕ → RelocateFault → Type 0
+MissesField m start NoMemory = Unit {0}
+MissesField m start f = (r : Relocation) × Contains (evaluated m.relocations.now) r × (one_field m start r ≡ None)
+
 -- all fields of the member; or a relocation that has none
 abbrev pub RelocatedAs : {X : Type 0} → (X → List Patch) → Member → ℕ → Result X RelocateFault → Type 0
 RelocatedAs fields m start (Ok v) = AreFields m start (evaluated m.relocations.now) (fields v)
-RelocatedAs fields m start (Err NoMemory) = Unit {0}
-RelocatedAs fields m start (Err f) = (r : Relocation) × Contains (evaluated m.relocations.now) r × (one_field m start r ≡ None)
+RelocatedAs fields m start (Err f) = MissesField m start f
 
 -- the same of the output section, which has no fields without a row
+abbrev pub RowHasFields : Option Placed → Option Member → List Patch → Type 0
+RowHasFields (Some p) (Some m) fields = AreFields m p.start (evaluated m.relocations.now) fields
+RowHasFields p m fields = fields ≡ []
+
+abbrev pub RowMissesField : Option Placed → Option Member → RelocateFault → Type 0
+RowMissesField (Some p) (Some m) f = MissesField m p.start f
+RowMissesField p m NoMemory = Unit {0}
+RowMissesField p m f = ⊥
+
 abbrev pub RowRelocatedAs : {X : Type 0} → (X → List Patch) → Option Placed → Option Member → Result X RelocateFault → Type 0
-RowRelocatedAs fields (Some p) (Some m) result = RelocatedAs fields m p.start result
-RowRelocatedAs fields p m (Ok v) = fields v ≡ []
-RowRelocatedAs fields p m (Err NoMemory) = Unit {0}
-RowRelocatedAs fields p m (Err f) = ⊥
+RowRelocatedAs fields p m (Ok v) = RowHasFields p m (fields v)
+RowRelocatedAs fields p m (Err f) = RowMissesField p m f
 
 -- a member is the only object's, if there is one
 abbrev pub IsOf : List NamedObject → Option Member → Type 0

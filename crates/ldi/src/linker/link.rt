@@ -128,10 +128,12 @@ fn with_fields(
 {
     match relocate(alloc, placed, row, meter) {
         Err(RelocateFault::NoMemory) => Err(AllocError),
-        Err(_fault) => Ok(Linkage::faulty(alloc)),
+        Err(RelocateFault::NotInOutput) => Ok(Linkage::faulty(alloc)),
+        Err(RelocateFault::OutOfRange) => Ok(Linkage::faulty(alloc)),
         Ok(patches) => {
             let patches = in_order(patches)?;
-            with_image(alloc, placed, row, &patches, meter)
+            let linkage = with_image(alloc, placed, row, &patches, meter)?;
+            Ok(linkage)
         }
     }
 }
