@@ -17,8 +17,8 @@ use std::io::{BufReader, BufWriter};
 use std::process::ExitCode;
 use std::{env, io};
 
-mod image_writer;
 mod gather;
+mod image_writer;
 mod linker;
 mod place;
 mod relocate;

@@ -13,8 +13,8 @@ ghost use Rattle.ldi.specs.OneSection.{members_of, row_of, rows_with, patched_ro
 ghost use Rattle.emit.specs.Patches.{AreInOrder};
 ghost use Rattle.ldi.specs.Project.{NamedObject};
 
-use crate::image_writer::image;
 use crate::gather::{Gathered, Member, gather};
+use crate::image_writer::image;
 use crate::linker::edit::Linked;
 use crate::linker::named::NamedObject;
 use crate::place::{Placed, place, segments};

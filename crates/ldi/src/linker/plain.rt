@@ -150,7 +150,12 @@ impl Plain {
     }
 
     /// Takes the first object in, and links.
-    fn take_object(&mut self, name: &[u8], object: Object, meter: &mut Meter) -> Result<Linked, AllocError>
+    fn take_object(
+        &mut self,
+        name: &[u8],
+        object: Object,
+        meter: &mut Meter,
+    ) -> Result<Linked, AllocError>
         requires first { self.old.objects ≡ [] }
         requires linkable { is_beyond object ≡ false }
         ensures taken { IfOk result (λ l. (self.new ≡ record self.old { objects = record { name = name.now; object = object } ∷ [] }) × (l ≡ linked_of (link self.new))) }
@@ -177,7 +182,12 @@ impl Plain {
     }
 
     /// Takes an object of the profile in as the first one, if this version links it.
-    fn add_object(&mut self, name: &[u8], object: Object, meter: &mut Meter) -> Result<Linked, EditRefusal>
+    fn add_object(
+        &mut self,
+        name: &[u8],
+        object: Object,
+        meter: &mut Meter,
+    ) -> Result<Linked, EditRefusal>
         requires { self.old.objects ≡ [] }
         ensures { Taken self.old (record { name = name.now; object = object }) self.new result }
     {

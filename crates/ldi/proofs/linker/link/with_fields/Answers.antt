@@ -24,7 +24,7 @@ returns-in-Err-OutOfRange c objects is = c.faulty-in-Err-OutOfRange.ensures ∙ 
 pub returns-in_ok-linkage-in-Ok : goal.returns-in_ok-linkage-in-Ok
 returns-in_ok-linkage-in-Ok c objects is =
     let same : patched_row c.deref.result.now (row_of c.args.row) ≡ patched_row c.in-Ok.patches.items (row_of c.args.row)
-      = rw c.deref.ensures.value (same_row c.args.row c.in-Ok.patches.items c.in_ok-patches-in-Ok.patches.items c.in_ok-patches-in-Ok.ensures.same) in
+    = rw c.deref.ensures.value (same_row c.args.row c.in-Ok.patches.items c.in_ok-patches-in-Ok.patches.items c.in_ok-patches-in-Ok.ensures.same) in
     c.in_ok-linkage-in-Ok.ensures
     ∙ ap (image_with c.args.placed) same
     ∙ sym (with_fields objects c.args.placed c.args.row c.in-Ok.patches.items is c.in-Ok.ensures)
