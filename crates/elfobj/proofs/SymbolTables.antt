@@ -174,3 +174,12 @@ entry_told bytes t s n strings es b e f g h k =
 pub names_told : (n : ℕ) (strings strings' : List ℕ) (es es' : List SymbolEntry) → strings ≡ strings' → es ≡ es' → list_any (is_wrong_symbol n strings) (drop 1 es) ≡ false → list_any (is_wrong_non_local strings') (drop 1 es') ≡ false
 names_told n strings strings' es es' e f h =
     ap (λ x. list_any (is_wrong_non_local x) (drop 1 es')) (sym e) ∙ ap (λ x. list_any (is_wrong_non_local strings) (drop 1 x)) (sym f) ∙ names_right n strings (drop 1 es) h
+
+-- of a table that was looked through
+pub table_same : (bytes file : List ℕ) (h s : SectionHeader) → file ≡ bytes → h ≡ s → file_bytes file h ≡ file_bytes bytes s
+table_same bytes file h s e f = ap (λ x. file_bytes x h) e ∙ ap (λ x. file_bytes bytes x) f
+
+pub named_same : (bytes file : List ℕ) (h s : SectionHeader) (es : List SymbolEntry) (ss : List Symbol) (ps : List Span) → file ≡ bytes → h ≡ s → AreNamed file (symbols_from (file_bytes file h) es) ss ps
+    → AreNamed bytes (symbols_from (file_bytes bytes s) es) ss ps
+named_same bytes file h s es ss ps e f a =
+    subst (λ x. AreNamed bytes (symbols_from (file_bytes bytes x) es) ss ps) f (subst (λ x. AreNamed x (symbols_from (file_bytes x h) es) ss ps) e a)
