@@ -94,3 +94,7 @@ profile_told bytes file names hs r b e f g h k =
     ∙ ap (λ x. list_any (is_outside_profile_by (file_bytes x names)) (headers bytes)) (sym e)
     ∙ ap (λ x. list_any (is_outside_profile_by (file_bytes file names)) x) (sym g)
     ∙ sym h ∙ k
+
+pub passes_told : (bytes file : List ℕ) (names : SectionHeader) (hs : List SectionHeader) (b r : Bool) → b ≡ holds bytes SectionBounds → b ≡ false → file ≡ bytes → names ≡ header bytes (e_shstrndx bytes) → hs ≡ headers bytes
+    → r ≡ list_any (is_outside_profile_by (file_bytes file names)) hs → r ≡ false → PassesTests bytes
+passes_told bytes file names hs b r d l e f g h k = record { bounds = sym d ∙ l; profile = profile_told bytes file names hs r false e f g h k }
