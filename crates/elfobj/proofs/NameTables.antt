@@ -189,8 +189,8 @@ string_told : (table : List ℕ) (at n : ℕ) → first_length (drop at table) �
 unfolding first_length string_at
 string_told table at n e h =
     let r = string_cases (drop at table) (nat_lt (prefix_len (λ b. not (b == 0)) (drop at table)) (length (drop at table))) (prefix_len (λ b. not (b == 0)) (drop at table)) n
-      (ltb-true (prefix_len (λ b. not (b == 0)) (drop at table)) (length (drop at table)))
-      (ap length_of_name (sym (string_cond (drop at table) (nat_lt (prefix_len (λ b. not (b == 0)) (drop at table)) (length (drop at table))) (prefix_len (λ b. not (b == 0)) (drop at table)))) ∙ e) h in
+    (ltb-true (prefix_len (λ b. not (b == 0)) (drop at table)) (length (drop at table)))
+    (ap length_of_name (sym (string_cond (drop at table) (nat_lt (prefix_len (λ b. not (b == 0)) (drop at table)) (length (drop at table))) (prefix_len (λ b. not (b == 0)) (drop at table)))) ∙ e) h in
     (string_cond (drop at table) (nat_lt (prefix_len (λ b. not (b == 0)) (drop at table)) (length (drop at table))) (prefix_len (λ b. not (b == 0)) (drop at table)) ∙ r.0, r.1)
 
 -- what a look-up tells: at this place stands a length, or none

@@ -15,7 +15,8 @@ use Rattle.elfobj.specs.declared.symbol.Binding.{Binding}
 use Rattle.elfobj.specs.declared.symbol.Binding.TheVariants.{Local, Global}
 use Rattle.elfobj.specs.declared.symbol.Symbol.{Symbol}
 use Rattle.elfobj.specs.declared.symbol.SymbolPlace.{SymbolPlace}
-use Rattle.elfobj.specs.declared.symbol.SymbolPlace.TheVariants.{Common}
+use Rattle.elfobj.specs.declared.symbol.SymbolPlace.{SymbolPlace}
+use Rattle.elfobj.specs.declared.symbol.SymbolPlace.TheVariants.{Common, Section}
 
 -- how many bytes of the file a section of so many bytes has
 abbrev pub size_in_file : SectionKind → ℕ → ℕ
@@ -47,6 +48,11 @@ pub record IsCommonBlock (s : Symbol) : Type 0 where
 pub record IsSymbolOfProfile (s : NamedSymbol) : Type 0 where
   pub name : IsNameOf s.symbol.binding s.name
   pub common : s.symbol.place ≡ Common → IsCommonBlock s.symbol
+
+-- a section that a symbol lies in has the number of one of so many headers
+abbrev pub IsSectionBelow : ℕ → SymbolPlace → Type 0
+IsSectionBelow n (Section k) = k.0 < n
+IsSectionBelow n _ = Unit {0}
 
 -- it names one of so many symbols, and its field lies in a section of so many bytes
 pub record IsRelocationOfProfile (symbols size : ℕ) (r : Relocation) : Type 0 where
