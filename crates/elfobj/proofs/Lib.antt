@@ -4,7 +4,7 @@ pub mod Passing
 pub mod Steps
 pub mod Refusals
 pub mod Limits
-pub mod NameEnds
+pub mod NameTables
 pub mod Overlaps
 pub mod Found
 pub mod SymbolTables

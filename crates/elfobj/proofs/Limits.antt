@@ -107,6 +107,7 @@ section_limits bytes k h kind e b p l =
     record {
       name = name_told (name_of bytes h) l.name;
       flags = flags;
+      alloc = parts.0;
       flags_fit = omega arith;
       size = ltb-false 2147483648 h.sh_size large.0;
       alignment = aligned h.sh_addralign large.1;

@@ -1,13 +1,17 @@
 use Rattle.std.proofs.Common.{◌≡◌, ◌⊎◌, ℕ, List, Bool, true, false, cond, refl, ap, ◌∙◌, Option, Some, None, sym, ◌∷◌, [], ◌++◌, inl, inr, ⊎_elim}
-use Rattle.std.specs.List.{find}
+use Rattle.std.specs.List.{find, list_any}
 use Rattle.std.specs.Option.{option_or}
 use Rattle.std.proofs.lemmas.Option.{none-some, same_Some}
 use Rattle.std.proofs.lemmas.Bool.{false≢true}
 use Rattle.std.proofs.lemmas.List.Folds.{find-append}
+use Rattle.elfobj.specs.ElfHeader.{e_shstrndx}
+use Rattle.elfobj.specs.SectionHeaders.{file_bytes, header, headers}
+use Rattle.elfobj.specs.Sections.{name_table}
 use Rattle.elfobj.specs.Linkable.{PassesTests}
-use Rattle.elfobj.specs.Refusal.{holds, header_refusals, section_refusals, symbol_refusals, relocation_refusals, object_refusal}
+use Rattle.elfobj.specs.Refusal.{holds, is_outside_profile_by, header_refusals, section_refusals, symbol_refusals, relocation_refusals, object_refusal}
 use Rattle.elfobj.specs.declared.refusal.ObjectRefusal.{ObjectRefusal}
-use Rattle.elfobj.specs.declared.refusal.ObjectRefusal.TheVariants.{NoMemory}
+use Rattle.elfobj.specs.declared.refusal.ObjectRefusal.TheVariants.{NoMemory, SectionBounds, SectionProfile}
+use Rattle.elfobj.specs.declared.section_header.SectionHeader.{SectionHeader}
 
 -- the ELF header is refused
 pub refused_by_header : (bytes : List ℕ) (r : ObjectRefusal) → find (holds bytes) header_refusals ≡ Some r → object_refusal bytes ≡ Some r
@@ -74,3 +78,23 @@ find_passes p (q ∷ rs) r h = found_or_later (p q) q (find p rs) r p refl h (fi
 pub no_memory_found : (bytes : List ℕ) (rs : List ObjectRefusal) (r : ObjectRefusal) → find (holds bytes) rs ≡ Some r → r ≡ NoMemory → find (holds bytes) rs ≡ None
 unfolding holds
 no_memory_found bytes rs r h e = absurd (false≢true (find_passes (holds bytes) rs NoMemory (h ∙ ap (λ x. Some x) e)))
+
+-- the refusals that section headers give
+pub bounds_refused : (bytes : List ℕ) → holds bytes SectionBounds ≡ true → find (holds bytes) section_refusals ≡ Some SectionBounds
+bounds_refused bytes h = rw h refl
+
+pub profile_refused : (bytes : List ℕ) → holds bytes SectionBounds ≡ false → holds bytes SectionProfile ≡ true → find (holds bytes) section_refusals ≡ Some SectionProfile
+profile_refused bytes h k = rw (h, k) refl
+
+pub profile_told : (bytes file : List ℕ) (names : SectionHeader) (hs : List SectionHeader) (r b : Bool) → file ≡ bytes → names ≡ header bytes (e_shstrndx bytes) → hs ≡ headers bytes → r ≡ list_any (is_outside_profile_by (file_bytes file names)) hs → r ≡ b
+    → holds bytes SectionProfile ≡ b
+unfolding holds name_table
+profile_told bytes file names hs r b e f g h k =
+    ap (λ x. list_any (is_outside_profile_by (file_bytes bytes x)) (headers bytes)) (sym f)
+    ∙ ap (λ x. list_any (is_outside_profile_by (file_bytes x names)) (headers bytes)) (sym e)
+    ∙ ap (λ x. list_any (is_outside_profile_by (file_bytes file names)) x) (sym g)
+    ∙ sym h ∙ k
+
+pub passes_told : (bytes file : List ℕ) (names : SectionHeader) (hs : List SectionHeader) (b r : Bool) → b ≡ holds bytes SectionBounds → b ≡ false → file ≡ bytes → names ≡ header bytes (e_shstrndx bytes) → hs ≡ headers bytes
+    → r ≡ list_any (is_outside_profile_by (file_bytes file names)) hs → r ≡ false → PassesTests bytes
+passes_told bytes file names hs b r d l e f g h k = record { bounds = sym d ∙ l; profile = profile_told bytes file names hs r false e f g h k }

@@ -1,19 +1,22 @@
-use Rattle.std.proofs.Common.{◌≡◌, ℕ, ◌/◌, ◌<◌, List, [], ◌∷◌, Bool, true, false, cond, not, length, map, drop, refl, ap, sym, ◌∙◌, arith, ⊎_elim, Option, Some, None, eqb}
+use Rattle.std.proofs.Common.{◌≡◌, ℕ, suc, ◌+◌, ◌/◌, ◌<◌, ◌≤◌, List, [], ◌∷◌, Bool, true, false, cond, not, ◌||◌, ◌&&◌, length, map, drop, refl, ap, sym, ◌∙◌, subst, arith, ⊎_elim, Option, Some, None, eqb, nat_lt}
 use Rattle.std.specs.Prelude.{IsTrue}
 use Rattle.std.specs.List.{All, list_any}
+use Rattle.std.specs.Int.{is_power_of_two}
 use Rattle.std.specs.Option.{option_map_or, unwrap_or}
-use Rattle.std.proofs.lemmas.Bool.{and_cases, or_parts, not-false, false≢true, eqb-true, ltb-false}
+use Rattle.std.proofs.lemmas.Bool.{cases_Bool, and_cases, or_parts, not-false, false≢true, eqb-true, ltb-false, ltb-true}
 use Rattle.std.proofs.lemmas.List.{length-map}
 use Rattle.std.proofs.lemmas.List.Elements.{All-cons, All-nil}
 use Rattle.elfobj.specs.ElfHeader.{e_shnum}
 use Rattle.elfobj.specs.Names.{is_name, string_at}
-use Rattle.elfobj.specs.Profile.{IsCommonBlock, IsNameOf, IsSymbolOfProfile}
+use Rattle.elfobj.specs.Profile.{IsCommonBlock, IsNameOf, IsSectionBelow, IsSymbolOfProfile}
 use Rattle.elfobj.specs.Refusal.{holds, object_refusal}
 use Rattle.elfobj.specs.SymbolEntries.{st_bind}
-use Rattle.elfobj.specs.Symbols.{binding_of, entries_of, named_symbol, null_symbol, strings_of, symbol_of, symbol_table, symbols_from, symbols_in, symbols_of}
+use Rattle.elfobj.specs.Symbols.{NamedSymbol, binding_of, entries_of, named_symbol, null_symbol, strings_of, symbol_name, symbol_of, symbol_place_of, symbol_table, symbols_from, symbols_in, symbols_of}
 use Rattle.elfobj.specs.Tables.{has_wrong_entry, has_wrong_symbol, is_local, is_not_local, is_wrong_common, is_wrong_non_local, is_wrong_symbol}
 use Rattle.elfobj.specs.declared.section_header.SectionHeader.{SectionHeader}
+use Rattle.elfobj.specs.declared.symbol.Binding.{Binding}
 use Rattle.elfobj.specs.declared.symbol.Binding.TheVariants.{Local, Global, Weak}
+use Rattle.elfobj.specs.declared.symbol.SymbolPlace.{SymbolPlace}
 use Rattle.elfobj.specs.declared.symbol.SymbolPlace.TheVariants.{Common, Undefined, Absolute, Section}
 use Rattle.elfobj.specs.declared.symbol_entry.SymbolEntry.{SymbolEntry}
 use Rattle.elfobj.proofs.Limits.{accepted_parts, name_told}
@@ -61,27 +64,56 @@ symbol_limits n strings e h =
       common = common_right e a.1;
     }
 
-all_symbols : (n : ℕ) (strings : List ℕ) (es : List SymbolEntry) → list_any (is_wrong_symbol n strings) es ≡ false → All IsSymbolOfProfile (map (named_symbol strings) es)
-all_symbols n strings [] h = All-nil IsSymbolOfProfile
-all_symbols n strings (e ∷ es) h =
+-- a section that a symbol lies in
+below_told : (b : Bool) → ((not b) && true && true) ≡ false → b ≡ true
+below_told true h = refl
+below_told false h = absurd (false≢true (sym h))
+
+place_below : (n k : ℕ) (u a c : Bool) → ((not (nat_lt k n)) && (not a) && (not c)) ≡ false → IsSectionBelow n (cond u Undefined (cond a Absolute (cond c Common (Section (record { 0 = k })))))
+place_below n k true a c h = tt
+place_below n k false true c h = tt
+place_below n k false false true h = tt
+place_below n k false false false h = ltb-true k n (below_told (nat_lt k n) h)
+
+symbol_section : (n : ℕ) (strings : List ℕ) (e : SymbolEntry) → is_wrong_symbol n strings e ≡ false → IsSectionBelow n (symbol_of e).place
+unfolding symbol_of
+symbol_section n strings e h =
+    let a = or_parts _ _ h in
+    let b = or_parts _ _ a.0 in
+    let c = or_parts _ _ b.0 in
+    let d = or_parts _ _ c.0 in
+    place_below n e.st_shndx (eqb e.st_shndx 0) (eqb e.st_shndx 65521) (eqb e.st_shndx 65522) d.1
+
+-- what holds of the null entry, and of each entry that isn't wrong
+record HoldsOfRight (P : NamedSymbol → Type 0) (n : ℕ) : Type 0 where
+  pub null : P null_symbol
+  pub each : (strings : List ℕ) (e : SymbolEntry) → is_wrong_symbol n strings e ≡ false → P (named_symbol strings e)
+
+all_symbols : (P : NamedSymbol → Type 0) (n : ℕ) (strings : List ℕ) → HoldsOfRight P n → (es : List SymbolEntry) → list_any (is_wrong_symbol n strings) es ≡ false → All P (map (named_symbol strings) es)
+all_symbols P n strings r [] h = All-nil P
+all_symbols P n strings r (e ∷ es) h =
     let p = or_parts _ _ h in
-    All-cons IsSymbolOfProfile _ _ (symbol_limits n strings e p.0) (all_symbols n strings es p.1)
+    All-cons P _ _ (r.each strings e p.0) (all_symbols P n strings r es p.1)
 
-null_limits : IsSymbolOfProfile null_symbol
-null_limits = record { name = refl; common = λ h. cc }
+from_limits : (P : NamedSymbol → Type 0) (n : ℕ) (strings : List ℕ) → HoldsOfRight P n → (es : List SymbolEntry) → list_any (is_wrong_symbol n strings) (drop 1 es) ≡ false → All P (symbols_from strings es)
+from_limits P n strings r [] h = All-nil P
+from_limits P n strings r (e ∷ es) h = All-cons P _ _ r.null (all_symbols P n strings r es h)
 
-from_limits : (n : ℕ) (strings : List ℕ) (es : List SymbolEntry) → list_any (is_wrong_symbol n strings) (drop 1 es) ≡ false → All IsSymbolOfProfile (symbols_from strings es)
-from_limits n strings [] h = All-nil IsSymbolOfProfile
-from_limits n strings (e ∷ es) h = All-cons IsSymbolOfProfile _ _ null_limits (all_symbols n strings es h)
+in_limits : (P : NamedSymbol → Type 0) (bytes : List ℕ) → HoldsOfRight P (e_shnum bytes) → (o : Option SectionHeader) → option_map_or (has_wrong_entry bytes) o false ≡ false → All P (symbols_in bytes o)
+in_limits P bytes r None h = All-nil P
+in_limits P bytes r (Some t) h = from_limits P (e_shnum bytes) (strings_of bytes t) r (entries_of bytes t) h
 
-in_limits : (bytes : List ℕ) (o : Option SectionHeader) → option_map_or (has_wrong_entry bytes) o false ≡ false → All IsSymbolOfProfile (symbols_in bytes o)
-in_limits bytes None h = All-nil IsSymbolOfProfile
-in_limits bytes (Some t) h = from_limits (e_shnum bytes) (strings_of bytes t) (entries_of bytes t) h
+all_limits : (P : NamedSymbol → Type 0) (bytes : List ℕ) → HoldsOfRight P (e_shnum bytes) → object_refusal bytes ≡ None → All P (symbols_of bytes)
+unfolding holds has_wrong_symbol symbols_of
+all_limits P bytes r h = in_limits P bytes r (symbol_table bytes) (accepted_parts bytes h).symbol
 
 -- each symbol of an object is within the profile
 pub symbol_limits_of : (bytes : List ℕ) → object_refusal bytes ≡ None → All IsSymbolOfProfile (symbols_of bytes)
-unfolding holds has_wrong_symbol symbols_of
-symbol_limits_of bytes h = in_limits bytes (symbol_table bytes) (accepted_parts bytes h).symbol
+symbol_limits_of bytes h = all_limits IsSymbolOfProfile bytes (record { null = record { name = refl; common = λ h. cc }; each = symbol_limits (e_shnum bytes) }) h
+
+-- and in one of its sections, if in any
+pub symbol_sections_of : (bytes : List ℕ) → object_refusal bytes ≡ None → All (λ (s : NamedSymbol). IsSectionBelow (e_shnum bytes) s.symbol.place) (symbols_of bytes)
+symbol_sections_of bytes h = all_limits (λ s. IsSectionBelow (e_shnum bytes) s.symbol.place) bytes (record { null = tt; each = symbol_section (e_shnum bytes) }) h
 
 from_length : (strings : List ℕ) (es : List SymbolEntry) → length (symbols_from strings es) ≡ length es
 from_length strings [] = refl

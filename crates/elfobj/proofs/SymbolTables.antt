@@ -1,8 +1,9 @@
-use Rattle.std.proofs.Common.{◌≡◌, ℕ, zero, suc, ◌+◌, ◌*◌, ◌/◌, ◌%◌, ◌<◌, ◌≤◌, List, [], ◌∷◌, ◌++◌, Bool, true, false, get_or, length, map, take, drop, refl, ap, sym, ◌∙◌, subst, arith, find, Option, Some, None, nat_lt, eqb}
-use Rattle.std.specs.List.{list_any, count_by}
-use Rattle.std.proofs.lemmas.Bool.{or_parts, or_from, or_left, or_right, not-false, false≢true, eqb-true, ltb-false}
+use Rattle.std.proofs.Common.{◌≡◌, ℕ, zero, suc, ◌+◌, ◌*◌, ◌/◌, ◌%◌, ◌<◌, ◌≤◌, List, [], ◌∷◌, ◌++◌, Bool, true, false, cond, not, ◌||◌, ◌&&◌, get_or, length, map, take, drop, refl, ap, sym, ◌∙◌, subst, arith, ⊎_elim, find, Option, Some, None, nat_lt, eqb}
+use Rattle.std.specs.List.{list_any, count_by, slice_get}
+use Rattle.std.specs.Option.{option_map_or}
+use Rattle.std.proofs.lemmas.Bool.{cases_Bool, or_parts, or_from, or_left, or_right, not-false, false≢true, eqb-true, ltb-false, false_from_ne_true}
 use Rattle.std.proofs.lemmas.List.{length-append, take_more, map_push}
-use Rattle.std.proofs.lemmas.List.Elements.{All-push, All-nil}
+use Rattle.std.proofs.lemmas.List.Elements.{All-push, All-cons, All-nil}
 use Rattle.elfobj.specs.ElfHeader.{e_shnum}
 use Rattle.elfobj.specs.Linkable.{PassesTests}
 use Rattle.elfobj.specs.Places.{AreNamed, IsInside, bytes_at}
@@ -173,3 +174,12 @@ entry_told bytes t s n strings es b e f g h k =
 pub names_told : (n : ℕ) (strings strings' : List ℕ) (es es' : List SymbolEntry) → strings ≡ strings' → es ≡ es' → list_any (is_wrong_symbol n strings) (drop 1 es) ≡ false → list_any (is_wrong_non_local strings') (drop 1 es') ≡ false
 names_told n strings strings' es es' e f h =
     ap (λ x. list_any (is_wrong_non_local x) (drop 1 es')) (sym e) ∙ ap (λ x. list_any (is_wrong_non_local strings) (drop 1 x)) (sym f) ∙ names_right n strings (drop 1 es) h
+
+-- of a table that was looked through
+pub table_same : (bytes file : List ℕ) (h s : SectionHeader) → file ≡ bytes → h ≡ s → file_bytes file h ≡ file_bytes bytes s
+table_same bytes file h s e f = ap (λ x. file_bytes x h) e ∙ ap (λ x. file_bytes bytes x) f
+
+pub named_same : (bytes file : List ℕ) (h s : SectionHeader) (es : List SymbolEntry) (ss : List Symbol) (ps : List Span) → file ≡ bytes → h ≡ s → AreNamed file (symbols_from (file_bytes file h) es) ss ps
+    → AreNamed bytes (symbols_from (file_bytes bytes s) es) ss ps
+named_same bytes file h s es ss ps e f a =
+    subst (λ x. AreNamed bytes (symbols_from (file_bytes bytes x) es) ss ps) f (subst (λ x. AreNamed x (symbols_from (file_bytes x h) es) ss ps) e a)

@@ -2,8 +2,10 @@ pub mod Numbers
 pub mod ElfHeader
 pub mod SectionTable
 pub mod SectionHeaders
+pub mod TableOf
 pub mod LinkedKinds
 pub mod Names
+pub mod NameLengths
 pub mod SymbolEntries
 pub mod Symbols
 pub mod RelocationEntries

@@ -15,7 +15,3 @@ is_graphic b = nat_le 33 b && nat_le b 126
 -- 1 to 65,535 graphic bytes
 unfoldable pub is_name : List ℕ → Bool
 is_name name = nat_le 1 (length name) && nat_le (length name) 65535 && list_all is_graphic name
-
--- the bytes among which a name within the limits ends, from where it begins
-unfoldable pub name_room : List ℕ → List ℕ
-name_room bytes = take 65536 bytes

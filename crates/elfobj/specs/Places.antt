@@ -1,4 +1,4 @@
--- The places of names, bytes and relocations, told of what they are places in.
+-- What it means that places in a file or a list are those of names, bytes or relocations.
 use Rattle.std.specs.Prelude.{◌≡◌, ℕ, ◌+◌, ◌≤◌, List, length, map}
 use Rattle.std.specs.List.{All, slice_range}
 use Rattle.elfobj.specs.Sections.{LinkedSection, section_of}
@@ -54,7 +54,7 @@ pub record AreNamed (file : List ℕ) (named : List NamedSymbol) (read : List Sy
   pub names : map (bytes_at file) places ≡ map (λ s. s.name) named
   pub within : All (IsInside (length file)) places
 
--- the relocations of each section, one section after another, and the places of each section's
+-- each place cuts the relocations of its section out of all of them; how they stand among all is not said
 pub record AreRelocated (lists_of : List (List Relocation)) (all : List Relocation) (places : List Span) : Type 0 where
   pub lists : map (relocations_in all) places ≡ lists_of
   pub within : All (IsInside (length all)) places

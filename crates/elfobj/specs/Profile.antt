@@ -1,5 +1,5 @@
 -- What holds of each linked section, each symbol and each relocation of an object.
-use Rattle.std.specs.Prelude.{◌≡◌, ℕ, ◌^◌, ◌<◌, ◌≤◌, ◌⊎◌, List, [], length, false, IsTrue}
+use Rattle.std.specs.Prelude.{◌≡◌, ℕ, ◌^◌, ◌<◌, ◌≤◌, ◌⊎◌, List, [], length, false, not, ◌==◌, bit_and, IsTrue}
 use Rattle.std.specs.List.{All, AllPairs}
 use Rattle.std.specs.Int.{is_power_of_two}
 use Rattle.std.specs.Int.Bits.{bit_or}
@@ -7,24 +7,27 @@ use Rattle.elfobj.specs.Names.{is_name}
 use Rattle.elfobj.specs.Relocations.{field_end, meets}
 use Rattle.elfobj.specs.Sections.{LinkedSection}
 use Rattle.elfobj.specs.Symbols.{NamedSymbol}
-use Rattle.elfobj.specs.declared.constants.TheConstants.{PROFILE_FLAGS}
+use Rattle.elfobj.specs.declared.constants.TheConstants.{PROFILE_FLAGS, SHF_ALLOC}
 use Rattle.elfobj.specs.declared.relocation.Relocation.{Relocation}
 use Rattle.elfobj.specs.declared.section.SectionKind.{SectionKind}
 use Rattle.elfobj.specs.declared.section.SectionKind.TheVariants.{Nobits}
 use Rattle.elfobj.specs.declared.symbol.Binding.{Binding}
 use Rattle.elfobj.specs.declared.symbol.Binding.TheVariants.{Local, Global}
 use Rattle.elfobj.specs.declared.symbol.Symbol.{Symbol}
-use Rattle.elfobj.specs.declared.symbol.SymbolPlace.TheVariants.{Common}
+use Rattle.elfobj.specs.declared.symbol.SymbolPlace.{SymbolPlace}
+use Rattle.elfobj.specs.declared.symbol.SymbolPlace.{SymbolPlace}
+use Rattle.elfobj.specs.declared.symbol.SymbolPlace.TheVariants.{Common, Section}
 
 -- how many bytes of the file a section of so many bytes has
 abbrev pub size_in_file : SectionKind → ℕ → ℕ
 size_in_file Nobits size = 0
 size_in_file _ size = size
 
--- its name, flags, size and alignment are within the profile, and all of its bytes
+-- its name, flags, size and alignment are within the profile, ALLOC is among its flags, and it has all of its bytes
 pub record IsSectionOfProfile (s : LinkedSection) : Type 0 where
   pub name : IsTrue (is_name s.name)
   pub flags : bit_or s.flags PROFILE_FLAGS ≡ PROFILE_FLAGS
+  pub alloc : IsTrue (not (bit_and s.flags SHF_ALLOC == 0))
   pub flags_fit : s.flags < 2 ^ 64
   pub size : s.size ≤ 2 ^ 31
   pub alignment : (s.alignment ≡ 0) ⊎ IsTrue (is_power_of_two s.alignment)
@@ -41,10 +44,15 @@ pub record IsCommonBlock (s : Symbol) : Type 0 where
   pub alignment : IsTrue (is_power_of_two s.value)
   pub size : s.size ≤ 2 ^ 31
 
--- its name is within the limits, and so is a common block
+-- its name is within the limits, but a local symbol has none here; a common block is within the profile
 pub record IsSymbolOfProfile (s : NamedSymbol) : Type 0 where
   pub name : IsNameOf s.symbol.binding s.name
   pub common : s.symbol.place ≡ Common → IsCommonBlock s.symbol
+
+-- a section that a symbol lies in has the number of one of so many headers
+abbrev pub IsSectionBelow : ℕ → SymbolPlace → Type 0
+IsSectionBelow n (Section k) = k.0 < n
+IsSectionBelow n _ = Unit {0}
 
 -- it names one of so many symbols, and its field lies in a section of so many bytes
 pub record IsRelocationOfProfile (symbols size : ℕ) (r : Relocation) : Type 0 where

@@ -23,7 +23,7 @@ pub record LinkedSection : Type 0 where
   pub bytes : List ℕ
   pub relocations : List Relocation
 
--- what callers see without the name and the bytes
+-- what callers see without the name, the bytes and the relocations
 abbrev pub section_of : LinkedSection → Section
 section_of s = record { number = s.number; kind = s.kind; flags = s.flags; size = s.size; alignment = s.alignment }
 

@@ -39,7 +39,7 @@ is_local e = st_bind e == STB_LOCAL
 abbrev pub is_not_local : SymbolEntry → Bool
 is_not_local e = not (is_local e)
 
--- of the entries from 1 on, those below sh_info are local and all others are not
+-- of the entries from 1 on, one below sh_info is not local, or one from sh_info on is
 abbrev pub has_misplaced_entry : SectionHeader → List SymbolEntry → Bool
 has_misplaced_entry table entries = (not (list_all is_local (slice_range entries 1 table.sh_info))) || list_any is_local (drop table.sh_info entries)
 
@@ -53,11 +53,12 @@ has_wrong_symbol_table bytes = nat_lt 1 (count_by is_symbol_table (headers bytes
 abbrev pub is_nowhere : ℕ → SymbolEntry → Bool
 is_nowhere n e = (not (nat_lt e.st_shndx n)) && (not (e.st_shndx == SHN_ABS)) && (not (e.st_shndx == SHN_COMMON))
 
--- a local symbol that isn't defined in the object
+-- a local symbol at UNDEF or COMMON
 abbrev pub is_wrong_local : SymbolEntry → Bool
 is_wrong_local e = is_local e && ((e.st_shndx == SHN_UNDEF) || (e.st_shndx == SHN_COMMON))
 
--- a section or file, or a name without an end in the table of names or outside the limits
+-- a symbol that isn't local: of type section or file, or with a name without an end in the string table or outside the
+-- limits
 abbrev pub is_wrong_non_local : List ℕ → SymbolEntry → Bool
 is_wrong_non_local strings e =
     is_not_local e
@@ -84,20 +85,20 @@ has_wrong_symbol bytes = option_map_or (has_wrong_entry bytes) (symbol_table byt
 abbrev pub is_linked : List SectionHeader → ℕ → Bool
 is_linked all k = option_map_or (λ h. is_some (linked_kind h)) (slice_get all k) false
 
--- without addends, or with entries of another size than 24 or not a whole number of them, or of another symbol table
--- than the object's, if it has one
+-- without addends, or with entries of another size than 24 or not a whole number of them, or not of the object's symbol
+-- table (always, if it has none)
 abbrev pub is_wrong_table : Option ℕ → SectionHeader → Bool
 is_wrong_table symtab h =
     (h.sh_type == SHT_REL) || (not (h.sh_entsize == 24)) || (not (h.sh_size % 24 == 0)) || (not (option_map_or (λ n. h.sh_link == n) symtab false))
 
--- a relocation section that changes no section, or a linked one in a way outside the profile; `others` are the headers
--- before its own
+-- a relocation section whose sh_info is no header's number, or that changes a linked section in a way outside the
+-- profile; `others` are the headers before its own
 abbrev pub is_wrong_relocation_section : List SectionHeader → Option ℕ → List SectionHeader → SectionHeader → Bool
 is_wrong_relocation_section all symtab others h =
     is_relocation_section h
     && (nat_le (length all) h.sh_info || (is_linked all h.sh_info && (is_some (find (changes h.sh_info) others) || is_wrong_table symtab h)))
 
--- one of the first n headers is so
+-- one of the first n headers is that of a wrong relocation section
 abbrev pub is_wrong_below : List ℕ → ℕ → Bool
 is_wrong_below bytes zero = false
 is_wrong_below bytes (suc n) =
@@ -126,7 +127,7 @@ has_strange_type bytes s = list_any is_strange_type (relocation_entries bytes s.
 unfoldable pub has_wrong_type : List ℕ → Bool
 has_wrong_type bytes = list_any (has_strange_type bytes) (linked_sections bytes)
 
--- past the end of a section, or in one that has no bytes
+-- past the end of a section, or in one that has no bytes in the file (NOBITS)
 abbrev pub is_outside : SectionKind → ℕ → Relocation → Bool
 is_outside Nobits size r = true
 is_outside _ size r = nat_lt size (field_end r)

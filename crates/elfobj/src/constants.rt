@@ -104,4 +104,4 @@ pub const R_X86_64_PC64: u32 = 24;
 /// The greatest size of a section or of a common block, in bytes.
 pub const MAX_SECTION_SIZE: u64 = 0x8000_0000;
 /// The greatest length of the name of a section or of a symbol that isn't local, in bytes.
-pub const MAX_NAME_LENGTH: usize = 65535;
+pub const MAX_NAME_LENGTH: u16 = 65535;

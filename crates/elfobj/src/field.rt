@@ -10,7 +10,8 @@ use crate::relocation::Relocation;
 use crate::section::SectionKind;
 use std::alloc::{AllocError, Global};
 
-/// Whether a relocation changes a byte past the end of its section of `size` bytes, or one that has no bytes.
+/// Whether a relocation changes a byte past the end of its section of `size` bytes, or lies in one that has no bytes in
+/// the file.
 fn is_outside(relocation: &Relocation, kind: SectionKind, size: u64) -> bool
     ensures { result ≡ is_outside kind size relocation.now }
 {
@@ -20,7 +21,8 @@ fn is_outside(relocation: &Relocation, kind: SectionKind, size: u64) -> bool
     }
 }
 
-/// Whether one of these changes a byte past the end of its section of `size` bytes, or one that has no bytes.
+/// Whether one of these changes a byte past the end of its section of `size` bytes, or lies in one that has no bytes in
+/// the file.
 pub fn is_any_outside(relocations: &[Relocation], kind: SectionKind, size: u64) -> bool
     ensures { result ≡ list_any (is_outside kind size) relocations.now }
 {

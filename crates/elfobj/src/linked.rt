@@ -7,6 +7,7 @@ ghost use Rattle.elfobj.specs.SectionHeaders.{headers as headers_of};
 ghost use Rattle.elfobj.specs.Sections.{linked_as, sections_of};
 ghost use Rattle.elfobj.specs.SectionTable.{HasSectionTable};
 
+use crate::names::NameTable;
 use crate::place::{Place, place_of};
 use crate::section::{Section, SectionIndex, SectionKind};
 use crate::section_header::SectionHeader;
@@ -25,12 +26,13 @@ pub struct Linked {
 #[tactic(auto, unfolding(crate::specs::Sections::name_table))]
 fn placed_section(
     bytes: &[u8],
-    names: &SectionHeader,
+    names: &NameTable,
     number: u16,
     header: &SectionHeader,
     kind: SectionKind,
 ) -> (Section, Place)
-    requires names { IsNameTable bytes.now names.now }
+    requires names { IsNameTable bytes.now names.now.header }
+    requires file { names.now.file.now ≡ bytes.now }
     requires linkable { IsLinkable bytes.now header.now kind }
     ensures { IsPlaced bytes.now (linked_as bytes.now number header.now kind) result.0 result.1 }
 {
@@ -41,7 +43,7 @@ fn placed_section(
         size: header.sh_size,
         alignment: header.sh_addralign,
     };
-    (section, place_of(bytes, names, header, kind))
+    (section, place_of(names, header, kind, bytes.len()))
 }
 
 impl Linked {
@@ -59,11 +61,12 @@ impl Linked {
 pub fn linked_sections(
     alloc: Global,
     bytes: &[u8],
-    names: &SectionHeader,
+    names: &NameTable,
     headers: &[SectionHeader],
 ) -> Result<Linked, AllocError>
     requires table { HasSectionTable bytes.now }
-    requires names { IsNameTable bytes.now names.now }
+    requires names { IsNameTable bytes.now names.now.header }
+    requires file { names.now.file.now ≡ bytes.now }
     requires headers { headers.now ≡ headers_of bytes.now }
     requires tests { PassesTests bytes.now }
     ensures { IfOk result (λ l. AreRead bytes.now (sections_of bytes.now) l.sections.items l.places.items) }

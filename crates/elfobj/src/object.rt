@@ -41,8 +41,9 @@ impl Model for Object {
 }
 
 impl Object {
+    ghost use Rattle.elfobj.specs.ElfHeader.{e_shnum};
     ghost use Rattle.elfobj.specs.Object.{object_of};
-    ghost use Rattle.elfobj.specs.Profile.{HasRelocationsOfProfile, IsSectionOfProfile, IsSymbolOfProfile};
+    ghost use Rattle.elfobj.specs.Profile.{HasRelocationsOfProfile, IsSectionBelow, IsSectionOfProfile, IsSymbolOfProfile};
     ghost use Rattle.elfobj.specs.Refusal.{header_refusals, holds, object_refusal};
     ghost use Rattle.elfobj.specs.Sections.{section_of};
 
@@ -123,6 +124,7 @@ impl Object {
     pub fn symbols(&self) -> &[Symbol]
         ensures value { result.now ≡ map (λ s. s.symbol) self.now.symbols }
         ensures limits { All IsSymbolOfProfile self.now.symbols }
+        ensures sections { All (λ s. IsSectionBelow (e_shnum self.now.text) s.symbol.place) self.now.symbols }
         ensures few { length self.now.symbols < 2 ^ 32 }
     {
         &self.symbols

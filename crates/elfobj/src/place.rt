@@ -1,14 +1,14 @@
 //! Where the name and the bytes of a linked section lie in the file.
 
-ghost use Rattle.std.specs.Prelude.{◌≡◌, ℕ, ◌≤◌, ◌+◌, List, [], false, length, true, unwrap_or};
+ghost use Rattle.std.specs.Prelude.{◌≡◌, ℕ, ◌≤◌, List, [], false, length, true, unwrap_or};
 ghost use Rattle.std.specs.List.{slice_range};
 ghost use Rattle.std.specs.Option.{option_map_or};
 ghost use Rattle.elfobj.specs.Names.{string_at, is_name};
-ghost use Rattle.elfobj.specs.Places.{IsWithin, IsFileWithin, IsInside, name_in, bytes_in, bytes_at};
-ghost use Rattle.elfobj.specs.SectionHeaders.{file_bytes};
+ghost use Rattle.elfobj.specs.Places.{IsWithin, IsFileWithin, name_in, bytes_in};
 ghost use Rattle.elfobj.specs.Sections.{contents};
+ghost use Rattle.elfobj.specs.TableOf.{table_of};
 
-use crate::names::name_length;
+use crate::names::NameTable;
 use crate::section::SectionKind;
 use crate::section_header::SectionHeader;
 
@@ -50,38 +50,17 @@ fn file_range(header: &SectionHeader, kind: SectionKind, len: usize) -> (usize, 
     }
 }
 
-/// Where the name lies in the file that begins at this offset of the string table that `names` is the header of.
-pub fn name_place(bytes: &[u8], names: &SectionHeader, at: u32) -> Span
-    requires names { names.now.sh_offset + names.now.sh_size ≤ length bytes.now }
-    requires name { option_map_or is_name (string_at (file_bytes bytes.now names.now) at) false ≡ true }
-    ensures within { IsInside (length bytes.now) result }
-    ensures name { bytes_at bytes.now result ≡ unwrap_or (string_at (file_bytes bytes.now names.now) at) [] }
+/// The place of a section, whose name stands in this table.
+pub fn place_of(names: &NameTable, header: &SectionHeader, kind: SectionKind, len: usize) -> Place
+    requires name { option_map_or is_name (string_at (table_of names.now) header.now.sh_name) false ≡ true }
+    requires file { IsFileWithin len header.now kind }
+    requires len { len ≡ length names.now.file.now }
+    ensures within { IsWithin len result }
+    ensures name { name_in names.now.file.now result ≡ unwrap_or (string_at (table_of names.now) header.now.sh_name) [] }
+    ensures bytes { bytes_in names.now.file.now result ≡ contents names.now.file.now header.now kind }
 {
-    let at = at as usize;
-    let length = name_length(names.file_bytes(bytes), at).unwrap();
-    let start = names.sh_offset as usize + at;
-    Span {
-        start,
-        end: start + length,
-    }
-}
-
-/// The place of a section, whose name stands in the table that `names` is the header of.
-pub fn place_of(
-    bytes: &[u8],
-    names: &SectionHeader,
-    header: &SectionHeader,
-    kind: SectionKind,
-) -> Place
-    requires names { names.now.sh_offset + names.now.sh_size ≤ length bytes.now }
-    requires name { option_map_or is_name (string_at (file_bytes bytes.now names.now) header.now.sh_name) false ≡ true }
-    requires file { IsFileWithin (length bytes.now) header.now kind }
-    ensures within { IsWithin (length bytes.now) result }
-    ensures name { name_in bytes.now result ≡ unwrap_or (string_at (file_bytes bytes.now names.now) header.now.sh_name) [] }
-    ensures bytes { bytes_in bytes.now result ≡ contents bytes.now header.now kind }
-{
-    let name = name_place(bytes, names, header.sh_name);
-    let (start, end) = file_range(header, kind, bytes.len());
+    let name = names.name_place(header.sh_name);
+    let (start, end) = file_range(header, kind, len);
     Place {
         name_start: name.start,
         name_end: name.end,

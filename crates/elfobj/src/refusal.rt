@@ -1,7 +1,9 @@
 //! Why bytes are no object of the profile.
 
-/// Why `Object::read` refuses. The number of a refusal is its place in the order of the tests: the
-/// lowest whose condition holds is answered, and want of memory stands apart.
+/// Why `Object::read` refuses. The numbers from 1 to 13 are those of conditions on the bytes, in the order of the
+/// tests: the lowest whose condition holds is answered. `NoMemory` is no condition on the bytes, and may stand in the
+/// place of any answer that the ELF header alone does not give. It has the last number, 14, so that each refusal is told
+/// by one.
 #[derive(Clone, Copy, Debug, PartialEq, Eq)]
 pub enum ObjectRefusal {
     /// 1: fewer bytes than an ELF header has.
@@ -24,12 +26,12 @@ pub enum ObjectRefusal {
     SymbolTable,
     /// 9: a symbol with a binding, a type, a section, a name or a common block that the profile does not have.
     Symbol,
-    /// 10: a relocation section that changes no section; or one of a linked section that has no addends, is the
-    /// second, has a wrong header, or names a symbol that isn't there.
+    /// 10: a relocation section whose `sh_info` is no header's number; or one of a linked section that has no addends,
+    /// is the second, has a wrong header, or names a symbol that isn't there.
     RelocationSection,
     /// 11: a relocation of a linked section whose type the profile does not have.
     RelocationType,
-    /// 12: a relocation past the end of its section, or in a section that has no bytes.
+    /// 12: a relocation past the end of its section, or in a section that has no bytes in the file (NOBITS).
     FieldBounds,
     /// 13: two relocations of one section that share a byte.
     FieldOverlap,

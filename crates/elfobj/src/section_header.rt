@@ -9,7 +9,7 @@ use crate::constants::{
     MAX_SECTION_SIZE, PROFILE_FLAGS, SHF_ALLOC, SHT_NOBITS, SHT_NULL, SHT_REL, SHT_RELA, SHT_SYMTAB,
 };
 use crate::elf_header::{section_count, section_table_offset};
-use crate::names::name_length;
+use crate::names::NameTable;
 use crate::numbers::{read_u32, read_u64};
 use crate::section::SectionKind;
 use std::alloc::{AllocError, Global};
@@ -58,6 +58,7 @@ impl SectionHeader {
     ghost use Rattle.elfobj.specs.Relocations.{is_relocation_section};
     ghost use Rattle.elfobj.specs.SectionHeaders.{file_bytes};
     ghost use Rattle.elfobj.specs.Symbols.{is_symbol_table};
+    ghost use Rattle.elfobj.specs.TableOf.{table_of};
 
     fn is_looked_at(&self) -> bool
         ensures { result ≡ is_looked_at self.now }
@@ -86,14 +87,14 @@ impl SectionHeader {
 
     /// Whether it is allocated, and has a type that isn't linked, a flag outside the profile, or no name
     /// within the limits in the name table.
-    pub fn is_outside_profile(&self, table: &[u8]) -> bool
-        ensures { result ≡ is_outside_profile_by table.now self.now }
+    pub fn is_outside_profile(&self, names: &NameTable) -> bool
+        ensures { result ≡ is_outside_profile_by (table_of names.now) self.now }
     {
         self.is_looked_at()
             && self.is_alloc()
             && (SectionKind::of_type(self.sh_type).is_none()
                 || self.sh_flags | PROFILE_FLAGS != PROFILE_FLAGS
-                || name_length(table, self.sh_name as usize).is_none())
+                || names.name_length(self.sh_name).is_none())
     }
 
     /// Whether it is that of a symbol table.

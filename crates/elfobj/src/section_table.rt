@@ -1,17 +1,19 @@
 //! The tests of the section headers, and what they leave to read.
 
-ghost use Rattle.std.specs.Prelude.{◌≡◌, ◌⊎◌, ◌++◌, IfErr, IfNone, IfOk, IfSome, None, Some, find};
+ghost use Rattle.std.specs.Prelude.{◌≡◌, ◌⊎◌, ◌++◌, IfErr, IfNone, IfOk, IfSome, None, Some, false, find};
 ghost use Rattle.std.specs.List.{list_any};
 ghost use Rattle.elfobj.specs.Linkable.{ArePartsOf, IsNameTable, PassesTests};
 ghost use Rattle.elfobj.specs.ElfHeader.{e_shstrndx};
-ghost use Rattle.elfobj.specs.Refusal.{holds, is_out_of_bounds, is_outside_profile_by, header_refusals, object_refusal, relocation_refusals, section_refusals, symbol_refusals};
+ghost use Rattle.elfobj.specs.Refusal.{holds, is_out_of_bounds, is_outside_profile_by, header_refusals, object_refusal, relocation_refusals, symbol_refusals};
 ghost use Rattle.elfobj.specs.SectionHeaders.{header, headers as headers_of};
 ghost use Rattle.elfobj.specs.SectionTable.{HasSectionTable};
-ghost use Rattle.elfobj.specs.declared.refusal.ObjectRefusal.TheVariants.{NoMemory};
+ghost use Rattle.elfobj.specs.TableOf.{table_of};
+ghost use Rattle.elfobj.specs.declared.refusal.ObjectRefusal.TheVariants.{NoMemory, SectionBounds};
 
 use crate::constants::SHT_STRTAB;
 use crate::elf_header::{header_refusal, name_table_number};
 use crate::linked::{Linked, linked_sections};
+use crate::names::NameTable;
 use crate::refusal::ObjectRefusal;
 use crate::relocation_table::{Relocations, read_relocations};
 use crate::section_header::{SectionHeader, read_headers};
@@ -34,33 +36,22 @@ fn is_any_out_of_bounds(headers: &[SectionHeader], len: u64) -> bool
     headers.iter().any(|h| h.is_out_of_bounds(len))
 }
 
-fn is_any_outside_profile(headers: &[SectionHeader], table: &[u8]) -> bool
-    ensures { result ≡ list_any (is_outside_profile_by table.now) headers.now }
+fn is_any_outside_profile(headers: &[SectionHeader], names: &NameTable) -> bool
+    ensures { result ≡ list_any (is_outside_profile_by (table_of names.now)) headers.now }
 {
-    headers.iter().any(|h| h.is_outside_profile(table))
+    headers.iter().any(|h| h.is_outside_profile(names))
 }
 
-/// The lowest refusal that the section headers give.
-#[tactic(auto, using(crate::proofs::Passing::names_within), unfolding(crate::specs::Refusal::holds, crate::specs::Sections::name_table))]
-fn section_refusal(
-    bytes: &[u8],
-    names: &SectionHeader,
-    headers: &[SectionHeader],
-) -> Option<ObjectRefusal>
+/// Whether the table of names is no string table, or a section is out of bounds.
+#[tactic(auto, using(crate::proofs::Passing::names_within), unfolding(crate::specs::Refusal::holds))]
+fn has_wrong_bounds(bytes: &[u8], names: &SectionHeader, headers: &[SectionHeader]) -> bool
     requires table { HasSectionTable bytes.now }
     requires names { names.now ≡ header bytes.now (e_shstrndx bytes.now) }
     requires headers { headers.now ≡ headers_of bytes.now }
-    ensures refused { IfSome result (λ r. find (holds bytes.now) section_refusals ≡ Some r) }
-    ensures passed { IfNone result (PassesTests bytes.now) }
-    ensures names { IfNone result (IsNameTable bytes.now names.now) }
+    ensures value { result ≡ holds bytes.now SectionBounds }
+    ensures names { result ≡ false → IsNameTable bytes.now names.now }
 {
-    if names.sh_type != SHT_STRTAB || is_any_out_of_bounds(headers, bytes.len() as u64) {
-        return Some(ObjectRefusal::SectionBounds);
-    }
-    if is_any_outside_profile(headers, names.file_bytes(bytes)) {
-        return Some(ObjectRefusal::SectionProfile);
-    }
-    None
+    names.sh_type != SHT_STRTAB || is_any_out_of_bounds(headers, bytes.len() as u64)
 }
 
 /// All that is read of an object.
@@ -78,11 +69,12 @@ pub struct Parts {
 fn read_tables(
     alloc: Global,
     bytes: &[u8],
-    names: &SectionHeader,
+    names: &NameTable,
     headers: &[SectionHeader],
 ) -> Result<Parts, ObjectRefusal>
     requires table { HasSectionTable bytes.now }
-    requires names { IsNameTable bytes.now names.now }
+    requires names { IsNameTable bytes.now names.now.header }
+    requires file { names.now.file.now ≡ bytes.now }
     requires headers { headers.now ≡ headers_of bytes.now }
     requires tests { PassesTests bytes.now }
     ensures ok { IfOk result (λ p. find (holds bytes.now) (symbol_refusals ++ relocation_refusals) ≡ None) }
@@ -116,8 +108,14 @@ pub fn read_parts(alloc: Global, bytes: &[u8]) -> Result<Parts, ObjectRefusal>
         return Err(ObjectRefusal::NoMemory);
     };
     let names = name_table_header(bytes, &headers);
-    if let Some(refusal) = section_refusal(bytes, &names, &headers) {
-        return Err(refusal);
+    if has_wrong_bounds(bytes, &names, &headers) {
+        return Err(ObjectRefusal::SectionBounds);
     }
-    read_tables(alloc, bytes, &names, &headers)
+    let Ok(table) = NameTable::of_header(alloc, bytes, &names) else {
+        return Err(ObjectRefusal::NoMemory);
+    };
+    if is_any_outside_profile(&headers, &table) {
+        return Err(ObjectRefusal::SectionProfile);
+    }
+    read_tables(alloc, bytes, &table, &headers)
 }

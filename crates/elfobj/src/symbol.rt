@@ -26,7 +26,7 @@ pub enum SymbolKind {
     Section,
     /// `STT_FILE`: the source file.
     File,
-    /// `STT_COMMON`: data of a common block. Only the type says so: a common block is a symbol at `SHN_COMMON`.
+    /// `STT_COMMON`. A type only: what makes a symbol a common block is `SHN_COMMON`, whatever its type.
     Common,
 }
 

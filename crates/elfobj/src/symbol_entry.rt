@@ -8,7 +8,7 @@ use crate::constants::{
     MAX_SECTION_SIZE, SHN_ABS, SHN_COMMON, SHN_UNDEF, STB_GLOBAL, STB_LOCAL, STB_WEAK, STT_COMMON,
     STT_FILE, STT_FUNC, STT_NOTYPE, STT_OBJECT, STT_SECTION,
 };
-use crate::names::name_length;
+use crate::names::NameTable;
 use crate::numbers::{read_u16, read_u32, read_u64};
 use crate::section::SectionIndex;
 use crate::symbol::{Binding, Symbol, SymbolKind, SymbolPlace};
@@ -31,6 +31,7 @@ pub struct SymbolEntry {
 impl SymbolEntry {
     ghost use Rattle.elfobj.specs.SymbolEntries.{st_bind, st_type};
     ghost use Rattle.elfobj.specs.Symbols.{binding_of, symbol_kind_of, symbol_place_of, symbol_of};
+    ghost use Rattle.elfobj.specs.TableOf.{table_of};
     ghost use Rattle.elfobj.specs.Tables.{is_local, is_nowhere, is_wrong_local, is_wrong_non_local, is_wrong_common, is_wrong_symbol};
 
     fn bind(&self) -> u8
@@ -64,13 +65,13 @@ impl SymbolEntry {
         self.is_local() && (self.st_shndx == SHN_UNDEF || self.st_shndx == SHN_COMMON)
     }
 
-    fn is_wrong_non_local(&self, strings: &[u8]) -> bool
-        ensures { result ≡ is_wrong_non_local strings.now self.now }
+    fn is_wrong_non_local(&self, strings: &NameTable) -> bool
+        ensures { result ≡ is_wrong_non_local (table_of strings.now) self.now }
     {
         !self.is_local()
             && (self.kind_number() == STT_SECTION
                 || self.kind_number() == STT_FILE
-                || name_length(strings, self.st_name as usize).is_none())
+                || strings.name_length(self.st_name).is_none())
     }
 
     fn is_wrong_common(&self) -> bool
@@ -83,8 +84,8 @@ impl SymbolEntry {
     }
 
     /// Whether it is outside the profile, in an object of so many section headers with this string table.
-    pub fn is_wrong(&self, sections: u16, strings: &[u8]) -> bool
-        ensures { result ≡ is_wrong_symbol sections strings.now self.now }
+    pub fn is_wrong(&self, sections: u16, strings: &NameTable) -> bool
+        ensures { result ≡ is_wrong_symbol sections (table_of strings.now) self.now }
     {
         self.bind() > STB_WEAK
             || self.kind_number() > STT_COMMON

@@ -4,15 +4,17 @@ ghost use Rattle.std.specs.Prelude.{◌≡◌, ◌≤◌, ◌+◌, ◌⊎◌, �
 ghost use Rattle.std.specs.List.{list_all, list_any};
 ghost use Rattle.elfobj.specs.Places.{AreNamed, IsInside, bytes_at};
 ghost use Rattle.elfobj.specs.Refusal.{holds, symbol_refusals};
-ghost use Rattle.elfobj.specs.SectionHeaders.{file_bytes, headers as headers_of};
+ghost use Rattle.elfobj.specs.SectionHeaders.{headers as headers_of};
 ghost use Rattle.elfobj.specs.SectionTable.{HasSectionTable};
 ghost use Rattle.elfobj.specs.Linkable.{PassesTests};
 ghost use Rattle.elfobj.specs.Symbols.{entries_of, is_symbol_table, symbol_name, symbols_from, symbols_of};
+ghost use Rattle.elfobj.specs.TableOf.{table_of};
 ghost use Rattle.elfobj.specs.Tables.{has_misplaced_entry, has_wrong_header, is_local, is_string_table, is_wrong_non_local, is_wrong_symbol};
 ghost use Rattle.elfobj.specs.declared.refusal.ObjectRefusal.TheVariants.{NoMemory};
 
 use crate::constants::SHT_STRTAB;
-use crate::place::{Span, name_place};
+use crate::names::NameTable;
+use crate::place::Span;
 use crate::refusal::ObjectRefusal;
 use crate::section_header::SectionHeader;
 use crate::symbol::{Binding, Symbol, SymbolKind, SymbolPlace};
@@ -125,31 +127,30 @@ fn past_null(entries: &[SymbolEntry]) -> &[SymbolEntry]
     &entries[1..]
 }
 
-fn is_wrong_among(entries: &[SymbolEntry], sections: u16, strings: &[u8]) -> bool
-    ensures { result ≡ list_any (is_wrong_symbol sections strings.now) entries.now }
+fn is_wrong_among(entries: &[SymbolEntry], sections: u16, strings: &NameTable) -> bool
+    ensures { result ≡ list_any (is_wrong_symbol sections (table_of strings.now)) entries.now }
 {
     entries.iter().any(|e| e.is_wrong(sections, strings))
 }
 
 /// Whether an entry past the null entry is outside the profile.
-fn is_any_wrong(entries: &[SymbolEntry], sections: u16, strings: &[u8]) -> bool
+fn is_any_wrong(entries: &[SymbolEntry], sections: u16, strings: &NameTable) -> bool
     requires { 0 < length entries.now }
-    ensures { result ≡ list_any (is_wrong_symbol sections strings.now) (drop 1 entries.now) }
+    ensures { result ≡ list_any (is_wrong_symbol sections (table_of strings.now)) (drop 1 entries.now) }
 {
     is_wrong_among(past_null(entries), sections, strings)
 }
 
-/// Where the name of an entry lies in the file, whose string table `strings` is the header of.
-fn name_span(bytes: &[u8], strings: &SectionHeader, entry: &SymbolEntry) -> Span
-    requires within { strings.now.sh_offset + strings.now.sh_size ≤ length bytes.now }
-    requires name { is_wrong_non_local (file_bytes bytes.now strings.now) entry.now ≡ false }
-    ensures within { IsInside (length bytes.now) result }
-    ensures name { bytes_at bytes.now result ≡ symbol_name (file_bytes bytes.now strings.now) entry.now }
+/// Where the name of an entry lies in the file.
+fn name_span(strings: &NameTable, entry: &SymbolEntry) -> Span
+    requires { is_wrong_non_local (table_of strings.now) entry.now ≡ false }
+    ensures within { IsInside (length strings.now.file.now) result }
+    ensures name { bytes_at strings.now.file.now result ≡ symbol_name (table_of strings.now) entry.now }
 {
     if entry.is_local() {
         return NO_NAME;
     }
-    name_place(bytes, strings, entry.st_name)
+    strings.name_place(entry.st_name)
 }
 
 impl Symbols {
@@ -166,14 +167,12 @@ impl Symbols {
 /// The symbols of these entries, the first of which is a null entry.
 fn named_symbols(
     alloc: Global,
-    bytes: &[u8],
-    strings: &SectionHeader,
+    strings: &NameTable,
     entries: &[SymbolEntry],
 ) -> Result<Symbols, AllocError>
-    requires within { strings.now.sh_offset + strings.now.sh_size ≤ length bytes.now }
     requires some { 0 < length entries.now }
-    requires names { list_any (is_wrong_non_local (file_bytes bytes.now strings.now)) (drop 1 entries.now) ≡ false }
-    ensures { IfOk result (λ s. AreNamed bytes.now (symbols_from (file_bytes bytes.now strings.now) entries.now) s.symbols.items s.names.items) }
+    requires names { list_any (is_wrong_non_local (table_of strings.now)) (drop 1 entries.now) ≡ false }
+    ensures { IfOk result (λ s. AreNamed strings.now.file.now (symbols_from (table_of strings.now) entries.now) s.symbols.items s.names.items) }
 {
     let mut symbols = Symbols {
         symbols: Vec::with_capacity(alloc, entries.len())?,
@@ -182,7 +181,7 @@ fn named_symbols(
     symbols.push(NULL_SYMBOL, NO_NAME)?;
     let rest = &entries[1..];
     for entry in rest {
-        symbols.push(entry.symbol(), name_span(bytes, strings, entry))?;
+        symbols.push(entry.symbol(), name_span(strings, entry))?;
     }
     Ok(symbols)
 }
@@ -219,11 +218,14 @@ pub fn read_symbols(
         return Err(ObjectRefusal::SymbolTable);
     }
     let strings = headers[table.sh_link as usize];
+    let Ok(names) = NameTable::of_header(alloc, bytes, &strings) else {
+        return Err(ObjectRefusal::NoMemory);
+    };
     let count = headers.len() as u16;
-    if is_any_wrong(&entries, count, strings.file_bytes(bytes)) {
+    if is_any_wrong(&entries, count, &names) {
         return Err(ObjectRefusal::Symbol);
     }
-    match named_symbols(alloc, bytes, &strings, &entries) {
+    match named_symbols(alloc, &names, &entries) {
         Ok(symbols) => Ok(symbols),
         Err(_) => Err(ObjectRefusal::NoMemory),
     }

@@ -37,7 +37,7 @@ pub fn push_header(bytes: &mut Vec<u8>, row: HeaderRow) -> Result<(), AllocError
     Ok(())
 }
 
-fn push_symbol(bytes: &mut Vec<u8>, row: SymbolRow) -> Result<(), AllocError> {
+pub fn push_symbol(bytes: &mut Vec<u8>, row: SymbolRow) -> Result<(), AllocError> {
     let (name, info, shndx, value, size) = row;
     bytes.extend_from_slice(&name.to_le_bytes())?;
     bytes.extend_from_slice(&[info, 0xff])?;
@@ -57,7 +57,7 @@ fn push_relocation(bytes: &mut Vec<u8>, row: RelocationRow) -> Result<(), AllocE
 }
 
 /// The ELF header of a good object, whose section headers begin at `shoff`.
-fn push_elf_header(
+pub fn push_elf_header(
     bytes: &mut Vec<u8>,
     shoff: u64,
     shnum: u16,

@@ -1,8 +1,10 @@
 use Rattle.std.proofs.Common.{◌<◌, length, subst}
 use Rattle.std.specs.List.{All}
+use Rattle.elfobj.specs.ElfHeader.{e_shnum}
 use Rattle.elfobj.specs.Object.{ObjectData}
-use Rattle.elfobj.specs.Profile.{IsSymbolOfProfile}
-use Rattle.elfobj.proofs.SymbolLimits.{few_symbols, symbol_limits_of}
+use Rattle.elfobj.specs.Symbols.{NamedSymbol}
+use Rattle.elfobj.specs.Profile.{IsSectionBelow, IsSymbolOfProfile}
+use Rattle.elfobj.proofs.SymbolLimits.{few_symbols, symbol_limits_of, symbol_sections_of}
 use Rattle.elfobj.proofs.object.Object.symbols.Goals as goal
 
 pub returns-clause-limits : goal.returns-clause-limits
@@ -10,3 +12,6 @@ returns-clause-limits c = subst (λ (o : ObjectData). All IsSymbolOfProfile o.sy
 
 pub returns-clause-few : goal.returns-clause-few
 returns-clause-few c = subst (λ (o : ObjectData). length o.symbols < 4294967296) c.self.view_is (few_symbols c.self.inside.bytes.items c.self.invariant.refusal)
+
+pub returns-clause-sections : goal.returns-clause-sections
+returns-clause-sections c = subst (λ (o : ObjectData). All (λ (s : NamedSymbol). IsSectionBelow (e_shnum o.text) s.symbol.place) o.symbols) c.self.view_is (symbol_sections_of c.self.inside.bytes.items c.self.invariant.refusal)

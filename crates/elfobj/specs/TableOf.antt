@@ -1,0 +1,8 @@
+-- A string table that the reader has looked through.
+use Rattle.std.specs.Prelude.{ℕ, List}
+use Rattle.elfobj.specs.SectionHeaders.{file_bytes}
+use Rattle.elfobj.specs.declared.names.NameTable.{NameTable}
+
+-- its bytes
+abbrev pub table_of : NameTable → List ℕ
+table_of t = file_bytes t.file.now t.header
