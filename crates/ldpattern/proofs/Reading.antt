@@ -1,11 +1,11 @@
 -- A word read part by part.
-use Rattle.std.proofs.Common.{◌≡◌, ℕ, ◌+◌, ◌-◌, ◌≤◌, ◌<◌, ◌^◌, List, [], ◌∷◌, ◌++◌, length, take, drop, map, Option, Some, None, refl, sym, ◌∙◌, ap, subst, append_assoc, append-nil, arith}
+use Rattle.std.proofs.Common.{◌≡◌, ℕ, ◌+◌, ◌-◌, ◌≤◌, ◌<◌, ◌^◌, List, [], ◌∷◌, ◌++◌, length, take, drop, Some, None, refl, sym, ◌∙◌, ap, subst, append_assoc, append-nil, arith}
 use Rattle.std.specs.List.{slice_range}
 use Rattle.std.proofs.Math.Seq.{drop-append_seam}
 use Rattle.std.proofs.lemmas.List.{drop-drop, map-append, take-append-drop}
 use Rattle.ldpattern.specs.Parts.{Part, OneOf, ranges_of, part_of, part_behind, IsPlace, IsRoomBehind}
-use Rattle.ldpattern.specs.Spelling.{Spells, SpellsPart, IsPatternOf, nothing, part}
-use Rattle.ldpattern.specs.Front.{Front, front, front_part, front_of}
+use Rattle.ldpattern.specs.Spelling.{Spells, IsPatternOf, nothing, part}
+use Rattle.ldpattern.specs.Front.{front, front_part, front_of}
 use Rattle.ldpattern.specs.Trying.{parts_of}
 use Rattle.ldpattern.specs.declared.part.CodePart.{CodePart}
 use Rattle.ldpattern.specs.declared.part.CodePart.TheVariants as code

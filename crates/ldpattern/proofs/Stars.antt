@@ -1,7 +1,7 @@
 -- How parts at the front of a pattern meet a name.
-use Rattle.std.proofs.Common.{◌≡◌, ℕ, ◌+◌, ◌≤◌, ◌<◌, ◌↔◌, List, [], ◌∷◌, ◌++◌, length, take, drop, get_or, map, suc, refl, sym, ◌∙◌, ap, subst, append_assoc, add-one, drop-cons, arith}
+use Rattle.std.proofs.Common.{◌≡◌, ℕ, ◌+◌, ◌≤◌, ◌<◌, ◌↔◌, List, [], ◌∷◌, ◌++◌, length, take, drop, get_or, map, refl, sym, ◌∙◌, ap, subst, append_assoc, add-one, drop-cons, arith}
 use Rattle.std.proofs.Math.Seq.{drop-append_seam}
-use Rattle.std.proofs.lemmas.List.{drop-drop, drop_all, drop_at, length-drop, get_or-drop, nil_from_length, take-append-drop}
+use Rattle.std.proofs.lemmas.List.{drop-drop, drop_all, length-drop, get_or-drop, nil_from_length, take-append-drop}
 use Rattle.ldpattern.specs.Parts.{Part, AnyRun, part_of, IsSingle}
 use Rattle.ldpattern.specs.Matching.{Meets, Matches, nothing, part}
 use Rattle.ldpattern.specs.Trying.{Passed, IsStarAt, parts_of}

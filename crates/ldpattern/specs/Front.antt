@@ -1,5 +1,5 @@
 -- The part that a word begins with, computed from its first bytes.
-use Rattle.std.specs.Prelude.{ℕ, ◌+◌, ◌≤◌, ◌<◌, Bool, ◌&&◌, ◌==◌, nat_lt, List, length, drop, take_while, slice_index, slice_range, Option, Some, None, if◌then◌else◌}
+use Rattle.std.specs.Prelude.{ℕ, ◌+◌, ◌≤◌, ◌<◌, ◌&&◌, ◌==◌, nat_lt, List, length, drop, take_while, slice_index, slice_range, Option, Some, None, if◌then◌else◌}
 use Rattle.ldpattern.specs.Parts.{Part, AnyRun, AnyByte, Byte, OneOf, ranges_of, part_of, IsPlace}
 use Rattle.ldpattern.specs.Spelling.{is_plain, is_set_byte, is_graphic}
 use Rattle.ldpattern.specs.declared.front.Spelled.{Spelled}

@@ -1,6 +1,6 @@
 -- Which names a pattern matches (GNU ld manual, "Input Section Wildcard Patterns"; that `*` and `?` match `/` in
 -- names of files too is this project's choice).
-use Rattle.std.specs.Prelude.{◌≡◌, ℕ, Bool, true, false, List, [], ◌∷◌, ◌++◌, Option, Some, None, ◌==◌}
+use Rattle.std.specs.Prelude.{◌≡◌, ℕ, true, List, [], ◌∷◌, ◌++◌, Option, Some, None}
 use Rattle.std.specs.Option.{option_map}
 use Rattle.ldpattern.specs.Parts.{Part, AnyRun, AnyByte, Byte, OneOf, is_in_any}
 

@@ -1,5 +1,5 @@
 -- What comes of letting the parts at the front of a pattern take a byte of a name each, up to the first `*`.
-use Rattle.std.specs.Prelude.{◌≡◌, ℕ, ◌+◌, ◌≤◌, ◌<◌, List, ◌∷◌, length, drop, map}
+use Rattle.std.specs.Prelude.{◌≡◌, ℕ, ◌+◌, ◌≤◌, ◌<◌, List, ◌∷◌, drop, map}
 use Rattle.ldpattern.specs.Parts.{Part, part_of}
 use Rattle.ldpattern.specs.Matching.{Matches}
 use Rattle.ldpattern.specs.declared.part.CodePart.{CodePart}

@@ -1,4 +1,4 @@
-use Rattle.std.proofs.Common.{◌+◌, length, refl, sym, subst, arith, rules}
+use Rattle.std.proofs.Common.{◌+◌, length, refl, rules}
 use Rattle.std.proofs.lemmas.Bool.{false≢true}
 use Rattle.std.proofs.lemmas.List.Elements.{All-same, All-drop}
 use Rattle.ldpattern.specs.Parts.{IsPlace}

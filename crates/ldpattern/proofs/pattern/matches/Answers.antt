@@ -1,4 +1,4 @@
-use Rattle.std.proofs.Common.{◌≡◌, ◌∙◌, ◌↔◌, IsTrue, ap, subst}
+use Rattle.std.proofs.Common.{◌∙◌, ◌↔◌, IsTrue, ap, subst}
 use Rattle.ldpattern.specs.Matching.{Matches}
 use Rattle.ldpattern.specs.Trying.{parts_of}
 use Rattle.ldpattern.proofs.pattern.matches.Goals as goal

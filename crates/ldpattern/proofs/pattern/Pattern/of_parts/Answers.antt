@@ -1,4 +1,4 @@
-use Rattle.std.proofs.Common.{◌≡◌, ◌∙◌, sym, ap, subst, length}
+use Rattle.std.proofs.Common.{◌∙◌, sym, ap, subst, length}
 use Rattle.std.specs.List.{All}
 use Rattle.ldpattern.specs.Parts.{IsPlace}
 use Rattle.ldpattern.specs.Matching.{exact_name}
