@@ -59,7 +59,11 @@ fn print_symbol<W: Write>(out: &mut W, i: u32, symbol: &Symbol, name: &[u8]) -> 
     out.write_all(b"\n")
 }
 
-fn print_relocation<W: Write>(out: &mut W, section: u16, relocation: &Relocation) -> io::Result<()> {
+fn print_relocation<W: Write>(
+    out: &mut W,
+    section: u16,
+    relocation: &Relocation,
+) -> io::Result<()> {
     let kind = names::relocation_kind(relocation.kind);
     let Relocation {
         offset,
@@ -67,7 +71,11 @@ fn print_relocation<W: Write>(out: &mut W, section: u16, relocation: &Relocation
         addend,
         ..
     } = *relocation;
-    writeln!(out, "relocation {section} {offset} {kind} {} {addend}", symbol.0)
+    writeln!(
+        out,
+        "relocation {section} {offset} {kind} {} {addend}",
+        symbol.0
+    )
 }
 
 /// The lines of its linked sections.
