@@ -1,9 +1,13 @@
 # make demo: builds the program, links the worked example and shows the image.
 # make test: the merge gate, every proof from nothing.
-.PHONY: demo test
+# make check-real: compares the object reader with readelf on objects of gcc. Needs gcc and readelf, and is no part of the gate.
+.PHONY: demo test check-real
 
 demo:
 	tools/demo
 
 test:
 	rt ci
+
+check-real:
+	tools/check-real
