@@ -1,4 +1,4 @@
-use Rattle.std.proofs.Common.{◌≡◌, ℕ, ◌+◌, ◌<◌, ◌≤◌, List, [], ◌∷◌, Bool, true, false, cond, ◌||◌, not, ◌&&◌, refl, ap, sym, ◌∙◌, subst, arith, ⊎_elim, find, Option, Some, None, nat_lt, eqb}
+use Rattle.std.proofs.Common.{◌≡◌, ℕ, ◌+◌, ◌≤◌, List, [], ◌∷◌, Bool, true, false, cond, ◌||◌, ap, sym, ◌∙◌, ⊎_elim, find, Some, nat_lt, eqb}
 use Rattle.std.specs.List.{list_any}
 use Rattle.std.proofs.lemmas.Bool.{cases_Bool, or_parts, or_cases, eqb-true, ltb-false}
 use Rattle.std.proofs.lemmas.Option.{none-some, same_Some}

@@ -1,7 +1,7 @@
-use Rattle.std.proofs.Common.{◌≡◌, ℕ, zero, suc, ◌+◌, ◌-◌, ◌<◌, ◌≤◌, List, [], ◌∷◌, Bool, true, false, cond, not, ◌&&◌, ◌||◌, get_or, set, length, take, drop, replicate, refl, ap, sym, ◌∙◌, subst, arith, ⊎_elim, Option, Some, None, nat_lt, nat_le, eqb, ◌==◌, is_some}
-use Rattle.std.specs.List.{list_all, position, prefix_len}
-use Rattle.std.specs.Option.{option_map, option_map_or, IfSome}
-use Rattle.std.proofs.lemmas.Bool.{cases_Bool, cases_lt, false≢true, lt-ltb, le-ltb, ltb-true, ltb-false, and_from, and_parts, and_right, leb-true, eqb-true, false_from_ne_true}
+use Rattle.std.proofs.Common.{◌≡◌, ℕ, zero, suc, ◌+◌, ◌<◌, ◌≤◌, List, [], ◌∷◌, Bool, true, false, cond, not, ◌&&◌, ◌||◌, get_or, set, length, take, drop, refl, ap, sym, ◌∙◌, arith, ⊎_elim, Option, Some, None, nat_lt, nat_le, eqb, ◌==◌}
+use Rattle.std.specs.List.{list_all, prefix_len}
+use Rattle.std.specs.Option.{option_map, option_map_or}
+use Rattle.std.proofs.lemmas.Bool.{cases_Bool, cases_lt, lt-ltb, le-ltb, ltb-true, and_from, and_parts, and_right, leb-true, eqb-true, false_from_ne_true}
 use Rattle.std.proofs.lemmas.Bool.Decides.{nat_tests}
 use Rattle.std.proofs.lemmas.List.{length-take-le, drop-set, drop_all, length-drop, length-set}
 use Rattle.std.proofs.Math.Seq.{drop-cons}

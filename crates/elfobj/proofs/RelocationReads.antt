@@ -1,5 +1,5 @@
-use Rattle.std.proofs.Common.{◌≡◌, ℕ, zero, suc, ◌+◌, ◌-◌, ◌<◌, ◌≤◌, List, [], ◌∷◌, ◌++◌, Bool, true, false, cond, ◌||◌, ◌⊎◌, get_or, length, map, take, drop, refl, ap, sym, ◌∙◌, subst, arith, inl, inr, ⊎_elim, find, Option, Some, None}
-use Rattle.std.specs.List.{All, list_any, slice_range}
+use Rattle.std.proofs.Common.{◌≡◌, ℕ, zero, suc, ◌+◌, ◌-◌, ◌<◌, ◌≤◌, List, [], ◌∷◌, ◌++◌, Bool, true, false, ◌||◌, ◌⊎◌, get_or, length, map, take, drop, refl, ap, sym, ◌∙◌, subst, arith, inl, inr, ⊎_elim, find, Option, Some, None}
+use Rattle.std.specs.List.{All, list_any}
 use Rattle.std.specs.Option.{IfSome, option_to_list}
 use Rattle.std.proofs.lemmas.Bool.{and_parts, or_parts}
 use Rattle.std.proofs.lemmas.List.{drop-append-le, length-append, length-drop, map-append, map_push, take-append-le, take_all, take_more}
@@ -12,20 +12,20 @@ use Rattle.elfobj.specs.Linkable.{PassesTests}
 use Rattle.elfobj.specs.Places.{AreRelocated, IsInside, relocations_in}
 use Rattle.elfobj.specs.Reading.{AreAllRead, AreFaults, AreFaultsOf, first_fault}
 use Rattle.elfobj.specs.Refusal.{holds, is_out_of_bounds, relocation_refusals}
-use Rattle.elfobj.specs.Relocations.{changes, is_relocation_section, relocation_section, relocations_at}
+use Rattle.elfobj.specs.Relocations.{changes, relocation_section, relocations_at}
 use Rattle.elfobj.specs.SectionHeaders.{header, headers}
 use Rattle.elfobj.specs.Sections.{LinkedSection, linked_section, section_of, sections_below, sections_of}
 use Rattle.elfobj.specs.Symbols.{symbols_of}
 use Rattle.elfobj.specs.Tables.{has_field_outside, has_overlap, has_shared_bytes, has_strange_symbol, has_strange_type, has_wrong_bounds, has_wrong_relocation_section, has_wrong_type, is_wrong_below, linked_sections}
 use Rattle.elfobj.specs.declared.place.Span.{Span}
 use Rattle.elfobj.specs.declared.refusal.ObjectRefusal.{ObjectRefusal}
-use Rattle.elfobj.specs.declared.refusal.ObjectRefusal.TheVariants.{NoMemory, RelocationSection, RelocationType, FieldBounds, FieldOverlap}
+use Rattle.elfobj.specs.declared.refusal.ObjectRefusal.TheVariants.{NoMemory, RelocationSection}
 use Rattle.elfobj.specs.declared.relocation.Relocation.{Relocation}
 use Rattle.elfobj.specs.declared.relocation_table.Faults.{Faults}
 use Rattle.elfobj.specs.declared.section.Section.{Section}
 use Rattle.elfobj.specs.declared.section.SectionKind.{SectionKind}
 use Rattle.elfobj.specs.declared.section_header.SectionHeader.{SectionHeader}
-use Rattle.elfobj.proofs.Found.{IsTableIn, found_is, found_not, relocations_in_file}
+use Rattle.elfobj.proofs.Found.{found_is, found_not, relocations_in_file}
 
 -- numbers of linked sections are numbers of headers
 one_below : (bytes : List ℕ) (n m : ℕ) (h : SectionHeader) (o : Option SectionKind) → n < m → All (λ (s : LinkedSection). s.number.0 < m) (option_to_list (linked_section bytes n h o))

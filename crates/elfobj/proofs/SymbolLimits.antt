@@ -1,9 +1,8 @@
-use Rattle.std.proofs.Common.{◌≡◌, ℕ, suc, ◌+◌, ◌/◌, ◌<◌, ◌≤◌, List, [], ◌∷◌, Bool, true, false, cond, not, ◌||◌, ◌&&◌, length, map, drop, refl, ap, sym, ◌∙◌, subst, arith, ⊎_elim, Option, Some, None, eqb, nat_lt}
+use Rattle.std.proofs.Common.{◌≡◌, ℕ, ◌/◌, ◌<◌, List, [], ◌∷◌, Bool, true, false, cond, not, ◌&&◌, length, map, drop, refl, ap, sym, ◌∙◌, arith, ⊎_elim, Option, Some, None, eqb, nat_lt}
 use Rattle.std.specs.Prelude.{IsTrue}
 use Rattle.std.specs.List.{All, list_any}
-use Rattle.std.specs.Int.{is_power_of_two}
 use Rattle.std.specs.Option.{option_map_or, unwrap_or}
-use Rattle.std.proofs.lemmas.Bool.{cases_Bool, and_cases, or_parts, not-false, false≢true, eqb-true, ltb-false, ltb-true}
+use Rattle.std.proofs.lemmas.Bool.{and_cases, or_parts, not-false, false≢true, eqb-true, ltb-false, ltb-true}
 use Rattle.std.proofs.lemmas.List.{length-map}
 use Rattle.std.proofs.lemmas.List.Elements.{All-cons, All-nil}
 use Rattle.elfobj.specs.ElfHeader.{e_shnum}
@@ -11,12 +10,10 @@ use Rattle.elfobj.specs.Names.{is_name, string_at}
 use Rattle.elfobj.specs.Profile.{IsCommonBlock, IsNameOf, IsSectionBelow, IsSymbolOfProfile}
 use Rattle.elfobj.specs.Refusal.{holds, object_refusal}
 use Rattle.elfobj.specs.SymbolEntries.{st_bind}
-use Rattle.elfobj.specs.Symbols.{NamedSymbol, binding_of, entries_of, named_symbol, null_symbol, strings_of, symbol_name, symbol_of, symbol_place_of, symbol_table, symbols_from, symbols_in, symbols_of}
+use Rattle.elfobj.specs.Symbols.{NamedSymbol, binding_of, entries_of, named_symbol, null_symbol, strings_of, symbol_of, symbol_table, symbols_from, symbols_in, symbols_of}
 use Rattle.elfobj.specs.Tables.{has_wrong_entry, has_wrong_symbol, is_local, is_not_local, is_wrong_common, is_wrong_non_local, is_wrong_symbol}
 use Rattle.elfobj.specs.declared.section_header.SectionHeader.{SectionHeader}
-use Rattle.elfobj.specs.declared.symbol.Binding.{Binding}
 use Rattle.elfobj.specs.declared.symbol.Binding.TheVariants.{Local, Global, Weak}
-use Rattle.elfobj.specs.declared.symbol.SymbolPlace.{SymbolPlace}
 use Rattle.elfobj.specs.declared.symbol.SymbolPlace.TheVariants.{Common, Undefined, Absolute, Section}
 use Rattle.elfobj.specs.declared.symbol_entry.SymbolEntry.{SymbolEntry}
 use Rattle.elfobj.proofs.Limits.{accepted_parts, name_told}

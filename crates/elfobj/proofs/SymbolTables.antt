@@ -1,9 +1,8 @@
-use Rattle.std.proofs.Common.{◌≡◌, ℕ, zero, suc, ◌+◌, ◌*◌, ◌/◌, ◌%◌, ◌<◌, ◌≤◌, List, [], ◌∷◌, ◌++◌, Bool, true, false, cond, not, ◌||◌, ◌&&◌, get_or, length, map, take, drop, refl, ap, sym, ◌∙◌, subst, arith, ⊎_elim, find, Option, Some, None, nat_lt, eqb}
-use Rattle.std.specs.List.{list_any, count_by, slice_get}
-use Rattle.std.specs.Option.{option_map_or}
-use Rattle.std.proofs.lemmas.Bool.{cases_Bool, or_parts, or_from, or_left, or_right, not-false, false≢true, eqb-true, ltb-false, false_from_ne_true}
+use Rattle.std.proofs.Common.{◌≡◌, ℕ, zero, suc, ◌+◌, ◌*◌, ◌/◌, ◌%◌, ◌<◌, ◌≤◌, List, [], ◌∷◌, ◌++◌, Bool, true, false, get_or, length, map, take, drop, refl, ap, sym, ◌∙◌, subst, arith, find, Option, Some, None, nat_lt, eqb}
+use Rattle.std.specs.List.{list_any, count_by}
+use Rattle.std.proofs.lemmas.Bool.{or_parts, or_from, or_left, or_right, not-false, false≢true, eqb-true, ltb-false}
 use Rattle.std.proofs.lemmas.List.{length-append, take_more, map_push}
-use Rattle.std.proofs.lemmas.List.Elements.{All-push, All-cons, All-nil}
+use Rattle.std.proofs.lemmas.List.Elements.{All-push, All-nil}
 use Rattle.elfobj.specs.ElfHeader.{e_shnum}
 use Rattle.elfobj.specs.Linkable.{PassesTests}
 use Rattle.elfobj.specs.Places.{AreNamed, IsInside, bytes_at}

@@ -4,7 +4,6 @@ use Rattle.elfobj.specs.Names.{string_at}
 use Rattle.elfobj.specs.SectionHeaders.{header, headers, file_bytes}
 use Rattle.elfobj.specs.SymbolEntries.{symbol_entries_below, st_bind, st_type}
 use Rattle.elfobj.specs.declared.constants.TheConstants.{SHT_SYMTAB, STB_LOCAL, STB_GLOBAL, STT_NOTYPE, STT_OBJECT, STT_FUNC, STT_SECTION, STT_FILE, SHN_UNDEF, SHN_ABS, SHN_COMMON}
-use Rattle.elfobj.specs.declared.section.SectionIndex.{SectionIndex}
 use Rattle.elfobj.specs.declared.section_header.SectionHeader.{SectionHeader}
 use Rattle.elfobj.specs.declared.symbol.Binding.{Binding}
 use Rattle.elfobj.specs.declared.symbol.Binding.TheVariants as binding

@@ -1,4 +1,4 @@
-use Rattle.std.proofs.Common.{◌≤◌, ◌≡◌, length, subst, arith, ap}
+use Rattle.std.proofs.Common.{◌≤◌, ◌≡◌, length, subst, arith}
 use Rattle.std.specs.List.{AllAdjacentBelow}
 use Rattle.std.proofs.lemmas.List.Sorted.{IsNonDecreasingBy-from_all_adjacent}
 use Rattle.elfobj.specs.declared.relocation.Relocation.{Relocation}

@@ -1,4 +1,4 @@
-use Rattle.std.proofs.Common.{◌≡◌, ◌<◌, ◌∙◌, sym, ap, arith, get_or, inr, refl, length, false, true}
+use Rattle.std.proofs.Common.{◌≡◌, ◌∙◌, sym, ap, arith, get_or, inr, refl, length, false, true}
 use Rattle.std.proofs.lemmas.List.{take_at}
 use Rattle.elfobj.specs.ElfHeader.{e_shnum}
 use Rattle.elfobj.specs.Reading.{entered}

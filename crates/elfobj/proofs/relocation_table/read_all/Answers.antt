@@ -1,7 +1,7 @@
-use Rattle.std.proofs.Common.{◌≡◌, ◌<◌, ◌∙◌, sym, ap, arith, get_or, length}
+use Rattle.std.proofs.Common.{arith, get_or}
 use Rattle.elfobj.specs.declared.section.Section.{Section}
 use Rattle.elfobj.specs.declared.section.SectionKind.TheVariants.{Progbits}
-use Rattle.elfobj.proofs.RelocationReads.{number_below, read_more_section, read_none, read_whole, table_told}
+use Rattle.elfobj.proofs.RelocationReads.{number_below, read_more_section, table_told}
 use Rattle.elfobj.proofs.relocation_table.read_all.Goals as goal
 
 abbrev no_section : Section

@@ -1,4 +1,4 @@
-use Rattle.std.proofs.Common.{◌≡◌, ◌⊎◌, ◌++◌, ◌∙◌, sym, inr, find, Some, None, false, true}
+use Rattle.std.proofs.Common.{◌≡◌, ◌⊎◌, ◌++◌, ◌∙◌, sym, inr, find, Some, None, true}
 use Rattle.std.proofs.lemmas.Result.{IfErr-weaker, IfOk-weaker}
 use Rattle.elfobj.specs.Refusal.{header_refusals, holds, object_refusal, relocation_refusals, symbol_refusals}
 use Rattle.elfobj.specs.declared.refusal.ObjectRefusal.TheVariants.{NoMemory}
