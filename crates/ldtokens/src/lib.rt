@@ -1,0 +1,13 @@
+//! The tokens of a linker script, with their lines.
+#![tactic(auto)]
+
+pub mod bytes;
+pub mod cursor;
+mod front;
+pub mod lexer;
+mod marks;
+mod modes;
+pub mod name;
+pub mod number;
+pub mod token;
+pub mod words;
