@@ -106,4 +106,4 @@ cut_to_found text items p at n t c h =
 pub line_ahead : (text : List ℕ) (at n : ℕ) → line_at text (at + n) ≡ line_at text at + line_feeds (slice_range text at (at + n))
 line_ahead text at n =
     let e : (at + n) - at ≡ n = omega arith in
-    rw (e, take-add at n text, sum_by-append (λ b. cond (b == 10) 1 0) (take at text) (take n (drop at text))) refl
+    rw (e, take-add at n text, sum_by-append (λ b. cond (b == 10) 1 0) (take at text) (take n (drop at text))) (omega arith)

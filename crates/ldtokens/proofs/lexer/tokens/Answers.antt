@@ -1,6 +1,6 @@
-use Rattle.std.proofs.Common.{◌≡◌, ◌+◌, ◌++◌, ◌∷◌, [], sym, ◌∙◌, ap, arith, rules}
+use Rattle.std.proofs.Common.{◌≡◌, ◌+◌, ◌++◌, ◌∷◌, [], sym, arith, rules}
 use Rattle.ldtokens.specs.Tokens.{token_of}
-use Rattle.ldtokens.specs.Modes.{state_after, line_at}
+use Rattle.ldtokens.specs.Modes.{state_after}
 use Rattle.ldtokens.proofs.Cut.{cut_to_end, cut_to_nothing, cut_to_blank, cut_to_found, still_shallow, behind, line_ahead}
 use Rattle.ldtokens.proofs.lexer.tokens.Goals as goal
 
