@@ -3,3 +3,4 @@ pub mod Tokens
 pub mod Modes
 pub mod Numbers
 pub mod Words
+pub mod Limits

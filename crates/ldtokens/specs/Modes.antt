@@ -9,8 +9,6 @@ use Rattle.ldtokens.specs.declared.token.Stretch.{Stretch}
 use Rattle.ldtokens.specs.declared.token.Stretch.TheVariants.{Closed, Awaited, ToSemicolon, ToParenthesis}
 use Rattle.ldtokens.specs.declared.token.LexState.{LexState}
 use Rattle.ldtokens.specs.declared.token.CodeToken.{CodeToken}
-use Rattle.ldtokens.specs.declared.lexer.LexFault.{LexFault}
-use Rattle.ldtokens.specs.declared.lexer.LexFault.TheVariants.{NotAToken, NoMemory}
 
 -- pattern mode holds at depth 2 outside stretches
 abbrev pub mode_at : ℕ → Stretch → Mode
@@ -98,8 +96,3 @@ IsCut text ls = IsCutFrom text 0 at_start ls
 -- a token that lies within so many bytes
 abbrev pub IsPlace : ℕ → CodeToken → Type 0
 IsPlace n t = (t.start ≤ t.end) × (t.end ≤ n)
-
--- why a text is not cut; want of memory says nothing of it
-abbrev pub IsLexFault : List ℕ → LexFault → Type 0
-IsLexFault text NotAToken = (ls : List Lexeme) → IsCut text ls → ⊥
-IsLexFault text NoMemory = Unit {0}
