@@ -34,19 +34,6 @@ primary_not_empty (align b d) e = let s = b.split in cc
 pub empty_none : (ts : List Lexeme) → ts ≡ [] → NoReading Primary ts
 empty_none ts e f end d s = primary_not_empty d e
 
--- the shape of no expression
-no_shape : (k : TokenKind) (bytes : List ℕ) → (k ≡ kind.Number → ⊥) → (k ≡ kind.Name → ⊥) → (k ≡ kind.Punctuation OpenParenthesis → ⊥) → (f : Expr) (us end : List Lexeme) → Shape (terminal_of (spelled_token k bytes)) f us end → ⊥
-no_shape kind.Name bytes n1 n2 n3 f us end h = n2 refl
-no_shape kind.Number bytes n1 n2 n3 f us end h = n1 refl
-no_shape kind.Text bytes n1 n2 n3 f us end h = h
-no_shape kind.Discard bytes n1 n2 n3 f us end h = h
-no_shape kind.Word bytes n1 n2 n3 f us end h = h
-no_shape (kind.Punctuation OpenParenthesis) bytes n1 n2 n3 f us end h = n3 refl
-no_shape (kind.Punctuation _) bytes n1 n2 n3 f us end h = h
-
-pub kind_none : (ts : List Lexeme) (k : TokenKind) (bytes : List ℕ) (n : ℕ) (rest : List Lexeme) → ts ≡ lexeme (spelled_token k bytes) n ∷ rest → (k ≡ kind.Number → ⊥) → (k ≡ kind.Name → ⊥) → (k ≡ kind.Punctuation OpenParenthesis → ⊥) → NoReading Primary ts
-kind_none ts k bytes n rest e n1 n2 n3 f end d s = no_shape k bytes n1 n2 n3 f rest end (primary_shape (begins_of e) d)
-
 pub reserved_none : {ts rest : List Lexeme} → Begins ts (Worded Reserved) rest → NoReading Primary ts
 reserved_none b f end d s = primary_shape b d
 
@@ -162,3 +149,20 @@ second_choice_none r q r2 k n f end d s =
     let same = r2.only h.0 h.2 h.4 (whole_stops_before h.5 tt) in
     let xs-is = (begins_same (subst (λ y. Begins y (Sign Colon) h.3) same.1 h.5) k).1 in
     n h.1 end (subst (λ y. Spells Whole h.1 y end) xs-is h.6) s
+
+-- A NAME IN PARENTHESES
+pub unnamed : {ts inner : List Lexeme} → Begins ts (Sign OpenParenthesis) inner → ((n : List ℕ) (rest : List Lexeme) → Begins inner (Worded (Free n)) rest → ⊥) → (n : List ℕ) (rest : List Lexeme) → BeginsNamed ts n rest → ⊥
+unnamed b no_name n rest m = no_name n m.outer (subst (λ x. Begins x (Worded (Free n)) m.outer) (begins_same m.opens b).1 m.names)
+
+pub name_unclosed : {k : List ℕ} {ts inner outer : List Lexeme} → Begins ts (Sign OpenParenthesis) inner → Begins inner (Worded (Free k)) outer → Lacks outer (Sign CloseParenthesis) → (n : List ℕ) (rest : List Lexeme) → BeginsNamed ts n rest → ⊥
+name_unclosed b d no_close n rest m =
+    let names = subst (λ x. Begins x (Worded (Free n)) m.outer) (begins_same m.opens b).1 m.names in
+    no_close rest (subst (λ x. Begins x (Sign CloseParenthesis) rest) (begins_same names d).1 m.closes)
+
+-- a mark that begins no expression
+pub mark_none : (ts : List Lexeme) (m : Mark) (n : ℕ) (rest : List Lexeme) → ts ≡ lexeme (token.Punctuation m) n ∷ rest → (m ≡ OpenParenthesis → ⊥) → NoReading Primary ts
+mark_none ts m n rest e other f end d s = go m other (primary_shape (begins_of e) d)
+  where
+    go : (k : Mark) → (k ≡ OpenParenthesis → ⊥) → Shape (Sign k) f rest end → ⊥
+    go OpenParenthesis not h = not refl
+    go _ not h = h

@@ -75,7 +75,13 @@ pub fn read_head<'a>(tokens: &Cursor<'a>) -> Option<(Head<'a>, Cursor<'a>)>
             };
             Some((head, rest))
         }
-        TokenKind::Punctuation(Mark::OpenParenthesis) => Some((Head::Group, rest)),
+        TokenKind::Punctuation(mark) => {
+            if mark == Mark::OpenParenthesis {
+                Some((Head::Group, rest))
+            } else {
+                None
+            }
+        }
         _ => None,
     }
 }
