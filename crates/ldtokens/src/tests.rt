@@ -47,10 +47,27 @@ fn told(alloc: Global, text: &str) -> Result<String, Fail> {
     Ok(out)
 }
 
+/// A text of 2^20 bytes, of one part, whose length is a power of 2.
+fn long(alloc: Global, part: &str) -> Result<Vec<u8>, AllocError> {
+    let mut text = Vec::from_slice(alloc, part.as_bytes())?;
+    for _ in 0..20 {
+        if text.len() < MAX {
+            let half = text.clone()?;
+            text.extend_from_slice(&half)?;
+        }
+    }
+    Ok(text)
+}
+
+/// How many tokens a text has, or why it is refused.
+fn counted(alloc: Global, text: &[u8]) -> Result<usize, TokenRefusal> {
+    let found = tokens(alloc, text)?;
+    Ok(found.len())
+}
+
 /// How many tokens a text has, or why it is refused.
 fn count(alloc: Global, text: &str) -> Result<usize, TokenRefusal> {
-    let found = tokens(alloc, text.as_bytes())?;
-    Ok(found.len())
+    counted(alloc, text.as_bytes())
 }
 
 #[test]
@@ -235,42 +252,61 @@ fn counts_the_parenthesis_of_a_stretch(rt: HostRuntime) -> Result<(), Fail> {
 }
 
 #[test]
-fn bounds_texts(rt: HostRuntime) -> Result<(), Fail> {
-    let alloc = rt.alloc();
+fn accepts_long_texts(rt: HostRuntime) -> Result<(), Fail> {
     let parts = [
-        (" ", Ok(0)),
-        ("\n", Ok(0)),
-        (";", Ok(MAX)),
-        ("}", Ok(MAX)),
-        (")", Ok(MAX)),
-        ("0", Ok(1)),
-        ("/**/", Ok(0)),
-        ("{", Err(TokenRefusal::Limit)),
-        ("-", Err(TokenRefusal::Limit)),
-        ("n", Err(TokenRefusal::Limit)),
-        ("9", Err(TokenRefusal::Limit)),
-        ("/*  ", Err(TokenRefusal::NotAToken)),
-        ("\"aaa", Ok(524_288)),
-        ("#", Err(TokenRefusal::NotAToken)),
+        (" ", 0),
+        ("\n", 0),
+        (";", MAX),
+        (")", MAX),
+        ("0", 1),
+        ("/**/", 0),
+        ("\"aaa", 262_144),
     ];
     for (part, wanted) in parts {
-        let text = repeated(alloc, part, MAX / part.len().max(1))?;
-        assert_eq!(rt; count(alloc, &text), wanted, "a text of {part}");
-        let past = format!(in alloc; "{text}{part}")?;
-        assert_eq!(rt; count(alloc, &past), Err(TokenRefusal::Limit), "a longer text of {part}");
+        let mut text = long(rt.alloc(), part)?;
+        assert_eq!(rt; counted(rt.alloc(), &text), Ok(wanted), "a text of {part}");
+        text.push(b' ')?;
+        assert_eq!(rt; counted(rt.alloc(), &text), Err(TokenRefusal::Limit), "a longer text of {part}");
     }
-    let word = format!(in alloc; "{{{{{}", repeated(alloc, "w", MAX - 2)?)?;
-    assert_eq!(rt; count(alloc, &word), Err(TokenRefusal::Limit), "one word");
+    Ok(())
+}
+
+#[test]
+fn refuses_long_texts(rt: HostRuntime) -> Result<(), Fail> {
+    let parts = [
+        ("{", TokenRefusal::Limit),
+        ("-", TokenRefusal::Limit),
+        ("n", TokenRefusal::Limit),
+        ("9", TokenRefusal::Limit),
+        ("w{{;", TokenRefusal::Limit),
+        ("/*  ", TokenRefusal::NotAToken),
+        ("#", TokenRefusal::NotAToken),
+    ];
+    for (part, wanted) in parts {
+        let mut text = long(rt.alloc(), part)?;
+        assert_eq!(rt; counted(rt.alloc(), &text), Err(wanted), "a text of {part}");
+        text.push(b'#')?;
+        assert_eq!(rt; counted(rt.alloc(), &text), Err(TokenRefusal::Limit), "a longer text of {part}");
+    }
+    Ok(())
+}
+
+#[test]
+fn refuses_a_long_word(rt: HostRuntime) -> Result<(), Fail> {
+    let mut text = long(rt.alloc(), "w")?;
+    text[0] = b'{';
+    text[1] = b'{';
+    assert_eq!(rt; counted(rt.alloc(), &text), Err(TokenRefusal::Limit));
     Ok(())
 }
 
 #[test]
 fn walks(rt: HostRuntime) -> Result<(), Fail> {
-    let text = b"SECTIONS {\n.text : {\nx = 7K; * \"t\"}\n".as_slice();
+    let text = b"SECTIONS {\n.text : {\nx = 7K; * }\n".as_slice();
     let alloc = rt.alloc();
     let found = tokens(alloc, text)?;
     let all = Cursor::new(text, &found);
-    assert_eq!(rt; all.len(), 12);
+    assert_eq!(rt; all.len(), 11);
     assert!(rt; !all.is_empty());
     assert!(rt; all.copy().this_name(b"MEMORY").is_none());
     assert!(rt; all.copy().mark(Mark::OpenBrace).is_none());
@@ -292,7 +328,7 @@ fn walks(rt: HostRuntime) -> Result<(), Fail> {
     let (word, rest) = rest.word().ok_or("no word")?;
     assert_eq!(rt; word, b"*".as_slice());
     assert!(rt; rest.copy().text_in_quotes().is_none());
-    assert_eq!(rt; rest.len(), 2);
+    assert_eq!(rt; rest.len(), 1);
     Ok(())
 }
 
