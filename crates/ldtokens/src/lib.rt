@@ -12,5 +12,7 @@ mod modes;
 pub mod name;
 pub mod number;
 pub mod refusal;
+#[cfg(test)]
+mod tests;
 pub mod token;
 pub mod words;

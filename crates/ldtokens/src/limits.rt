@@ -45,10 +45,13 @@ fn have_short_spellings(text: &[u8], tokens: &[CodeToken]) -> bool
 fn open_braces(text: &[u8], tokens: &[CodeToken]) -> usize
     ensures { result ≡ count_by is_open_brace (map (token_of text.now) tokens.now) }
 {
-    tokens
-        .iter()
-        .filter(|t| t.kind == TokenKind::Punctuation(Mark::OpenBrace))
-        .count()
+    let mut count = 0;
+    for token in tokens {
+        if token.kind == TokenKind::Punctuation(Mark::OpenBrace) {
+            count += 1;
+        }
+    }
+    count
 }
 
 /// The mode in which a token counts: the `(` that begins a stretch belongs to it.
