@@ -103,9 +103,10 @@ named_shorter m = omega (arith, begins_shorter m.opens, begins_shorter m.names, 
 
 pub property_reading : {p : Property} {n : List ℕ} {ts us rest : List Lexeme} → Begins ts (Worded (Asks p)) us → BeginsNamed us n rest → Reading Primary ts (Of p n) rest
 property_reading {p = p} b m = record {
-    spells = property b m;
-    only = λ f more d s. (let h = primary_shape b d in let same = named_same h.2 m in (h.1 ∙ ap (Of p) same.0, same.1));
-    shorter = omega (arith, begins_shorter b, named_shorter m) }
+  spells = property b m;
+  only = λ f more d s. (let h = primary_shape b d in let same = named_same h.2 m in (h.1 ∙ ap (Of p) same.0, same.1));
+  shorter = omega (arith, begins_shorter b, named_shorter m);
+}
 
 pub align_reading : {e : Expr} {ts us rest : List Lexeme} → Begins ts (Worded Aligns) us → Reading Arguments us e rest → Reading Primary ts e rest
 align_reading b r = record { spells = align b r.spells; only = λ f more d s. r.only f more (primary_shape b d) tt; shorter = omega (arith, begins_shorter b, r.shorter) }
@@ -118,9 +119,10 @@ closed_only {f = f} {m = m} {ws = ws} {more = more} st r c d k =
 
 pub group_reading : {e : Expr} {ts us vs rest : List Lexeme} → Begins ts (Sign OpenParenthesis) us → Reading Whole us e vs → Begins vs (Sign CloseParenthesis) rest → Reading Primary ts e rest
 group_reading b r c = record {
-    spells = group b r.spells c;
-    only = λ f more d s. (let h = primary_shape b d in closed_only tt r c h.1 h.2);
-    shorter = omega (arith, begins_shorter b, r.shorter, begins_shorter c) }
+  spells = group b r.spells c;
+  only = λ f more d s. (let h = primary_shape b d in closed_only tt r c h.1 h.2);
+  shorter = omega (arith, begins_shorter b, r.shorter, begins_shorter c);
+}
 
 -- ARGUMENTS
 pub one_reading : {a : Expr} {ts us vs rest : List Lexeme} → Begins ts (Sign OpenParenthesis) us → Reading Whole us a vs → Begins vs (Sign CloseParenthesis) rest → Reading Arguments ts (AlignDot a) rest

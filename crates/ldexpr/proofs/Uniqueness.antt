@@ -5,7 +5,7 @@ use Rattle.ldtokens.specs.declared.token.Mark.TheVariants.{Question}
 use Rattle.ldexpr.specs.declared.operator.UnaryOperator.{UnaryOperator}
 use Rattle.ldexpr.specs.declared.operator.BinaryOperator.{BinaryOperator}
 use Rattle.ldexpr.specs.Expressions.{Expr}
-use Rattle.ldexpr.specs.Grammar.{Begins, Sign, BeginsUnary, BeginsBinary, Level, Primary, Arguments, Within, Whole, Spells, number, dot, name, group, property, align, one_argument, two_arguments, primary, unary, operand, binary, operators, choice, Stops, Reading, OneTree}
+use Rattle.ldexpr.specs.Grammar.{Begins, Sign, BeginsUnary, BeginsBinary, Level, Primary, Arguments, Within, Whole, Spells, number, dot, name, group, property, align, one_argument, two_arguments, primary, unary, operand, binary, operators, choice, Stops, Reading, OneTree, OneReading}
 use Rattle.ldexpr.proofs.Readings.{SoFar, Lacks, primary_begins_no_unary, number_reading, dot_reading, name_reading, group_reading, property_reading, align_reading, one_reading, two_reading, unary_reading, primary_reading, lower_stops, operator_stops, operator_goes_on, level_start, level_end, level_step, within_stops_at, whole_stops_before, whole_stops, question_goes_on, operators_reading, choice_reading}
 
 -- what a derivation says beside itself
@@ -39,8 +39,11 @@ known (binary {n = n} {b = e} {vs = vs} {rest = rest} d o d2) = λ s. level_step
 known (operators {e = e} {ts = ts} {rest = rest} d) = λ s. operators_reading (reading_within 9 e ts rest (known d) (whole_stops 9 rest s)) (lacks_question rest s)
 known (choice {test = e} {ts = ts} {us = us} d q d2 c d3) = λ s. choice_reading (reading_within 9 e ts us (known d) (within_stops_at 9 q tt)) q (known d2 (whole_stops_before c tt)) c (known d3 s)
 
+pub one_reading_of : (ts : List Lexeme) → OneReading ts
+one_reading_of ts e rest d s = known d s
+
 pub one_tree_of : (ts : List Lexeme) → OneTree ts
 one_tree_of ts e f rest end d d2 s s2 =
-    let reading : Reading Whole ts e rest = known d s in
+    let reading = one_reading_of ts e rest d s in
     let same = reading.only f end d2 s2 in
     (sym same.0, sym same.1)

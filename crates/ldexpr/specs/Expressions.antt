@@ -1,5 +1,5 @@
 -- Expressions of a script, apart from where they lie in memory, and what a script's reader asks of them.
-use Rattle.std.specs.Prelude.{ℕ, List, [], ◌∷◌, ◌++◌, Bool, true, false, ◌||◌}
+use Rattle.std.specs.Prelude.{ℕ, List, Bool, true, false, not, ◌&&◌, ◌||◌}
 use Rattle.ldexpr.specs.declared.operator.UnaryOperator.{UnaryOperator}
 use Rattle.ldexpr.specs.declared.operator.BinaryOperator.{BinaryOperator}
 use Rattle.ldexpr.specs.declared.expression.Property.{Property}
@@ -65,18 +65,22 @@ has_align (Of p n) = false
 has_align (AlignDot a) = true
 has_align (Align a b) = true
 
--- the names of memory regions in it, in the order of the text
-abbrev pub regions_of : Expr → List (List ℕ)
-regions_of (Number n) = []
-regions_of Dot = []
-regions_of (Name n) = []
-regions_of (Unary o a) = regions_of a
-regions_of (Binary o a b) = regions_of a ++ regions_of b
-regions_of (Choice t a b) = regions_of t ++ regions_of a ++ regions_of b
-regions_of (Of Origin n) = n ∷ []
-regions_of (Of Length n) = n ∷ []
-regions_of (Of Address n) = []
-regions_of (Of LoadAddress n) = []
-regions_of (Of Size n) = []
-regions_of (AlignDot a) = regions_of a
-regions_of (Align a b) = regions_of a ++ regions_of b
+-- asked of a memory region, not of an output section
+abbrev pub is_of_region : Property → Bool
+is_of_region Origin = true
+is_of_region Length = true
+is_of_region Address = false
+is_of_region LoadAddress = false
+is_of_region Size = false
+
+-- each name in an ORIGIN or a LENGTH passes a test
+abbrev pub regions_pass : (List ℕ → Bool) → Expr → Bool
+regions_pass test (Number n) = true
+regions_pass test Dot = true
+regions_pass test (Name n) = true
+regions_pass test (Unary o a) = regions_pass test a
+regions_pass test (Binary o a b) = regions_pass test a && regions_pass test b
+regions_pass test (Choice t a b) = regions_pass test t && regions_pass test a && regions_pass test b
+regions_pass test (Of p n) = not (is_of_region p) || test n
+regions_pass test (AlignDot a) = regions_pass test a
+regions_pass test (Align a b) = regions_pass test a && regions_pass test b

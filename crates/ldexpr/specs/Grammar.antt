@@ -151,3 +151,11 @@ Reads l ts expr rest (Err fault) = Fails l ts fault
 -- no tokens have two trees
 abbrev pub OneTree : List Lexeme → Type 0
 OneTree ts = (e f : Expr) (rest more : List Lexeme) → Spells Whole e ts rest → Spells Whole f ts more → Stops Whole rest → Stops Whole more → (e ≡ f) × (rest ≡ more)
+
+-- each tree whose rest can't go on it is the only one
+abbrev pub OneReading : List Lexeme → Type 0
+OneReading ts = (e : Expr) (rest : List Lexeme) → Spells Whole e ts rest → Stops Whole rest → Reading Whole ts e rest
+
+-- no expression goes on at this token
+abbrev pub EndsAt : Token → Type 0
+EndsAt t = (line : ℕ) (rest : List Lexeme) → Stops Whole (token.lexeme t line ∷ rest)

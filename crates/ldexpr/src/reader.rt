@@ -88,7 +88,11 @@ fn unary<'a>(alloc: Global, tokens: Cursor<'a>) -> Result<(Expr, Cursor<'a>), Pa
 
 /// Operators of the level above `below` between operands, from left to right.
 #[cycle(reader)]
-fn binary<'a>(alloc: Global, below: u8, tokens: Cursor<'a>) -> Result<(Expr, Cursor<'a>), ParseFault>
+fn binary<'a>(
+    alloc: Global,
+    below: u8,
+    tokens: Cursor<'a>,
+) -> Result<(Expr, Cursor<'a>), ParseFault>
     requires { below < 9 }
     ensures { Reads (Within (suc below)) tokens.entry (λ x. expr_of x.0) (λ x. x.1) result }
 {
@@ -105,7 +109,11 @@ fn binary<'a>(alloc: Global, below: u8, tokens: Cursor<'a>) -> Result<(Expr, Cur
 
 /// An expression of operators of this level and tighter ones.
 #[cycle(reader)]
-fn operand<'a>(alloc: Global, level: u8, tokens: Cursor<'a>) -> Result<(Expr, Cursor<'a>), ParseFault>
+fn operand<'a>(
+    alloc: Global,
+    level: u8,
+    tokens: Cursor<'a>,
+) -> Result<(Expr, Cursor<'a>), ParseFault>
     requires { level ≤ 9 }
     ensures { Reads (Within level) tokens.entry (λ x. expr_of x.0) (λ x. x.1) result }
 {
@@ -138,8 +146,10 @@ fn whole<'a>(alloc: Global, tokens: Cursor<'a>) -> Result<(Expr, Cursor<'a>), Pa
     Ok((tree, rest))
 }
 
-/// Reads the expression at the front of the tokens, and returns it with what follows it. It is the longest one, and
-/// the only one whose rest can't go on it.
+/// Reads the expression at the front of the tokens, and returns it with what follows it: the only one that can't go on
+/// there. `NotAnExpression` where there is none, which includes a number of 2^64 or more and a reserved word as a name;
+/// `NoMemory` says nothing of the tokens. The operators are those of the GNU ld manual's "Expressions in Linker
+/// Scripts", in C's order.
 pub fn expr<'a>(alloc: Global, tokens: Cursor<'a>) -> Result<(Expr, Cursor<'a>), ParseFault>
     ensures { Reads Whole tokens.entry (λ x. expr_of x.0) (λ x. x.1) result }
 {

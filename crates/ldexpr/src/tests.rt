@@ -152,7 +152,13 @@ fn push_times(out: &mut String, text: &str, count: u32) -> Result<(), AllocError
 }
 
 /// `head` and `tail` so many times round a text.
-fn nested(alloc: Global, head: &str, text: &str, tail: &str, count: u32) -> Result<String, AllocError> {
+fn nested(
+    alloc: Global,
+    head: &str,
+    text: &str,
+    tail: &str,
+    count: u32,
+) -> Result<String, AllocError> {
     let mut out = String::new(alloc);
     push_times(&mut out, head, count)?;
     out.push_str(text)?;
@@ -285,12 +291,54 @@ fn leaves_what_follows(rt: HostRuntime) -> Result<(), Fail> {
 #[test]
 fn refuses_what_is_no_expression(rt: HostRuntime) -> Result<(), Fail> {
     let texts = [
-        "", "+", "* 1", "1 +", "1 + ;", "a * ", "a - ) b", "!", "- -", "( 1", "( )", "( 1 ; )", ")", ",", ";", "\"a\"",
-        "/DISCARD/", "ORIGIN", "ORIGIN (", "ORIGIN ( )", "ORIGIN ( . )", "ORIGIN ( ORIGIN )", "ORIGIN ( a",
-        "ORIGIN ( ( a ) )", "ORIGIN a", "LENGTH ( 1 )", "ADDR ( a , b )", "SIZEOF .text", "ALIGN", "ALIGN 8",
-        "ALIGN ( )", "ALIGN ( 1", "ALIGN ( 1 , )", "ALIGN ( , 1 )", "ALIGN ( 1 , 2", "ALIGN ( 1 , 2 , 3 )",
-        "ALIGN ( 1 , 2 , )", "KEEP", "SIZEOF_HEADERS", "1 + MAX ( 1 , 2 )", "DEFINED ( a )", "- AT", "a ? b",
-        "a ? : c", "a ? b :", "a ? b , c", "? 1 : 2", "a ? b : + c",
+        "",
+        "+",
+        "* 1",
+        "1 +",
+        "1 + ;",
+        "a * ",
+        "a - ) b",
+        "!",
+        "- -",
+        "( 1",
+        "( )",
+        "( 1 ; )",
+        ")",
+        ",",
+        ";",
+        "\"a\"",
+        "/DISCARD/",
+        "ORIGIN",
+        "ORIGIN (",
+        "ORIGIN ( )",
+        "ORIGIN ( . )",
+        "ORIGIN ( ORIGIN )",
+        "ORIGIN ( a",
+        "ORIGIN ( ( a ) )",
+        "ORIGIN a",
+        "LENGTH ( 1 )",
+        "ADDR ( a , b )",
+        "SIZEOF .text",
+        "ALIGN",
+        "ALIGN 8",
+        "ALIGN ( )",
+        "ALIGN ( 1",
+        "ALIGN ( 1 , )",
+        "ALIGN ( , 1 )",
+        "ALIGN ( 1 , 2",
+        "ALIGN ( 1 , 2 , 3 )",
+        "ALIGN ( 1 , 2 , )",
+        "KEEP",
+        "SIZEOF_HEADERS",
+        "1 + MAX ( 1 , 2 )",
+        "DEFINED ( a )",
+        "- AT",
+        "a ? b",
+        "a ? : c",
+        "a ? b :",
+        "a ? b , c",
+        "? 1 : 2",
+        "a ? b : + c",
     ];
     for text in texts {
         let found = reading(rt.alloc(), text)?;
