@@ -122,8 +122,8 @@ drop_next xs i d lt = rw (add-one i) (drop-cons xs i d lt)
 pub runs_next : (text : List ℕ) (tokens : List CodeToken) (i c : ℕ) (p : LexState) (d : CodeToken) → i < length tokens
     → runs_from c (moded p (map (token_of text) (drop i tokens)))
     ≡ (let t = token_of text (get_or tokens i d) in
-      let n = signs_to c (record { token = t; mode = counted_mode p t }) in
-      nat_le n 64 && runs_from n (moded (state_after p t) (map (token_of text) (drop (i + 1) tokens))))
+    let n = signs_to c (record { token = t; mode = counted_mode p t }) in
+    nat_le n 64 && runs_from n (moded (state_after p t) (map (token_of text) (drop (i + 1) tokens))))
 runs_next text tokens i c p d lt = ap (λ ts. runs_from c (moded p (map (token_of text) ts))) (drop_next tokens i d lt)
 
 pub few_signs : (n : ℕ) → n ≤ 64 → nat_le n 64 ≡ true
