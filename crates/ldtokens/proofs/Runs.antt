@@ -1,5 +1,5 @@
 -- The signs of runs, counted from left to right.
-use Rattle.std.proofs.Common.{◌≡◌, ℕ, ◌+◌, ◌≤◌, ◌<◌, length, map, drop, get_or, drop-cons, add-one, List, [], ◌∷◌, ◌++◌, Bool, true, false, cond, if◌then◌else◌, ◌&&◌, ◌||◌, nat_le, refl, sym, ◌∙◌, ap, subst, arith, rules}
+use Rattle.std.proofs.Common.{◌≡◌, ℕ, ◌+◌, ◌≤◌, ◌<◌, length, map, drop, get_or, drop-cons, add-one, List, [], ◌∷◌, ◌++◌, Bool, true, false, cond, if◌then◌else◌, ◌&&◌, nat_le, refl, sym, ◌∙◌, ap, subst, arith, rules}
 use Rattle.std.specs.List.{list_any, count_by}
 use Rattle.std.proofs.lemmas.List.Sums.{sum_by-cons}
 use Rattle.std.proofs.lemmas.List.{drop_all}
@@ -122,8 +122,8 @@ drop_next xs i d lt = rw (add-one i) (drop-cons xs i d lt)
 pub runs_next : (text : List ℕ) (tokens : List CodeToken) (i c : ℕ) (p : LexState) (d : CodeToken) → i < length tokens
     → runs_from c (moded p (map (token_of text) (drop i tokens)))
     ≡ (let t = token_of text (get_or tokens i d) in
-      let n = signs_to c (record { token = t; mode = counted_mode p t }) in
-      nat_le n 64 && runs_from n (moded (state_after p t) (map (token_of text) (drop (i + 1) tokens))))
+    let n = signs_to c (record { token = t; mode = counted_mode p t }) in
+    nat_le n 64 && runs_from n (moded (state_after p t) (map (token_of text) (drop (i + 1) tokens))))
 runs_next text tokens i c p d lt = ap (λ ts. runs_from c (moded p (map (token_of text) ts))) (drop_next tokens i d lt)
 
 pub few_signs : (n : ℕ) → n ≤ 64 → nat_le n 64 ≡ true

@@ -1,8 +1,8 @@
 -- Tokens of a text one by one.
-use Rattle.std.proofs.Common.{◌≡◌, ℕ, ◌<◌, ◌≤◌, ◌^◌, List, [], ◌∷◌, length, map, get_or, refl, sym, ap, subst, arith, rules}
+use Rattle.std.proofs.Common.{◌≡◌, ℕ, ◌<◌, ◌≤◌, ◌^◌, List, [], ◌∷◌, length, map, get_or, refl, sym, ap, subst}
 use Rattle.std.specs.List.{All}
 use Rattle.std.proofs.lemmas.List.{get_or-map, length-map}
-use Rattle.ldtokens.specs.Tokens.{Token, Lexeme, token_of, lexeme_of}
+use Rattle.ldtokens.specs.Tokens.{token_of, lexeme_of}
 use Rattle.ldtokens.specs.Modes.{IsCut}
 use Rattle.ldtokens.specs.Limits.{IsWithinLimits, IsTokens, IsPastLimits, tokens_of}
 use Rattle.ldtokens.specs.declared.token.CodeToken.{CodeToken}

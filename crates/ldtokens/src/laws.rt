@@ -8,5 +8,4 @@ ghost use Rattle.ldtokens.specs.Modes.{IsCut};
 #[tactic(auto, using(crate::proofs::Cut::one_cut))]
 pub fn one_cut()
     ensures { (text : List ℕ) (ls ms : List Lexeme) → IsCut text ls → IsCut text ms → ls ≡ ms }
-{
-}
+{}

@@ -1,6 +1,6 @@
 //! The cut of a text into tokens.
 
-ghost use Rattle.std.specs.Prelude.{◌≡◌, ◌≤◌, ◌^◌, ◌+◌, ◌-◌, length, drop, take, map, All, IfOk, IfErr};
+ghost use Rattle.std.specs.Prelude.{◌≡◌, ◌≤◌, ◌^◌, ◌+◌, ◌-◌, length, drop, map, All, IfOk, IfErr};
 ghost use Rattle.ldtokens.specs.Tokens.{lexeme_of, front_of, front, IsAdvance};
 ghost use Rattle.ldtokens.specs.Modes.{mode_of, line_feeds, IsCut, IsPlace};
 ghost use Rattle.ldtokens.specs.Limits.{IsTokens, IsTokenRefusal};

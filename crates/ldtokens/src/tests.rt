@@ -77,16 +77,25 @@ fn cuts_texts(rt: HostRuntime) -> Result<(), Fail> {
         (" \t\r\n/* a *//* b */ /***/ /*/*/", ""),
         ("A-B A - B a$b.c _x", " 1nA-B 1nA 1m- 1nB 1na$b.c 1n_x"),
         (".-4 . ..-x .x-", " 1n. 1m- 1d4 1n. 1n..-x 1n.x-"),
-        ("0x1fK 0X1F 017 12M 9-8 0 0K", " 1d0x1fK 1d0X1F 1d017 1d12M 1d9 1m- 1d8 1d0 1d0K"),
+        (
+            "0x1fK 0X1F 017 12M 9-8 0 0K",
+            " 1d0x1fK 1d0X1F 1d017 1d12M 1d9 1m- 1d8 1d0 1d0K",
+        ),
         ("\"a b\"\"\"\"/*\"", " 1ta b 1t 1t/*"),
-        ("/DISCARD/ /DISCARD/x a/DISCARD/", " 1x/DISCARD/ 1x/DISCARD/ 1nx 1na 1x/DISCARD/"),
+        (
+            "/DISCARD/ /DISCARD/x a/DISCARD/",
+            " 1x/DISCARD/ 1x/DISCARD/ 1nx 1na 1x/DISCARD/",
+        ),
         ("/DISCARD /", " 1m/ 1nDISCARD 1m/"),
         (
             "(){};:,=+=!-~*/%+<<>><<=>>===!=&&&|||?",
             " 1m( 1m) 1m{ 1m} 1m; 1m: 1m, 1m= 1m+= 1m! 1m- 1m~ 1m* 1m/ 1m% 1m+ 1m<< 1m>> 1m<< 1m= 1m>> 1m== 1m= 1m!= 1m&& 1m& 1m|| 1m| 1m?",
         ),
         ("< <= > >= = ==", " 1m< 1m<= 1m> 1m>= 1m= 1m=="),
-        ("{{a-*[b]?/c\\(\\\\ \\~ +=1;x}", " 1m{ 1m{ 1wa-*[b]?/c\\(\\\\ 1w\\~ 1m+= 1d1 1m; 1wx 1m}"),
+        (
+            "{{a-*[b]?/c\\(\\\\ \\~ +=1;x}",
+            " 1m{ 1m{ 1wa-*[b]?/c\\(\\\\ 1w\\~ 1m+= 1d1 1m; 1wx 1m}",
+        ),
         ("{{09 1x", " 1m{ 1m{ 1w09 1w1x"),
     ];
     for (text, wanted) in texts {
@@ -100,24 +109,48 @@ fn cuts_texts(rt: HostRuntime) -> Result<(), Fail> {
 fn keeps_modes(rt: HostRuntime) -> Result<(), Fail> {
     let texts = [
         // Pattern mode holds at depth 2 alone.
-        ("a*b{a*b{a*b{a*b}a*b}a*b}a*b", " 1na 1m* 1nb 1m{ 1na 1m* 1nb 1m{ 1wa*b 1m{ 1na 1m* 1nb 1m} 1wa*b 1m} 1na 1m* 1nb 1m} 1na 1m* 1nb"),
+        (
+            "a*b{a*b{a*b{a*b}a*b}a*b}a*b",
+            " 1na 1m* 1nb 1m{ 1na 1m* 1nb 1m{ 1wa*b 1m{ 1na 1m* 1nb 1m} 1wa*b 1m} 1na 1m* 1nb 1m} 1na 1m* 1nb",
+        ),
         // The count of braces stops at 0.
         ("}}{{a*b", " 1m} 1m} 1m{ 1m{ 1wa*b"),
         // A stretch ends with its `;`, whatever braces come before it.
         ("{{a=b*c;d*e", " 1m{ 1m{ 1wa 1m= 1nb 1m* 1nc 1m; 1wd*e"),
         ("{{a+=b*c;d*e", " 1m{ 1m{ 1wa 1m+= 1nb 1m* 1nc 1m; 1wd*e"),
-        ("{{a=1}b:{c*d;e*f", " 1m{ 1m{ 1wa 1m= 1d1 1m} 1nb 1m: 1m{ 1nc 1m* 1nd 1m; 1we*f"),
+        (
+            "{{a=1}b:{c*d;e*f",
+            " 1m{ 1m{ 1wa 1m= 1d1 1m} 1nb 1m: 1m{ 1nc 1m* 1nd 1m; 1we*f",
+        ),
         ("{{a={;b*c", " 1m{ 1m{ 1wa 1m= 1m{ 1m; 1nb 1m* 1nc"),
         // A stretch of parentheses ends where they match, or with the text.
-        ("{{BYTE(a*(b))c*d", " 1m{ 1m{ 1wBYTE 1m( 1na 1m* 1m( 1nb 1m) 1m) 1wc*d"),
+        (
+            "{{BYTE(a*(b))c*d",
+            " 1m{ 1m{ 1wBYTE 1m( 1na 1m* 1m( 1nb 1m) 1m) 1wc*d",
+        ),
         ("{{BYTE (a*b)", " 1m{ 1m{ 1wBYTE 1m( 1na 1m* 1nb 1m)"),
-        ("{{LONG(1;a*b}c*d", " 1m{ 1m{ 1wLONG 1m( 1d1 1m; 1na 1m* 1nb 1m} 1nc 1m* 1nd"),
-        ("{{SHORT(a*b)QUAD(a*b)", " 1m{ 1m{ 1wSHORT 1m( 1na 1m* 1nb 1m) 1wQUAD 1m( 1na 1m* 1nb 1m)"),
-        ("{{PROVIDE(a=b*c)ASSERT(a*b,\"c\")", " 1m{ 1m{ 1wPROVIDE 1m( 1na 1m= 1nb 1m* 1nc 1m) 1wASSERT 1m( 1na 1m* 1nb 1m, 1tc 1m)"),
-        ("{{KEEP(a*b)*(c*d)", " 1m{ 1m{ 1wKEEP 1m( 1wa*b 1m) 1w* 1m( 1wc*d 1m)"),
+        (
+            "{{LONG(1;a*b}c*d",
+            " 1m{ 1m{ 1wLONG 1m( 1d1 1m; 1na 1m* 1nb 1m} 1nc 1m* 1nd",
+        ),
+        (
+            "{{SHORT(a*b)QUAD(a*b)",
+            " 1m{ 1m{ 1wSHORT 1m( 1na 1m* 1nb 1m) 1wQUAD 1m( 1na 1m* 1nb 1m)",
+        ),
+        (
+            "{{PROVIDE(a=b*c)ASSERT(a*b,\"c\")",
+            " 1m{ 1m{ 1wPROVIDE 1m( 1na 1m= 1nb 1m* 1nc 1m) 1wASSERT 1m( 1na 1m* 1nb 1m, 1tc 1m)",
+        ),
+        (
+            "{{KEEP(a*b)*(c*d)",
+            " 1m{ 1m{ 1wKEEP 1m( 1wa*b 1m) 1w* 1m( 1wc*d 1m)",
+        ),
         ("{{BYTE a(b*c)", " 1m{ 1m{ 1wBYTE 1wa 1m( 1wb*c 1m)"),
         // A comment begins only where a token could.
-        ("{{*(.text/*c*/ /*d*/.data)", " 1m{ 1m{ 1w* 1m( 1w.text/*c*/ 1w.data 1m)"),
+        (
+            "{{*(.text/*c*/ /*d*/.data)",
+            " 1m{ 1m{ 1w* 1m( 1w.text/*c*/ 1w.data 1m)",
+        ),
         ("a/*c*/b", " 1na 1nb"),
     ];
     for (text, wanted) in texts {
@@ -145,11 +178,41 @@ fn tells_lines(rt: HostRuntime) -> Result<(), Fail> {
 #[test]
 fn refuses_what_is_no_token(rt: HostRuntime) {
     let texts = [
-        "/*/", "/* open", "a /* b * /", "\"open", "\"a\nb\"", "#", "a @ b", "08", "0x", "0x1G", "1KB", "1KK", "12a", "1_", "1.",
-        "1$", "^", "'a'", "{{:", "{{,", "{{a+b", "{{\"a\"", "{{\\", "{{\\ a", "{{a\\\n", "{{!", "\u{e9}", "18446744073709551616 #",
+        "/*/",
+        "/* open",
+        "a /* b * /",
+        "\"open",
+        "\"a\nb\"",
+        "#",
+        "a @ b",
+        "08",
+        "0x",
+        "0x1G",
+        "1KB",
+        "1KK",
+        "12a",
+        "1_",
+        "1.",
+        "1$",
+        "^",
+        "'a'",
+        "{{:",
+        "{{,",
+        "{{a+b",
+        "{{\"a\"",
+        "{{\\",
+        "{{\\ a",
+        "{{a\\\n",
+        "{{!",
+        "\u{e9}",
+        "18446744073709551616 #",
     ];
     for text in texts {
-        assert_eq!(rt; count(rt.alloc(), text), Err(TokenRefusal::NotAToken), "at {text}");
+        assert_eq!(rt;
+            count(rt.alloc(), text),
+            Err(TokenRefusal::NotAToken),
+            "at {text}"
+        );
     }
 }
 
@@ -176,7 +239,11 @@ fn bounds_numbers(rt: HostRuntime) {
     ];
     for (number, value) in numbers {
         assert_eq!(rt; number_value(number.as_bytes()), value, "at {number}");
-        let wanted = if value.is_some() { Ok(1) } else { Err(TokenRefusal::Limit) };
+        let wanted = if value.is_some() {
+            Ok(1)
+        } else {
+            Err(TokenRefusal::Limit)
+        };
         assert_eq!(rt; count(rt.alloc(), number), wanted, "at {number}");
     }
 }
@@ -197,9 +264,17 @@ fn bounds_names_and_braces(rt: HostRuntime) -> Result<(), Fail> {
         let within = format!(in alloc; "{before}{}", repeated(alloc, part, most)?)?;
         assert_eq!(rt; count(alloc, &within), Ok(wanted), "{most} of {part}");
         let past = format!(in alloc; "{within}{part}")?;
-        assert_eq!(rt; count(alloc, &past), Err(TokenRefusal::Limit), "past {most} of {part}");
+        assert_eq!(rt;
+            count(alloc, &past),
+            Err(TokenRefusal::Limit),
+            "past {most} of {part}"
+        );
         let none = format!(in alloc; "{past} ^")?;
-        assert_eq!(rt; count(alloc, &none), Err(TokenRefusal::NotAToken), "past {most} of {part}");
+        assert_eq!(rt;
+            count(alloc, &none),
+            Err(TokenRefusal::NotAToken),
+            "past {most} of {part}"
+        );
     }
     let text = format!(in alloc; "\"{}\"", repeated(alloc, "t", 300)?)?;
     assert_eq!(rt; count(alloc, &text), Ok(1), "a text of 300 bytes");
@@ -210,19 +285,38 @@ fn bounds_names_and_braces(rt: HostRuntime) -> Result<(), Fail> {
 fn bounds_runs(rt: HostRuntime) -> Result<(), Fail> {
     let alloc = rt.alloc();
     let signs = [
-        "( ", "! ", "- ", "~ ", "* ", "/ ", "% ", "+ ", "<< ", ">> ", "< ", "<= ", "> ", ">= ", "== ", "!= ", "& ", "&& ", "| ", "|| ", "? ",
+        "( ", "! ", "- ", "~ ", "* ", "/ ", "% ", "+ ", "<< ", ">> ", "< ", "<= ", "> ", ">= ",
+        "== ", "!= ", "& ", "&& ", "| ", "|| ", "? ",
     ];
     for sign in signs {
         let within = repeated(alloc, sign, 64)?;
         assert_eq!(rt; count(alloc, &within), Ok(64), "64 of {sign}");
         let past = repeated(alloc, sign, 65)?;
-        assert_eq!(rt; count(alloc, &past), Err(TokenRefusal::Limit), "65 of {sign}");
+        assert_eq!(rt;
+            count(alloc, &past),
+            Err(TokenRefusal::Limit),
+            "65 of {sign}"
+        );
     }
-    for other in [") ", ": ", ", ", "= ", "+= ", "a ", "7 ", "\"t\" ", "/DISCARD/ "] {
+    for other in [
+        ") ",
+        ": ",
+        ", ",
+        "= ",
+        "+= ",
+        "a ",
+        "7 ",
+        "\"t\" ",
+        "/DISCARD/ ",
+    ] {
         let many = repeated(alloc, other, 100)?;
         assert_eq!(rt; count(alloc, &many), Ok(100), "100 of {other}");
         let past = format!(in alloc; "{}{other}-", repeated(alloc, "-", 64)?)?;
-        assert_eq!(rt; count(alloc, &past), Err(TokenRefusal::Limit), "a run over {other}");
+        assert_eq!(rt;
+            count(alloc, &past),
+            Err(TokenRefusal::Limit),
+            "a run over {other}"
+        );
     }
     for other in [";", "{", "}", "{{w=", "{{KEEP(=", "{{BYTE(-)w="] {
         let run = repeated(alloc, "-", 64)?;
@@ -240,7 +334,11 @@ fn counts_the_parenthesis_of_a_stretch(rt: HostRuntime) -> Result<(), Fail> {
         let within = format!(in alloc; "{{{{{word}({run})")?;
         assert_eq!(rt; count(alloc, &within), Ok(68), "63 in {word}");
         let past = format!(in alloc; "{{{{{word}({run}-)")?;
-        assert_eq!(rt; count(alloc, &past), Err(TokenRefusal::Limit), "64 in {word}");
+        assert_eq!(rt;
+            count(alloc, &past),
+            Err(TokenRefusal::Limit),
+            "64 in {word}"
+        );
         let twice = format!(in alloc; "{within}{word}({run})")?;
         assert_eq!(rt; count(alloc, &twice), Ok(134), "63 in {word}, twice");
     }
@@ -266,7 +364,11 @@ fn accepts_long_texts(rt: HostRuntime) -> Result<(), Fail> {
         let mut text = long(rt.alloc(), part)?;
         assert_eq!(rt; counted(rt.alloc(), &text), Ok(wanted), "a text of {part}");
         text.push(b' ')?;
-        assert_eq!(rt; counted(rt.alloc(), &text), Err(TokenRefusal::Limit), "a longer text of {part}");
+        assert_eq!(rt;
+            counted(rt.alloc(), &text),
+            Err(TokenRefusal::Limit),
+            "a longer text of {part}"
+        );
     }
     Ok(())
 }
@@ -286,16 +388,19 @@ fn refuses_long_texts(rt: HostRuntime) -> Result<(), Fail> {
         let mut text = long(rt.alloc(), part)?;
         assert_eq!(rt; counted(rt.alloc(), &text), Err(wanted), "a text of {part}");
         text.push(b'#')?;
-        assert_eq!(rt; counted(rt.alloc(), &text), Err(TokenRefusal::Limit), "a longer text of {part}");
+        assert_eq!(rt;
+            counted(rt.alloc(), &text),
+            Err(TokenRefusal::Limit),
+            "a longer text of {part}"
+        );
     }
     Ok(())
 }
 
 #[test]
 fn refuses_a_long_word(rt: HostRuntime) -> Result<(), Fail> {
-    let mut text = long(rt.alloc(), "w")?;
-    text[0] = b'{';
-    text[1] = b'{';
+    let mut text = Vec::from_slice(rt.alloc(), b"{{")?;
+    text.resize(MAX, b'w')?;
     assert_eq!(rt; counted(rt.alloc(), &text), Err(TokenRefusal::Limit));
     Ok(())
 }

@@ -1,5 +1,4 @@
 use Rattle.std.proofs.Common.{arith, ◌∙◌, refl}
-use Rattle.ldtokens.specs.Tokens.{token_of}
 use Rattle.ldtokens.proofs.Runs.{runs_all, runs_not, run_passed, run_over, runs_end}
 use Rattle.ldtokens.proofs.Spellings.{nothing}
 use Rattle.ldtokens.proofs.limits.have_short_runs.Goals as goal

@@ -1,4 +1,3 @@
-use Rattle.std.proofs.Common.{arith}
 use Rattle.std.specs.List.{All}
 use Rattle.std.proofs.Common.{subst, refl}
 use Rattle.std.proofs.lemmas.List.{take_all}
