@@ -373,13 +373,19 @@ fn reads_the_deepest_texts(rt: HostRuntime) -> Result<(), Fail> {
     all_read(&rt, alloc, table.as_slice())
 }
 
-/// Has `.`, has an ALIGN of one argument, has an ALIGN.
-fn answers(alloc: Global, text: &str) -> Result<(bool, bool, bool), Fail> {
+/// The tree at the front of a text.
+fn tree(alloc: Global, text: &str) -> Result<Expr, Fail> {
     let bytes = text.as_bytes();
     let tokens = tokens(alloc, bytes)?;
     let Ok((tree, _)) = expr(alloc, Cursor::new(bytes, &tokens)) else {
         return Err("no tree")?;
     };
+    Ok(tree)
+}
+
+/// Has `.`, has an ALIGN of one argument, has an ALIGN.
+fn answers(alloc: Global, text: &str) -> Result<(bool, bool, bool), Fail> {
+    let tree = tree(alloc, text)?;
     Ok((tree.has_dot(), tree.has_align_dot(), tree.has_align()))
 }
 
@@ -398,6 +404,30 @@ fn asks_of_trees(rt: HostRuntime) -> Result<(), Fail> {
     ];
     for (text, wanted) in table {
         let found = answers(rt.alloc(), text)?;
+        assert_eq!(rt; found, wanted, "at {text}");
+    }
+    Ok(())
+}
+
+#[test]
+fn asks_for_known_regions(rt: HostRuntime) -> Result<(), Fail> {
+    let names = [b"ram".as_slice(), b"rom".as_slice()];
+    let table = [
+        ("1 + a", true),
+        ("ORIGIN(ram) + LENGTH(rom)", true),
+        ("ORIGIN(ram) + LENGTH(flash)", false),
+        ("ORIGIN(ramp) - 1", false),
+        ("- ORIGIN(ra)", false),
+        ("ADDR(flash) + LOADADDR(flash) + SIZEOF(flash)", true),
+        ("a ? ORIGIN(ram) : LENGTH(rom)", true),
+        ("LENGTH(a) ? 1 : 2", false),
+        ("a ? 1 : ORIGIN(RAM)", false),
+        ("ALIGN(ORIGIN(rom))", true),
+        ("ALIGN(ORIGIN(ram), LENGTH(b))", false),
+    ];
+    for (text, wanted) in table {
+        let tree = tree(rt.alloc(), text)?;
+        let found = tree.regions_are_among(names.as_slice());
         assert_eq!(rt; found, wanted, "at {text}");
     }
     Ok(())
