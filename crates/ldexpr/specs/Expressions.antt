@@ -1,0 +1,86 @@
+-- Expressions of a script, apart from where they lie in memory, and what a script's reader asks of them.
+use Rattle.std.specs.Prelude.{ℕ, List, Bool, true, false, not, ◌&&◌, ◌||◌}
+use Rattle.ldexpr.specs.declared.operator.UnaryOperator.{UnaryOperator}
+use Rattle.ldexpr.specs.declared.operator.BinaryOperator.{BinaryOperator}
+use Rattle.ldexpr.specs.declared.expression.Property.{Property}
+use Rattle.ldexpr.specs.declared.expression.Property.TheVariants.{Origin, Length, Address, LoadAddress, Size}
+use Rattle.ldexpr.specs.declared.expression.Expr as code
+
+-- a number, `.`, a name, operators on expressions, ORIGIN and its like of a name, ALIGN(a), ALIGN(a, b)
+pub data Expr : Type 0 where
+  Number : (value : ℕ) → Expr
+  Dot : Expr
+  Name : (name : List ℕ) → Expr
+  Unary : (operator : UnaryOperator) → (a : Expr) → Expr
+  Binary : (operator : BinaryOperator) → (a b : Expr) → Expr
+  Choice : (test a b : Expr) → Expr
+  Of : (property : Property) → (name : List ℕ) → Expr
+  AlignDot : (a : Expr) → Expr
+  Align : (a b : Expr) → Expr
+
+abbrev pub expr_of : code.Expr → Expr
+expr_of (code.Number n) = Number n
+expr_of code.Dot = Dot
+expr_of (code.Name n) = Name n
+expr_of (code.Unary' o p a) = Unary o (expr_of a)
+expr_of (code.Binary' o p a q b) = Binary o (expr_of a) (expr_of b)
+expr_of (code.Choice' p t q a r b) = Choice (expr_of t) (expr_of a) (expr_of b)
+expr_of (code.Of f n) = Of f n
+expr_of (code.AlignDot' p a) = AlignDot (expr_of a)
+expr_of (code.Align' p a q b) = Align (expr_of a) (expr_of b)
+
+-- the token `.` is in it
+abbrev pub has_dot : Expr → Bool
+has_dot (Number n) = false
+has_dot Dot = true
+has_dot (Name n) = false
+has_dot (Unary o a) = has_dot a
+has_dot (Binary o a b) = has_dot a || has_dot b
+has_dot (Choice t a b) = has_dot t || has_dot a || has_dot b
+has_dot (Of p n) = false
+has_dot (AlignDot a) = has_dot a
+has_dot (Align a b) = has_dot a || has_dot b
+
+-- an ALIGN of one argument is in it
+abbrev pub has_align_dot : Expr → Bool
+has_align_dot (Number n) = false
+has_align_dot Dot = false
+has_align_dot (Name n) = false
+has_align_dot (Unary o a) = has_align_dot a
+has_align_dot (Binary o a b) = has_align_dot a || has_align_dot b
+has_align_dot (Choice t a b) = has_align_dot t || has_align_dot a || has_align_dot b
+has_align_dot (Of p n) = false
+has_align_dot (AlignDot a) = true
+has_align_dot (Align a b) = has_align_dot a || has_align_dot b
+
+-- an ALIGN of one or two arguments is in it
+abbrev pub has_align : Expr → Bool
+has_align (Number n) = false
+has_align Dot = false
+has_align (Name n) = false
+has_align (Unary o a) = has_align a
+has_align (Binary o a b) = has_align a || has_align b
+has_align (Choice t a b) = has_align t || has_align a || has_align b
+has_align (Of p n) = false
+has_align (AlignDot a) = true
+has_align (Align a b) = true
+
+-- asked of a memory region, not of an output section
+abbrev pub is_of_region : Property → Bool
+is_of_region Origin = true
+is_of_region Length = true
+is_of_region Address = false
+is_of_region LoadAddress = false
+is_of_region Size = false
+
+-- each name in an ORIGIN or a LENGTH passes a test
+abbrev pub regions_pass : (List ℕ → Bool) → Expr → Bool
+regions_pass test (Number n) = true
+regions_pass test Dot = true
+regions_pass test (Name n) = true
+regions_pass test (Unary o a) = regions_pass test a
+regions_pass test (Binary o a b) = regions_pass test a && regions_pass test b
+regions_pass test (Choice t a b) = regions_pass test t && regions_pass test a && regions_pass test b
+regions_pass test (Of p n) = not (is_of_region p) || test n
+regions_pass test (AlignDot a) = regions_pass test a
+regions_pass test (Align a b) = regions_pass test a && regions_pass test b
