@@ -3,6 +3,10 @@ use Rattle.std.specs.Prelude.{List, Bool, true, false, not, ◌&&◌, ◌||◌}
 use Rattle.std.specs.List.{list_any}
 use Rattle.ldexpr.specs.declared.operator.BinaryOperator.TheVariants.{Add}
 use Rattle.ldexpr.specs.Expressions.{Expr, Dot, Binary, AlignDot, has_dot, has_align_dot, has_align}
+use Rattle.ldscript.specs.declared.common.Common.{Common}
+use Rattle.ldscript.specs.declared.common.Common.TheVariants as commons
+use Rattle.ldscript.specs.declared.common.DotCommand.{DotCommand}
+use Rattle.ldscript.specs.declared.common.DotCommand.TheVariants.{Set, Add}
 use Rattle.ldscript.specs.declared.section.BodyCommand.{BodyCommand}
 use Rattle.ldscript.specs.declared.section.BodyCommand.TheVariants as body
 use Rattle.ldscript.specs.declared.section.BodyStatement.{BodyStatement}
@@ -26,42 +30,52 @@ is_dot_form (AlignDot e) = not (has_dot e)
 is_dot_form e = not (has_dot e) && not (has_align e)
 
 -- no `.` in an ASSERT
+abbrev pub assert_misplaces : Common → Bool
+assert_misplaces (commons.Assign a) = false
+assert_misplaces (commons.Provide a) = false
+assert_misplaces (commons.Assert a) = uses_dot a.condition
+
+-- no `.` in a command outside SECTIONS
+abbrev pub common_uses_dot : Common → Bool
+common_uses_dot (commons.Assign a) = uses_dot a.value
+common_uses_dot (commons.Provide a) = uses_dot a.value
+common_uses_dot (commons.Assert a) = uses_dot a.condition
+
+-- in an output section `.` is set to one of the forms, or something is added to it
+abbrev pub dot_misplaces : DotCommand → Bool
+dot_misplaces (Set e) = not (is_dot_form e)
+dot_misplaces (Add e) = false
+
+abbrev pub body_command_misplaces : BodyCommand → Bool
+body_command_misplaces (body.Dot c) = dot_misplaces c
+body_command_misplaces (body.Common c) = assert_misplaces c
+body_command_misplaces (body.Data w e) = false
+body_command_misplaces (body.Input i) = false
+
 abbrev pub body_misplaces : BodyStatement → Bool
-body_misplaces s = in_command s.command where
-  in_command : BodyCommand → Bool
-  in_command (body.SetDot e) = not (is_dot_form e)
-  in_command (body.AddDot e) = false
-  in_command (body.Assign a) = false
-  in_command (body.Provide a) = false
-  in_command (body.Assert a) = uses_dot a.condition
-  in_command (body.Data w e) = false
-  in_command (body.Input i) = false
+body_misplaces s = body_command_misplaces s.command
+
+abbrev pub item_command_misplaces : ItemCommand → Bool
+item_command_misplaces (item.Dot c) = false
+item_command_misplaces (item.Common c) = assert_misplaces c
+item_command_misplaces (item.Section o) = list_any body_misplaces o.body
+item_command_misplaces (item.Discard inputs) = false
 
 abbrev pub item_misplaces : Item → Bool
-item_misplaces s = in_command s.command where
-  in_command : ItemCommand → Bool
-  in_command (item.SetDot e) = false
-  in_command (item.AddDot e) = false
-  in_command (item.Assign a) = false
-  in_command (item.Provide a) = false
-  in_command (item.Assert a) = uses_dot a.condition
-  in_command (item.Section o) = list_any body_misplaces o.body
-  in_command (item.Discard inputs) = false
+item_misplaces s = item_command_misplaces s.command
 
 -- no `.` in MEMORY
 abbrev pub region_misplaces : Region → Bool
 region_misplaces r = uses_dot r.origin || uses_dot r.extent
 
--- no `.` outside SECTIONS
+abbrev pub top_command_misplaces : Command → Bool
+top_command_misplaces (top.Entry n) = false
+top_command_misplaces (top.Memory regions) = list_any region_misplaces regions
+top_command_misplaces (top.Sections items) = list_any item_misplaces items
+top_command_misplaces (top.Common c) = common_uses_dot c
+
 abbrev pub top_misplaces : Statement → Bool
-top_misplaces s = in_command s.command where
-  in_command : Command → Bool
-  in_command (top.Entry n) = false
-  in_command (top.Memory regions) = list_any region_misplaces regions
-  in_command (top.Sections items) = list_any item_misplaces items
-  in_command (top.Assign a) = uses_dot a.value
-  in_command (top.Provide a) = uses_dot a.value
-  in_command (top.Assert a) = uses_dot a.condition
+top_misplaces s = top_command_misplaces s.command
 
 -- a use of `.` that the profile does not have
 abbrev pub has_misplaced_dot : List Statement → Bool

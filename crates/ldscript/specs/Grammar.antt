@@ -22,6 +22,7 @@ use Rattle.std.specs.Option.{option_map, option_and_then}
 use Rattle.ldtokens.specs.Bytes.{is_hex_digit}
 use Rattle.ldtokens.specs.Numbers.{digit_value}
 use Rattle.ldtokens.specs.Tokens.{Lexeme, Number, Discard}
+use Rattle.ldtokens.specs.declared.token.Mark.{Mark}
 use Rattle.ldtokens.specs.declared.token.Mark.TheVariants.{OpenParenthesis, CloseParenthesis, OpenBrace, CloseBrace, Semicolon, Colon, Comma, Assign, AddAssign, Greater}
 use Rattle.ldtokens.specs.declared.token.Mode.{Mode}
 use Rattle.ldtokens.specs.declared.token.Mode.TheVariants.{Expression, Pattern}
@@ -40,8 +41,12 @@ use Rattle.ldscript.specs.declared.section.BodyStatement.{BodyStatement}
 use Rattle.ldscript.specs.declared.section.Load.{Load}
 use Rattle.ldscript.specs.declared.section.Load.TheVariants.{Unstated, At, InRegion}
 use Rattle.ldscript.specs.declared.section.OutputSection.{OutputSection}
-use Rattle.ldscript.specs.declared.statement.Assignment.{Assignment}
-use Rattle.ldscript.specs.declared.statement.Assertion.{Assertion}
+use Rattle.ldscript.specs.declared.common.Assignment.{Assignment}
+use Rattle.ldscript.specs.declared.common.Assertion.{Assertion}
+use Rattle.ldscript.specs.declared.common.Common.{Common}
+use Rattle.ldscript.specs.declared.common.Common.TheVariants as commons
+use Rattle.ldscript.specs.declared.common.DotCommand.{DotCommand}
+use Rattle.ldscript.specs.declared.common.DotCommand.TheVariants.{Set, Add}
 use Rattle.ldscript.specs.declared.statement.Region.{Region}
 use Rattle.ldscript.specs.declared.statement.ItemCommand.{ItemCommand}
 use Rattle.ldscript.specs.declared.statement.ItemCommand.TheVariants as item
@@ -77,25 +82,53 @@ kept true p = key Pattern (codes "KEEP") ▸ mark OpenParenthesis ▸ p ▸ mark
 abbrev pub input : Input → Part
 input i = kept i.keep (plain i)
 
--- "." "=" e ";"
-abbrev pub set_dot : Mode → Expr → Part
-set_dot mode e = key mode (codes ".") ▸ mark Assign ▸ expression e ▸ mark Semicolon
+-- an expression and the mark behind it
+abbrev pub ended : Mark → Expr → Part
+ended m e = expression e ▸ mark m
 
--- "." "+=" e ";"
-abbrev pub add_dot : Mode → Expr → Part
-add_dot mode e = key mode (codes ".") ▸ mark AddAssign ▸ expression e ▸ mark Semicolon
+-- "=" e ";"
+abbrev pub set_to : Expr → Part
+set_to e = mark Assign ▸ ended Semicolon e
+
+-- "+=" e ";"
+abbrev pub add_to : Expr → Part
+add_to e = mark AddAssign ▸ ended Semicolon e
+
+abbrev pub dot_change : DotCommand → Part
+dot_change (Set e) = set_to e
+dot_change (Add e) = add_to e
+
+-- "." "=" e ";" | "." "+=" e ";"
+abbrev pub dot_command : Mode → DotCommand → Part
+dot_command mode c = key mode (codes ".") ▸ dot_change c
 
 -- NAME "=" e ";"
 abbrev pub assign : Mode → Assignment → Part
-assign mode a = name_in mode a.name ▸ mark Assign ▸ expression a.value ▸ mark Semicolon
+assign mode a = name_in mode a.name ▸ set_to a.value
+
+-- "(" NAME "="
+abbrev pub provided_name : List ℕ → Part
+provided_name n = mark OpenParenthesis ▸ name n ▸ mark Assign
 
 -- provide = PROVIDE "(" NAME "=" e ")"
+abbrev pub provided : Assignment → Part
+provided a = provided_name a.name ▸ ended CloseParenthesis a.value
+
 abbrev pub provide : Mode → Assignment → Part
-provide mode a = key mode (codes "PROVIDE") ▸ mark OpenParenthesis ▸ name a.name ▸ mark Assign ▸ expression a.value ▸ mark CloseParenthesis
+provide mode a = key mode (codes "PROVIDE") ▸ provided a
 
 -- assert = ASSERT "(" e "," STRING ")"
+abbrev pub asserted : Assertion → Part
+asserted a = mark OpenParenthesis ▸ ended Comma a.condition ▸ string a.message ▸ mark CloseParenthesis
+
 abbrev pub assertion : Mode → Assertion → Part
-assertion mode a = key mode (codes "ASSERT") ▸ mark OpenParenthesis ▸ expression a.condition ▸ mark Comma ▸ string a.message ▸ mark CloseParenthesis
+assertion mode a = key mode (codes "ASSERT") ▸ asserted a
+
+-- NAME "=" e ";" | provide | assert
+abbrev pub common : Mode → Common → Part
+common mode (commons.Assign a) = assign mode a
+common mode (commons.Provide a) = provide mode a
+common mode (commons.Assert a) = assertion mode a
 
 -- data = BYTE | SHORT | LONG | QUAD
 abbrev pub width_word : Width → List ℕ
@@ -106,15 +139,12 @@ width_word Quad = codes "QUAD"
 
 -- "(" e ")"
 abbrev pub in_parentheses : Expr → Part
-in_parentheses e = mark OpenParenthesis ▸ expression e ▸ mark CloseParenthesis
+in_parentheses e = mark OpenParenthesis ▸ ended CloseParenthesis e
 
 -- body = ";" | "." "=" e ";" | "." "+=" e ";" | NAME "=" e ";" | provide | assert | data "(" e ")" | input
 abbrev pub body_command : BodyCommand → Part
-body_command (body.SetDot e) = set_dot Pattern e
-body_command (body.AddDot e) = add_dot Pattern e
-body_command (body.Assign a) = assign Pattern a
-body_command (body.Provide a) = provide Pattern a
-body_command (body.Assert a) = assertion Pattern a
+body_command (body.Dot c) = dot_command Pattern c
+body_command (body.Common c) = common Pattern c
 body_command (body.Data w e) = key Pattern (width_word w) ▸ in_parentheses e
 body_command (body.Input i) = input i
 
@@ -139,17 +169,23 @@ fill_of spelled =
 abbrev pub fill : List ℕ → Part
 fill bytes ts rest = (spelled : List ℕ) × (fill_of spelled ≡ Some bytes) × token (Number spelled) ts rest
 
--- AT "(" e ")", in the head
-abbrev pub load_in_head : Load → Part
-load_in_head Unstated = nothing
-load_in_head (At e) = key Expression (codes "AT") ▸ in_parentheses e
-load_in_head (InRegion r) = nothing
+-- AT "(" e ")"
+abbrev pub at_address : Expr → Part
+at_address e = key Expression (codes "AT") ▸ in_parentheses e
 
--- AT ">" NAME, in the tail
-abbrev pub load_in_tail : Load → Part
-load_in_tail Unstated = nothing
-load_in_tail (At e) = nothing
-load_in_tail (InRegion r) = key Expression (codes "AT") ▸ mark Greater ▸ name r
+abbrev pub load_in_head : Load → Option Expr
+load_in_head Unstated = None
+load_in_head (At e) = Some e
+load_in_head (InRegion r) = None
+
+-- AT ">" NAME
+abbrev pub at_region : List ℕ → Part
+at_region r = key Expression (codes "AT") ▸ mark Greater ▸ name r
+
+abbrev pub load_in_tail : Load → Option (List ℕ)
+load_in_tail Unstated = None
+load_in_tail (At e) = None
+load_in_tail (InRegion r) = Some r
 
 -- ALIGN "(" e ")"
 abbrev pub alignment : Expr → Part
@@ -163,13 +199,18 @@ in_region r = mark Greater ▸ name r
 abbrev pub filled : List ℕ → Part
 filled bytes = mark Assign ▸ fill bytes
 
+-- [e] ":"
+abbrev pub address : Option Expr → Part
+address None = mark Colon
+address (Some e) = ended Colon e
+
 -- NAME [e] ":" [AT "(" e ")"] [ALIGN "(" e ")"] "{"
 abbrev pub section_head : OutputSection → Part
-section_head s = name s.name ▸ optional expression s.address ▸ mark Colon ▸ load_in_head s.load ▸ optional alignment s.alignment ▸ mark OpenBrace
+section_head s = name s.name ▸ address s.address ▸ optional at_address (load_in_head s.load) ▸ optional alignment s.alignment ▸ mark OpenBrace
 
 -- [">" NAME] [AT ">" NAME] ["=" fill]
 abbrev pub section_tail : OutputSection → Part
-section_tail s = optional in_region s.region ▸ load_in_tail s.load ▸ optional filled s.fill
+section_tail s = optional in_region s.region ▸ optional at_region (load_in_tail s.load) ▸ optional filled s.fill
 
 -- section = NAME [e] ":" [AT "(" e ")"] [ALIGN "(" e ")"] "{" {body} "}" [">" NAME] [AT ">" NAME] ["=" fill]
 abbrev pub section : OutputSection → Part
@@ -179,35 +220,52 @@ abbrev pub input_statement : InputStatement → Part
 input_statement s = on_line s.line (input s.input)
 
 -- "/DISCARD/" ":" "{" {";" | input} "}"
+abbrev pub discarded : List InputStatement → Part
+discarded inputs = mark Colon ▸ mark OpenBrace ▸ statements input_statement inputs ▸ mark CloseBrace
+
 abbrev pub discard : List InputStatement → Part
-discard inputs = token Discard ▸ mark Colon ▸ mark OpenBrace ▸ statements input_statement inputs ▸ mark CloseBrace
+discard inputs = token Discard ▸ discarded inputs
 
 -- item = ";" | "." "=" e ";" | "." "+=" e ";" | NAME "=" e ";" | provide | assert | section
 abbrev pub item_command : ItemCommand → Part
-item_command (item.SetDot e) = set_dot Expression e
-item_command (item.AddDot e) = add_dot Expression e
-item_command (item.Assign a) = assign Expression a
-item_command (item.Provide a) = provide Expression a
-item_command (item.Assert a) = assertion Expression a
+item_command (item.Dot c) = dot_command Expression c
+item_command (item.Common c) = common Expression c
 item_command (item.Section s) = section s
 item_command (item.Discard inputs) = discard inputs
 
 abbrev pub item_statement : Item → Part
 item_statement s = on_line s.line (item_command s.command)
 
+-- NAME ":" ORIGIN "="
+abbrev pub region_head : List ℕ → Part
+region_head n = name n ▸ mark Colon ▸ key Expression (codes "ORIGIN") ▸ mark Assign
+
+-- LENGTH "="
+abbrev pub region_middle : Part
+region_middle = key Expression (codes "LENGTH") ▸ mark Assign
+
 -- region = NAME ":" ORIGIN "=" e "," LENGTH "=" e
 abbrev pub region : Region → Part
-region r = on_line r.line (name r.name ▸ mark Colon ▸ key Expression (codes "ORIGIN") ▸ mark Assign ▸ expression r.origin ▸ mark Comma
-    ▸ key Expression (codes "LENGTH") ▸ mark Assign ▸ expression r.extent)
+region r = on_line r.line (region_head r.name ▸ ended Comma r.origin ▸ region_middle ▸ expression r.extent)
+
+-- ENTRY "(" NAME ")"
+abbrev pub entry : List ℕ → Part
+entry n = key Expression (codes "ENTRY") ▸ mark OpenParenthesis ▸ name n ▸ mark CloseParenthesis
+
+-- MEMORY "{" {region} "}"
+abbrev pub memory : List Region → Part
+memory regions = key Expression (codes "MEMORY") ▸ mark OpenBrace ▸ each region regions ▸ mark CloseBrace
+
+-- SECTIONS "{" {item} "}"
+abbrev pub sections : List Item → Part
+sections items = key Expression (codes "SECTIONS") ▸ mark OpenBrace ▸ statements item_statement items ▸ mark CloseBrace
 
 -- top = ";" | ENTRY "(" NAME ")" | MEMORY "{" {region} "}" | SECTIONS "{" {item} "}" | NAME "=" e ";" | provide | assert
 abbrev pub top_command : Command → Part
-top_command (top.Entry n) = key Expression (codes "ENTRY") ▸ mark OpenParenthesis ▸ name n ▸ mark CloseParenthesis
-top_command (top.Memory regions) = key Expression (codes "MEMORY") ▸ mark OpenBrace ▸ each region regions ▸ mark CloseBrace
-top_command (top.Sections items) = key Expression (codes "SECTIONS") ▸ mark OpenBrace ▸ statements item_statement items ▸ mark CloseBrace
-top_command (top.Assign a) = assign Expression a
-top_command (top.Provide a) = provide Expression a
-top_command (top.Assert a) = assertion Expression a
+top_command (top.Entry n) = entry n
+top_command (top.Memory regions) = memory regions
+top_command (top.Sections items) = sections items
+top_command (top.Common c) = common Expression c
 
 abbrev pub top_statement : Statement → Part
 top_statement s = on_line s.line (top_command s.command)

@@ -1,3 +1,4 @@
+pub mod FormulaCode
 pub mod RefusalNumber
 pub mod Steps
 pub mod Grammar

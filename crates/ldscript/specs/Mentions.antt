@@ -8,7 +8,11 @@ use Rattle.ldscript.specs.declared.section.BodyStatement.{BodyStatement}
 use Rattle.ldscript.specs.declared.section.Load.{Load}
 use Rattle.ldscript.specs.declared.section.Load.TheVariants.{Unstated, At, InRegion}
 use Rattle.ldscript.specs.declared.section.OutputSection.{OutputSection}
-use Rattle.ldscript.specs.declared.statement.Assignment.{Assignment}
+use Rattle.ldscript.specs.declared.common.Assignment.{Assignment}
+use Rattle.ldscript.specs.declared.common.Common.{Common}
+use Rattle.ldscript.specs.declared.common.Common.TheVariants as commons
+use Rattle.ldscript.specs.declared.common.DotCommand.{DotCommand}
+use Rattle.ldscript.specs.declared.common.DotCommand.TheVariants.{Set, Add}
 use Rattle.ldscript.specs.declared.statement.Region.{Region}
 use Rattle.ldscript.specs.declared.statement.ItemCommand.{ItemCommand}
 use Rattle.ldscript.specs.declared.statement.ItemCommand.TheVariants as item
@@ -43,12 +47,18 @@ in_optional (Some e) = in_expression e
 abbrev pub in_assignment : Assignment → List Mention
 in_assignment a = SymbolGiven a.name ∷ in_expression a.value
 
+abbrev pub in_common : Common → List Mention
+in_common (commons.Assign a) = in_assignment a
+in_common (commons.Provide a) = in_assignment a
+in_common (commons.Assert a) = in_expression a.condition
+
+abbrev pub in_dot_command : DotCommand → List Mention
+in_dot_command (Set e) = in_expression e
+in_dot_command (Add e) = in_expression e
+
 abbrev pub in_body_command : BodyCommand → List Mention
-in_body_command (body.SetDot e) = in_expression e
-in_body_command (body.AddDot e) = in_expression e
-in_body_command (body.Assign a) = in_assignment a
-in_body_command (body.Provide a) = in_assignment a
-in_body_command (body.Assert a) = in_expression a.condition
+in_body_command (body.Dot c) = in_dot_command c
+in_body_command (body.Common c) = in_common c
 in_body_command (body.Data w e) = in_expression e
 in_body_command (body.Input i) = []
 
@@ -74,11 +84,8 @@ abbrev pub in_section : OutputSection → List Mention
 in_section s = SectionNamed s.name ∷ (in_optional s.address ++ in_load_head s.load ++ in_optional s.alignment ++ in_body s.body ++ in_region_name s.region ++ in_load_tail s.load)
 
 abbrev pub in_item_command : ItemCommand → List Mention
-in_item_command (item.SetDot e) = in_expression e
-in_item_command (item.AddDot e) = in_expression e
-in_item_command (item.Assign a) = in_assignment a
-in_item_command (item.Provide a) = in_assignment a
-in_item_command (item.Assert a) = in_expression a.condition
+in_item_command (item.Dot c) = in_dot_command c
+in_item_command (item.Common c) = in_common c
 in_item_command (item.Section s) = in_section s
 in_item_command (item.Discard inputs) = []
 
@@ -95,9 +102,7 @@ abbrev pub in_top_command : Command → List Mention
 in_top_command (top.Entry n) = EntryGiven ∷ []
 in_top_command (top.Memory regions) = MemoryGiven ∷ in_regions regions
 in_top_command (top.Sections items) = SectionsGiven ∷ in_items items
-in_top_command (top.Assign a) = in_assignment a
-in_top_command (top.Provide a) = in_assignment a
-in_top_command (top.Assert a) = in_expression a.condition
+in_top_command (top.Common c) = in_common c
 
 abbrev pub mentions : List Statement → List Mention
 mentions [] = []

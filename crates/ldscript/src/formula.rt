@@ -15,7 +15,13 @@ pub struct Formula {
 impl Model for Formula {
     ghost use Rattle.ldexpr.specs.Expressions.{Expr, expr_of};
 
+    ghost use Rattle.std.specs.Prelude.{List};
+    ghost use Rattle.std.specs.Coded.{codes, code_by};
+    ghost use Rattle.ldscript.specs.FormulaCode.{Instruction, to_instructions, from_instructions, from_to};
+
     ghost Value = { Expr };
+
+    ghost coded = { code_by (List Instruction) (Prim.hlevel codes) to_instructions from_instructions from_to };
 
     ghost view = { λ f. expr_of f.expr };
 }

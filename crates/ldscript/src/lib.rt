@@ -1,11 +1,20 @@
 //! The reader of linker scripts: the tree of a text, or why it has none.
 #![tactic(auto)]
 
+pub mod common;
 pub mod fault;
+mod fill;
 pub mod formula;
 pub mod input;
-mod reader;
+mod read_body;
+mod read_common;
+mod read_input;
+mod read_item;
+mod read_region;
+mod read_script;
+mod read_section;
 pub mod refusal;
 pub mod section;
 pub mod sequence;
 pub mod statement;
+mod steps;

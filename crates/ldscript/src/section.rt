@@ -1,9 +1,9 @@
 //! Output sections and what stands in them.
 
+use crate::common::{Common, DotCommand};
 use crate::formula::Formula;
 use crate::input::Input;
 use crate::sequence::Sequence;
-use crate::statement::{Assertion, Assignment};
 use ldtokens::name::ScriptName;
 
 /// How many bytes a data command takes.
@@ -22,16 +22,10 @@ pub enum Width {
 /// What a statement in an output section says.
 #[derive(Drop)]
 pub enum BodyCommand {
-    /// `. = e`
-    SetDot(Formula),
-    /// `. += e`
-    AddDot(Formula),
-    /// `NAME = e`
-    Assign(Assignment),
-    /// `PROVIDE(NAME = e)`
-    Provide(Assignment),
-    /// `ASSERT(e, "message")`
-    Assert(Assertion),
+    /// `. = e` or `. += e`.
+    Dot(DotCommand),
+    /// `NAME = e`, `PROVIDE` or `ASSERT`.
+    Common(Common),
     /// `BYTE(e)` and its like.
     Data(Width, Formula),
     /// The input sections that go here.

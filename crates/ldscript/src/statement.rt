@@ -1,28 +1,11 @@
 //! The statements of a script.
 
+use crate::common::{Common, DotCommand};
 use crate::formula::Formula;
 use crate::input::InputStatement;
 use crate::section::OutputSection;
 use crate::sequence::Sequence;
 use ldtokens::name::ScriptName;
-
-/// A name and the value that it is given.
-#[derive(Drop)]
-pub struct Assignment {
-    /// The name.
-    pub name: ScriptName,
-    /// The value.
-    pub value: Formula,
-}
-
-/// A condition that must hold of the finished link.
-#[derive(Drop)]
-pub struct Assertion {
-    /// The condition: any number but 0.
-    pub condition: Formula,
-    /// What is told where it does not hold, without its quotes.
-    pub message: ScriptName,
-}
 
 /// A memory region.
 #[derive(Drop)]
@@ -40,16 +23,10 @@ pub struct Region {
 /// What a statement of `SECTIONS` says.
 #[derive(Drop)]
 pub enum ItemCommand {
-    /// `. = e`
-    SetDot(Formula),
-    /// `. += e`
-    AddDot(Formula),
-    /// `NAME = e`
-    Assign(Assignment),
-    /// `PROVIDE(NAME = e)`
-    Provide(Assignment),
-    /// `ASSERT(e, "message")`
-    Assert(Assertion),
+    /// `. = e` or `. += e`.
+    Dot(DotCommand),
+    /// `NAME = e`, `PROVIDE` or `ASSERT`.
+    Common(Common),
     /// An output section.
     Section(OutputSection),
     /// `/DISCARD/`: the input sections that are left out.
@@ -74,12 +51,8 @@ pub enum Command {
     Memory(Sequence<Region>),
     /// `SECTIONS`: the layout.
     Sections(Sequence<Item>),
-    /// `NAME = e`
-    Assign(Assignment),
-    /// `PROVIDE(NAME = e)`
-    Provide(Assignment),
-    /// `ASSERT(e, "message")`
-    Assert(Assertion),
+    /// `NAME = e`, `PROVIDE` or `ASSERT`.
+    Common(Common),
 }
 
 /// A statement of a script.
