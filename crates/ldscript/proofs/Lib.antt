@@ -1,0 +1,3 @@
+pub mod Expressions
+pub mod Singles
+pub mod Lists

@@ -8,7 +8,7 @@ use Rattle.ldpattern.specs.Parts as patterns
 use Rattle.ldscript.specs.Steps.{Part, ◌▸◌, key, mark, optional}
 use Rattle.ldscript.specs.Grammar.{selection, width_word, in_parentheses, alignment, at_address}
 use Rattle.ldscript.specs.declared.input.Sort.{Sort}
-use Rattle.ldscript.specs.declared.read_section.Head.{Head}
+use Rattle.ldscript.specs.declared.read_section.SectionHead.{SectionHead}
 use Rattle.ldscript.specs.declared.section.Width.{Width}
 use Rattle.ldscript.specs.declared.fault.Fault.{Fault}
 use Rattle.ldscript.specs.declared.fault.Fault.TheVariants.{NotAScript, NoMemory}
@@ -57,5 +57,5 @@ abbrev pub opened_part : Option Expr → Part
 opened_part a = optional alignment a ▸ mark OpenBrace
 
 -- [AT "(" e ")"] [ALIGN "(" e ")"] "{"
-abbrev pub head_part : Head → Part
+abbrev pub head_part : SectionHead → Part
 head_part h = optional at_address h.load ▸ opened_part h.alignment

@@ -2,10 +2,12 @@
 #![tactic(auto)]
 
 pub mod common;
+mod dots;
 pub mod fault;
 mod fill;
 pub mod formula;
 pub mod input;
+mod mentions;
 mod read_body;
 mod read_common;
 mod read_input;
@@ -14,7 +16,10 @@ mod read_region;
 mod read_script;
 mod read_section;
 pub mod refusal;
+pub mod script;
 pub mod section;
 pub mod sequence;
 pub mod statement;
 mod steps;
+#[cfg(test)]
+mod tests;

@@ -52,18 +52,18 @@ fn alignment<'a>(
 
 /// What the head of an output section gives behind its address.
 #[derive(Drop)]
-struct Head {
+struct SectionHead {
     load: Option<Formula>,
     alignment: Option<Formula>,
 }
 
 /// [`AT ( e )`] [`ALIGN ( e )`] `{`
-fn head<'a>(alloc: Global, tokens: Cursor<'a>) -> Result<(Head, Cursor<'a>), Fault>
+fn head<'a>(alloc: Global, tokens: Cursor<'a>) -> Result<(SectionHead, Cursor<'a>), Fault>
     ensures { Reads head_part tokens.entry (λ x. x.0) (λ x. x.1) result }
 {
     let Some(rest) = after_key(Mode::Expression, b"AT", tokens.copy()) else {
         let (alignment, rest) = alignment(alloc, tokens)?;
-        let head = Head {
+        let head = SectionHead {
             load: None,
             alignment,
         };
@@ -71,7 +71,7 @@ fn head<'a>(alloc: Global, tokens: Cursor<'a>) -> Result<(Head, Cursor<'a>), Fau
     };
     let (load, rest) = in_parentheses(alloc, rest)?;
     let (alignment, rest) = alignment(alloc, rest)?;
-    let head = Head {
+    let head = SectionHead {
         load: Some(load),
         alignment,
     };
@@ -80,7 +80,7 @@ fn head<'a>(alloc: Global, tokens: Cursor<'a>) -> Result<(Head, Cursor<'a>), Fau
 
 /// What the tail of an output section gives.
 #[derive(Clone, Copy)]
-struct Tail<'a> {
+struct SectionTail<'a> {
     region: Option<&'a [u8]>,
     load: Option<&'a [u8]>,
     fill: Option<&'a [u8]>,
@@ -119,11 +119,11 @@ fn fill<'a>(tokens: Cursor<'a>) -> Option<(Option<&'a [u8]>, Cursor<'a>)> {
 }
 
 /// [`> NAME`] [`AT > NAME`] [`= fill`]
-fn tail<'a>(tokens: Cursor<'a>) -> Option<(Tail<'a>, Cursor<'a>)> {
+fn tail<'a>(tokens: Cursor<'a>) -> Option<(SectionTail<'a>, Cursor<'a>)> {
     let (region, rest) = region(tokens)?;
     let (load, rest) = load_region(rest)?;
     let (fill, rest) = fill(rest)?;
-    Some((Tail { region, load, fill }, rest))
+    Some((SectionTail { region, load, fill }, rest))
 }
 
 /// The load address of an output section, if its head and its tail do not both give one.
@@ -161,7 +161,7 @@ pub fn section<'a>(
         return Err(Fault::NotAScript);
     };
     let (address, rest) = address(alloc, rest)?;
-    let (Head { load, alignment }, rest) = head(alloc, rest)?;
+    let (SectionHead { load, alignment }, rest) = head(alloc, rest)?;
     let (body, rest) = body(alloc, rest)?;
     let Some((tail, rest)) = tail(rest) else {
         return Err(Fault::NotAScript);
