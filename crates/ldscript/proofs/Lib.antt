@@ -1,3 +1,8 @@
 pub mod Expressions
 pub mod Singles
 pub mod Lists
+pub mod Each
+pub mod Reading
+pub mod Commons
+pub mod Inputs
+pub mod Bodies

@@ -53,17 +53,18 @@ module _ {A : Type 0} {Stop : List Lexeme → Type 0} {c : Part} {p : A → Part
     ]
 
   -- where a statement stands, a list has one
-  pub closing_statement : Listed Stop c p → (x : A) (ts us : List Lexeme) → p x ts us → Stop us → (ys : List A) (r : List Lexeme) → Closing ys ts r
+  pub closing_statement : Listed Stop c p → (x : A) (ts us : List Lexeme) → p x ts us
+      → ((y : A) (more : List Lexeme) → p y ts more → Stop more → (y ≡ x) × (more ≡ us)) → (ys : List A) (r : List Lexeme) → Closing ys ts r
       → (zs : List A) × (ys ≡ x ∷ zs) × Closing zs us r
-  closing_statement l x ts us h stop [] r d = elim (split_semicolons ts d.0 d.1) [
+  closing_statement l x ts us h only [] r d = elim (split_semicolons ts d.0 d.1) [
       inl e ↦ absurd (l.no_close x ts us r h (subst (λ t. c t r) (sym e) d.2))
     | inr s ↦ absurd (l.no_semicolon x ts us s.0 h s.1)
     ]
-  closing_statement l x ts us h stop (y ∷ ys) r d = elim (split_semicolons ts d.1.0 d.1.1) [
+  closing_statement l x ts us h only (y ∷ ys) r d = elim (split_semicolons ts d.1.0 d.1.1) [
       inl e ↦
       let next : p y ts d.1.2.0 = subst (λ t. p y t d.1.2.0) (sym e) d.1.2.1 in
       let stops : Stop d.1.2.0 = closing_stops l ys d.1.2.0 r (d.0, d.1.2.2, d.2) in
-      let same = l.single ts d.1.2.0 us y x next h stops stop in
+      let same = only y d.1.2.0 next stops in
       (ys, ap (λ z. z ∷ ys) same.0, (d.0, subst (λ t. statements p ys t d.0) same.1 d.1.2.2, d.2))
     | inr s ↦ absurd (l.no_semicolon x ts us s.0 h s.1)
     ]
@@ -90,7 +91,7 @@ module _ {A : Type 0} {Stop : List Lexeme → Type 0} {c : Part} {p : A → Part
       (sym e.0, sym e.1)
   closing_single l (x ∷ xs) ys ts r s d y =
       let stops : Stop d.1.2.0 = closing_stops l xs d.1.2.0 r (d.0, d.1.2.2, d.2) in
-      let h = closing_statement l x d.1.0 d.1.2.0 d.1.2.1 stops ys s (behind_semicolons l ts d.1.0 d.1.1 ys s y) in
+      let h = closing_statement l x d.1.0 d.1.2.0 d.1.2.1 (λ z more k st. l.single d.1.0 more d.1.2.0 z x k d.1.2.1 st stops) ys s (behind_semicolons l ts d.1.0 d.1.1 ys s y) in
       let e = closing_single l xs h.0 d.1.2.0 r s (d.0, d.1.2.2, d.2) h.2 in
       (ap (λ zs. x ∷ zs) e.0 ∙ sym h.1, e.1)
 
@@ -117,10 +118,10 @@ so_far_semicolon Stop c p l ts xs rest us s m h = record {
 }
 
 pub so_far_statement : {A : Type 0} (Stop : List Lexeme → Type 0) (c : Part) (p : A → Part) → Listed Stop c p → (ts : List Lexeme) (xs : List A) (x : A) (rest us : List Lexeme)
-    → SoFar c p ts xs rest → p x rest us → Stop us → length us < length rest → SoFar c p ts (xs ++ x ∷ []) us
-so_far_statement Stop c p l ts xs x rest us s m stop h = record {
+    → SoFar c p ts xs rest → p x rest us → ((y : A) (more : List Lexeme) → p y rest more → Stop more → (y ≡ x) × (more ≡ us)) → length us < length rest → SoFar c p ts (xs ++ x ∷ []) us
+so_far_statement Stop c p l ts xs x rest us s m only h = record {
   forth = λ ys r d. subst (λ zs. statements p zs ts r) (sym (append_assoc xs (x ∷ []) ys)) (s.forth (x ∷ ys) r (rest, none, (us, m, d)));
-  back = λ ys r d. let b = s.back ys r d in let k = closing_statement l x rest us m stop b.0 r b.1 in (k.0, k.2);
+  back = λ ys r d. let b = s.back ys r d in let k = closing_statement l x rest us m only b.0 r b.1 in (k.0, k.2);
   shorter = omega (arith, s.shorter);
 }
 

@@ -1,5 +1,5 @@
 -- No tokens are two trees of one part: part by part.
-use Rattle.std.proofs.Common.{◌≡◌, ◌∙◌, refl, sym, ap, subst, ℕ, List, [], ◌∷◌, Bool, true, false, Option, Some, None, ◌⊎◌, inl, inr, arith}
+use Rattle.std.proofs.Common.{◌≡◌, ◌∙◌, refl, sym, ap, subst, ℕ, List, [], ◌∷◌, Bool, true, false, ◌&&◌, Option, Some, None, ◌⊎◌, inl, inr, arith}
 use Rattle.std.specs.Prelude.{IsTrue, codes, bytes_eq}
 use Rattle.std.proofs.lemmas.Bool.{false≢true}
 use Rattle.ldtokens.specs.Tokens.{Token, Lexeme, lexeme, Name, Number, Text, Word, Discard, Punctuation}
@@ -34,7 +34,9 @@ abbrev pub SingleUntil : {A : Type 0} → (List Lexeme → Type 0) → (A → Pa
 SingleUntil {A} Stop p = (ts r s : List Lexeme) (a b : A) → p a ts r → p b ts s → Stop r → Stop s → (a ≡ b) × (r ≡ s)
 
 same_lexemes : (t u : Token) (k l : ℕ) (r s : List Lexeme) → lexeme t k ∷ r ≡ lexeme u l ∷ s → (t ≡ u) × (r ≡ s)
-same_lexemes t u k l r s e = (cc, cc)
+same_lexemes t u k l r s e =
+    let first : lexeme t k ≡ lexeme u l = cc in
+    (ap (λ (x : Lexeme). x.token) first, cc)
 
 pub tokens_same : (t u : Token) (ts r s : List Lexeme) → token t ts r → token u ts s → (t ≡ u) × (r ≡ s)
 tokens_same t u ts r s a b = same_lexemes t u a.0 b.0 r s (sym a.1 ∙ b.1)
@@ -48,24 +50,30 @@ mark_fixed m = token_fixed (Punctuation m)
 pub key_fixed : (mode : Mode) (w : List ℕ) → Fixed (key mode w)
 key_fixed mode w = token_fixed (word_in mode w)
 
-pub then_fixed : {p q : Part} → Fixed p → Fixed q → Fixed (p ▸ q)
-then_fixed {p} {q} f g ts r s a b = g b.0 r s (subst (λ l. q l r) (f ts a.0 b.0 a.1 b.1) a.2) b.2
+pub then_fixed : (p q : Part) → Fixed p → Fixed q → Fixed (p ▸ q)
+then_fixed p q f g ts r s a b = g b.0 r s (subst (λ l. q l r) (f ts a.0 b.0 a.1 b.1) a.2) b.2
 
 -- what follows a part that leads to one place
-pub behind : {p q : Part} → Fixed p → (ts us more : List Lexeme) → p ts us → (p ▸ q) ts more → q us more
-behind {p} {q} f ts us more h d = subst (λ l. q l more) (f ts d.0 us d.1 h) d.2
+pub behind : (p q : Part) → Fixed p → (ts us more : List Lexeme) → p ts us → (p ▸ q) ts more → q us more
+behind p q f ts us more h d = subst (λ l. q l more) (f ts d.0 us d.1 h) d.2
 
-pub skip_single : {A : Type 0} {p : Part} {q : A → Part} → Fixed p → Single q → Single (λ a. p ▸ q a)
-skip_single {A} {p} {q} f g ts r s a b x y = g y.0 r s a b (subst (λ l. q a l r) (f ts x.0 y.0 x.1 y.1) x.2) y.2
+-- the same behind a part with a tree
+pub behind_tree : {A : Type 0} (p : A → Part) (q : Part) → Single p → (ts us more : List Lexeme) (a b : A) → p a ts us → (p b ▸ q) ts more → (b ≡ a) × q us more
+behind_tree p q f ts us more a b h d =
+    let e = f ts d.0 us b a d.1 h in
+    (e.0, subst (λ l. q l more) e.1 d.2)
 
-pub end_single : {A : Type 0} {p : A → Part} {q : Part} → Single p → Fixed q → Single (λ a. p a ▸ q)
-end_single {A} {p} {q} f g ts r s a b x y =
+pub skip_single : {A : Type 0} (p : Part) (q : A → Part) → Fixed p → Single q → Single (λ a. p ▸ q a)
+skip_single {A} p q f g ts r s a b x y = g y.0 r s a b (subst (λ l. q a l r) (f ts x.0 y.0 x.1 y.1) x.2) y.2
+
+pub end_single : {A : Type 0} (p : A → Part) (q : Part) → Single p → Fixed q → Single (λ a. p a ▸ q)
+end_single {A} p q f g ts r s a b x y =
     let e = f ts x.0 y.0 a b x.1 y.1 in
     (e.0, g y.0 r s (subst (λ l. q l r) e.1 x.2) y.2)
 
-pub pair_single : {A B : Type 0} {p : A → Part} {q : B → Part} → Single p → Single q
+pub pair_single : {A B : Type 0} (p : A → Part) (q : B → Part) → Single p → Single q
     → (ts r s : List Lexeme) (a a' : A) (b b' : B) → (p a ▸ q b) ts r → (p a' ▸ q b') ts s → (a ≡ a') × (b ≡ b') × (r ≡ s)
-pair_single {A} {B} {p} {q} f g ts r s a a' b b' x y =
+pair_single {A} {B} p q f g ts r s a a' b b' x y =
     let e = f ts x.0 y.0 a a' x.1 y.1 in
     let h = g y.0 r s b b' (subst (λ l. q b l r) e.1 x.2) y.2 in
     (e.0, h.0, h.1)
@@ -114,7 +122,7 @@ name_no_key mode n w k ts r s a b =
 pub expression_single : SingleUntil (Stops Whole) expression
 expression_single ts r s a b x y h k = one_expression ts a b r s x y h k
 
-stops_at : (m : Mark) → StopsAt Whole (Sign m) → (ts r : List Lexeme) → mark m ts r → Stops Whole ts
+pub stops_at : (m : Mark) → StopsAt Whole (Sign m) → (ts r : List Lexeme) → mark m ts r → Stops Whole ts
 stops_at m h ts r a = subst (Stops Whole) (sym a.1) h
 
 pub ended_single : (m : Mark) → StopsAt Whole (Sign m) → Single (ended m)
@@ -123,15 +131,15 @@ ended_single m h ts r s a b x y =
     (e.0, mark_fixed m y.0 r s (subst (λ l. mark m l r) e.1 x.2) y.2)
 
 pub set_to_single : Single set_to
-set_to_single = skip_single (mark_fixed Assign) (ended_single Semicolon tt)
+set_to_single = skip_single (mark Assign) (ended Semicolon) (mark_fixed Assign) (ended_single Semicolon tt)
 
 pub add_to_single : Single add_to
-add_to_single = skip_single (mark_fixed AddAssign) (ended_single Semicolon tt)
+add_to_single = skip_single (mark AddAssign) (ended Semicolon) (mark_fixed AddAssign) (ended_single Semicolon tt)
 
 pub in_parentheses_single : Single in_parentheses
-in_parentheses_single = skip_single (mark_fixed OpenParenthesis) (ended_single CloseParenthesis tt)
+in_parentheses_single = skip_single (mark OpenParenthesis) (ended CloseParenthesis) (mark_fixed OpenParenthesis) (ended_single CloseParenthesis tt)
 
-marks_differ : (m n : Mark) (ts r s : List Lexeme) → (m ≡ n → ⊥) → mark m ts r → mark n ts s → ⊥
+pub marks_differ : (m n : Mark) (ts r s : List Lexeme) → (m ≡ n → ⊥) → mark m ts r → mark n ts s → ⊥
 marks_differ m n ts r s d a b = d (mark_of_same ((tokens_same (Punctuation m) (Punctuation n) ts r s a b).0)) where
   mark_of_same : Punctuation m ≡ Punctuation n → m ≡ n
   mark_of_same e = cc
@@ -143,7 +151,7 @@ dot_change_single ts r s (Set a) (Add b) x y = absurd (marks_differ Assign AddAs
 dot_change_single ts r s (Add a) (Set b) x y = absurd (marks_differ AddAssign Assign ts x.0 y.0 (λ e. cc) x.1 y.1)
 
 pub dot_command_single : (mode : Mode) → Single (dot_command mode)
-dot_command_single mode = skip_single (key_fixed mode (codes ".")) dot_change_single
+dot_command_single mode = skip_single (key mode (codes ".")) dot_change (key_fixed mode (codes ".")) dot_change_single
 
 assignments_same : (a b : Assignment) → a.name ≡ b.name → a.value ≡ b.value → a ≡ b
 assignments_same a b e f =
@@ -157,33 +165,33 @@ assertions_same a b e f =
 
 pub assign_single : (mode : Mode) → Single (assign mode)
 assign_single mode ts r s a b x y =
-    let e = pair_single (name_single mode) set_to_single ts r s a.name b.name a.value b.value x y in
+    let e = pair_single (name_in mode) set_to (name_single mode) set_to_single ts r s a.name b.name a.value b.value x y in
     (assignments_same a b e.0 e.1, e.2)
 
 pub provided_name_single : Single provided_name
-provided_name_single = skip_single (mark_fixed OpenParenthesis) (end_single (name_single Expression) (mark_fixed Assign))
+provided_name_single = skip_single (mark OpenParenthesis) (λ n. name n ▸ mark Assign) (mark_fixed OpenParenthesis) (end_single name (mark Assign) (name_single Expression) (mark_fixed Assign))
 
 pub provided_single : Single provided
 provided_single ts r s a b x y =
-    let e = pair_single provided_name_single (ended_single CloseParenthesis tt) ts r s a.name b.name a.value b.value x y in
+    let e = pair_single provided_name (ended CloseParenthesis) provided_name_single (ended_single CloseParenthesis tt) ts r s a.name b.name a.value b.value x y in
     (assignments_same a b e.0 e.1, e.2)
 
 pub provide_single : (mode : Mode) → Single (provide mode)
-provide_single mode = skip_single (key_fixed mode (codes "PROVIDE")) provided_single
+provide_single mode = skip_single (key mode (codes "PROVIDE")) provided (key_fixed mode (codes "PROVIDE")) provided_single
 
-message_single : Single (λ m. string m ▸ mark CloseParenthesis)
-message_single = end_single string_single (mark_fixed CloseParenthesis)
+pub message_single : Single (λ m. string m ▸ mark CloseParenthesis)
+message_single = end_single string (mark CloseParenthesis) string_single (mark_fixed CloseParenthesis)
 
 asserted_behind : (ts r s : List Lexeme) (a b : Assertion) → (ended Comma a.condition ▸ string a.message ▸ mark CloseParenthesis) ts r → (ended Comma b.condition ▸ string b.message ▸ mark CloseParenthesis) ts s → (a ≡ b) × (r ≡ s)
 asserted_behind ts r s a b x y =
-    let e = pair_single (ended_single Comma tt) message_single ts r s a.condition b.condition a.message b.message x y in
+    let e = pair_single (ended Comma) (λ m. string m ▸ mark CloseParenthesis) (ended_single Comma tt) message_single ts r s a.condition b.condition a.message b.message x y in
     (assertions_same a b e.0 e.1, e.2)
 
 pub asserted_single : Single asserted
-asserted_single = skip_single (mark_fixed OpenParenthesis) asserted_behind
+asserted_single = skip_single (mark OpenParenthesis) (λ a. ended Comma a.condition ▸ string a.message ▸ mark CloseParenthesis) (mark_fixed OpenParenthesis) asserted_behind
 
 pub assertion_single : (mode : Mode) → Single (assertion mode)
-assertion_single mode = skip_single (key_fixed mode (codes "ASSERT")) asserted_single
+assertion_single mode = skip_single (key mode (codes "ASSERT")) asserted (key_fixed mode (codes "ASSERT")) asserted_single
 
 provide_kept : is_free_name (codes "PROVIDE") ≡ false
 unfolding is_free_name is_reserved

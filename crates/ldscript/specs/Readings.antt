@@ -1,5 +1,5 @@
 -- What the readers of the parts of a script answer, and the parts that one reader reads at once.
-use Rattle.std.specs.Prelude.{◌<◌, List, length, Option, Some, None, Result, Ok, Err}
+use Rattle.std.specs.Prelude.{◌≡◌, ◌<◌, List, [], length, Option, Some, None, Result, Ok, Err}
 use Rattle.ldtokens.specs.Tokens.{Lexeme}
 use Rattle.ldtokens.specs.declared.token.Mark.TheVariants.{OpenParenthesis, CloseParenthesis, OpenBrace}
 use Rattle.ldtokens.specs.declared.token.Mode.TheVariants.{Pattern}
@@ -59,3 +59,7 @@ opened_part a = optional alignment a ▸ mark OpenBrace
 -- [AT "(" e ")"] [ALIGN "(" e ")"] "{"
 abbrev pub head_part : SectionHead → Part
 head_part h = optional at_address h.load ▸ opened_part h.alignment
+
+-- the end of the tokens
+abbrev pub at_end : Part
+at_end ts rest = (ts ≡ []) × (rest ≡ [])

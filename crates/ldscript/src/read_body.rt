@@ -81,7 +81,7 @@ pub fn body<'a>(
 {
     let mut body = Sequence::new(alloc);
     let mut rest = tokens;
-    loop {
+    'reading: loop {
         if let Some(more) = after(Mark::Semicolon, rest.copy()) {
             rest = more;
             continue;

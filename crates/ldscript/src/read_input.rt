@@ -1,8 +1,8 @@
 //! Readers of input statements.
 
-ghost use Rattle.std.specs.Prelude.{◌≡◌, ◌<◌, ℕ, List, IsTrue, length};
+ghost use Rattle.std.specs.Prelude.{◌≡◌, ◌<◌, ℕ, List, IfOk, IsTrue, length};
 ghost use Rattle.ldtokens.specs.Tokens.{Lexeme};
-ghost use Rattle.ldscript.specs.Steps.{◌▸◌, mark, statements, pattern as pattern_part};
+ghost use Rattle.ldscript.specs.Steps.{◌▸◌, each, mark, statements, pattern as pattern_part};
 ghost use Rattle.ldscript.specs.Grammar.{sort as sort_part, patterns_of, plain as plain_part, input as input_part, input_statement};
 ghost use Rattle.ldscript.specs.Readings.{Reads, Finds, selected};
 
@@ -33,38 +33,54 @@ fn pattern<'a>(alloc: Global, tokens: Cursor<'a>) -> Result<(Pattern, Cursor<'a>
     }
 }
 
+/// {WORD} `)`
+fn words<'a>(alloc: Global, tokens: Cursor<'a>) -> Result<(Sequence<Pattern>, Cursor<'a>), Fault>
+    ensures { Reads (λ ps. each pattern_part ps ▸ mark Mark.CloseParenthesis) tokens.entry (λ x. x.0) (λ x. x.1) result }
+{
+    let mut words = Sequence::new(alloc);
+    let mut rest = tokens;
+    'reading: loop {
+        if let Some(behind) = after(Mark::CloseParenthesis, rest.copy()) {
+            return Ok((words, behind));
+        }
+        let (word, more) = pattern(alloc, rest)?;
+        words.push(word)?;
+        rest = more;
+    }
+}
+
 /// WORD {WORD} `)`
 fn patterns<'a>(alloc: Global, tokens: Cursor<'a>) -> Result<(Sequence<Pattern>, Cursor<'a>), Fault>
     ensures { Reads (λ ps. patterns_of ps ▸ mark Mark.CloseParenthesis) tokens.entry (λ x. x.0) (λ x. x.1) result }
 {
-    let mut patterns = Sequence::new(alloc);
-    let (first, mut rest) = pattern(alloc, tokens)?;
-    patterns.push(first)?;
-    loop {
-        if let Some(after_all) = after(Mark::CloseParenthesis, rest.copy()) {
-            return Ok((patterns, after_all));
-        }
-        let (next, more) = pattern(alloc, rest)?;
-        patterns.push(next)?;
-        rest = more;
+    let (words, rest) = words(alloc, tokens)?;
+    if words.as_slice().is_empty() {
+        return Err(Fault::NotAScript);
     }
+    Ok((words, rest))
+}
+
+/// `SORT`, `SORT_BY_NAME` or `SORT_BY_ALIGNMENT`
+fn sort_word<'a>(tokens: Cursor<'a>) -> Option<(Sort, Cursor<'a>)>
+    ensures { Finds sort_part tokens.entry (λ x. x.0) (λ x. x.1) result }
+{
+    if let Some(rest) = after_key(Mode::Pattern, b"SORT_BY_ALIGNMENT", tokens.copy()) {
+        return Some((Sort::ByAlignment, rest));
+    }
+    if let Some(rest) = after_key(Mode::Pattern, b"SORT_BY_NAME", tokens.copy()) {
+        return Some((Sort::ByName, rest));
+    }
+    let rest = after_key(Mode::Pattern, b"SORT", tokens)?;
+    Some((Sort::ByName, rest))
 }
 
 /// `SORT`, `SORT_BY_NAME` or `SORT_BY_ALIGNMENT`, and the `(` behind it
 fn sort<'a>(tokens: Cursor<'a>) -> Option<(Sort, Cursor<'a>)>
     ensures { Finds (λ s. sort_part s ▸ mark Mark.OpenParenthesis) tokens.entry (λ x. x.0) (λ x. x.1) result }
 {
-    if let Some(rest) = after_key(Mode::Pattern, b"SORT_BY_ALIGNMENT", tokens.copy()) {
-        let rest = after(Mark::OpenParenthesis, rest)?;
-        return Some((Sort::ByAlignment, rest));
-    }
-    if let Some(rest) = after_key(Mode::Pattern, b"SORT_BY_NAME", tokens.copy()) {
-        let rest = after(Mark::OpenParenthesis, rest)?;
-        return Some((Sort::ByName, rest));
-    }
-    let rest = after_key(Mode::Pattern, b"SORT", tokens)?;
+    let (sort, rest) = sort_word(tokens)?;
     let rest = after(Mark::OpenParenthesis, rest)?;
-    Some((Sort::ByName, rest))
+    Some((sort, rest))
 }
 
 /// What stands between the parentheses of an input statement, and the `)` behind it.
@@ -87,8 +103,8 @@ fn selection<'a>(
 
 /// An input statement, and whether it stands under `KEEP`.
 fn plain<'a>(alloc: Global, keep: bool, tokens: Cursor<'a>) -> Result<(Input, Cursor<'a>), Fault>
-    ensures { Reads plain_part tokens.entry (λ x. x.0) (λ x. x.1) result }
-    // ensures kept { IfOk result (λ x. x.0.keep ≡ keep) }
+    ensures read { Reads plain_part tokens.entry (λ x. x.0) (λ x. x.1) result }
+    ensures keep { IfOk result (λ x. x.0.keep ≡ keep) }
 {
     let (file, rest) = pattern(alloc, tokens)?;
     let Some(rest) = after(Mark::OpenParenthesis, rest) else {
@@ -130,7 +146,7 @@ pub fn inputs<'a>(
 {
     let mut inputs = Sequence::new(alloc);
     let mut rest = tokens;
-    loop {
+    'reading: loop {
         if let Some(more) = after(Mark::Semicolon, rest.copy()) {
             rest = more;
             continue;

@@ -75,7 +75,7 @@ pub fn items<'a>(
 {
     let mut items = Sequence::new(alloc);
     let mut rest = tokens;
-    loop {
+    'reading: loop {
         if let Some(more) = after(Mark::Semicolon, rest.copy()) {
             rest = more;
             continue;

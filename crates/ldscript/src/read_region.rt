@@ -74,7 +74,7 @@ pub fn regions<'a>(
 {
     let mut regions = Sequence::new(alloc);
     let mut rest = tokens;
-    loop {
+    'reading: loop {
         if let Some(behind) = after(Mark::CloseBrace, rest.copy()) {
             return Ok((regions, behind));
         }

@@ -89,7 +89,7 @@ pub fn statements_of(alloc: Global, tokens: Cursor<'_>) -> Result<Sequence<State
 {
     let mut statements = Sequence::new(alloc);
     let mut rest = tokens;
-    loop {
+    'reading: loop {
         if let Some(more) = after(Mark::Semicolon, rest.copy()) {
             rest = more;
             continue;

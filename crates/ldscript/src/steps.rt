@@ -22,9 +22,13 @@ use std::alloc::Global;
 fn is_spelled_as_name(word: &[u8]) -> bool
     ensures { result ≡ is_name_spelling word.now }
 {
-    is_name_start(byte_at(word, 0))
-        && !(byte_at(word, 0) == b'.' && byte_at(word, 1) == b'-')
-        && word.iter().all(|b| is_name_byte(*b))
+    if !is_name_start(byte_at(word, 0)) {
+        return false;
+    }
+    if byte_at(word, 0) == b'.' && byte_at(word, 1) == b'-' {
+        return false;
+    }
+    word.iter().all(|b| is_name_byte(*b))
 }
 
 /// Whether the word of a token of a mode may be given a value.

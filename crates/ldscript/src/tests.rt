@@ -308,7 +308,7 @@ impl Told {
 }
 
 /// The tree of a text, told part by part; of a refused one its number behind `refused`.
-fn told(alloc: Global, text: &[u8]) -> Result<Vec<u8>, AllocError> {
+fn told_tree(alloc: Global, text: &[u8]) -> Result<Vec<u8>, AllocError> {
     let mut told = Told {
         text: Vec::new(alloc),
     };
@@ -328,7 +328,7 @@ fn told(alloc: Global, text: &[u8]) -> Result<Vec<u8>, AllocError> {
 }
 
 fn assert_told(rt: &impl Abort, alloc: Global, text: &[u8], wanted: &[u8]) -> Result<(), Fail> {
-    let found = told(alloc, text)?;
+    let found = told_tree(alloc, text)?;
     assert_eq!(rt; found.as_slice(), wanted);
     Ok(())
 }
