@@ -1,0 +1,4 @@
+pub mod Operators
+pub mod Expressions
+pub mod Grammar
+pub mod Heads

@@ -1,0 +1,4 @@
+pub mod Cut
+pub mod Digits
+pub mod Runs
+pub mod Spellings

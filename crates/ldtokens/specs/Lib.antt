@@ -1,0 +1,6 @@
+pub mod Bytes
+pub mod Tokens
+pub mod Modes
+pub mod Numbers
+pub mod Words
+pub mod Limits

@@ -1,0 +1,113 @@
+//! In which mode each token is read.
+
+ghost use Rattle.std.specs.Prelude.{◌≡◌, ◌<◌, ◌≤◌, ◌^◌, ℕ};
+ghost use Rattle.ldtokens.specs.Tokens.{spelled_token};
+ghost use Rattle.ldtokens.specs.Modes.{mode_of, is_stretch_word, depth_after, opened, closed, state_after, at_start, IsShallow, IsShortStretch};
+
+use super::token::{LexState, Mark, Mode, Stretch, TokenKind};
+use super::words::is_one_of;
+
+/// The words whose parentheses hold an expression.
+const STRETCH_WORDS: [&[u8]; 6] = [b"BYTE", b"SHORT", b"LONG", b"QUAD", b"PROVIDE", b"ASSERT"];
+
+/// Whether a `(` right after this word begins a stretch.
+#[tactic(auto, unfolding(crate::specs::Modes::is_stretch_word))]
+fn is_stretch_word(word: &[u8]) -> bool
+    ensures { result ≡ is_stretch_word word.now }
+{
+    is_one_of(&STRETCH_WORDS, word)
+}
+
+/// The stretch after a token that was read in pattern mode.
+fn opened(stretch: Stretch, kind: TokenKind, spelled: &[u8]) -> Stretch
+    ensures value { result ≡ opened stretch (spelled_token kind spelled.now) }
+    ensures short { (m : ℕ) → 0 < m → IsShortStretch m result }
+{
+    match kind {
+        TokenKind::Punctuation(Mark::Assign) => Stretch::ToSemicolon,
+        TokenKind::Punctuation(Mark::AddAssign) => Stretch::ToSemicolon,
+        TokenKind::Punctuation(Mark::OpenParenthesis) => match stretch {
+            Stretch::Awaited => Stretch::ToParenthesis(1),
+            _ => Stretch::Closed,
+        },
+        TokenKind::Word => {
+            if is_stretch_word(spelled) {
+                Stretch::Awaited
+            } else {
+                Stretch::Closed
+            }
+        }
+        _ => Stretch::Closed,
+    }
+}
+
+/// The stretch after a token that was read in expression mode.
+fn closed(stretch: Stretch, kind: TokenKind, spelled: &[u8]) -> Stretch
+    requires { IsShortStretch (2 ^ 32) stretch }
+    ensures value { result ≡ closed stretch (spelled_token kind spelled.now) }
+    ensures short { (n m : ℕ) → IsShortStretch n stretch → n < m → IsShortStretch m result }
+{
+    match (stretch, kind) {
+        (Stretch::ToSemicolon, TokenKind::Punctuation(Mark::Semicolon)) => Stretch::Closed,
+        (Stretch::ToSemicolon, _) => Stretch::ToSemicolon,
+        (Stretch::ToParenthesis(n), TokenKind::Punctuation(Mark::OpenParenthesis)) =>
+            Stretch::ToParenthesis(n + 1),
+        (Stretch::ToParenthesis(1), TokenKind::Punctuation(Mark::CloseParenthesis)) =>
+            Stretch::Closed,
+        (Stretch::ToParenthesis(n), TokenKind::Punctuation(Mark::CloseParenthesis)) =>
+            Stretch::ToParenthesis(n.saturating_sub(1)),
+        (Stretch::ToParenthesis(n), _) => Stretch::ToParenthesis(n),
+        _ => Stretch::Closed,
+    }
+}
+
+/// How many braces are open after a token.
+fn depth_after(depth: usize, kind: TokenKind, spelled: &[u8]) -> usize
+    requires { depth ≤ 2 ^ 32 }
+    ensures value { result ≡ depth_after depth (spelled_token kind spelled.now) }
+    ensures shallow { (n m : ℕ) → depth ≤ n → n < m → result ≤ m }
+{
+    match kind {
+        TokenKind::Punctuation(Mark::OpenBrace) => depth + 1,
+        TokenKind::Punctuation(Mark::CloseBrace) => depth.saturating_sub(1),
+        _ => depth,
+    }
+}
+
+impl LexState {
+    /// Where a text begins.
+    pub fn start() -> LexState
+        ensures { result ≡ at_start }
+    {
+        LexState {
+            depth: 0,
+            stretch: Stretch::Closed,
+        }
+    }
+
+    /// How a token is read here.
+    pub fn mode(self) -> Mode
+        ensures { result ≡ mode_of self }
+    {
+        match self.stretch {
+            Stretch::Closed | Stretch::Awaited if self.depth == 2 => Mode::Pattern,
+            _ => Mode::Expression,
+        }
+    }
+
+    /// What holds after a token of a kind with its bytes. Few braces and parentheses are open here, so that their
+    /// numbers can grow.
+    #[tactic(auto, unfolding(crate::specs::Modes::state_after))]
+    pub fn after(self, kind: TokenKind, spelled: &[u8]) -> LexState
+        requires { IsShallow (2 ^ 32) self }
+        ensures value { result ≡ state_after self (spelled_token kind spelled.now) }
+        ensures shallow { (n m : ℕ) → IsShallow n self → n < m → IsShallow m result }
+    {
+        let depth = depth_after(self.depth, kind, spelled);
+        let stretch = match self.mode() {
+            Mode::Expression => closed(self.stretch, kind, spelled),
+            Mode::Pattern => opened(self.stretch, kind, spelled),
+        };
+        LexState { depth, stretch }
+    }
+}
