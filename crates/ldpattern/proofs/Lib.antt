@@ -1,0 +1,4 @@
+pub mod Stars
+pub mod Fronts
+pub mod Reading
+pub mod Exact

@@ -1,0 +1,5 @@
+pub mod Parts
+pub mod Spelling
+pub mod Front
+pub mod Matching
+pub mod Trying

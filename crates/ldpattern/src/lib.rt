@@ -1,0 +1,11 @@
+//! Name patterns of a linker script: how a word spells one, and which names it matches.
+#![tactic(auto)]
+
+mod bytes;
+mod front;
+mod matching;
+mod part;
+pub mod pattern;
+mod set;
+#[cfg(test)]
+mod tests;
