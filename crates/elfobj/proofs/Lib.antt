@@ -5,3 +5,10 @@ pub mod Steps
 pub mod Refusals
 pub mod Limits
 pub mod NameEnds
+pub mod Overlaps
+pub mod Found
+pub mod SymbolTables
+pub mod RelocationTables
+pub mod RelocationReads
+pub mod SymbolLimits
+pub mod RelocationLimits

@@ -15,9 +15,10 @@ use Rattle.elfobj.specs.Places.{IsFileWithin}
 use Rattle.elfobj.specs.Profile.{IsSectionOfProfile, size_in_file}
 use Rattle.elfobj.specs.Refusal.{holds, is_looked_at, is_out_of_bounds, is_outside_profile, object_refusal}
 use Rattle.elfobj.specs.SectionHeaders.{header}
-use Rattle.elfobj.specs.Sections.{is_alloc, linked_kind, linked_as, linked_section, sections_below, sections_of, name_of, contents}
+use Rattle.elfobj.specs.LinkedKinds.{is_alloc, linked_kind}
+use Rattle.elfobj.specs.Sections.{linked_as, linked_section, sections_below, sections_of, name_of, contents}
 use Rattle.elfobj.specs.declared.refusal.ObjectRefusal.{ObjectRefusal}
-use Rattle.elfobj.specs.declared.refusal.ObjectRefusal.TheVariants.{Short, NotElf, Machine, SectionTable, SectionCount, SectionBounds, SectionProfile, NotYet}
+use Rattle.elfobj.specs.declared.refusal.ObjectRefusal.TheVariants.{Short, NotElf, Machine, SectionTable, SectionCount, SectionBounds, SectionProfile, SymbolTable, Symbol, RelocationSection, RelocationType, FieldBounds, FieldOverlap}
 use Rattle.elfobj.specs.declared.section.SectionKind.{SectionKind}
 use Rattle.elfobj.specs.declared.section.SectionKind.TheVariants.{Progbits, Nobits, Note, InitArray, FiniArray, PreinitArray, Unwind}
 use Rattle.elfobj.specs.declared.section_header.SectionHeader.{SectionHeader}
@@ -31,10 +32,15 @@ cond_none false r o h = (refl, h)
 -- what an object's bytes pass
 pub record Accepted (bytes : List ℕ) : Type 0 where
   pub tests : PassesTests bytes
-  pub one : length (sections_of bytes) ≤ 1
+  pub table : holds bytes SymbolTable ≡ false
+  pub symbol : holds bytes Symbol ≡ false
+  pub relocations : holds bytes RelocationSection ≡ false
+  pub types : holds bytes RelocationType ≡ false
+  pub bounds : holds bytes FieldBounds ≡ false
+  pub overlap : holds bytes FieldOverlap ≡ false
 
 pub accepted_parts : (bytes : List ℕ) → object_refusal bytes ≡ None → Accepted bytes
-unfolding object_refusal holds
+unfolding object_refusal
 accepted_parts bytes h =
     let a = cond_none (holds bytes Short) Short _ h in
     let b = cond_none (holds bytes NotElf) NotElf _ a.1 in
@@ -43,8 +49,21 @@ accepted_parts bytes h =
     let e = cond_none (holds bytes SectionCount) SectionCount _ d.1 in
     let f = cond_none (holds bytes SectionBounds) SectionBounds _ e.1 in
     let g = cond_none (holds bytes SectionProfile) SectionProfile _ f.1 in
-    let i = or_parts _ _ (cond_none (holds bytes NotYet) NotYet _ g.1).0 in
-    record { tests = record { bounds = f.0; profile = g.0; read = i.0 }; one = ltb-false 1 (length (sections_of bytes)) i.1 }
+    let i = cond_none (holds bytes SymbolTable) SymbolTable _ g.1 in
+    let j = cond_none (holds bytes Symbol) Symbol _ i.1 in
+    let k = cond_none (holds bytes RelocationSection) RelocationSection _ j.1 in
+    let l = cond_none (holds bytes RelocationType) RelocationType _ k.1 in
+    let m = cond_none (holds bytes FieldBounds) FieldBounds _ l.1 in
+    let n = cond_none (holds bytes FieldOverlap) FieldOverlap _ m.1 in
+    record {
+      tests = record { bounds = f.0; profile = g.0 };
+      table = i.0;
+      symbol = j.0;
+      relocations = k.0;
+      types = l.0;
+      bounds = m.0;
+      overlap = n.0;
+    }
 
 large_parts : (looked_at a large odd : Bool) → looked_at ≡ true → (looked_at && (a || large || odd)) ≡ false → (large ≡ false) × (odd ≡ false)
 large_parts false a large odd l h = absurd (false≢true l)
@@ -55,7 +74,7 @@ flag_parts false alloc a odd b l k h = absurd (false≢true l)
 flag_parts true false a odd b l k h = absurd (false≢true k)
 flag_parts true true a odd b l k h = (or_parts a odd (or_parts (a || odd) b h).0).1
 
-name_told : (o : Option (List ℕ)) → option_map_or is_name o false ≡ true → is_name (unwrap_or o []) ≡ true
+pub name_told : (o : Option (List ℕ)) → option_map_or is_name o false ≡ true → is_name (unwrap_or o []) ≡ true
 name_told None h = absurd (false≢true h)
 name_told (Some name) h = h
 
@@ -89,7 +108,6 @@ section_limits bytes k h kind e b p l =
       name = name_told (name_of bytes h) l.name;
       flags = flags;
       flags_fit = omega arith;
-      relocations = refl;
       size = ltb-false 2147483648 h.sh_size large.0;
       alignment = aligned h.sh_addralign large.1;
       bytes = contents_length bytes h kind l.file;
@@ -111,6 +129,3 @@ limits_below bytes (suc n) t l = All-append IsSectionOfProfile _ _ (limits_below
 pub limits : (bytes : List ℕ) → object_refusal bytes ≡ None → All IsSectionOfProfile (sections_of bytes)
 unfolding sections_of
 limits bytes h = limits_below bytes (e_shnum bytes) (accepted_parts bytes h).tests (omega arith)
-
-pub one_section : (bytes : List ℕ) → object_refusal bytes ≡ None → length (sections_of bytes) ≤ 1
-one_section bytes h = (accepted_parts bytes h).one

@@ -1,45 +1,66 @@
-use Rattle.std.proofs.Common.{◌≡◌, ℕ, ◌<◌, ◌≤◌, List, Bool, true, false, cond, length, map, refl, ap, ◌∙◌, arith, Option, Some, None, sym, ◌∷◌, []}
+use Rattle.std.proofs.Common.{◌≡◌, ◌⊎◌, ℕ, List, Bool, true, false, cond, refl, ap, ◌∙◌, Option, Some, None, sym, ◌∷◌, [], ◌++◌, inl, inr, ⊎_elim}
 use Rattle.std.specs.List.{find}
+use Rattle.std.specs.Option.{option_or}
 use Rattle.std.proofs.lemmas.Option.{none-some, same_Some}
-use Rattle.std.proofs.lemmas.Bool.{false≢true, lt-ltb, le-ltb, or_right, or_from}
-use Rattle.std.proofs.lemmas.List.{length-map}
+use Rattle.std.proofs.lemmas.Bool.{false≢true}
 use Rattle.std.proofs.lemmas.List.Folds.{find-append}
 use Rattle.elfobj.specs.Linkable.{PassesTests}
-use Rattle.elfobj.specs.Refusal.{holds, header_refusals, section_refusals, object_refusal}
-use Rattle.elfobj.specs.Sections.{section_of, sections_of}
+use Rattle.elfobj.specs.Refusal.{holds, header_refusals, section_refusals, symbol_refusals, relocation_refusals, object_refusal}
 use Rattle.elfobj.specs.declared.refusal.ObjectRefusal.{ObjectRefusal}
-use Rattle.elfobj.specs.declared.refusal.ObjectRefusal.TheVariants.{NotYet, NoMemory}
-use Rattle.elfobj.specs.declared.section.Section.{Section}
+use Rattle.elfobj.specs.declared.refusal.ObjectRefusal.TheVariants.{NoMemory}
 
 -- the ELF header is refused
 pub refused_by_header : (bytes : List ℕ) (r : ObjectRefusal) → find (holds bytes) header_refusals ≡ Some r → object_refusal bytes ≡ Some r
 unfolding object_refusal
-refused_by_header bytes r h = find-append (holds bytes) header_refusals section_refusals ∙ rw h refl
+refused_by_header bytes r h = find-append (holds bytes) header_refusals (section_refusals ++ (symbol_refusals ++ relocation_refusals)) ∙ rw h refl
 
--- it is not: the section headers decide
-pub refused_by_sections : (bytes : List ℕ) (o : Option ObjectRefusal) → find (holds bytes) header_refusals ≡ None → find (holds bytes) section_refusals ≡ o → object_refusal bytes ≡ o
+after_sections : (bytes : List ℕ) (o : Option ObjectRefusal) (r : ObjectRefusal) → find (holds bytes) section_refusals ≡ Some r
+    → option_or (find (holds bytes) section_refusals) o ≡ Some r
+after_sections bytes o r h = rw h refl
+
+-- it is not, and the section headers are
+pub refused_by_sections : (bytes : List ℕ) (r : ObjectRefusal) → find (holds bytes) header_refusals ≡ None → find (holds bytes) section_refusals ≡ Some r → object_refusal bytes ≡ Some r
 unfolding object_refusal
-refused_by_sections bytes o h k = find-append (holds bytes) header_refusals section_refusals ∙ rw (h, k) refl
+refused_by_sections bytes r h k =
+    find-append (holds bytes) header_refusals (section_refusals ++ (symbol_refusals ++ relocation_refusals))
+    ∙ ap (λ x. option_or x (find (holds bytes) (section_refusals ++ (symbol_refusals ++ relocation_refusals)))) h
+    ∙ find-append (holds bytes) section_refusals (symbol_refusals ++ relocation_refusals)
+    ∙ after_sections bytes _ r k
 
-past_tests : (bytes : List ℕ) (b : Bool) → PassesTests bytes → holds bytes NotYet ≡ b → find (holds bytes) section_refusals ≡ cond b (Some NotYet) None
-past_tests bytes b t h = rw (t.bounds, t.profile, h) refl
+sections_pass : (bytes : List ℕ) → PassesTests bytes → find (holds bytes) section_refusals ≡ None
+sections_pass bytes t = rw (t.bounds, t.profile) refl
 
-count_read : (bytes : List ℕ) (ss : List Section) → ss ≡ map section_of (sections_of bytes) → length ss ≡ length (sections_of bytes)
-count_read bytes ss e = ap length e ∙ length-map (sections_of bytes) section_of
+-- neither is: the tables decide
+pub refused_by_tables : (bytes : List ℕ) (o : Option ObjectRefusal) → find (holds bytes) header_refusals ≡ None → PassesTests bytes → find (holds bytes) (symbol_refusals ++ relocation_refusals) ≡ o
+    → object_refusal bytes ≡ o
+unfolding object_refusal
+refused_by_tables bytes o h t k =
+    find-append (holds bytes) header_refusals (section_refusals ++ (symbol_refusals ++ relocation_refusals))
+    ∙ ap (λ x. option_or x (find (holds bytes) (section_refusals ++ (symbol_refusals ++ relocation_refusals)))) h
+    ∙ find-append (holds bytes) section_refusals (symbol_refusals ++ relocation_refusals)
+    ∙ ap (λ x. option_or x (find (holds bytes) (symbol_refusals ++ relocation_refusals))) (sections_pass bytes t)
+    ∙ k
 
--- more than one section is linked
-pub refused_by_count : (bytes : List ℕ) (ss : List Section) → PassesTests bytes → find (holds bytes) header_refusals ≡ None → ss ≡ map section_of (sections_of bytes) → 1 < length ss → object_refusal bytes ≡ Some NotYet
-unfolding holds
-refused_by_count bytes ss t h e l =
-    let c = count_read bytes ss e in
-    refused_by_sections bytes (Some NotYet) h (past_tests bytes true t (or_right _ _ (lt-ltb 1 (length (sections_of bytes)) (omega arith))))
+-- the symbol table is refused
+pub refused_by_symbols : (bytes : List ℕ) (r : ObjectRefusal) → find (holds bytes) symbol_refusals ≡ Some r → find (holds bytes) (symbol_refusals ++ relocation_refusals) ≡ Some r
+refused_by_symbols bytes r h = find-append (holds bytes) symbol_refusals relocation_refusals ∙ ap (λ x. option_or x (find (holds bytes) relocation_refusals)) h
 
--- nothing refuses
-pub accepted : (bytes : List ℕ) (ss : List Section) → PassesTests bytes → find (holds bytes) header_refusals ≡ None → ss ≡ map section_of (sections_of bytes) → length ss ≤ 1 → object_refusal bytes ≡ None
-unfolding holds
-accepted bytes ss t h e l =
-    let c = count_read bytes ss e in
-    refused_by_sections bytes None h (past_tests bytes false t (or_from _ _ t.read (le-ltb 1 (length (sections_of bytes)) (omega arith))))
+-- it is not: the relocation sections decide
+pub refused_by_relocations : (bytes : List ℕ) (o : Option ObjectRefusal) → find (holds bytes) symbol_refusals ≡ None → find (holds bytes) relocation_refusals ≡ o
+    → find (holds bytes) (symbol_refusals ++ relocation_refusals) ≡ o
+refused_by_relocations bytes o h k = find-append (holds bytes) symbol_refusals relocation_refusals ∙ ap (λ x. option_or x (find (holds bytes) relocation_refusals)) h ∙ k
+
+-- the same of calls that may also want memory
+pub symbols_told : (bytes : List ℕ) (e : ObjectRefusal) → (e ≡ NoMemory) ⊎ (find (holds bytes) symbol_refusals ≡ Some e) → (e ≡ NoMemory) ⊎ (find (holds bytes) (symbol_refusals ++ relocation_refusals) ≡ Some e)
+symbols_told bytes e h = ⊎_elim (λ a. inl a) (λ a. inr (refused_by_symbols bytes e a)) h
+
+pub relocations_told : (bytes : List ℕ) (e : ObjectRefusal) → find (holds bytes) symbol_refusals ≡ None → (e ≡ NoMemory) ⊎ (find (holds bytes) relocation_refusals ≡ Some e)
+    → (e ≡ NoMemory) ⊎ (find (holds bytes) (symbol_refusals ++ relocation_refusals) ≡ Some e)
+relocations_told bytes e n h = ⊎_elim (λ a. inl a) (λ a. inr (refused_by_relocations bytes (Some e) n a)) h
+
+pub tables_told : (bytes : List ℕ) (e : ObjectRefusal) → find (holds bytes) header_refusals ≡ None → PassesTests bytes → (e ≡ NoMemory) ⊎ (find (holds bytes) (symbol_refusals ++ relocation_refusals) ≡ Some e)
+    → (e ≡ NoMemory) ⊎ (object_refusal bytes ≡ Some e)
+tables_told bytes e n t h = ⊎_elim (λ a. inl a) (λ a. inr (refused_by_tables bytes (Some e) n t a)) h
 
 found_or_later : (b : Bool) (q : ObjectRefusal) (o : Option ObjectRefusal) (r : ObjectRefusal) (p : ObjectRefusal → Bool) → p q ≡ b → cond b (Some q) o ≡ Some r → (o ≡ Some r → p r ≡ true) → p r ≡ true
 found_or_later true q o r p e h k = ap p (sym (same_Some q r h)) ∙ e

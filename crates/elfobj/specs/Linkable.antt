@@ -1,24 +1,26 @@
 -- What the tests of the section headers leave known of them.
-use Rattle.std.specs.Prelude.{◌≡◌, ℕ, ◌+◌, ◌≤◌, List, length, None, true, false}
-use Rattle.std.specs.List.{list_any}
+use Rattle.std.specs.Prelude.{◌≡◌, ℕ, ◌+◌, ◌≤◌, List, length, map, None, true, false}
 use Rattle.std.specs.Option.{option_map_or}
 use Rattle.elfobj.specs.ElfHeader.{e_shstrndx}
 use Rattle.elfobj.specs.Names.{is_name}
-use Rattle.elfobj.specs.Places.{AreRead, IsFileWithin, name_in, bytes_in, IsWithin}
-use Rattle.elfobj.specs.Refusal.{object_refusal, holds, is_unread}
-use Rattle.elfobj.specs.SectionHeaders.{header, headers}
+use Rattle.elfobj.specs.Places.{AreRead, AreNamed, AreRelocated, IsFileWithin, name_in, bytes_in, IsWithin}
+use Rattle.elfobj.specs.Refusal.{object_refusal, holds}
+use Rattle.elfobj.specs.SectionHeaders.{header}
 use Rattle.elfobj.specs.Sections.{sections_of, LinkedSection, section_of, name_of}
+use Rattle.elfobj.specs.Symbols.{symbols_of}
 use Rattle.elfobj.specs.declared.place.Place.{Place}
+use Rattle.elfobj.specs.declared.place.Span.{Span}
+use Rattle.elfobj.specs.declared.relocation.Relocation.{Relocation}
 use Rattle.elfobj.specs.declared.refusal.ObjectRefusal.TheVariants.{SectionBounds, SectionProfile}
 use Rattle.elfobj.specs.declared.section.Section.{Section}
 use Rattle.elfobj.specs.declared.section.SectionKind.{SectionKind}
 use Rattle.elfobj.specs.declared.section_header.SectionHeader.{SectionHeader}
+use Rattle.elfobj.specs.declared.symbol.Symbol.{Symbol}
 
 -- no test of the section headers alone refuses
 pub record PassesTests (bytes : List ℕ) : Type 0 where
   pub bounds : holds bytes SectionBounds ≡ false
   pub profile : holds bytes SectionProfile ≡ false
-  pub read : list_any is_unread (headers bytes) ≡ false
 
 -- a header, whose section has a name within the limits and bytes inside the file
 pub record IsLinkable (bytes : List ℕ) (h : SectionHeader) (kind : SectionKind) : Type 0 where
@@ -37,7 +39,13 @@ pub record IsPlaced (file : List ℕ) (linked : LinkedSection) (read : Section) 
   pub bytes : bytes_in file place ≡ linked.bytes
   pub within : IsWithin (length file) place
 
+-- the parts of an object, as lists of what callers see and places in its bytes
+pub record ArePartsOf (file : List ℕ) (sections : List Section) (places : List Place) (symbols : List Symbol) (names : List Span) (relocations : List Relocation) (spans : List Span) : Type 0 where
+  pub sections_read : AreRead file (sections_of file) sections places
+  pub symbols_read : AreNamed file (symbols_of file) symbols names
+  pub relocations_read : AreRelocated (map (λ s. s.relocations) (sections_of file)) relocations spans
+
 -- what an object keeps: bytes that no test refuses, and what was read of them
-pub record IsObject (file : List ℕ) (read : List Section) (places : List Place) : Type 0 where
+pub record IsObject (file : List ℕ) (sections : List Section) (places : List Place) (symbols : List Symbol) (names : List Span) (relocations : List Relocation) (spans : List Span) : Type 0 where
   pub refusal : object_refusal file ≡ None
-  pub sections : AreRead file (sections_of file) read places
+  pub read : ArePartsOf file sections places symbols names relocations spans

@@ -1,12 +1,16 @@
--- The places of names and bytes, told of the bytes of the file.
+-- The places of names, bytes and relocations, told of what they are places in.
 use Rattle.std.specs.Prelude.{◌≡◌, ℕ, ◌+◌, ◌≤◌, List, length, map}
 use Rattle.std.specs.List.{All, slice_range}
 use Rattle.elfobj.specs.Sections.{LinkedSection, section_of}
+use Rattle.elfobj.specs.Symbols.{NamedSymbol}
 use Rattle.elfobj.specs.declared.place.Place.{Place}
+use Rattle.elfobj.specs.declared.place.Span.{Span}
+use Rattle.elfobj.specs.declared.relocation.Relocation.{Relocation}
 use Rattle.elfobj.specs.declared.section.Section.{Section}
 use Rattle.elfobj.specs.declared.section.SectionKind.{SectionKind}
 use Rattle.elfobj.specs.declared.section.SectionKind.TheVariants.{Nobits}
 use Rattle.elfobj.specs.declared.section_header.SectionHeader.{SectionHeader}
+use Rattle.elfobj.specs.declared.symbol.Symbol.{Symbol}
 
 abbrev pub name_in : List ℕ → Place → List ℕ
 name_in bytes p = slice_range bytes p.name_start p.name_end
@@ -32,3 +36,25 @@ pub record AreRead (file : List ℕ) (linked : List LinkedSection) (read : List 
   pub names : map (name_in file) places ≡ map (λ s. s.name) linked
   pub bytes : map (bytes_in file) places ≡ map (λ s. s.bytes) linked
   pub within : All (IsWithin (length file)) places
+
+-- a stretch inside n elements
+pub record IsInside (n : ℕ) (s : Span) : Type 0 where
+  pub order : s.start ≤ s.end
+  pub end : s.end ≤ n
+
+abbrev pub bytes_at : List ℕ → Span → List ℕ
+bytes_at bytes s = slice_range bytes s.start s.end
+
+abbrev pub relocations_in : List Relocation → Span → List Relocation
+relocations_in all s = slice_range all s.start s.end
+
+-- the symbols as callers see them, and the places of their names
+pub record AreNamed (file : List ℕ) (named : List NamedSymbol) (read : List Symbol) (places : List Span) : Type 0 where
+  pub symbols : read ≡ map (λ s. s.symbol) named
+  pub names : map (bytes_at file) places ≡ map (λ s. s.name) named
+  pub within : All (IsInside (length file)) places
+
+-- the relocations of each section, one section after another, and the places of each section's
+pub record AreRelocated (lists_of : List (List Relocation)) (all : List Relocation) (places : List Span) : Type 0 where
+  pub lists : map (relocations_in all) places ≡ lists_of
+  pub within : All (IsInside (length all)) places

@@ -7,11 +7,13 @@ use Rattle.std.specs.Option.{option_map_or}
 use Rattle.elfobj.specs.ElfHeader.{e_ident, e_type, e_machine, e_version, e_shoff, e_shentsize, e_shnum, e_shstrndx}
 use Rattle.elfobj.specs.SectionHeaders.{header, headers}
 use Rattle.elfobj.specs.Names.{string_at, is_name}
-use Rattle.elfobj.specs.Sections.{kind_of, is_alloc, name_table, sections_of}
+use Rattle.elfobj.specs.LinkedKinds.{kind_of, is_alloc}
+use Rattle.elfobj.specs.Sections.{name_table}
+use Rattle.elfobj.specs.Tables.{has_wrong_symbol_table, has_wrong_symbol, has_wrong_relocation_section, has_wrong_type, has_wrong_bounds, has_overlap}
 use Rattle.elfobj.specs.declared.section_header.SectionHeader.{SectionHeader}
-use Rattle.elfobj.specs.declared.constants.TheConstants.{ELFCLASS64, ELFDATA2LSB, EV_CURRENT, ET_REL, EM_X86_64, MAX_SECTION_HEADERS, SHT_NULL, SHT_SYMTAB, SHT_STRTAB, SHT_RELA, SHT_NOBITS, SHT_REL, PROFILE_FLAGS, MAX_SECTION_SIZE}
+use Rattle.elfobj.specs.declared.constants.TheConstants.{ELFCLASS64, ELFDATA2LSB, EV_CURRENT, ET_REL, EM_X86_64, MAX_SECTION_HEADERS, SHT_NULL, SHT_STRTAB, SHT_NOBITS, PROFILE_FLAGS, MAX_SECTION_SIZE}
 use Rattle.elfobj.specs.declared.refusal.ObjectRefusal.{ObjectRefusal}
-use Rattle.elfobj.specs.declared.refusal.ObjectRefusal.TheVariants.{Short, NotElf, Machine, SectionTable, SectionCount, SectionBounds, SectionProfile, NoMemory, NotYet}
+use Rattle.elfobj.specs.declared.refusal.ObjectRefusal.TheVariants.{Short, NotElf, Machine, SectionTable, SectionCount, SectionBounds, SectionProfile, SymbolTable, Symbol, RelocationSection, RelocationType, FieldBounds, FieldOverlap, NoMemory}
 
 -- headers of type NULL are not looked at
 abbrev pub is_looked_at : SectionHeader → Bool
@@ -37,10 +39,6 @@ is_outside_profile_by table h =
 abbrev pub is_outside_profile : List ℕ → SectionHeader → Bool
 is_outside_profile bytes h = is_outside_profile_by (name_table bytes) h
 
--- a table that this version does not read
-abbrev pub is_unread : SectionHeader → Bool
-is_unread h = (h.sh_type == SHT_SYMTAB) || (h.sh_type == SHT_RELA) || (h.sh_type == SHT_REL)
-
 -- the condition of each refusal
 unfoldable pub holds : List ℕ → ObjectRefusal → Bool
 holds bytes Short = nat_lt (length bytes) 64
@@ -53,8 +51,13 @@ holds bytes SectionCount = (e_shnum bytes == 0) || nat_lt MAX_SECTION_HEADERS (e
 holds bytes SectionBounds =
     not ((header bytes (e_shstrndx bytes)).sh_type == SHT_STRTAB) || list_any (is_out_of_bounds (length bytes)) (headers bytes)
 holds bytes SectionProfile = list_any (is_outside_profile bytes) (headers bytes)
+holds bytes SymbolTable = has_wrong_symbol_table bytes
+holds bytes Symbol = has_wrong_symbol bytes
+holds bytes RelocationSection = has_wrong_relocation_section bytes
+holds bytes RelocationType = has_wrong_type bytes
+holds bytes FieldBounds = has_wrong_bounds bytes
+holds bytes FieldOverlap = has_overlap bytes
 holds bytes NoMemory = false
-holds bytes NotYet = list_any is_unread (headers bytes) || nat_lt 1 (length (sections_of bytes))
 
 -- those that the ELF header alone gives
 abbrev pub header_refusals : List ObjectRefusal
@@ -62,11 +65,19 @@ header_refusals = Short ∷ NotElf ∷ Machine ∷ SectionTable ∷ SectionCount
 
 -- those that the section headers give
 abbrev pub section_refusals : List ObjectRefusal
-section_refusals = SectionBounds ∷ SectionProfile ∷ NotYet ∷ []
+section_refusals = SectionBounds ∷ SectionProfile ∷ []
+
+-- those that the symbol table gives
+abbrev pub symbol_refusals : List ObjectRefusal
+symbol_refusals = SymbolTable ∷ Symbol ∷ []
+
+-- those that the relocation sections give
+abbrev pub relocation_refusals : List ObjectRefusal
+relocation_refusals = RelocationSection ∷ RelocationType ∷ FieldBounds ∷ FieldOverlap ∷ []
 
 -- in the order of their numbers
 abbrev pub refusals : List ObjectRefusal
-refusals = header_refusals ++ section_refusals
+refusals = header_refusals ++ section_refusals ++ symbol_refusals ++ relocation_refusals
 
 -- the lowest whose condition holds
 unfoldable pub object_refusal : List ℕ → Option ObjectRefusal

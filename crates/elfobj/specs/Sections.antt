@@ -1,17 +1,16 @@
--- The linked sections of an object: those with SHF_ALLOC and one of the types below (gABI, "Sections";
--- psABI, "Section types").
-use Rattle.std.specs.Prelude.{ℕ, zero, suc, ◌+◌, List, [], ◌++◌, Option, Some, None, Bool, not, ◌==◌, if◌then◌else◌, unwrap_or, bit_and, option_to_list}
-use Rattle.std.specs.List.{slice_range}
+-- The linked sections of an object (gABI, "Sections").
+use Rattle.std.specs.Prelude.{ℕ, zero, suc, List, [], ◌++◌, Option, Some, None, unwrap_or, option_to_list}
 use Rattle.elfobj.specs.ElfHeader.{e_shnum, e_shstrndx}
-use Rattle.elfobj.specs.SectionHeaders.{header}
+use Rattle.elfobj.specs.SectionHeaders.{header, file_bytes}
+use Rattle.elfobj.specs.LinkedKinds.{linked_kind}
 use Rattle.elfobj.specs.Names.{string_at}
+use Rattle.elfobj.specs.Relocations.{relocations_at}
 use Rattle.elfobj.specs.declared.section_header.SectionHeader.{SectionHeader}
 use Rattle.elfobj.specs.declared.section.SectionIndex.{SectionIndex}
 use Rattle.elfobj.specs.declared.section.Section.{Section}
 use Rattle.elfobj.specs.declared.section.SectionKind.{SectionKind}
-use Rattle.elfobj.specs.declared.section.SectionKind.TheVariants.{Progbits, Nobits, Note, InitArray, FiniArray, PreinitArray, Unwind}
+use Rattle.elfobj.specs.declared.section.SectionKind.TheVariants.{Nobits}
 use Rattle.elfobj.specs.declared.relocation.Relocation.{Relocation}
-use Rattle.elfobj.specs.declared.constants.TheConstants.{SHT_PROGBITS, SHT_NOBITS, SHT_NOTE, SHT_INIT_ARRAY, SHT_FINI_ARRAY, SHT_PREINIT_ARRAY, SHT_X86_64_UNWIND, SHF_ALLOC}
 
 -- a linked section, with its own bytes (none for NOBITS) and its relocations in table order
 pub record LinkedSection : Type 0 where
@@ -27,28 +26,6 @@ pub record LinkedSection : Type 0 where
 -- what callers see without the name and the bytes
 abbrev pub section_of : LinkedSection → Section
 section_of s = record { number = s.number; kind = s.kind; flags = s.flags; size = s.size; alignment = s.alignment }
-
--- the types that are linked
-unfoldable pub kind_of : ℕ → Option SectionKind
-kind_of sh_type =
-    if sh_type == SHT_PROGBITS then Some Progbits
-    else (if sh_type == SHT_NOBITS then Some Nobits
-    else (if sh_type == SHT_NOTE then Some Note
-    else (if sh_type == SHT_INIT_ARRAY then Some InitArray
-    else (if sh_type == SHT_FINI_ARRAY then Some FiniArray
-    else (if sh_type == SHT_PREINIT_ARRAY then Some PreinitArray
-    else (if sh_type == SHT_X86_64_UNWIND then Some Unwind
-    else None))))))
-
-abbrev pub is_alloc : SectionHeader → Bool
-is_alloc h = not (bit_and h.sh_flags SHF_ALLOC == 0)
-
-abbrev pub linked_kind : SectionHeader → Option SectionKind
-linked_kind h = if is_alloc h then kind_of h.sh_type else None
-
--- the bytes that a header names
-abbrev pub file_bytes : List ℕ → SectionHeader → List ℕ
-file_bytes bytes h = slice_range bytes h.sh_offset (h.sh_offset + h.sh_size)
 
 -- the table that names of sections stand in
 unfoldable pub name_table : List ℕ → List ℕ
@@ -72,7 +49,7 @@ linked_as bytes k h kind = record {
   size = h.sh_size;
   alignment = h.sh_addralign;
   bytes = contents bytes h kind;
-  relocations = [];
+  relocations = relocations_at bytes k;
 }
 
 -- the section of header number k, if it is a linked one

@@ -51,7 +51,57 @@ pub const SHF_STRINGS: u64 = 0x20;
 /// All flags that an allocated section may have: WRITE, ALLOC, EXECINSTR, MERGE and STRINGS.
 pub const PROFILE_FLAGS: u64 = SHF_WRITE | SHF_ALLOC | SHF_EXECINSTR | SHF_MERGE | SHF_STRINGS;
 
-/// The greatest size of a section, in bytes.
+/// Binding of a symbol: inside its object alone.
+pub const STB_LOCAL: u8 = 0;
+/// Binding of a symbol: in all objects.
+pub const STB_GLOBAL: u8 = 1;
+/// Binding of a symbol: in all objects, with less weight.
+pub const STB_WEAK: u8 = 2;
+
+/// Type of a symbol: not said.
+pub const STT_NOTYPE: u8 = 0;
+/// Type of a symbol: data.
+pub const STT_OBJECT: u8 = 1;
+/// Type of a symbol: code.
+pub const STT_FUNC: u8 = 2;
+/// Type of a symbol: a section.
+pub const STT_SECTION: u8 = 3;
+/// Type of a symbol: the source file.
+pub const STT_FILE: u8 = 4;
+/// Type of a symbol: data of a common block.
+pub const STT_COMMON: u8 = 5;
+
+/// Section number of a symbol that the object does not define.
+pub const SHN_UNDEF: u16 = 0;
+/// Section number of a symbol whose value is a number.
+pub const SHN_ABS: u16 = 0xfff1;
+/// Section number of a symbol in a common block.
+pub const SHN_COMMON: u16 = 0xfff2;
+
+/// Type of a relocation: nothing.
+pub const R_X86_64_NONE: u32 = 0;
+/// Type of a relocation: S + A in 8 bytes.
+pub const R_X86_64_64: u32 = 1;
+/// Type of a relocation: S + A - P in 4 bytes.
+pub const R_X86_64_PC32: u32 = 2;
+/// Type of a relocation: L + A - P in 4 bytes.
+pub const R_X86_64_PLT32: u32 = 4;
+/// Type of a relocation: S + A in 4 bytes, without a sign.
+pub const R_X86_64_32: u32 = 10;
+/// Type of a relocation: S + A in 4 bytes, with a sign.
+pub const R_X86_64_32S: u32 = 11;
+/// Type of a relocation: S + A in 2 bytes.
+pub const R_X86_64_16: u32 = 12;
+/// Type of a relocation: S + A - P in 2 bytes.
+pub const R_X86_64_PC16: u32 = 13;
+/// Type of a relocation: S + A in 1 byte.
+pub const R_X86_64_8: u32 = 14;
+/// Type of a relocation: S + A - P in 1 byte.
+pub const R_X86_64_PC8: u32 = 15;
+/// Type of a relocation: S + A - P in 8 bytes.
+pub const R_X86_64_PC64: u32 = 24;
+
+/// The greatest size of a section or of a common block, in bytes.
 pub const MAX_SECTION_SIZE: u64 = 0x8000_0000;
-/// The greatest length of the name of a section, in bytes.
+/// The greatest length of the name of a section or of a symbol that isn't local, in bytes.
 pub const MAX_NAME_LENGTH: usize = 65535;

@@ -3,6 +3,7 @@
 
 pub mod constants;
 mod elf_header;
+mod field;
 mod linked;
 pub mod meter;
 mod names;
@@ -11,9 +12,13 @@ pub mod object;
 mod place;
 pub mod refusal;
 pub mod relocation;
+mod relocation_entry;
+mod relocation_table;
 pub mod section;
 mod section_header;
 mod section_table;
 pub mod symbol;
+mod symbol_entry;
+mod symbol_table;
 #[cfg(test)]
 mod tests;

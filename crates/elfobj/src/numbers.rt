@@ -1,7 +1,7 @@
-//! Numbers in an ELF file: unsigned, the lowest byte first (gABI, "Data Encoding", `ELFDATA2LSB`).
+//! Numbers in an ELF file: the lowest byte first (gABI, "Data Encoding", `ELFDATA2LSB`).
 
 ghost use Rattle.std.specs.Prelude.{◌≡◌, ◌≤◌, ◌+◌, length};
-ghost use Rattle.elfobj.specs.Numbers.{u16_at, u32_at, u64_at};
+ghost use Rattle.elfobj.specs.Numbers.{u16_at, u32_at, u64_at, i64_at};
 
 use byteorder::{ByteOrder, LittleEndian};
 
@@ -30,4 +30,12 @@ pub fn read_u64(bytes: &[u8], at: usize) -> u64
     ensures { result ≡ u64_at bytes.now at }
 {
     LittleEndian::read_u64(&bytes[at..])
+}
+
+/// The `Elf64_Sxword` in the eight bytes from `at` on.
+pub fn read_i64(bytes: &[u8], at: usize) -> i64
+    requires { at + 8 ≤ length bytes.now }
+    ensures { result ≡ i64_at bytes.now at }
+{
+    read_u64(bytes, at).cast_signed()
 }

@@ -1,17 +1,18 @@
 //! An object: its bytes, and what was read of them.
 
-ghost use Rattle.std.specs.Prelude.{◌≡◌, ◌≤◌, ◌<◌, ◌⊎◌, IfErr, IfOk, None, Some, find, length, map};
+ghost use Rattle.std.specs.Prelude.{◌≡◌, ◌<◌, ◌^◌, ◌⊎◌, IfErr, IfOk, None, Some, find, length, map};
 ghost use Rattle.std.specs.List.{All, slice_get};
 ghost use Rattle.elfobj.specs.Raised.{raised};
 ghost use Rattle.elfobj.specs.declared.meter.Count.TheVariants.{Objects};
 ghost use Rattle.elfobj.specs.declared.refusal.ObjectRefusal.TheVariants.{NoMemory};
 
-use crate::linked::Linked;
 use crate::meter::{Count, Meter};
-use crate::place::Place;
+use crate::place::{Place, Span};
 use crate::refusal::ObjectRefusal;
+use crate::relocation::{Relocation, SymbolIndex};
 use crate::section::Section;
-use crate::section_table::read_sections;
+use crate::section_table::{Parts, read_parts};
+use crate::symbol::Symbol;
 use std::alloc::Global;
 use std::marker::Model;
 
@@ -22,6 +23,10 @@ pub struct Object {
     bytes: Vec<u8>,
     sections: Vec<Section>,
     places: Vec<Place>,
+    symbols: Vec<Symbol>,
+    names: Vec<Span>,
+    relocations: Vec<Relocation>,
+    spans: Vec<Span>,
 }
 
 impl Model for Object {
@@ -32,12 +37,12 @@ impl Model for Object {
 
     ghost view = { λ a. object_of a.bytes.items };
 
-    ghost invariant = { λ a. IsObject a.bytes.items a.sections.items a.places.items };
+    ghost invariant = { λ a. IsObject a.bytes.items a.sections.items a.places.items a.symbols.items a.names.items a.relocations.items a.spans.items };
 }
 
 impl Object {
     ghost use Rattle.elfobj.specs.Object.{object_of};
-    ghost use Rattle.elfobj.specs.Profile.{IsSectionOfProfile};
+    ghost use Rattle.elfobj.specs.Profile.{HasRelocationsOfProfile, IsSectionOfProfile, IsSymbolOfProfile};
     ghost use Rattle.elfobj.specs.Refusal.{header_refusals, holds, object_refusal};
     ghost use Rattle.elfobj.specs.Sections.{section_of};
 
@@ -56,13 +61,21 @@ impl Object {
         ensures counted { meter.new ≡ raised meter.old Objects 1 }
     {
         meter.raise(Count::Objects, 1);
-        match read_sections(alloc, &bytes) {
-            Ok(linked) => {
-                let Linked { sections, places } = linked;
+        match read_parts(alloc, &bytes) {
+            Ok(parts) => {
+                let Parts {
+                    linked,
+                    symbols,
+                    relocations,
+                } = parts;
                 Ok(Object {
                     bytes,
-                    sections,
-                    places,
+                    sections: linked.sections,
+                    places: linked.places,
+                    symbols: symbols.symbols,
+                    names: symbols.names,
+                    relocations: relocations.all,
+                    spans: relocations.spans,
                 })
             }
             Err(refusal) => Err((bytes, refusal)),
@@ -78,11 +91,10 @@ impl Object {
         self.bytes.as_slice()
     }
 
-    /// Its linked sections, in the order of their headers: at most one in this version.
+    /// Its linked sections, in the order of their headers.
     pub fn sections(&self) -> &[Section]
         ensures value { result.now ≡ map section_of self.now.sections }
         ensures limits { All IsSectionOfProfile self.now.sections }
-        ensures one { length self.now.sections ≤ 1 }
     {
         &self.sections
     }
@@ -104,5 +116,35 @@ impl Object {
     {
         let place = self.places[i];
         &self.bytes[place.start..place.end]
+    }
+
+    /// The entries of its symbol table, in the table's order; none without a symbol table. The first is a null entry, a
+    /// local symbol that is not defined, so that the symbol of this index is the one that relocations number so.
+    pub fn symbols(&self) -> &[Symbol]
+        ensures value { result.now ≡ map (λ s. s.symbol) self.now.symbols }
+        ensures limits { All IsSymbolOfProfile self.now.symbols }
+        ensures few { length self.now.symbols < 2 ^ 32 }
+    {
+        &self.symbols
+    }
+
+    /// The name of a symbol: 1 to 65,535 bytes from `!` to `~`, but none for a local one.
+    pub fn name_of(&self, symbol: SymbolIndex) -> &[u8]
+        requires { symbol.0 < length self.now.symbols }
+        ensures { slice_get (map (λ s. s.name) self.now.symbols) symbol.0 ≡ Some result.now }
+    {
+        let name = self.names[symbol.0 as usize];
+        &self.bytes[name.start..name.end]
+    }
+
+    /// The relocations of the section at this place of `sections`, in the order of their table. Each names one of
+    /// `symbols` and lies in its section, and no two share a byte; a section without bytes has none.
+    pub fn relocations(&self, i: usize) -> &[Relocation]
+        requires { i < length self.now.sections }
+        ensures value { slice_get (map (λ s. s.relocations) self.now.sections) i ≡ Some result.now }
+        ensures limits { All (HasRelocationsOfProfile (length self.now.symbols)) self.now.sections }
+    {
+        let span = self.spans[i];
+        &self.relocations[span.start..span.end]
     }
 }

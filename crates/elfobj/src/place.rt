@@ -4,8 +4,9 @@ ghost use Rattle.std.specs.Prelude.{◌≡◌, ℕ, ◌≤◌, ◌+◌, List, []
 ghost use Rattle.std.specs.List.{slice_range};
 ghost use Rattle.std.specs.Option.{option_map_or};
 ghost use Rattle.elfobj.specs.Names.{string_at, is_name};
-ghost use Rattle.elfobj.specs.Places.{IsWithin, IsFileWithin, name_in, bytes_in};
-ghost use Rattle.elfobj.specs.Sections.{contents, file_bytes};
+ghost use Rattle.elfobj.specs.Places.{IsWithin, IsFileWithin, IsInside, name_in, bytes_in, bytes_at};
+ghost use Rattle.elfobj.specs.SectionHeaders.{file_bytes};
+ghost use Rattle.elfobj.specs.Sections.{contents};
 
 use crate::names::name_length;
 use crate::section::SectionKind;
@@ -21,6 +22,15 @@ pub struct Place {
     /// Where its bytes begin.
     pub start: usize,
     /// Where its bytes end.
+    pub end: usize,
+}
+
+/// Where a stretch of a file or of a list begins and ends.
+#[derive(Clone, Copy, Debug)]
+pub struct Span {
+    /// Where it begins.
+    pub start: usize,
+    /// Where it ends.
     pub end: usize,
 }
 
@@ -40,6 +50,22 @@ fn file_range(header: &SectionHeader, kind: SectionKind, len: usize) -> (usize, 
     }
 }
 
+/// Where the name lies in the file that begins at this offset of the string table that `names` is the header of.
+pub fn name_place(bytes: &[u8], names: &SectionHeader, at: u32) -> Span
+    requires names { names.now.sh_offset + names.now.sh_size ≤ length bytes.now }
+    requires name { option_map_or is_name (string_at (file_bytes bytes.now names.now) at) false ≡ true }
+    ensures within { IsInside (length bytes.now) result }
+    ensures name { bytes_at bytes.now result ≡ unwrap_or (string_at (file_bytes bytes.now names.now) at) [] }
+{
+    let at = at as usize;
+    let length = name_length(names.file_bytes(bytes), at).unwrap();
+    let start = names.sh_offset as usize + at;
+    Span {
+        start,
+        end: start + length,
+    }
+}
+
 /// The place of a section, whose name stands in the table that `names` is the header of.
 pub fn place_of(
     bytes: &[u8],
@@ -54,13 +80,11 @@ pub fn place_of(
     ensures name { name_in bytes.now result ≡ unwrap_or (string_at (file_bytes bytes.now names.now) header.now.sh_name) [] }
     ensures bytes { bytes_in bytes.now result ≡ contents bytes.now header.now kind }
 {
-    let at = header.sh_name as usize;
-    let length = name_length(names.file_bytes(bytes), at).unwrap();
-    let name_start = names.sh_offset as usize + at;
+    let name = name_place(bytes, names, header.sh_name);
     let (start, end) = file_range(header, kind, bytes.len());
     Place {
-        name_start,
-        name_end: name_start + length,
+        name_start: name.start,
+        name_end: name.end,
         start,
         end,
     }

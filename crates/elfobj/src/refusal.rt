@@ -19,18 +19,29 @@ pub enum ObjectRefusal {
     SectionBounds,
     /// 7: an allocated section with a type, a flag or a name that the profile does not have.
     SectionProfile,
+    /// 8: two symbol tables; or one whose header is wrong, or whose local entries don't all stand before the
+    /// others.
+    SymbolTable,
+    /// 9: a symbol with a binding, a type, a section, a name or a common block that the profile does not have.
+    Symbol,
+    /// 10: a relocation section that changes no section; or one of a linked section that has no addends, is the
+    /// second, has a wrong header, or names a symbol that isn't there.
+    RelocationSection,
+    /// 11: a relocation of a linked section whose type the profile does not have.
+    RelocationType,
+    /// 12: a relocation past the end of its section, or in a section that has no bytes.
+    FieldBounds,
+    /// 13: two relocations of one section that share a byte.
+    FieldOverlap,
     /// 14: no memory.
     NoMemory,
-    /// 15: none of the others, but what this version does not read yet: a symbol table, a relocation
-    /// section, or more than one linked section.
-    NotYet,
 }
 
 impl ObjectRefusal {
     ghost use Rattle.std.specs.Prelude.{◌≡◌};
     ghost use Rattle.elfobj.specs.RefusalNumber.{refusal_number};
 
-    /// The number under which the refusal is told, from 1 to 15.
+    /// The number under which the refusal is told, from 1 to 14.
     pub fn number(self) -> u8
         ensures { result ≡ refusal_number self }
     {
@@ -42,8 +53,13 @@ impl ObjectRefusal {
             ObjectRefusal::SectionCount => 5,
             ObjectRefusal::SectionBounds => 6,
             ObjectRefusal::SectionProfile => 7,
+            ObjectRefusal::SymbolTable => 8,
+            ObjectRefusal::Symbol => 9,
+            ObjectRefusal::RelocationSection => 10,
+            ObjectRefusal::RelocationType => 11,
+            ObjectRefusal::FieldBounds => 12,
+            ObjectRefusal::FieldOverlap => 13,
             ObjectRefusal::NoMemory => 14,
-            ObjectRefusal::NotYet => 15,
         }
     }
 }

@@ -1,5 +1,10 @@
 //! Relocations as callers see them (x86-64 psABI, "Relocation Types").
 
+use crate::constants::{
+    R_X86_64_8, R_X86_64_16, R_X86_64_32, R_X86_64_32S, R_X86_64_64, R_X86_64_NONE, R_X86_64_PC8,
+    R_X86_64_PC16, R_X86_64_PC32, R_X86_64_PC64, R_X86_64_PLT32,
+};
+
 /// The number of a symbol in its table, from 0.
 #[derive(Clone, Copy, Debug, PartialEq, Eq)]
 pub struct SymbolIndex(pub u32);
@@ -29,6 +34,48 @@ pub enum RelocationKind {
     Pc8,
     /// `R_X86_64_PC64`: S + A - P in 8 bytes.
     Pc64,
+}
+
+impl RelocationKind {
+    ghost use Rattle.std.specs.Prelude.{◌≡◌};
+    ghost use Rattle.elfobj.specs.Relocations.{relocation_kind, width};
+
+    /// The kind of this `ELF64_R_TYPE`, if it is one of the profile.
+    #[tactic(auto, unfolding(crate::specs::Relocations::relocation_kind))]
+    pub fn of_type(r_type: u32) -> Option<RelocationKind>
+        ensures { result ≡ relocation_kind r_type }
+    {
+        match r_type {
+            R_X86_64_NONE => Some(RelocationKind::None),
+            R_X86_64_64 => Some(RelocationKind::Abs64),
+            R_X86_64_PC32 => Some(RelocationKind::Pc32),
+            R_X86_64_PLT32 => Some(RelocationKind::Plt32),
+            R_X86_64_32 => Some(RelocationKind::Abs32),
+            R_X86_64_32S => Some(RelocationKind::Abs32Signed),
+            R_X86_64_16 => Some(RelocationKind::Abs16),
+            R_X86_64_PC16 => Some(RelocationKind::Pc16),
+            R_X86_64_8 => Some(RelocationKind::Abs8),
+            R_X86_64_PC8 => Some(RelocationKind::Pc8),
+            R_X86_64_PC64 => Some(RelocationKind::Pc64),
+            _ => None,
+        }
+    }
+
+    /// How many bytes it changes: 8, 4, 2, 1, or 0 for `None`.
+    pub fn width(self) -> u64
+        ensures { result ≡ width self }
+    {
+        match self {
+            RelocationKind::None => 0,
+            RelocationKind::Abs64 | RelocationKind::Pc64 => 8,
+            RelocationKind::Pc32
+            | RelocationKind::Plt32
+            | RelocationKind::Abs32
+            | RelocationKind::Abs32Signed => 4,
+            RelocationKind::Abs16 | RelocationKind::Pc16 => 2,
+            RelocationKind::Abs8 | RelocationKind::Pc8 => 1,
+        }
+    }
 }
 
 /// An entry of a RELA section.

@@ -30,10 +30,10 @@ pub enum SectionKind {
 
 impl SectionKind {
     ghost use Rattle.std.specs.Prelude.{◌≡◌};
-    ghost use Rattle.elfobj.specs.Sections.{kind_of};
+    ghost use Rattle.elfobj.specs.LinkedKinds.{kind_of};
 
     /// What a section of this `sh_type` holds, if it is a type that is linked.
-    #[tactic(auto, unfolding(crate::specs::Sections::kind_of))]
+    #[tactic(auto, unfolding(crate::specs::LinkedKinds::kind_of))]
     pub fn of_type(sh_type: u32) -> Option<SectionKind>
         ensures { result ≡ kind_of sh_type }
     {

@@ -27,8 +27,16 @@ pub struct SectionHeader {
     pub sh_offset: u64,
     /// How many bytes it has.
     pub sh_size: u64,
+    /// The number of another header: for a table of symbols that of its strings, for relocations that of their
+    /// symbols.
+    pub sh_link: u32,
+    /// For a table of symbols the number of the first entry that isn't local; for relocations the number of the
+    /// section that they change.
+    pub sh_info: u32,
     /// Its alignment in memory.
     pub sh_addralign: u64,
+    /// The size of an entry of a table.
+    pub sh_entsize: u64,
 }
 
 /// Header number 0, which counts as unused whatever it says.
@@ -38,12 +46,18 @@ const NULL_HEADER: SectionHeader = SectionHeader {
     sh_flags: 0,
     sh_offset: 0,
     sh_size: 0,
+    sh_link: 0,
+    sh_info: 0,
     sh_addralign: 0,
+    sh_entsize: 0,
 };
 
 impl SectionHeader {
-    ghost use Rattle.elfobj.specs.Refusal.{is_looked_at, is_out_of_bounds, is_outside_profile_by, is_unread};
-    ghost use Rattle.elfobj.specs.Sections.{is_alloc, linked_kind, file_bytes};
+    ghost use Rattle.elfobj.specs.LinkedKinds.{is_alloc, linked_kind};
+    ghost use Rattle.elfobj.specs.Refusal.{is_looked_at, is_out_of_bounds, is_outside_profile_by};
+    ghost use Rattle.elfobj.specs.Relocations.{is_relocation_section};
+    ghost use Rattle.elfobj.specs.SectionHeaders.{file_bytes};
+    ghost use Rattle.elfobj.specs.Symbols.{is_symbol_table};
 
     fn is_looked_at(&self) -> bool
         ensures { result ≡ is_looked_at self.now }
@@ -82,11 +96,18 @@ impl SectionHeader {
                 || name_length(table, self.sh_name as usize).is_none())
     }
 
-    /// Whether it is a table that this version does not read.
-    pub fn is_unread(&self) -> bool
-        ensures { result ≡ is_unread self.now }
+    /// Whether it is that of a symbol table.
+    pub fn is_symbol_table(&self) -> bool
+        ensures { result ≡ is_symbol_table self.now }
     {
-        self.sh_type == SHT_SYMTAB || self.sh_type == SHT_RELA || self.sh_type == SHT_REL
+        self.sh_type == SHT_SYMTAB
+    }
+
+    /// Whether it is that of a relocation section, with addends or without.
+    pub fn is_relocation_section(&self) -> bool
+        ensures { result ≡ is_relocation_section self.now }
+    {
+        self.sh_type == SHT_RELA || self.sh_type == SHT_REL
     }
 
     /// What it holds, if its section is linked.
@@ -119,7 +140,10 @@ fn read_header(bytes: &[u8], at: usize) -> SectionHeader
         sh_flags: read_u64(bytes, at + 8),
         sh_offset: read_u64(bytes, at + 24),
         sh_size: read_u64(bytes, at + 32),
+        sh_link: read_u32(bytes, at + 40),
+        sh_info: read_u32(bytes, at + 44),
         sh_addralign: read_u64(bytes, at + 48),
+        sh_entsize: read_u64(bytes, at + 56),
     }
 }
 

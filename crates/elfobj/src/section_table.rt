@@ -1,21 +1,21 @@
 //! The tests of the section headers, and what they leave to read.
 
-ghost use Rattle.std.specs.Prelude.{◌≡◌, ◌⊎◌, IfErr, IfNone, IfOk, IfSome, None, Some, find};
+ghost use Rattle.std.specs.Prelude.{◌≡◌, ◌⊎◌, ◌++◌, IfErr, IfNone, IfOk, IfSome, None, Some, find};
 ghost use Rattle.std.specs.List.{list_any};
-ghost use Rattle.elfobj.specs.Linkable.{IsNameTable, PassesTests};
-ghost use Rattle.elfobj.specs.Places.{AreRead};
+ghost use Rattle.elfobj.specs.Linkable.{ArePartsOf, IsNameTable, PassesTests};
 ghost use Rattle.elfobj.specs.ElfHeader.{e_shstrndx};
-ghost use Rattle.elfobj.specs.Refusal.{holds, is_out_of_bounds, is_outside_profile_by, is_unread, header_refusals, object_refusal, section_refusals};
+ghost use Rattle.elfobj.specs.Refusal.{holds, is_out_of_bounds, is_outside_profile_by, header_refusals, object_refusal, relocation_refusals, section_refusals, symbol_refusals};
 ghost use Rattle.elfobj.specs.SectionHeaders.{header, headers as headers_of};
 ghost use Rattle.elfobj.specs.SectionTable.{HasSectionTable};
-ghost use Rattle.elfobj.specs.Sections.{sections_of};
 ghost use Rattle.elfobj.specs.declared.refusal.ObjectRefusal.TheVariants.{NoMemory};
 
 use crate::constants::SHT_STRTAB;
 use crate::elf_header::{header_refusal, name_table_number};
 use crate::linked::{Linked, linked_sections};
 use crate::refusal::ObjectRefusal;
+use crate::relocation_table::{Relocations, read_relocations};
 use crate::section_header::{SectionHeader, read_headers};
+use crate::symbol_table::{Symbols, read_symbols};
 use std::alloc::Global;
 
 /// The header of the table that the sections' names stand in.
@@ -40,13 +40,7 @@ fn is_any_outside_profile(headers: &[SectionHeader], table: &[u8]) -> bool
     headers.iter().any(|h| h.is_outside_profile(table))
 }
 
-fn is_any_unread(headers: &[SectionHeader]) -> bool
-    ensures { result ≡ list_any is_unread headers.now }
-{
-    headers.iter().any(|h| h.is_unread())
-}
-
-/// The lowest refusal that the section headers give, but for the number of linked sections.
+/// The lowest refusal that the section headers give.
 #[tactic(auto, using(crate::proofs::Passing::names_within), unfolding(crate::specs::Refusal::holds, crate::specs::Sections::name_table))]
 fn section_refusal(
     bytes: &[u8],
@@ -66,16 +60,52 @@ fn section_refusal(
     if is_any_outside_profile(headers, names.file_bytes(bytes)) {
         return Some(ObjectRefusal::SectionProfile);
     }
-    if is_any_unread(headers) {
-        return Some(ObjectRefusal::NotYet);
-    }
     None
 }
 
-/// Reads the linked sections of a file, or tells why it is no object.
-pub fn read_sections(alloc: Global, bytes: &[u8]) -> Result<Linked, ObjectRefusal>
-    ensures ok { IfOk result (λ l. object_refusal bytes.now ≡ None) }
-    ensures read { IfOk result (λ l. AreRead bytes.now (sections_of bytes.now) l.sections.items l.places.items) }
+/// All that is read of an object.
+#[derive(Drop)]
+pub struct Parts {
+    /// Its linked sections.
+    pub linked: Linked,
+    /// Its symbols.
+    pub symbols: Symbols,
+    /// The relocations of its linked sections.
+    pub relocations: Relocations,
+}
+
+/// Reads the parts of a file whose section headers have passed their tests, or tells why it is no object.
+fn read_tables(
+    alloc: Global,
+    bytes: &[u8],
+    names: &SectionHeader,
+    headers: &[SectionHeader],
+) -> Result<Parts, ObjectRefusal>
+    requires table { HasSectionTable bytes.now }
+    requires names { IsNameTable bytes.now names.now }
+    requires headers { headers.now ≡ headers_of bytes.now }
+    requires tests { PassesTests bytes.now }
+    ensures ok { IfOk result (λ p. find (holds bytes.now) (symbol_refusals ++ relocation_refusals) ≡ None) }
+    ensures read { IfOk result (λ p. ArePartsOf bytes.now p.linked.sections.items p.linked.places.items p.symbols.symbols.items p.symbols.names.items p.relocations.all.items p.relocations.spans.items) }
+    ensures refused { IfErr result (λ e. (e ≡ NoMemory) ⊎ (find (holds bytes.now) (symbol_refusals ++ relocation_refusals) ≡ Some e)) }
+{
+    let symbols = read_symbols(alloc, bytes, headers)?;
+    let Ok(linked) = linked_sections(alloc, bytes, names, headers) else {
+        return Err(ObjectRefusal::NoMemory);
+    };
+    let count = symbols.symbols.len();
+    let relocations = read_relocations(alloc, bytes, headers, &linked.sections, count)?;
+    Ok(Parts {
+        linked,
+        symbols,
+        relocations,
+    })
+}
+
+/// Reads the parts of a file, or tells why it is no object.
+pub fn read_parts(alloc: Global, bytes: &[u8]) -> Result<Parts, ObjectRefusal>
+    ensures ok { IfOk result (λ p. object_refusal bytes.now ≡ None) }
+    ensures read { IfOk result (λ p. ArePartsOf bytes.now p.linked.sections.items p.linked.places.items p.symbols.symbols.items p.symbols.names.items p.relocations.all.items p.relocations.spans.items) }
     ensures refused { IfErr result (λ e. (e ≡ NoMemory) ⊎ (object_refusal bytes.now ≡ Some e)) }
     ensures memory { IfErr result (λ e. e ≡ NoMemory → find (holds bytes.now) header_refusals ≡ None) }
 {
@@ -89,11 +119,5 @@ pub fn read_sections(alloc: Global, bytes: &[u8]) -> Result<Linked, ObjectRefusa
     if let Some(refusal) = section_refusal(bytes, &names, &headers) {
         return Err(refusal);
     }
-    let Ok(linked) = linked_sections(alloc, bytes, &names, &headers) else {
-        return Err(ObjectRefusal::NoMemory);
-    };
-    if linked.sections.len() > 1 {
-        return Err(ObjectRefusal::NotYet);
-    }
-    Ok(linked)
+    read_tables(alloc, bytes, &names, &headers)
 }

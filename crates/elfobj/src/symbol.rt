@@ -7,7 +7,7 @@ use crate::section::SectionIndex;
 pub enum Binding {
     /// `STB_LOCAL`: inside its object alone.
     Local,
-    /// `STB_GLOBAL`: in all objects; a definition is strong.
+    /// `STB_GLOBAL`: in all objects; a definition that isn't common is strong.
     Global,
     /// `STB_WEAK`: in all objects; a definition gives way to a strong one.
     Weak,
@@ -26,18 +26,18 @@ pub enum SymbolKind {
     Section,
     /// `STT_FILE`: the source file.
     File,
-    /// `STT_COMMON`: a common block.
+    /// `STT_COMMON`: data of a common block. Only the type says so: a common block is a symbol at `SHN_COMMON`.
     Common,
 }
 
 /// Where a symbol is defined, by `st_shndx`.
 #[derive(Clone, Copy, Debug, PartialEq, Eq)]
 pub enum SymbolPlace {
-    /// `SHN_UNDEF`: in another object.
+    /// `SHN_UNDEF`: not in this object.
     Undefined,
     /// `SHN_ABS`: nowhere; its value is a number.
     Absolute,
-    /// `SHN_COMMON`: in a common block that the linker makes.
+    /// `SHN_COMMON`: in a common block that the linker makes, whatever its type is.
     Common,
     /// In the section of this number.
     Section(SectionIndex),
@@ -54,6 +54,6 @@ pub struct Symbol {
     pub place: SymbolPlace,
     /// `st_value`: its offset in its section, a number, or the alignment of a common block.
     pub value: u64,
-    /// `st_size`: its size in bytes.
+    /// `st_size`: its size in bytes, at most 2^31 for a common block.
     pub size: u64,
 }

@@ -69,18 +69,27 @@ fn a_range_from_above_is_empty(rt: HostRuntime) -> Result<(), Fail> {
     Ok(())
 }
 
+fn is_exact(alloc: Global, word: &[u8], name: &[u8]) -> Result<bool, AllocError> {
+    match Pattern::read(alloc, word)? {
+        Some(pattern) => Ok(pattern.exact_name() == Some(name)),
+        None => Ok(false),
+    }
+}
+
+fn is_any(alloc: Global, word: &[u8]) -> Result<bool, AllocError> {
+    match Pattern::read(alloc, word)? {
+        Some(pattern) => Ok(pattern.is_any()),
+        None => Ok(false),
+    }
+}
+
 #[test]
 fn exact_names_and_the_pattern_of_all(rt: HostRuntime) -> Result<(), Fail> {
-    let Some(exact) = Pattern::read(rt.alloc(), b"a\\*.o")? else {
-        return Err(Fail);
-    };
-    assert!(rt; exact.exact_name() == Some(b"a*.o"));
-    assert!(rt; !exact.is_any());
-    let Some(any) = Pattern::read(rt.alloc(), b"*")? else {
-        return Err(Fail);
-    };
-    assert!(rt; any.exact_name().is_none());
-    assert!(rt; any.is_any());
+    assert!(rt; is_exact(rt.alloc(), b"a\\*.o", b"a*.o")?);
+    assert!(rt; !is_exact(rt.alloc(), b"a*.o", b"a*.o")?);
+    assert!(rt; is_any(rt.alloc(), b"*")?);
+    assert!(rt; !is_any(rt.alloc(), b"\\*")?);
+    assert!(rt; !is_any(rt.alloc(), b"**")?);
     Ok(())
 }
 

@@ -1,0 +1,12 @@
+use Rattle.std.proofs.Common.{◌<◌, length, subst}
+use Rattle.std.specs.List.{All}
+use Rattle.elfobj.specs.Object.{ObjectData}
+use Rattle.elfobj.specs.Profile.{IsSymbolOfProfile}
+use Rattle.elfobj.proofs.SymbolLimits.{few_symbols, symbol_limits_of}
+use Rattle.elfobj.proofs.object.Object.symbols.Goals as goal
+
+pub returns-clause-limits : goal.returns-clause-limits
+returns-clause-limits c = subst (λ (o : ObjectData). All IsSymbolOfProfile o.symbols) c.self.view_is (symbol_limits_of c.self.inside.bytes.items c.self.invariant.refusal)
+
+pub returns-clause-few : goal.returns-clause-few
+returns-clause-few c = subst (λ (o : ObjectData). length o.symbols < 4294967296) c.self.view_is (few_symbols c.self.inside.bytes.items c.self.invariant.refusal)

@@ -1,0 +1,26 @@
+use Rattle.std.proofs.Common.{◌≡◌, ◌⊎◌, ◌++◌, ◌∙◌, sym, inr, find, Some, None}
+use Rattle.std.proofs.lemmas.Result.{IfErr-weaker, IfOk-weaker}
+use Rattle.elfobj.specs.Refusal.{header_refusals, holds, object_refusal, relocation_refusals, symbol_refusals}
+use Rattle.elfobj.specs.declared.refusal.ObjectRefusal.TheVariants.{NoMemory}
+use Rattle.elfobj.proofs.Refusals.{no_memory_found, refused_by_header, refused_by_sections, refused_by_tables, tables_told}
+use Rattle.elfobj.proofs.section_table.read_parts.Goals as goal
+
+pub returns-in-Some-clause-refused : goal.returns-in-Some-clause-refused
+returns-in-Some-clause-refused c = inr (refused_by_header c.args.bytes.now c.in-Some.refusal (sym c.header_refusal.ensures.value ∙ c.in-Some.is))
+
+pub returns-in-Some-section_refusal-clause-refused : goal.returns-in-Some-section_refusal-clause-refused
+returns-in-Some-section_refusal-clause-refused c =
+    inr (refused_by_sections c.args.bytes.now _ (sym c.header_refusal.ensures.value ∙ c.in_default.is) c.in-Some-section_refusal.ensures.refused)
+
+pub returns-in-Some-clause-memory : goal.returns-in-Some-clause-memory
+returns-in-Some-clause-memory c = λ e. no_memory_found c.args.bytes.now header_refusals c.in-Some.refusal (sym c.header_refusal.ensures.value ∙ c.in-Some.is) e
+
+pub returns-clause-ok : goal.returns-clause-ok
+returns-clause-ok c =
+    IfOk-weaker c.read_tables.result (λ p. find (holds c.args.bytes.now) (symbol_refusals ++ relocation_refusals) ≡ None) (λ p. object_refusal c.args.bytes.now ≡ None)
+    (λ p h. refused_by_tables c.args.bytes.now None (sym c.header_refusal.ensures.value ∙ c.in_default.is) c.in_default-section_refusal.ensures.passed h) c.read_tables.ensures.ok
+
+pub returns-clause-refused : goal.returns-clause-refused
+returns-clause-refused c =
+    IfErr-weaker c.read_tables.result (λ e. (e ≡ NoMemory) ⊎ (find (holds c.args.bytes.now) (symbol_refusals ++ relocation_refusals) ≡ Some e)) (λ e. (e ≡ NoMemory) ⊎ (object_refusal c.args.bytes.now ≡ Some e))
+    (λ e h. tables_told c.args.bytes.now e (sym c.header_refusal.ensures.value ∙ c.in_default.is) c.in_default-section_refusal.ensures.passed h) c.read_tables.ensures.refused

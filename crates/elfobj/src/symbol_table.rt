@@ -1,0 +1,230 @@
+//! The symbol table: its tests, and the symbols that it holds.
+
+ghost use Rattle.std.specs.Prelude.{◌≡◌, ◌≤◌, ◌+◌, ◌⊎◌, ◌<◌, ◌++◌, ◌∷◌, [], IfErr, IfOk, OnOk, None, Some, count_by, drop, false, find, length, nat_lt, position};
+ghost use Rattle.std.specs.List.{list_all, list_any};
+ghost use Rattle.elfobj.specs.Places.{AreNamed, IsInside, bytes_at};
+ghost use Rattle.elfobj.specs.Refusal.{holds, symbol_refusals};
+ghost use Rattle.elfobj.specs.SectionHeaders.{file_bytes, headers as headers_of};
+ghost use Rattle.elfobj.specs.SectionTable.{HasSectionTable};
+ghost use Rattle.elfobj.specs.Linkable.{PassesTests};
+ghost use Rattle.elfobj.specs.Symbols.{entries_of, is_symbol_table, symbol_name, symbols_from, symbols_of};
+ghost use Rattle.elfobj.specs.Tables.{has_misplaced_entry, has_wrong_header, is_local, is_string_table, is_wrong_non_local, is_wrong_symbol};
+ghost use Rattle.elfobj.specs.declared.refusal.ObjectRefusal.TheVariants.{NoMemory};
+
+use crate::constants::SHT_STRTAB;
+use crate::place::{Span, name_place};
+use crate::refusal::ObjectRefusal;
+use crate::section_header::SectionHeader;
+use crate::symbol::{Binding, Symbol, SymbolKind, SymbolPlace};
+use crate::symbol_entry::{SymbolEntry, read_symbol_entry};
+use std::alloc::{AllocError, Global};
+
+/// The symbols in table order, and where the name of each lies in the file.
+#[derive(Drop)]
+pub struct Symbols {
+    /// The symbols.
+    pub symbols: Vec<Symbol>,
+    /// The places of their names; local ones have empty names.
+    pub names: Vec<Span>,
+}
+
+/// Entry number 0, which is a null entry whatever it says.
+const NULL_SYMBOL: Symbol = Symbol {
+    binding: Binding::Local,
+    kind: SymbolKind::NoType,
+    place: SymbolPlace::Undefined,
+    value: 0,
+    size: 0,
+};
+
+/// The place of an empty name.
+const NO_NAME: Span = Span { start: 0, end: 0 };
+
+/// The number of the first header of a symbol table.
+pub fn symbol_table_number(headers: &[SectionHeader]) -> Option<usize>
+    ensures { result ≡ position is_symbol_table headers.now }
+{
+    headers.iter().position(|h| h.is_symbol_table())
+}
+
+fn symbol_table_header(headers: &[SectionHeader]) -> Option<SectionHeader>
+    ensures { result ≡ find is_symbol_table headers.now }
+{
+    headers.iter().copied().find(|h| h.is_symbol_table())
+}
+
+fn are_several(headers: &[SectionHeader]) -> bool
+    ensures { result ≡ nat_lt 1 (count_by is_symbol_table headers.now) }
+{
+    headers.iter().filter(|h| h.is_symbol_table()).count() > 1
+}
+
+fn is_string_table(headers: &[SectionHeader], number: usize) -> bool
+    ensures { result ≡ is_string_table headers.now number }
+{
+    match headers.get(number) {
+        Some(header) => header.sh_type == SHT_STRTAB,
+        None => false,
+    }
+}
+
+fn has_wrong_header(headers: &[SectionHeader], table: &SectionHeader) -> bool
+    ensures { result ≡ has_wrong_header headers.now table.now }
+{
+    table.sh_entsize != 24
+        || table.sh_size == 0
+        || table.sh_size % 24 != 0
+        || !is_string_table(headers, table.sh_link as usize)
+        || table.sh_info == 0
+        || table.sh_size / 24 < u64::from(table.sh_info)
+}
+
+fn read_entries(
+    alloc: Global,
+    bytes: &[u8],
+    table: &SectionHeader,
+) -> Result<Vec<SymbolEntry>, AllocError>
+    requires { table.now.sh_offset + table.now.sh_size ≤ length bytes.now }
+    ensures { IfOk result (λ v. v.items ≡ entries_of bytes.now table.now) }
+{
+    let count = (table.sh_size / 24) as usize;
+    let start = table.sh_offset as usize;
+    let mut entries = Vec::with_capacity(alloc, count)?;
+    for k in 0..count {
+        entries.push(read_symbol_entry(bytes, start + 24 * k))?;
+    }
+    Ok(entries)
+}
+
+fn are_all_local(entries: &[SymbolEntry]) -> bool
+    ensures { result ≡ list_all is_local entries.now }
+{
+    entries.iter().all(|e| e.is_local())
+}
+
+fn is_any_local(entries: &[SymbolEntry]) -> bool
+    ensures { result ≡ list_any is_local entries.now }
+{
+    entries.iter().any(|e| e.is_local())
+}
+
+fn has_misplaced_entry(table: &SectionHeader, entries: &[SymbolEntry]) -> bool
+    requires some { 0 < table.now.sh_info }
+    requires within { table.now.sh_info ≤ length entries.now }
+    ensures { result ≡ has_misplaced_entry table.now entries.now }
+{
+    let first = table.sh_info as usize;
+    !are_all_local(&entries[1..first]) || is_any_local(&entries[first..])
+}
+
+/// The entries past the null entry.
+fn past_null(entries: &[SymbolEntry]) -> &[SymbolEntry]
+    requires { 0 < length entries.now }
+    ensures { result.now ≡ drop 1 entries.now }
+{
+    &entries[1..]
+}
+
+fn is_wrong_among(entries: &[SymbolEntry], sections: u16, strings: &[u8]) -> bool
+    ensures { result ≡ list_any (is_wrong_symbol sections strings.now) entries.now }
+{
+    entries.iter().any(|e| e.is_wrong(sections, strings))
+}
+
+/// Whether an entry past the null entry is outside the profile.
+fn is_any_wrong(entries: &[SymbolEntry], sections: u16, strings: &[u8]) -> bool
+    requires { 0 < length entries.now }
+    ensures { result ≡ list_any (is_wrong_symbol sections strings.now) (drop 1 entries.now) }
+{
+    is_wrong_among(past_null(entries), sections, strings)
+}
+
+/// Where the name of an entry lies in the file, whose string table `strings` is the header of.
+fn name_span(bytes: &[u8], strings: &SectionHeader, entry: &SymbolEntry) -> Span
+    requires within { strings.now.sh_offset + strings.now.sh_size ≤ length bytes.now }
+    requires name { is_wrong_non_local (file_bytes bytes.now strings.now) entry.now ≡ false }
+    ensures within { IsInside (length bytes.now) result }
+    ensures name { bytes_at bytes.now result ≡ symbol_name (file_bytes bytes.now strings.now) entry.now }
+{
+    if entry.is_local() {
+        return NO_NAME;
+    }
+    name_place(bytes, strings, entry.st_name)
+}
+
+impl Symbols {
+    fn push(&mut self, symbol: Symbol, name: Span) -> Result<(), AllocError>
+        ensures symbols { OnOk result (self.new.symbols.items ≡ self.old.symbols.items ++ symbol ∷ []) }
+        ensures names { OnOk result (self.new.names.items ≡ self.old.names.items ++ name ∷ []) }
+    {
+        self.symbols.push(symbol)?;
+        self.names.push(name)?;
+        Ok(())
+    }
+}
+
+/// The symbols of these entries, the first of which is a null entry.
+fn named_symbols(
+    alloc: Global,
+    bytes: &[u8],
+    strings: &SectionHeader,
+    entries: &[SymbolEntry],
+) -> Result<Symbols, AllocError>
+    requires within { strings.now.sh_offset + strings.now.sh_size ≤ length bytes.now }
+    requires some { 0 < length entries.now }
+    requires names { list_any (is_wrong_non_local (file_bytes bytes.now strings.now)) (drop 1 entries.now) ≡ false }
+    ensures { IfOk result (λ s. AreNamed bytes.now (symbols_from (file_bytes bytes.now strings.now) entries.now) s.symbols.items s.names.items) }
+{
+    let mut symbols = Symbols {
+        symbols: Vec::with_capacity(alloc, entries.len())?,
+        names: Vec::with_capacity(alloc, entries.len())?,
+    };
+    symbols.push(NULL_SYMBOL, NO_NAME)?;
+    let rest = &entries[1..];
+    for entry in rest {
+        symbols.push(entry.symbol(), name_span(bytes, strings, entry))?;
+    }
+    Ok(symbols)
+}
+
+/// Reads the symbols of a file whose section headers have passed their tests, or tells why it is no object.
+pub fn read_symbols(
+    alloc: Global,
+    bytes: &[u8],
+    headers: &[SectionHeader],
+) -> Result<Symbols, ObjectRefusal>
+    requires table { HasSectionTable bytes.now }
+    requires headers { headers.now ≡ headers_of bytes.now }
+    requires tests { PassesTests bytes.now }
+    ensures ok { IfOk result (λ s. find (holds bytes.now) symbol_refusals ≡ None) }
+    ensures symbols { IfOk result (λ s. AreNamed bytes.now (symbols_of bytes.now) s.symbols.items s.names.items) }
+    ensures refused { IfErr result (λ e. (e ≡ NoMemory) ⊎ (find (holds bytes.now) symbol_refusals ≡ Some e)) }
+{
+    if are_several(headers) {
+        return Err(ObjectRefusal::SymbolTable);
+    }
+    let Some(table) = symbol_table_header(headers) else {
+        return Ok(Symbols {
+            symbols: Vec::new(alloc),
+            names: Vec::new(alloc),
+        });
+    };
+    if has_wrong_header(headers, &table) {
+        return Err(ObjectRefusal::SymbolTable);
+    }
+    let Ok(entries) = read_entries(alloc, bytes, &table) else {
+        return Err(ObjectRefusal::NoMemory);
+    };
+    if has_misplaced_entry(&table, &entries) {
+        return Err(ObjectRefusal::SymbolTable);
+    }
+    let strings = headers[table.sh_link as usize];
+    let count = headers.len() as u16;
+    if is_any_wrong(&entries, count, strings.file_bytes(bytes)) {
+        return Err(ObjectRefusal::Symbol);
+    }
+    match named_symbols(alloc, bytes, &strings, &entries) {
+        Ok(symbols) => Ok(symbols),
+        Err(_) => Err(ObjectRefusal::NoMemory),
+    }
+}
