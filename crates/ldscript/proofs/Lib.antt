@@ -6,3 +6,8 @@ pub mod Reading
 pub mod Commons
 pub mod Inputs
 pub mod Bodies
+pub mod Regions
+pub mod Tails
+pub mod Starts
+pub mod Items
+pub mod Tops

@@ -7,6 +7,7 @@ pub mod fault;
 mod fill;
 pub mod formula;
 pub mod input;
+pub mod law;
 mod mentions;
 mod read_body;
 mod read_common;

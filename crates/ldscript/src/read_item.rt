@@ -3,7 +3,7 @@
 ghost use Rattle.std.specs.Prelude.{◌≡◌, ◌<◌, ℕ, List, IsTrue, length};
 ghost use Rattle.ldscript.specs.Steps.{◌▸◌, mark, statements};
 ghost use Rattle.ldscript.specs.Grammar.{discard as discard_part, item_command as item_command_part, item_statement};
-ghost use Rattle.ldscript.specs.Readings.{Reads, Finds};
+ghost use Rattle.ldscript.specs.Readings.{EndsSection, Follows, Reads, ReadsOnly, discard_head as discard_head_part};
 
 use crate::fault::Fault;
 use crate::input::InputStatement;
@@ -18,7 +18,9 @@ use ldtokens::token::{Mark, Mode, TokenKind};
 use std::alloc::Global;
 
 /// What follows `/DISCARD/ : {`
-fn discard_head(tokens: Cursor<'_>) -> Option<Cursor<'_>> {
+fn discard_head(tokens: Cursor<'_>) -> Option<Cursor<'_>>
+    ensures { Follows discard_head_part tokens.entry (λ x. x) result }
+{
     let (kind, _, _, rest) = tokens.next()?;
     if kind != TokenKind::Discard {
         return None;
@@ -44,7 +46,9 @@ fn discard<'a>(
 fn item_command<'a>(
     alloc: Global,
     tokens: Cursor<'a>,
-) -> Result<(ItemCommand, Cursor<'a>), Fault> {
+) -> Result<(ItemCommand, Cursor<'a>), Fault>
+    ensures { ReadsOnly EndsSection item_command_part tokens.entry (λ x. x.0) (λ x. x.1) result }
+{
     match dot_command(alloc, Mode::Expression, tokens.copy()) {
         Ok((command, rest)) => return Ok((ItemCommand::Dot(command), rest)),
         Err(Fault::NoMemory) => return Err(Fault::NoMemory),

@@ -1,9 +1,10 @@
 //! Readers of memory regions.
 
 ghost use Rattle.std.specs.Prelude.{◌≡◌, ◌<◌, ℕ, List, IsTrue, length};
-ghost use Rattle.ldscript.specs.Steps.{◌▸◌, each, mark};
+ghost use Rattle.ldscript.specs.Steps.{◌▸◌, each, expression, mark};
 ghost use Rattle.ldscript.specs.Grammar.{region as region_part, region_head as region_head_part, region_middle as region_middle_part};
-ghost use Rattle.ldscript.specs.Readings.{Reads, Finds, Follows};
+ghost use Rattle.ldscript.specs.Readings.{Reads, ReadsOnly, Finds, Follows};
+ghost use Rattle.ldexpr.specs.Grammar.{Stops, Whole};
 
 use crate::fault::Fault;
 use crate::formula::Formula;
@@ -37,7 +38,9 @@ fn region_middle(tokens: Cursor<'_>) -> Option<Cursor<'_>>
 }
 
 /// An expression.
-fn formula<'a>(alloc: Global, tokens: Cursor<'a>) -> Result<(Formula, Cursor<'a>), Fault> {
+fn formula<'a>(alloc: Global, tokens: Cursor<'a>) -> Result<(Formula, Cursor<'a>), Fault>
+    ensures { ReadsOnly (Stops Whole) expression tokens.entry (λ x. x.0) (λ x. x.1) result }
+{
     match expr(alloc, tokens) {
         Ok((expr, rest)) => Ok((Formula::new(expr), rest)),
         Err(ParseFault::NotAnExpression) => Err(Fault::NotAScript),
@@ -46,7 +49,9 @@ fn formula<'a>(alloc: Global, tokens: Cursor<'a>) -> Result<(Formula, Cursor<'a>
 }
 
 /// A memory region.
-fn region<'a>(alloc: Global, tokens: Cursor<'a>) -> Result<(Region, Cursor<'a>), Fault> {
+fn region<'a>(alloc: Global, tokens: Cursor<'a>) -> Result<(Region, Cursor<'a>), Fault>
+    ensures { ReadsOnly (Stops Whole) region_part tokens.entry (λ x. x.0) (λ x. x.1) result }
+{
     let line = tokens.line();
     let Some((name, rest)) = region_head(tokens) else {
         return Err(Fault::NotAScript);

@@ -1,12 +1,13 @@
 //! Readers of output sections.
 
-ghost use Rattle.std.specs.Prelude.{◌≡◌, ◌<◌, ℕ, List, IsTrue, length, IfOk};
-ghost use Rattle.ldscript.specs.Steps.{◌▸◌, mark, statements};
-ghost use Rattle.ldscript.specs.Grammar.{address as address_part, section as section_part};
-ghost use Rattle.ldscript.specs.Readings.{Reads, Finds, opened_part, head_part};
+ghost use Rattle.std.specs.Prelude.{◌≡◌, ◌<◌, ℕ, List, IsTrue, MatchOption, codes, length};
+ghost use Rattle.ldscript.specs.Steps.{◌▸◌, key, mark, statements};
+ghost use Rattle.ldscript.specs.Grammar.{address as address_part, at_region, filled as filled_part, in_region, load_in_head, load_in_tail, section as section_part};
+ghost use Rattle.ldscript.specs.Readings.{EndsSection, Reads, ReadsMaybe, ReadsOnly, ReadsTail, opened_part, head_part};
+ghost use Rattle.ldscript.specs.declared.section.Load.{Load};
 
 use crate::fault::Fault;
-use crate::fill::{fill_bytes, is_fill};
+use crate::fill::fill_bytes;
 use crate::formula::Formula;
 use crate::read_body::body;
 use crate::section::{Load, OutputSection};
@@ -79,76 +80,81 @@ fn head<'a>(alloc: Global, tokens: Cursor<'a>) -> Result<(SectionHead, Cursor<'a
 }
 
 /// What the tail of an output section gives.
-#[derive(Clone, Copy)]
-struct SectionTail<'a> {
-    region: Option<&'a [u8]>,
-    load: Option<&'a [u8]>,
-    fill: Option<&'a [u8]>,
+#[derive(Drop)]
+struct SectionTail {
+    region: Option<ScriptName>,
+    load: Option<ScriptName>,
+    fill: Option<ScriptName>,
 }
 
 /// [`> NAME`]
-fn region<'a>(tokens: Cursor<'a>) -> Option<(Option<&'a [u8]>, Cursor<'a>)> {
+fn region<'a>(alloc: Global, tokens: Cursor<'a>) -> Result<(Option<ScriptName>, Cursor<'a>), Fault>
+    ensures { ReadsMaybe (mark Mark.Greater) in_region tokens.entry (λ x. x.0) (λ x. x.1) result }
+{
     let Some(rest) = after(Mark::Greater, tokens.copy()) else {
-        return Some((None, tokens));
+        return Ok((None, tokens));
     };
-    let (name, rest) = plain_name(rest)?;
-    Some((Some(name), rest))
+    let Some((name, rest)) = plain_name(rest) else {
+        return Err(Fault::NotAScript);
+    };
+    Ok((Some(ScriptName::new(alloc, name)?), rest))
 }
 
 /// [`AT > NAME`]
-fn load_region<'a>(tokens: Cursor<'a>) -> Option<(Option<&'a [u8]>, Cursor<'a>)> {
+fn load_region<'a>(
+    alloc: Global,
+    tokens: Cursor<'a>,
+) -> Result<(Option<ScriptName>, Cursor<'a>), Fault>
+    ensures { ReadsMaybe (key Mode.Expression (codes "AT")) at_region tokens.entry (λ x. x.0) (λ x. x.1) result }
+{
     let Some(rest) = after_key(Mode::Expression, b"AT", tokens.copy()) else {
-        return Some((None, tokens));
+        return Ok((None, tokens));
     };
-    let rest = after(Mark::Greater, rest)?;
-    let (name, rest) = plain_name(rest)?;
-    Some((Some(name), rest))
+    let Some(rest) = after(Mark::Greater, rest) else {
+        return Err(Fault::NotAScript);
+    };
+    let Some((name, rest)) = plain_name(rest) else {
+        return Err(Fault::NotAScript);
+    };
+    Ok((Some(ScriptName::new(alloc, name)?), rest))
 }
 
-/// [`= fill`], as it is spelled
-fn fill<'a>(tokens: Cursor<'a>) -> Option<(Option<&'a [u8]>, Cursor<'a>)> {
+/// [`= fill`]
+fn filled<'a>(alloc: Global, tokens: Cursor<'a>) -> Result<(Option<ScriptName>, Cursor<'a>), Fault>
+    ensures { ReadsMaybe (mark Mark.Assign) filled_part tokens.entry (λ x. x.0) (λ x. x.1) result }
+{
     let Some(rest) = after(Mark::Assign, tokens.copy()) else {
-        return Some((None, tokens));
+        return Ok((None, tokens));
     };
-    let (spelled, rest) = rest.number()?;
-    if is_fill(spelled) {
-        Some((Some(spelled), rest))
-    } else {
-        None
+    let Some((spelled, rest)) = rest.number() else {
+        return Err(Fault::NotAScript);
+    };
+    match fill_bytes(alloc, spelled) {
+        Ok(Some(bytes)) => Ok((Some(bytes), rest)),
+        Ok(None) => Err(Fault::NotAScript),
+        Err(_) => Err(Fault::NoMemory),
     }
 }
 
 /// [`> NAME`] [`AT > NAME`] [`= fill`]
-fn tail<'a>(tokens: Cursor<'a>) -> Option<(SectionTail<'a>, Cursor<'a>)> {
-    let (region, rest) = region(tokens)?;
-    let (load, rest) = load_region(rest)?;
-    let (fill, rest) = fill(rest)?;
-    Some((SectionTail { region, load, fill }, rest))
+fn tail<'a>(alloc: Global, tokens: Cursor<'a>) -> Result<(SectionTail, Cursor<'a>), Fault>
+    ensures { ReadsTail tokens.entry (λ x. x.0) (λ x. x.1) result }
+{
+    let (region, rest) = region(alloc, tokens)?;
+    let (load, rest) = load_region(alloc, rest)?;
+    let (fill, rest) = filled(alloc, rest)?;
+    Ok((SectionTail { region, load, fill }, rest))
 }
 
-/// The load address of an output section, if its head and its tail do not both give one.
-fn load_of(alloc: Global, head: Option<Formula>, tail: Option<&[u8]>) -> Result<Load, Fault> {
+/// The load address of an output section, unless its head and its tail both give one.
+fn load_of(head: Option<Formula>, tail: Option<ScriptName>) -> Option<Load>
+    ensures { MatchOption result ((l : Load) → load_in_head l ≡ head → load_in_tail l ≡ tail → ⊥) (λ l. (load_in_head l ≡ head) × (load_in_tail l ≡ tail)) }
+{
     match (head, tail) {
-        (None, None) => Ok(Load::Unstated),
-        (Some(address), None) => Ok(Load::At(address)),
-        (None, Some(region)) => Ok(Load::InRegion(ScriptName::new(alloc, region)?)),
-        (Some(_), Some(_)) => Err(Fault::NotAScript),
-    }
-}
-
-/// A copy of a name, if there is one.
-fn copied(alloc: Global, name: Option<&[u8]>) -> Result<Option<ScriptName>, Fault> {
-    match name {
-        Some(name) => Ok(Some(ScriptName::new(alloc, name)?)),
-        None => Ok(None),
-    }
-}
-
-/// The bytes of a fill, if there is one.
-fn filled(alloc: Global, spelled: Option<&[u8]>) -> Result<Option<ScriptName>, Fault> {
-    match spelled {
-        Some(spelled) => Ok(Some(fill_bytes(alloc, spelled)?)),
-        None => Ok(None),
+        (None, None) => Some(Load::Unstated),
+        (Some(address), None) => Some(Load::At(address)),
+        (None, Some(region)) => Some(Load::InRegion(region)),
+        (Some(_), Some(_)) => None,
     }
 }
 
@@ -156,24 +162,27 @@ fn filled(alloc: Global, spelled: Option<&[u8]>) -> Result<Option<ScriptName>, F
 pub fn section<'a>(
     alloc: Global,
     tokens: Cursor<'a>,
-) -> Result<(OutputSection, Cursor<'a>), Fault> {
+) -> Result<(OutputSection, Cursor<'a>), Fault>
+    ensures { ReadsOnly EndsSection section_part tokens.entry (λ x. x.0) (λ x. x.1) result }
+{
     let Some((name, rest)) = plain_name(tokens) else {
         return Err(Fault::NotAScript);
     };
     let (address, rest) = address(alloc, rest)?;
     let (SectionHead { load, alignment }, rest) = head(alloc, rest)?;
     let (body, rest) = body(alloc, rest)?;
-    let Some((tail, rest)) = tail(rest) else {
+    let (SectionTail { region, load: at, fill }, rest) = tail(alloc, rest)?;
+    let Some(load) = load_of(load, at) else {
         return Err(Fault::NotAScript);
     };
     let section = OutputSection {
         name: ScriptName::new(alloc, name)?,
         address,
-        load: load_of(alloc, load, tail.load)?,
+        load,
         alignment,
         body,
-        region: copied(alloc, tail.region)?,
-        fill: filled(alloc, tail.fill)?,
+        region,
+        fill,
     };
     Ok((section, rest))
 }
