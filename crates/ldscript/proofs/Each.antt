@@ -14,24 +14,21 @@ pub record EachListed {A : Type 0} (Stop : List Lexeme → Type 0) (c : Part) (p
   pub at_start : (x : A) (ts r : List Lexeme) → p x ts r → Stop ts
 
 module _ {A : Type 0} {Stop : List Lexeme → Type 0} {c : Part} {p : A → Part} where
-  abbrev pub EachClosing : List A → Part
-  EachClosing ys = each p ys ▸ c
-
-  pub each_stops : EachListed Stop c p → (ys : List A) (ts r : List Lexeme) → EachClosing ys ts r → Stop ts
+  pub each_stops : EachListed Stop c p → (ys : List A) (ts r : List Lexeme) → (each p ys ▸ c) ts r → Stop ts
   each_stops l [] ts r d = subst Stop (sym d.1) (l.at_close d.0 r d.2)
   each_stops l (y ∷ ys) ts r d = l.at_start y ts d.1.0 d.1.1
 
   -- where a member stands, a list has one
   pub each_member : EachListed Stop c p → (x : A) (ts us : List Lexeme) → p x ts us
-      → ((y : A) (more : List Lexeme) → p y ts more → Stop more → (y ≡ x) × (more ≡ us)) → (ys : List A) (r : List Lexeme) → EachClosing ys ts r
-      → (zs : List A) × (ys ≡ x ∷ zs) × EachClosing zs us r
+      → ((y : A) (more : List Lexeme) → p y ts more → Stop more → (y ≡ x) × (more ≡ us)) → (ys : List A) (r : List Lexeme) → (each p ys ▸ c) ts r
+      → (zs : List A) × (ys ≡ x ∷ zs) × (each p zs ▸ c) us r
   each_member l x ts us h only [] r d = absurd (l.no_close x ts us r h (subst (λ t. c t r) (sym d.1) d.2))
   each_member l x ts us h only (y ∷ ys) r d =
       let stops : Stop d.1.0 = each_stops l ys d.1.0 r (d.0, d.1.2, d.2) in
       let same = only y d.1.0 d.1.1 stops in
       (ys, ap (λ z. z ∷ ys) same.0, (d.0, subst (λ t. each p ys t d.0) same.1 d.1.2, d.2))
 
-  pub each_single : EachListed Stop c p → (xs ys : List A) (ts r s : List Lexeme) → EachClosing xs ts r → EachClosing ys ts s → (xs ≡ ys) × (r ≡ s)
+  pub each_single : EachListed Stop c p → (xs ys : List A) (ts r s : List Lexeme) → (each p xs ▸ c) ts r → (each p ys ▸ c) ts s → (xs ≡ ys) × (r ≡ s)
   each_single l [] [] ts r s x y = (refl, l.closes ts r s (subst (λ t. c t r) (sym x.1) x.2) (subst (λ t. c t s) (sym y.1) y.2))
   each_single l [] (y ∷ ys) ts r s d e = absurd (l.no_close y ts e.1.0 r e.1.1 (subst (λ t. c t r) (sym d.1) d.2))
   each_single l (x ∷ xs) ys ts r s d e =

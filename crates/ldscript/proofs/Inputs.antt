@@ -109,23 +109,23 @@ selected_single (Some a) (Some b) ps qs ts r s x y =
 
 -- an input statement but for KEEP
 pub record SameInput (a b : Input) (r s : List Lexeme) : Type 0 where
-  pub file : a.file ≡ b.file
-  pub sort : a.sort ≡ b.sort
-  pub sections : a.sections ≡ b.sections
-  pub rest : r ≡ s
+  pub same_file : a.file ≡ b.file
+  pub same_sort : a.sort ≡ b.sort
+  pub same_sections : a.sections ≡ b.sections
+  pub same_rest : r ≡ s
 
 pub plain_same : (a b : Input) (ts r s : List Lexeme) → plain a ts r → plain b ts s → SameInput a b r s
 plain_same a b ts r s x y =
     let e = behind_tree pattern (mark OpenParenthesis ▸ Selected b.sort b.sections) pattern_single ts x.0 s a.file b.file x.1 y in
     let f = behind (mark OpenParenthesis) (Selected b.sort b.sections) (mark_fixed OpenParenthesis) x.0 x.2.0 s x.2.1 e.1 in
     let g = selected_single a.sort b.sort a.sections b.sections x.2.0 r s x.2.2 f in
-    record { file = sym e.0; sort = g.0; sections = g.1; rest = g.2 }
+    record { same_file = sym e.0; same_sort = g.0; same_sections = g.1; same_rest = g.2 }
 
 inputs_same : (a b : Input) (r s : List Lexeme) → a.keep ≡ b.keep → SameInput a b r s → (a ≡ b) × (r ≡ s)
 inputs_same a b r s k e =
     let mk : Bool → List patterns.Part → Option Sort → List (List patterns.Part) → Input = λ k f o ps. record { keep = k; file = f; sort = o; sections = ps } in
-    (ap (λ k. mk k a.file a.sort a.sections) k ∙ ap (λ f. mk b.keep f a.sort a.sections) e.file
-    ∙ ap (λ o. mk b.keep b.file o a.sections) e.sort ∙ ap (λ ps. mk b.keep b.file b.sort ps) e.sections, e.rest)
+    (ap (λ k. mk k a.file a.sort a.sections) k ∙ ap (λ f. mk b.keep f a.sort a.sections) e.same_file
+    ∙ ap (λ o. mk b.keep b.file o a.sections) e.same_sort ∙ ap (λ ps. mk b.keep b.file b.sort ps) e.same_sections, e.same_rest)
 
 kept_same : (k l : Bool) (a b : Input) (ts r s : List Lexeme) → kept k (plain a) ts r → kept l (plain b) ts s → (k ≡ l) × SameInput a b r s
 kept_same false false a b ts r s x y = (refl, plain_same a b ts r s x y)
@@ -135,8 +135,8 @@ kept_same true true a b ts r s x y =
     let e = behind (key Pattern (codes "KEEP")) (mark OpenParenthesis ▸ plain b ▸ mark CloseParenthesis) (key_fixed Pattern (codes "KEEP")) ts x.0 s x.1 y in
     let f = behind (mark OpenParenthesis) (plain b ▸ mark CloseParenthesis) (mark_fixed OpenParenthesis) x.0 x.2.0 s x.2.1 e in
     let g = plain_same a b x.2.0 x.2.2.0 f.0 x.2.2.1 f.1 in
-    let h = mark_fixed CloseParenthesis f.0 r s (subst (λ l. mark CloseParenthesis l r) g.rest x.2.2.2) f.2 in
-    (refl, record { file = g.file; sort = g.sort; sections = g.sections; rest = h })
+    let h = mark_fixed CloseParenthesis f.0 r s (subst (λ l. mark CloseParenthesis l r) g.same_rest x.2.2.2) f.2 in
+    (refl, record { same_file = g.same_file; same_sort = g.same_sort; same_sections = g.same_sections; same_rest = h })
 
 pub input_single : Single input
 input_single ts r s a b x y = let e = kept_same a.keep b.keep a b ts r s x y in inputs_same a b r s e.0 e.1

@@ -22,12 +22,8 @@ split_semicolons ts r none = inl refl
 split_semicolons ts r (one {us = us} m d) = inr (us, m, d)
 
 module _ {A : Type 0} {Stop : List Lexeme → Type 0} {c : Part} {p : A → Part} where
-  -- the rest of a list, from a place on
-  abbrev pub Closing : List A → Part
-  Closing ys = statements p ys ▸ c
-
   -- one `;` less
-  pub behind_semicolon : Listed Stop c p → (ts us : List Lexeme) → mark Semicolon ts us → (ys : List A) (r : List Lexeme) → Closing ys ts r → Closing ys us r
+  pub behind_semicolon : Listed Stop c p → (ts us : List Lexeme) → mark Semicolon ts us → (ys : List A) (r : List Lexeme) → (statements p ys ▸ c) ts r → (statements p ys ▸ c) us r
   behind_semicolon l ts us m [] r d = elim (split_semicolons ts d.0 d.1) [
       inl e ↦ absurd (l.apart ts r us (subst (λ t. c t r) (sym e) d.2) m)
     | inr s ↦ (d.0, subst (λ t. Semicolons t d.0) (mark_fixed Semicolon ts s.0 us s.1 m) s.2, d.2)
@@ -37,12 +33,8 @@ module _ {A : Type 0} {Stop : List Lexeme → Type 0} {c : Part} {p : A → Part
     | inr s ↦ (d.0, (d.1.0, subst (λ t. Semicolons t d.1.0) (mark_fixed Semicolon ts s.0 us s.1 m) s.2, d.1.2), d.2)
     ]
 
-  pub with_semicolon : (ts us : List Lexeme) → mark Semicolon ts us → (ys : List A) (r : List Lexeme) → statements p ys us r → statements p ys ts r
-  with_semicolon ts us m [] r d = one m d
-  with_semicolon ts us m (y ∷ ys) r d = (d.0, one m d.1, d.2)
-
   -- what follows a statement stops it
-  pub closing_stops : Listed Stop c p → (ys : List A) (ts r : List Lexeme) → Closing ys ts r → Stop ts
+  pub closing_stops : Listed Stop c p → (ys : List A) (ts r : List Lexeme) → (statements p ys ▸ c) ts r → Stop ts
   closing_stops l [] ts r d = elim (split_semicolons ts d.0 d.1) [
       inl e ↦ subst Stop (sym e) (l.at_close d.0 r d.2)
     | inr s ↦ l.at_semicolon ts s.0 s.1
@@ -54,8 +46,8 @@ module _ {A : Type 0} {Stop : List Lexeme → Type 0} {c : Part} {p : A → Part
 
   -- where a statement stands, a list has one
   pub closing_statement : Listed Stop c p → (x : A) (ts us : List Lexeme) → p x ts us
-      → ((y : A) (more : List Lexeme) → p y ts more → Stop more → (y ≡ x) × (more ≡ us)) → (ys : List A) (r : List Lexeme) → Closing ys ts r
-      → (zs : List A) × (ys ≡ x ∷ zs) × Closing zs us r
+      → ((y : A) (more : List Lexeme) → p y ts more → Stop more → (y ≡ x) × (more ≡ us)) → (ys : List A) (r : List Lexeme) → (statements p ys ▸ c) ts r
+      → (zs : List A) × (ys ≡ x ∷ zs) × (statements p zs ▸ c) us r
   closing_statement l x ts us h only [] r d = elim (split_semicolons ts d.0 d.1) [
       inl e ↦ absurd (l.no_close x ts us r h (subst (λ t. c t r) (sym e) d.2))
     | inr s ↦ absurd (l.no_semicolon x ts us s.0 h s.1)
@@ -70,7 +62,7 @@ module _ {A : Type 0} {Stop : List Lexeme → Type 0} {c : Part} {p : A → Part
     ]
 
   -- where the list is closed, it has no statement
-  pub closing_end : Listed Stop c p → (ts us : List Lexeme) → c ts us → (ys : List A) (r : List Lexeme) → Closing ys ts r → (ys ≡ []) × (r ≡ us)
+  pub closing_end : Listed Stop c p → (ts us : List Lexeme) → c ts us → (ys : List A) (r : List Lexeme) → (statements p ys ▸ c) ts r → (ys ≡ []) × (r ≡ us)
   closing_end l ts us h [] r d = elim (split_semicolons ts d.0 d.1) [
       inl e ↦ (refl, l.closes ts r us (subst (λ t. c t r) (sym e) d.2) h)
     | inr s ↦ absurd (l.apart ts us s.0 h s.1)
@@ -80,12 +72,12 @@ module _ {A : Type 0} {Stop : List Lexeme → Type 0} {c : Part} {p : A → Part
     | inr s ↦ absurd (l.apart ts us s.0 h s.1)
     ]
 
-  pub behind_semicolons : Listed Stop c p → (ts us : List Lexeme) → Semicolons ts us → (ys : List A) (r : List Lexeme) → Closing ys ts r → Closing ys us r
+  pub behind_semicolons : Listed Stop c p → (ts us : List Lexeme) → Semicolons ts us → (ys : List A) (r : List Lexeme) → (statements p ys ▸ c) ts r → (statements p ys ▸ c) us r
   behind_semicolons l ts us none ys r d = d
   behind_semicolons l ts us (one {us = vs} m s) ys r d = behind_semicolons l vs us s ys r (behind_semicolon l ts vs m ys r d)
 
   -- no tokens are two closed lists
-  pub closing_single : Listed Stop c p → (xs ys : List A) (ts r s : List Lexeme) → Closing xs ts r → Closing ys ts s → (xs ≡ ys) × (r ≡ s)
+  pub closing_single : Listed Stop c p → (xs ys : List A) (ts r s : List Lexeme) → (statements p xs ▸ c) ts r → (statements p ys ▸ c) ts s → (xs ≡ ys) × (r ≡ s)
   closing_single l [] ys ts r s x y =
       let e = closing_end l x.0 r x.2 ys s (behind_semicolons l ts x.0 x.1 ys s y) in
       (sym e.0, sym e.1)
@@ -95,6 +87,10 @@ module _ {A : Type 0} {Stop : List Lexeme → Type 0} {c : Part} {p : A → Part
       let e = closing_single l xs h.0 d.1.2.0 r s (d.0, d.1.2.2, d.2) h.2 in
       (ap (λ zs. x ∷ zs) e.0 ∙ sym h.1, e.1)
 
+
+pub with_semicolon : {A : Type 0} (p : A → Part) (ts us : List Lexeme) → mark Semicolon ts us → (ys : List A) (r : List Lexeme) → statements p ys us r → statements p ys ts r
+with_semicolon p ts us m [] r d = one m d
+with_semicolon p ts us m (y ∷ ys) r d = (d.0, one m d.1, d.2)
 
 append_nil : {A : Type 0} (xs : List A) → xs ++ [] ≡ xs
 append_nil [] = refl
@@ -112,7 +108,7 @@ so_far_none c p ts = record { forth = λ ys r d. d; back = λ ys r d. (ys, d); s
 pub so_far_semicolon : {A : Type 0} (Stop : List Lexeme → Type 0) (c : Part) (p : A → Part) → Listed Stop c p → (ts : List Lexeme) (xs : List A) (rest us : List Lexeme)
     → SoFar c p ts xs rest → mark Semicolon rest us → length us < length rest → SoFar c p ts xs us
 so_far_semicolon Stop c p l ts xs rest us s m h = record {
-  forth = λ ys r d. s.forth ys r (with_semicolon {c = c} rest us m ys r d);
+  forth = λ ys r d. s.forth ys r (with_semicolon p rest us m ys r d);
   back = λ ys r d. let b = s.back ys r d in (b.0, behind_semicolon l rest us m b.0 r b.1);
   shorter = omega (arith, s.shorter);
 }

@@ -33,3 +33,8 @@ pub reads_behind : {A X : Type 0} (p : Part) (q : A → Part) → Fixed p → (t
 reads_behind p q f ts us h tree rest (Ok x) d = record { spells = (us, h.0, d.spells); shorter = omega (arith, h.1, d.shorter) }
 reads_behind p q f ts us h tree rest (Err NotAScript) d = none_behind p q f ts us h.0 d
 reads_behind p q f ts us h tree rest (Err NoMemory) d = tt
+
+pub follows_behind : {X : Type 0} (p q : Part) → Fixed p → (ts us : List Lexeme) → p ts us × (length us < length ts)
+    → (rest : X → List Lexeme) (r : Option X) → Follows q us rest r → Follows (p ▸ q) ts rest r
+follows_behind p q f ts us h rest (Some x) d = ((us, h.0, d.0), omega (arith, h.1, d.1))
+follows_behind p q f ts us h rest None d = λ more k. d more (behind p q f ts us more h.0 k)

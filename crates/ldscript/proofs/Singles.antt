@@ -11,7 +11,7 @@ use Rattle.ldtokens.specs.declared.token.Mode.TheVariants.{Expression, Pattern}
 use Rattle.ldexpr.specs.Expressions.{Expr}
 use Rattle.ldexpr.specs.Grammar.{Spells, Whole, Stops, StopsAt, Sign}
 use Rattle.ldpattern.specs.Parts as patterns
-use Rattle.ldscript.specs.Steps.{Part, ◌▸◌, ◌or◌, nothing, optional, each, token, mark, Semicolons, none, one, statements, on_line, word_in, key, is_name_in, name_in, name, string, expression, pattern}
+use Rattle.ldscript.specs.Steps.{Part, ◌▸◌, ◌or◌, nothing, optional, each, token, mark, Semicolons, none, one, statements, on_line, word_in, key, is_name_spelling, is_name_in, name_in, name, string, expression, pattern}
 use Rattle.ldscript.specs.Grammar.{ended, set_to, add_to, dot_change, dot_command, assign, provided_name, provided, provide, asserted, assertion, common, in_parentheses}
 use Rattle.ldscript.specs.declared.common.Assignment.{Assignment}
 use Rattle.ldscript.specs.declared.common.Assertion.{Assertion}
@@ -107,7 +107,7 @@ keys_differ mode v w h k ts r s a b =
 
 name_free : (mode : Mode) (n : List ℕ) → IsTrue (is_name_in mode n) → is_free_name n ≡ true
 name_free Expression n h = h
-name_free Pattern n h = first (is_free_name n) _ h where
+name_free Pattern n h = first (is_free_name n) (is_name_spelling n) h where
   first : (a b : Bool) → IsTrue (a && b) → a ≡ true
   first true b h = refl
   first false b h = h

@@ -1,7 +1,8 @@
 //! Readers of the statements of `SECTIONS`.
 
 ghost use Rattle.std.specs.Prelude.{◌≡◌, ◌<◌, ℕ, List, IsTrue, length};
-ghost use Rattle.ldscript.specs.Steps.{◌▸◌, mark, statements};
+ghost use Rattle.ldscript.specs.Steps.{◌▸◌, mark, statements, token};
+ghost use Rattle.ldtokens.specs.Tokens.{Discard};
 ghost use Rattle.ldscript.specs.Grammar.{discard as discard_part, item_command as item_command_part, item_statement};
 ghost use Rattle.ldscript.specs.Readings.{EndsSection, Follows, Reads, ReadsOnly, discard_head as discard_head_part};
 
@@ -17,14 +18,23 @@ use ldtokens::cursor::Cursor;
 use ldtokens::token::{Mark, Mode, TokenKind};
 use std::alloc::Global;
 
+/// What follows `/DISCARD/`
+fn after_discard(tokens: Cursor<'_>) -> Option<Cursor<'_>>
+    ensures { Follows (token Discard) tokens.entry (λ x. x) result }
+{
+    let (kind, _, _, rest) = tokens.next()?;
+    if kind == TokenKind::Discard {
+        Some(rest)
+    } else {
+        None
+    }
+}
+
 /// What follows `/DISCARD/ : {`
 fn discard_head(tokens: Cursor<'_>) -> Option<Cursor<'_>>
     ensures { Follows discard_head_part tokens.entry (λ x. x) result }
 {
-    let (kind, _, _, rest) = tokens.next()?;
-    if kind != TokenKind::Discard {
-        return None;
-    }
+    let rest = after_discard(tokens)?;
     let rest = after(Mark::Colon, rest)?;
     after(Mark::OpenBrace, rest)
 }

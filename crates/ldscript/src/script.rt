@@ -26,7 +26,12 @@ impl Model for Script {
     ghost use Rattle.std.specs.Prelude.{List};
     ghost use Rattle.ldscript.specs.declared.statement.Statement.{Statement};
 
+    ghost use Rattle.std.specs.Coded.{codes};
+    ghost use Rattle.ldscript.specs.contracts.formula.Formula as formula;
+
     ghost Value = { List Statement };
+
+    ghost coded = { Prim.hlevel (codes, formula.the_row.coded) };
 
     ghost view = { λ s. s.statements };
 }

@@ -1,6 +1,8 @@
 //! Steps that the readers of statements share.
 
-ghost use Rattle.std.specs.Prelude.{◌≡◌, ◌<◌, ◌∷◌, ℕ, List, IsTrue, MatchOption, length};
+ghost use Rattle.std.specs.Prelude.{◌≡◌, ◌<◌, ◌∷◌, ◌==◌, ◌&&◌, ℕ, List, IsTrue, MatchOption, length, slice_index};
+ghost use Rattle.std.specs.List.{list_all};
+ghost use Rattle.ldtokens.specs.Bytes.{is_name_byte};
 ghost use Rattle.ldtokens.specs.Tokens.{Lexeme};
 ghost use Rattle.ldexpr.specs.Grammar.{StopsAt, Whole, Sign};
 ghost use Rattle.ldscript.specs.Steps.{◌▸◌, key, mark as mark_part, token, word_in, is_name_in, is_name_spelling, name_in, name as name_part, string, expression};
@@ -17,6 +19,20 @@ use ldtokens::token::{Mark, Mode};
 use ldtokens::words::is_free_name;
 use std::alloc::Global;
 
+/// Whether a word begins with `.-`, as no name does.
+fn begins_with_dot_minus(word: &[u8]) -> bool
+    ensures { result ≡ ((slice_index word.now 0 == 46) && (slice_index word.now 1 == 45)) }
+{
+    byte_at(word, 0) == b'.' && byte_at(word, 1) == b'-'
+}
+
+/// Whether a word has bytes of names alone.
+fn has_name_bytes(word: &[u8]) -> bool
+    ensures { result ≡ list_all is_name_byte word.now }
+{
+    word.iter().all(|b| is_name_byte(*b))
+}
+
 /// Whether a word is spelled as a name.
 #[tactic(auto, unfolding(crate::specs::Steps::is_name_spelling))]
 fn is_spelled_as_name(word: &[u8]) -> bool
@@ -25,10 +41,10 @@ fn is_spelled_as_name(word: &[u8]) -> bool
     if !is_name_start(byte_at(word, 0)) {
         return false;
     }
-    if byte_at(word, 0) == b'.' && byte_at(word, 1) == b'-' {
+    if begins_with_dot_minus(word) {
         return false;
     }
-    word.iter().all(|b| is_name_byte(*b))
+    has_name_bytes(word)
 }
 
 /// Whether the word of a token of a mode may be given a value.
