@@ -81,18 +81,18 @@ width_no_key Quad v d ts r s x y = keys_differ Pattern (codes "QUAD") v refl d.3
 -- a word that no pattern has, and not KEEP, begins no input statement
 key_no_input : (v : List ℕ) → is_free_word v ≡ false → bytes_eq v v ≡ true → bytes_eq v (codes "KEEP") ≡ false → (i : Input) (ts r s : List Lexeme) → key Pattern v ts r → input i ts s → ⊥
 key_no_input v f e k i ts r s x y = elim (kept_cases i.keep i ts s y) [
-    inl d ↦ pattern_no_key v f i.file ts d.0 r d.1 x
+  | inl d ↦ pattern_no_key v f i.file ts d.0 r d.1 x
   | inr d ↦ keys_differ Pattern v (codes "KEEP") e k ts r d.0 x d.1
-  ]
+]
 
 -- a word with a mark behind it that is not `(`
 word_no_input : (w : List ℕ) (m : Mark) → (m ≡ OpenParenthesis → ⊥) → bytes_eq w w ≡ true → bytes_eq w (codes "KEEP") ≡ false → (i : Input) (ts us r s : List Lexeme) → token (Word w) ts us → mark m us r → input i ts s → ⊥
 word_no_input w m d e k i ts us r s x h y = elim (kept_cases i.keep i ts s y) [
-    inl p ↦
-    let same = (tokens_same (Word p.1.0) (Word w) ts p.0 us p.1.3 x).1 in
-    marks_apart m OpenParenthesis us r p.2.0 d h (subst (λ l. mark OpenParenthesis l p.2.0) same p.2.1)
+  | inl p ↦
+      let same = (tokens_same (Word p.1.0) (Word w) ts p.0 us p.1.3 x).1 in
+      marks_apart m OpenParenthesis us r p.2.0 d h (subst (λ l. mark OpenParenthesis l p.2.0) same p.2.1)
   | inr p ↦ keys_differ Pattern w (codes "KEEP") e k ts us p.0 x p.1
-  ]
+]
 
 dot_no_common : (a : DotCommand) (b : Common) (ts r s : List Lexeme) → dot_command Pattern a ts r → common Pattern b ts s → ⊥
 dot_no_common a (commons.Assign b) ts r s x y = name_no_key Pattern b.name (codes ".") dot_no_name ts y.0 x.0 y.1 x.1
@@ -113,11 +113,11 @@ common_no_data (commons.Assert a) w e ts r s x y = width_no_key w (codes "ASSERT
 
 common_no_input : (a : Common) (i : Input) (ts r s : List Lexeme) → common Pattern a ts r → input i ts s → ⊥
 common_no_input (commons.Assign a) i ts r s x y = elim (kept_cases i.keep i ts s y) [
-    inl p ↦
-    let same = (tokens_same (Word p.1.0) (Word a.name) ts p.0 x.0 p.1.3 x.1.1).1 in
-    marks_apart Assign OpenParenthesis x.0 x.2.0 p.2.0 (λ q. cc) x.2.1 (subst (λ l. mark OpenParenthesis l p.2.0) same p.2.1)
+  | inl p ↦
+      let same = (tokens_same (Word p.1.0) (Word a.name) ts p.0 x.0 p.1.3 x.1.1).1 in
+      marks_apart Assign OpenParenthesis x.0 x.2.0 p.2.0 (λ q. cc) x.2.1 (subst (λ l. mark OpenParenthesis l p.2.0) same p.2.1)
   | inr p ↦ name_no_key Pattern a.name (codes "KEEP") keep_no_name ts x.0 p.0 x.1 p.1
-  ]
+]
 common_no_input (commons.Provide a) i ts r s x y = key_no_input (codes "PROVIDE") provide_no_word refl refl i ts x.0 s x.1 y
 common_no_input (commons.Assert a) i ts r s x y = key_no_input (codes "ASSERT") assert_no_word refl refl i ts x.0 s x.1 y
 

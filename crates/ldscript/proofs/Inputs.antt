@@ -103,8 +103,8 @@ selected_single None (Some b) ps qs ts r s x y = absurd (sort_no_patterns b ps t
 selected_single (Some a) None ps qs ts r s x y = absurd (sort_no_patterns a qs ts x.1.0 y.0 x.1.1 y.1)
 selected_single (Some a) (Some b) ps qs ts r s x y =
     let e = pair_single sort (λ p. mark OpenParenthesis ▸ patterns_of p ▸ mark CloseParenthesis) sort_single
-        (skip_single (mark OpenParenthesis) (λ p. patterns_of p ▸ mark CloseParenthesis) (mark_fixed OpenParenthesis) closed_patterns_single)
-        ts x.0 y.0 a b ps qs x.1 y.1 in
+    (skip_single (mark OpenParenthesis) (λ p. patterns_of p ▸ mark CloseParenthesis) (mark_fixed OpenParenthesis) closed_patterns_single)
+    ts x.0 y.0 a b ps qs x.1 y.1 in
     (ap Some e.0, e.1, mark_fixed CloseParenthesis y.0 r s (subst (λ l. mark CloseParenthesis l r) e.2 x.2) y.2)
 
 -- an input statement but for KEEP
@@ -123,9 +123,11 @@ plain_same a b ts r s x y =
 
 inputs_same : (a b : Input) (r s : List Lexeme) → a.keep ≡ b.keep → SameInput a b r s → (a ≡ b) × (r ≡ s)
 inputs_same a b r s k e =
-    let mk : Bool → List patterns.Part → Option Sort → List (List patterns.Part) → Input = λ k f o ps. record { keep = k; file = f; sort = o; sections = ps } in
-    (ap (λ k. mk k a.file a.sort a.sections) k ∙ ap (λ f. mk b.keep f a.sort a.sections) e.same_file
-    ∙ ap (λ o. mk b.keep b.file o a.sections) e.same_sort ∙ ap (λ ps. mk b.keep b.file b.sort ps) e.same_sections, e.same_rest)
+    let mk : Bool → List patterns.Part → Option Sort → List (List patterns.Part) → Input = λ k f o ps. record { keep = k; file = f; sort = o; sections = ps } in (
+      ap (λ k. mk k a.file a.sort a.sections) k ∙ ap (λ f. mk b.keep f a.sort a.sections) e.same_file
+          ∙ ap (λ o. mk b.keep b.file o a.sections) e.same_sort ∙ ap (λ ps. mk b.keep b.file b.sort ps) e.same_sections,
+      e.same_rest,
+    )
 
 kept_same : (k l : Bool) (a b : Input) (ts r s : List Lexeme) → kept k (plain a) ts r → kept l (plain b) ts s → (k ≡ l) × SameInput a b r s
 kept_same false false a b ts r s x y = (refl, plain_same a b ts r s x y)
@@ -237,18 +239,18 @@ not_kept_none ts k n y more d = elim (kept_cases y.keep y ts more d) [ inl e ↦
 
 pub kept_open_none : (ts us : List Lexeme) → key Pattern (codes "KEEP") ts us → ((r : List Lexeme) → mark OpenParenthesis us r → ⊥) → NoneAt input ts
 kept_open_none ts us h n y more d = elim (kept_cases y.keep y ts more d) [
-    inl e ↦ pattern_no_key (codes "KEEP") keep_free y.file ts e.0 us e.1 h
+  | inl e ↦ pattern_no_key (codes "KEEP") keep_free y.file ts e.0 us e.1 h
   | inr e ↦ (let f = behind (key Pattern (codes "KEEP")) (mark OpenParenthesis ▸ plain y ▸ mark CloseParenthesis) (key_fixed Pattern (codes "KEEP")) ts us more h e in n f.0 f.1)
-  ]
+]
 
 pub kept_plain_none : (ts us vs : List Lexeme) → key Pattern (codes "KEEP") ts us → mark OpenParenthesis us vs → ((y : Input) (ws r : List Lexeme) → plain y vs ws → mark CloseParenthesis ws r → ⊥) → NoneAt input ts
 kept_plain_none ts us vs h m n y more d = elim (kept_cases y.keep y ts more d) [
-    inl e ↦ pattern_no_key (codes "KEEP") keep_free y.file ts e.0 us e.1 h
+  | inl e ↦ pattern_no_key (codes "KEEP") keep_free y.file ts e.0 us e.1 h
   | inr e ↦
-    let f = behind (key Pattern (codes "KEEP")) (mark OpenParenthesis ▸ plain y ▸ mark CloseParenthesis) (key_fixed Pattern (codes "KEEP")) ts us more h e in
-    let g = behind (mark OpenParenthesis) (plain y ▸ mark CloseParenthesis) (mark_fixed OpenParenthesis) us vs more m f in
-    n y g.0 more g.1 g.2
-  ]
+      let f = behind (key Pattern (codes "KEEP")) (mark OpenParenthesis ▸ plain y ▸ mark CloseParenthesis) (key_fixed Pattern (codes "KEEP")) ts us more h e in
+      let g = behind (mark OpenParenthesis) (plain y ▸ mark CloseParenthesis) (mark_fixed OpenParenthesis) us vs more m f in
+      n y g.0 more g.1 g.2
+]
 
 -- a read input statement under KEEP or not
 pub kept_as : (k : Bool) (i : Input) (ts r : List Lexeme) → i.keep ≡ k → kept k (plain i) ts r → input i ts r

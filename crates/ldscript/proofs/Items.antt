@@ -1,5 +1,5 @@
 -- Output sections and the statements of SECTIONS: no tokens are two of them.
-use Rattle.std.proofs.Common.{◌≡◌, ◌∙◌, refl, sym, ap, subst, ℕ, List, [], ◌∷◌, ◌⊎◌, inl, inr, true, false, Option, Some, None}
+use Rattle.std.proofs.Common.{◌≡◌, ◌∙◌, refl, sym, ap, subst, ℕ, List, [], ◌∷◌, ◌⊎◌, inl, inr, true, false, Option, Some, None, Result, Ok, Err, length, ◌<◌, arith}
 use Rattle.std.specs.Prelude.{codes, bytes_eq}
 use Rattle.std.proofs.lemmas.Bool.{false≢true}
 use Rattle.ldtokens.specs.Tokens.{Token, Lexeme, lexeme, Name, Discard, Punctuation}
@@ -11,7 +11,9 @@ use Rattle.ldexpr.specs.Expressions.{Expr}
 use Rattle.ldexpr.specs.Grammar.{Whole}
 use Rattle.ldscript.specs.Steps.{Part, ◌▸◌, mark, token, key, name, nothing, optional, expression, statements}
 use Rattle.ldscript.specs.Grammar.{ended, in_parentheses, dot_command, common, address, at_address, load_in_head, load_in_tail, alignment, section_head, section_tail, section, body_statement, input_statement, discarded, discard, item_command, item_statement}
-use Rattle.ldscript.specs.Readings.{NoneAt, NoneUntil, EndsSection, TakesTail, tail_part, opened_part, head_part, discard_head}
+use Rattle.ldscript.specs.Readings.{NoneAt, NoneUntil, Reads, EndsSection, TakesTail, tail_part, opened_part, head_part, discard_head}
+use Rattle.ldscript.specs.declared.fault.Fault.{Fault}
+use Rattle.ldscript.specs.declared.fault.Fault.TheVariants.{NotAScript, NoMemory}
 use Rattle.ldscript.specs.declared.common.Common.{Common}
 use Rattle.ldscript.specs.declared.common.Common.TheVariants as commons
 use Rattle.ldscript.specs.declared.common.DotCommand.{DotCommand}
@@ -163,7 +165,7 @@ load_same (InRegion x) (At y) e f = absurd (cc)
 sections_same : (a b : OutputSection) → a.name ≡ b.name → a.address ≡ b.address → head_of a ≡ head_of b → a.body ≡ b.body → tail_of a ≡ tail_of b → a ≡ b
 sections_same a b n d h s t =
     let mk : List ℕ → Option Expr → Load → Option Expr → List BodyStatement → Option (List ℕ) → Option (List ℕ) → OutputSection =
-        λ n d l g s r f. record { name = n; address = d; load = l; alignment = g; body = s; region = r; fill = f } in
+    λ n d l g s r f. record { name = n; address = d; load = l; alignment = g; body = s; region = r; fill = f } in
     let l = load_same a.load b.load (ap (λ (x : SectionHead). x.load) h) (ap (λ (x : SectionTail). x.load) t) in
     ap (λ x. mk x a.address a.load a.alignment a.body a.region a.fill) n ∙ ap (λ x. mk b.name x a.load a.alignment a.body a.region a.fill) d
     ∙ ap (λ x. mk b.name b.address x a.alignment a.body a.region a.fill) l ∙ ap (λ x. mk b.name b.address b.load x a.body a.region a.fill) (ap (λ (x : SectionHead). x.alignment) h)
@@ -320,3 +322,17 @@ item_none ts a b c d (item.Dot y) more k e = a y more k
 item_none ts a b c d (item.Common y) more k e = b y more k
 item_none ts a b c d (item.Section y) more k e = d y more k e
 item_none ts a b c d (item.Discard y) more k e = c y more k
+
+pub discard_none : (ts : List Lexeme) → ((us : List Lexeme) → discard_head ts us → ⊥) → NoneAt discard ts
+discard_none ts n y more d = n d.2.2.0 (d.0, d.1, (d.2.0, d.2.1, d.2.2.1))
+
+discard_head_fixed : Fixed discard_head
+discard_head_fixed = then_fixed (token Discard) (mark Colon ▸ mark OpenBrace) (token_fixed Discard) (then_fixed (mark Colon) (mark OpenBrace) (mark_fixed Colon) (mark_fixed OpenBrace))
+
+pub discard_reads : {X : Type 0} (ts us : List Lexeme) → discard_head ts us × (length us < length ts) → (tree : X → List InputStatement) (rest : X → List Lexeme) (r : Result X Fault)
+    → Reads (λ is. statements input_statement is ▸ mark CloseBrace) us tree rest r → Reads discard ts tree rest r
+discard_reads ts us h tree rest (Ok x) d = record { spells = (h.0.0, h.0.1, (h.0.2.0, h.0.2.1, (us, h.0.2.2, d.spells))); shorter = omega (arith, h.1, d.shorter) }
+discard_reads ts us h tree rest (Err NotAScript) d = λ y more k.
+    let e = discard_head_fixed ts k.2.2.0 us (k.0, k.1, (k.2.0, k.2.1, k.2.2.1)) h.0 in
+    d y more (subst (λ l. (statements input_statement y ▸ mark CloseBrace) l more) e k.2.2.2)
+discard_reads ts us h tree rest (Err NoMemory) d = tt

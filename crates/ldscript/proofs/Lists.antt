@@ -25,52 +25,52 @@ module _ {A : Type 0} {Stop : List Lexeme → Type 0} {c : Part} {p : A → Part
   -- one `;` less
   pub behind_semicolon : Listed Stop c p → (ts us : List Lexeme) → mark Semicolon ts us → (ys : List A) (r : List Lexeme) → (statements p ys ▸ c) ts r → (statements p ys ▸ c) us r
   behind_semicolon l ts us m [] r d = elim (split_semicolons ts d.0 d.1) [
-      inl e ↦ absurd (l.apart ts r us (subst (λ t. c t r) (sym e) d.2) m)
+    | inl e ↦ absurd (l.apart ts r us (subst (λ t. c t r) (sym e) d.2) m)
     | inr s ↦ (d.0, subst (λ t. Semicolons t d.0) (mark_fixed Semicolon ts s.0 us s.1 m) s.2, d.2)
-    ]
+  ]
   behind_semicolon l ts us m (y ∷ ys) r d = elim (split_semicolons ts d.1.0 d.1.1) [
-      inl e ↦ absurd (l.no_semicolon y ts d.1.2.0 us (subst (λ t. p y t d.1.2.0) (sym e) d.1.2.1) m)
+    | inl e ↦ absurd (l.no_semicolon y ts d.1.2.0 us (subst (λ t. p y t d.1.2.0) (sym e) d.1.2.1) m)
     | inr s ↦ (d.0, (d.1.0, subst (λ t. Semicolons t d.1.0) (mark_fixed Semicolon ts s.0 us s.1 m) s.2, d.1.2), d.2)
-    ]
+  ]
 
   -- what follows a statement stops it
   pub closing_stops : Listed Stop c p → (ys : List A) (ts r : List Lexeme) → (statements p ys ▸ c) ts r → Stop ts
   closing_stops l [] ts r d = elim (split_semicolons ts d.0 d.1) [
-      inl e ↦ subst Stop (sym e) (l.at_close d.0 r d.2)
+    | inl e ↦ subst Stop (sym e) (l.at_close d.0 r d.2)
     | inr s ↦ l.at_semicolon ts s.0 s.1
-    ]
+  ]
   closing_stops l (y ∷ ys) ts r d = elim (split_semicolons ts d.1.0 d.1.1) [
-      inl e ↦ subst Stop (sym e) (l.at_start y d.1.0 d.1.2.0 d.1.2.1)
+    | inl e ↦ subst Stop (sym e) (l.at_start y d.1.0 d.1.2.0 d.1.2.1)
     | inr s ↦ l.at_semicolon ts s.0 s.1
-    ]
+  ]
 
   -- where a statement stands, a list has one
   pub closing_statement : Listed Stop c p → (x : A) (ts us : List Lexeme) → p x ts us
       → ((y : A) (more : List Lexeme) → p y ts more → Stop more → (y ≡ x) × (more ≡ us)) → (ys : List A) (r : List Lexeme) → (statements p ys ▸ c) ts r
       → (zs : List A) × (ys ≡ x ∷ zs) × (statements p zs ▸ c) us r
   closing_statement l x ts us h only [] r d = elim (split_semicolons ts d.0 d.1) [
-      inl e ↦ absurd (l.no_close x ts us r h (subst (λ t. c t r) (sym e) d.2))
+    | inl e ↦ absurd (l.no_close x ts us r h (subst (λ t. c t r) (sym e) d.2))
     | inr s ↦ absurd (l.no_semicolon x ts us s.0 h s.1)
-    ]
+  ]
   closing_statement l x ts us h only (y ∷ ys) r d = elim (split_semicolons ts d.1.0 d.1.1) [
-      inl e ↦
-      let next : p y ts d.1.2.0 = subst (λ t. p y t d.1.2.0) (sym e) d.1.2.1 in
-      let stops : Stop d.1.2.0 = closing_stops l ys d.1.2.0 r (d.0, d.1.2.2, d.2) in
-      let same = only y d.1.2.0 next stops in
-      (ys, ap (λ z. z ∷ ys) same.0, (d.0, subst (λ t. statements p ys t d.0) same.1 d.1.2.2, d.2))
+    | inl e ↦
+        let next : p y ts d.1.2.0 = subst (λ t. p y t d.1.2.0) (sym e) d.1.2.1 in
+        let stops : Stop d.1.2.0 = closing_stops l ys d.1.2.0 r (d.0, d.1.2.2, d.2) in
+        let same = only y d.1.2.0 next stops in
+        (ys, ap (λ z. z ∷ ys) same.0, (d.0, subst (λ t. statements p ys t d.0) same.1 d.1.2.2, d.2))
     | inr s ↦ absurd (l.no_semicolon x ts us s.0 h s.1)
-    ]
+  ]
 
   -- where the list is closed, it has no statement
   pub closing_end : Listed Stop c p → (ts us : List Lexeme) → c ts us → (ys : List A) (r : List Lexeme) → (statements p ys ▸ c) ts r → (ys ≡ []) × (r ≡ us)
   closing_end l ts us h [] r d = elim (split_semicolons ts d.0 d.1) [
-      inl e ↦ (refl, l.closes ts r us (subst (λ t. c t r) (sym e) d.2) h)
+    | inl e ↦ (refl, l.closes ts r us (subst (λ t. c t r) (sym e) d.2) h)
     | inr s ↦ absurd (l.apart ts us s.0 h s.1)
-    ]
+  ]
   closing_end l ts us h (y ∷ ys) r d = elim (split_semicolons ts d.1.0 d.1.1) [
-      inl e ↦ absurd (l.no_close y ts d.1.2.0 us (subst (λ t. p y t d.1.2.0) (sym e) d.1.2.1) h)
+    | inl e ↦ absurd (l.no_close y ts d.1.2.0 us (subst (λ t. p y t d.1.2.0) (sym e) d.1.2.1) h)
     | inr s ↦ absurd (l.apart ts us s.0 h s.1)
-    ]
+  ]
 
   pub behind_semicolons : Listed Stop c p → (ts us : List Lexeme) → Semicolons ts us → (ys : List A) (r : List Lexeme) → (statements p ys ▸ c) ts r → (statements p ys ▸ c) us r
   behind_semicolons l ts us none ys r d = d
@@ -86,7 +86,6 @@ module _ {A : Type 0} {Stop : List Lexeme → Type 0} {c : Part} {p : A → Part
       let h = closing_statement l x d.1.0 d.1.2.0 d.1.2.1 (λ z more k st. l.single d.1.0 more d.1.2.0 z x k d.1.2.1 st stops) ys s (behind_semicolons l ts d.1.0 d.1.1 ys s y) in
       let e = closing_single l xs h.0 d.1.2.0 r s (d.0, d.1.2.2, d.2) h.2 in
       (ap (λ zs. x ∷ zs) e.0 ∙ sym h.1, e.1)
-
 
 pub with_semicolon : {A : Type 0} (p : A → Part) (ts us : List Lexeme) → mark Semicolon ts us → (ys : List A) (r : List Lexeme) → statements p ys us r → statements p ys ts r
 with_semicolon p ts us m [] r d = one m d
@@ -134,10 +133,10 @@ pub so_far_stuck : {A : Type 0} (Stop : List Lexeme → Type 0) (c : Part) (p : 
 so_far_stuck {A} Stop c p l ts xs rest s no_end no_semicolon no_statement ys r d = let b = s.back ys r d in stuck b.0 b.1 where
   stuck : (zs : List A) → (statements p zs ▸ c) rest r → ⊥
   stuck [] e = elim (split_semicolons rest e.0 e.1) [
-      inl q ↦ no_end r (subst (λ t. c t r) (sym q) e.2)
+    | inl q ↦ no_end r (subst (λ t. c t r) (sym q) e.2)
     | inr q ↦ no_semicolon q.0 q.1
-    ]
+  ]
   stuck (z ∷ zs) e = elim (split_semicolons rest e.1.0 e.1.1) [
-      inl q ↦ no_statement z e.1.2.0 (subst (λ t. p z t e.1.2.0) (sym q) e.1.2.1) (closing_stops l zs e.1.2.0 r (e.0, e.1.2.2, e.2))
+    | inl q ↦ no_statement z e.1.2.0 (subst (λ t. p z t e.1.2.0) (sym q) e.1.2.1) (closing_stops l zs e.1.2.0 r (e.0, e.1.2.2, e.2))
     | inr q ↦ no_semicolon q.0 q.1
-    ]
+  ]

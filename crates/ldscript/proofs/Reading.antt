@@ -4,7 +4,7 @@ use Rattle.std.specs.Prelude.{IsErrAnd}
 use Rattle.std.proofs.lemmas.Result.{err_from_is_err_and}
 use Rattle.ldtokens.specs.Tokens.{Lexeme}
 use Rattle.ldscript.specs.Steps.{Part, ◌▸◌}
-use Rattle.ldscript.specs.Readings.{Takes, NoneAt, Finds, Fails, Reads, Follows}
+use Rattle.ldscript.specs.Readings.{Takes, NoneAt, NoneUntil, Finds, Fails, FailsUntil, Reads, ReadsOnly, Follows}
 use Rattle.ldscript.specs.declared.fault.Fault.{Fault}
 use Rattle.ldscript.specs.declared.fault.Fault.TheVariants.{NotAScript, NoMemory}
 use Rattle.ldscript.proofs.Singles.{Fixed, Single, behind}
@@ -38,3 +38,21 @@ pub follows_behind : {X : Type 0} (p q : Part) → Fixed p → (ts us : List Lex
     → (rest : X → List Lexeme) (r : Option X) → Follows q us rest r → Follows (p ▸ q) ts rest r
 follows_behind p q f ts us h rest (Some x) d = ((us, h.0, d.0), omega (arith, h.1, d.1))
 follows_behind p q f ts us h rest None d = λ more k. d more (behind p q f ts us more h.0 k)
+
+pub exit_until : {A X : Type 0} (Stop : List Lexeme → Type 0) (q : A → Part) (ts : List Lexeme) (tree : X → A) (rest : X → List Lexeme) (r : Result X Fault) (f : Fault)
+    → IsErrAnd r (λ e. e ≡ f) → FailsUntil Stop q ts f → ReadsOnly Stop q ts tree rest r
+exit_until Stop q ts tree rest r f h k =
+    let p = err_from_is_err_and r h in
+    subst (λ z. ReadsOnly Stop q ts tree rest z) (sym (p.1 ∙ ap Err p.2)) k
+
+pub fails_until_as : {A B : Type 0} (Stop : List Lexeme → Type 0) (p : A → Part) (q : B → Part) (ts us : List Lexeme) (f : Fault) → (NoneAt p ts → NoneUntil Stop q us) → Fails p ts f → FailsUntil Stop q us f
+fails_until_as Stop p q ts us NotAScript g h = g h
+fails_until_as Stop p q ts us NoMemory g h = tt
+
+pub fails_of_until : {A B : Type 0} (Stop : List Lexeme → Type 0) (p : A → Part) (q : B → Part) (ts us : List Lexeme) (f : Fault) → (NoneUntil Stop p ts → NoneAt q us) → FailsUntil Stop p ts f → Fails q us f
+fails_of_until Stop p q ts us NotAScript g h = g h
+fails_of_until Stop p q ts us NoMemory g h = tt
+
+pub until_as : {A B : Type 0} (Stop : List Lexeme → Type 0) (p : A → Part) (q : B → Part) (ts us : List Lexeme) (f : Fault) → (NoneUntil Stop p ts → NoneUntil Stop q us) → FailsUntil Stop p ts f → FailsUntil Stop q us f
+until_as Stop p q ts us NotAScript g h = g h
+until_as Stop p q ts us NoMemory g h = tt

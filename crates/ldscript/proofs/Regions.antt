@@ -47,7 +47,7 @@ region_only ts us vs ws rest a b more h i j only line d st =
 pub region_until : SingleUntil (Stops Whole) region
 region_until ts r s a b x y hr hs =
     let e = region_only ts x.1.0 x.1.2.0 x.1.2.2.0 r a b s x.1.1 x.1.2.1 x.1.2.2.1
-        (λ f more d st. expression_single x.1.2.2.0 more r f a.extent d x.1.2.2.2 st hr) (x.0 ∙ sym y.0) y hs in
+    (λ f more d st. expression_single x.1.2.2.0 more r f a.extent d x.1.2.2.2 st hr) (x.0 ∙ sym y.0) y hs in
     (sym e.0, sym e.1)
 
 name_no_mark : (n : List ℕ) (m : Mark) (ts r s : List Lexeme) → token (Name n) ts r → mark m ts s → ⊥

@@ -14,7 +14,6 @@ pub struct Formula {
 
 impl Model for Formula {
     ghost use Rattle.ldexpr.specs.Expressions.{Expr, expr_of};
-
     ghost use Rattle.std.specs.Prelude.{List};
     ghost use Rattle.std.specs.Coded.{codes, code_by};
     ghost use Rattle.ldscript.specs.FormulaCode.{Instruction, to_instructions, from_instructions, from_to};

@@ -7,5 +7,4 @@ ghost use Rattle.ldscript.specs.declared.statement.Statement.{Statement};
 /// No text has two trees.
 pub fn one_tree()
     ensures { (text : List ℕ) (s t : List Statement) → IsTree text s → IsTree text t → s ≡ t }
-{
-}
+{}

@@ -45,10 +45,8 @@ fn data<'a>(alloc: Global, tokens: Cursor<'a>) -> Result<(Width, Formula, Cursor
 }
 
 /// What a statement in an output section says.
-fn body_command<'a>(
-    alloc: Global,
-    tokens: Cursor<'a>,
-) -> Result<(BodyCommand, Cursor<'a>), Fault>
+#[tactic(auto, using(crate::proofs::Bodies::body_none))]
+fn body_command<'a>(alloc: Global, tokens: Cursor<'a>) -> Result<(BodyCommand, Cursor<'a>), Fault>
     ensures { Reads body_command_part tokens.entry (λ x. x.0) (λ x. x.1) result }
 {
     match dot_command(alloc, Mode::Pattern, tokens.copy()) {
@@ -68,7 +66,8 @@ fn body_command<'a>(
     }
     match input(alloc, tokens) {
         Ok((input, rest)) => Ok((BodyCommand::Input(input), rest)),
-        Err(fault) => Err(fault),
+        Err(Fault::NoMemory) => Err(Fault::NoMemory),
+        Err(Fault::NotAScript) => Err(Fault::NotAScript),
     }
 }
 

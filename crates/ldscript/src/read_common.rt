@@ -142,6 +142,7 @@ fn assertion<'a>(
 }
 
 /// NAME `= e ;`, `PROVIDE` or `ASSERT`
+#[tactic(auto, using(crate::proofs::Commons::common_none))]
 pub fn common<'a>(
     alloc: Global,
     mode: Mode,
@@ -161,6 +162,7 @@ pub fn common<'a>(
     }
     match assertion(alloc, mode, tokens) {
         Ok((assertion, rest)) => Ok((Common::Assert(assertion), rest)),
-        Err(fault) => Err(fault),
+        Err(Fault::NoMemory) => Err(Fault::NoMemory),
+        Err(Fault::NotAScript) => Err(Fault::NotAScript),
     }
 }

@@ -53,10 +53,8 @@ fn discard<'a>(
 }
 
 /// What a statement of `SECTIONS` says.
-fn item_command<'a>(
-    alloc: Global,
-    tokens: Cursor<'a>,
-) -> Result<(ItemCommand, Cursor<'a>), Fault>
+#[tactic(auto, using(crate::proofs::Items::item_none))]
+fn item_command<'a>(alloc: Global, tokens: Cursor<'a>) -> Result<(ItemCommand, Cursor<'a>), Fault>
     ensures { ReadsOnly EndsSection item_command_part tokens.entry (λ x. x.0) (λ x. x.1) result }
 {
     match dot_command(alloc, Mode::Expression, tokens.copy()) {
@@ -76,15 +74,13 @@ fn item_command<'a>(
     }
     match section(alloc, tokens) {
         Ok((section, rest)) => Ok((ItemCommand::Section(section), rest)),
-        Err(fault) => Err(fault),
+        Err(Fault::NoMemory) => Err(Fault::NoMemory),
+        Err(Fault::NotAScript) => Err(Fault::NotAScript),
     }
 }
 
 /// {item} `}`
-pub fn items<'a>(
-    alloc: Global,
-    tokens: Cursor<'a>,
-) -> Result<(Sequence<Item>, Cursor<'a>), Fault>
+pub fn items<'a>(alloc: Global, tokens: Cursor<'a>) -> Result<(Sequence<Item>, Cursor<'a>), Fault>
     ensures { Reads (λ ss. statements item_statement ss ▸ mark Mark.CloseBrace) tokens.entry (λ x. x.0) (λ x. x.1) result }
 {
     let mut items = Sequence::new(alloc);

@@ -58,6 +58,7 @@ fn sections<'a>(alloc: Global, tokens: Cursor<'a>) -> Result<(Sequence<Item>, Cu
 }
 
 /// What a statement of a script says.
+#[tactic(auto, using(crate::proofs::Tops::top_none))]
 fn top_command<'a>(alloc: Global, tokens: Cursor<'a>) -> Result<(Command, Cursor<'a>), Fault>
     ensures { Reads top_command_part tokens.entry (λ x. x.0) (λ x. x.1) result }
 {
@@ -78,7 +79,8 @@ fn top_command<'a>(alloc: Global, tokens: Cursor<'a>) -> Result<(Command, Cursor
     }
     match common(alloc, Mode::Expression, tokens) {
         Ok((command, rest)) => Ok((Command::Common(command), rest)),
-        Err(fault) => Err(fault),
+        Err(Fault::NoMemory) => Err(Fault::NoMemory),
+        Err(Fault::NotAScript) => Err(Fault::NotAScript),
     }
 }
 

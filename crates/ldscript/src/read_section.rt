@@ -18,10 +18,7 @@ use ldtokens::token::{Mark, Mode};
 use std::alloc::Global;
 
 /// [e] `:`
-fn address<'a>(
-    alloc: Global,
-    tokens: Cursor<'a>,
-) -> Result<(Option<Formula>, Cursor<'a>), Fault>
+fn address<'a>(alloc: Global, tokens: Cursor<'a>) -> Result<(Option<Formula>, Cursor<'a>), Fault>
     ensures { Reads address_part tokens.entry (λ x. x.0) (λ x. x.1) result }
 {
     if let Some(rest) = after(Mark::Colon, tokens.copy()) {
@@ -32,10 +29,7 @@ fn address<'a>(
 }
 
 /// [`ALIGN ( e )`] `{`
-fn alignment<'a>(
-    alloc: Global,
-    tokens: Cursor<'a>,
-) -> Result<(Option<Formula>, Cursor<'a>), Fault>
+fn alignment<'a>(alloc: Global, tokens: Cursor<'a>) -> Result<(Option<Formula>, Cursor<'a>), Fault>
     ensures { Reads opened_part tokens.entry (λ x. x.0) (λ x. x.1) result }
 {
     if let Some(rest) = after(Mark::OpenBrace, tokens.copy()) {
@@ -159,10 +153,7 @@ fn load_of(head: Option<Formula>, tail: Option<ScriptName>) -> Option<Load>
 }
 
 /// An output section.
-pub fn section<'a>(
-    alloc: Global,
-    tokens: Cursor<'a>,
-) -> Result<(OutputSection, Cursor<'a>), Fault>
+pub fn section<'a>(alloc: Global, tokens: Cursor<'a>) -> Result<(OutputSection, Cursor<'a>), Fault>
     ensures { ReadsOnly EndsSection section_part tokens.entry (λ x. x.0) (λ x. x.1) result }
 {
     let Some((name, rest)) = plain_name(tokens) else {
@@ -171,7 +162,14 @@ pub fn section<'a>(
     let (address, rest) = address(alloc, rest)?;
     let (SectionHead { load, alignment }, rest) = head(alloc, rest)?;
     let (body, rest) = body(alloc, rest)?;
-    let (SectionTail { region, load: at, fill }, rest) = tail(alloc, rest)?;
+    let (
+        SectionTail {
+            region,
+            load: at,
+            fill,
+        },
+        rest,
+    ) = tail(alloc, rest)?;
     let Some(load) = load_of(load, at) else {
         return Err(Fault::NotAScript);
     };

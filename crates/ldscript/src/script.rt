@@ -25,7 +25,6 @@ pub struct Script {
 impl Model for Script {
     ghost use Rattle.std.specs.Prelude.{List};
     ghost use Rattle.ldscript.specs.declared.statement.Statement.{Statement};
-
     ghost use Rattle.std.specs.Coded.{codes};
     ghost use Rattle.ldscript.specs.contracts.formula.Formula as formula;
 

@@ -133,10 +133,7 @@ pub fn ended<'a>(
 }
 
 /// `( e )`
-pub fn in_parentheses<'a>(
-    alloc: Global,
-    tokens: Cursor<'a>,
-) -> Result<(Formula, Cursor<'a>), Fault>
+pub fn in_parentheses<'a>(alloc: Global, tokens: Cursor<'a>) -> Result<(Formula, Cursor<'a>), Fault>
     ensures { Reads parenthesized tokens.entry (λ x. x.0) (λ x. x.1) result }
 {
     match after(Mark::OpenParenthesis, tokens) {

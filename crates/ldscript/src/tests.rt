@@ -339,12 +339,18 @@ fn empty_texts(rt: HostRuntime) -> Result<(), Fail> {
     assert_told(&rt, alloc, b"", b"")?;
     assert_told(&rt, alloc, b" ; /* nothing */ ;;\n", b"")?;
     assert_told(&rt, alloc, b"SECTIONS { }", b" 1:sections { }")?;
-    assert_told(&rt, alloc, b"MEMORY { } SECTIONS { ; ; }", b" 1:memory { } 1:sections { }")
+    assert_told(
+        &rt,
+        alloc,
+        b"MEMORY { } SECTIONS { ; ; }",
+        b" 1:memory { } 1:sections { }",
+    )
 }
 
 #[test]
 fn a_kernel(rt: HostRuntime) -> Result<(), Fail> {
-    let text = b"ENTRY(_start)\nSECTIONS\n{\n  . = 1M;\n  .text ALIGN(4K) : { KEEP(*(.multiboot)) *(.text .text.*) }\n  .rodata : ALIGN(4K) { *(.rodata*) }\n  .bss (. + 0x10) : { bss_start = .; *(COMMON) *(SORT(.bss)) bss_end = .; }\n  PROVIDE(end = .);\n  /DISCARD/ : { *(.comment); *(.note.*) }\n}\nASSERT(SIZEOF(.text) <= 2M, \"too big\")\n";
+    let text =
+        b"ENTRY(_start)\nSECTIONS\n{\n  . = 1M;\n  .text ALIGN(4K) : { KEEP(*(.multiboot)) *(.text .text.*) }\n  .rodata : ALIGN(4K) { *(.rodata*) }\n  .bss (. + 0x10) : { bss_start = .; *(COMMON) *(SORT(.bss)) bss_end = .; }\n  PROVIDE(end = .);\n  /DISCARD/ : { *(.comment); *(.note.*) }\n}\nASSERT(SIZEOF(.text) <= 2M, \"too big\")\n";
     assert_told(
         &rt,
         rt.alloc(),
@@ -355,7 +361,8 @@ fn a_kernel(rt: HostRuntime) -> Result<(), Fail> {
 
 #[test]
 fn a_firmware(rt: HostRuntime) -> Result<(), Fail> {
-    let text = b"MEMORY {\n  rom : ORIGIN = 0x8000, LENGTH = 4K\n  ram : ORIGIN = 0x20000, LENGTH = LENGTH(rom) * 2\n}\nSECTIONS {\n  .text : { *(.text) . = ALIGN(8); } >rom =0x9091\n  data_load = .;\n  .data : { *(.data) } >ram AT>rom\n  .bss : { *(.bss) . += 16; } > ram\n  .stack ORIGIN(ram) + LENGTH(ram) - 256 : { BYTE(1) SHORT(2) LONG(3) QUAD(4); } >ram\n}\n";
+    let text =
+        b"MEMORY {\n  rom : ORIGIN = 0x8000, LENGTH = 4K\n  ram : ORIGIN = 0x20000, LENGTH = LENGTH(rom) * 2\n}\nSECTIONS {\n  .text : { *(.text) . = ALIGN(8); } >rom =0x9091\n  data_load = .;\n  .data : { *(.data) } >ram AT>rom\n  .bss : { *(.bss) . += 16; } > ram\n  .stack ORIGIN(ram) + LENGTH(ram) - 256 : { BYTE(1) SHORT(2) LONG(3) QUAD(4); } >ram\n}\n";
     assert_told(
         &rt,
         rt.alloc(),
@@ -367,7 +374,8 @@ fn a_firmware(rt: HostRuntime) -> Result<(), Fail> {
 #[test]
 fn one_of_each_statement(rt: HostRuntime) -> Result<(), Fail> {
     let alloc = rt.alloc();
-    let text = b"a = 1; PROVIDE(b = a) ASSERT(a, \"\") ; SECTIONS { c = 2; . = 3; . += 4; PROVIDE(d = 5) ASSERT(1, \"m\") .x 6 : AT(7) ALIGN(8) { e = 9; PROVIDE(f = 1) ASSERT(2, \"n\") . = 3; . += .; . = . + 4; KEEP(a.o(SORT_BY_ALIGNMENT(.q .r))) b.o(SORT_BY_NAME(.s)) .(.t) } =0x00 .y : { } }";
+    let text =
+        b"a = 1; PROVIDE(b = a) ASSERT(a, \"\") ; SECTIONS { c = 2; . = 3; . += 4; PROVIDE(d = 5) ASSERT(1, \"m\") .x 6 : AT(7) ALIGN(8) { e = 9; PROVIDE(f = 1) ASSERT(2, \"n\") . = 3; . += .; . = . + 4; KEEP(a.o(SORT_BY_ALIGNMENT(.q .r))) b.o(SORT_BY_NAME(.s)) .(.t) } =0x00 .y : { } }";
     assert_told(
         &rt,
         alloc,
@@ -379,15 +387,50 @@ fn one_of_each_statement(rt: HostRuntime) -> Result<(), Fail> {
 #[test]
 fn heads_that_begin_alike(rt: HostRuntime) -> Result<(), Fail> {
     let alloc = rt.alloc();
-    assert_told(&rt, alloc, b"SECTIONS { .text (a) : { } }", b" 1:sections { 1:.text address a { } }")?;
-    assert_told(&rt, alloc, b"SECTIONS { .text a ? b : c : { } }", b" 1:sections { 1:.text address (? a b c) { } }")?;
-    assert_told(&rt, alloc, b"SECTIONS { .text = (a); .text : { } }", b" 1:sections { 1:.text=a 1:.text { } }")?;
-    assert_told(&rt, alloc, b"SECTIONS { .a : { } =0x90 .b : { } }", b" 1:sections { 1:.a fill 144 { } 1:.b { } }")?;
-    assert_told(&rt, alloc, b"SECTIONS { .a : { *(.a .b) } }", b" 1:sections { 1:.a { 1:*( .a .b ) } }")?;
-    assert_told(&rt, alloc, b"SECTIONS { .a : { *(.a)*(.b) } }", b" 1:sections { 1:.a { 1:*( .a ) 1:*( .b ) } }")
+    assert_told(
+        &rt,
+        alloc,
+        b"SECTIONS { .text (a) : { } }",
+        b" 1:sections { 1:.text address a { } }",
+    )?;
+    assert_told(
+        &rt,
+        alloc,
+        b"SECTIONS { .text a ? b : c : { } }",
+        b" 1:sections { 1:.text address (? a b c) { } }",
+    )?;
+    assert_told(
+        &rt,
+        alloc,
+        b"SECTIONS { .text = (a); .text : { } }",
+        b" 1:sections { 1:.text=a 1:.text { } }",
+    )?;
+    assert_told(
+        &rt,
+        alloc,
+        b"SECTIONS { .a : { } =0x90 .b : { } }",
+        b" 1:sections { 1:.a fill 144 { } 1:.b { } }",
+    )?;
+    assert_told(
+        &rt,
+        alloc,
+        b"SECTIONS { .a : { *(.a .b) } }",
+        b" 1:sections { 1:.a { 1:*( .a .b ) } }",
+    )?;
+    assert_told(
+        &rt,
+        alloc,
+        b"SECTIONS { .a : { *(.a)*(.b) } }",
+        b" 1:sections { 1:.a { 1:*( .a ) 1:*( .b ) } }",
+    )
 }
 
-fn assert_refused(rt: &impl Abort, alloc: Global, text: &[u8], wanted: ScriptRefusal) -> Result<(), Fail> {
+fn assert_refused(
+    rt: &impl Abort,
+    alloc: Global,
+    text: &[u8],
+    wanted: ScriptRefusal,
+) -> Result<(), Fail> {
     match Script::read(alloc, text) {
         Ok(_) => assert!(rt; false, "accepted"),
         Err(refusal) => assert_eq!(rt; refusal, wanted),
@@ -418,7 +461,12 @@ fn not_a_script(rt: HostRuntime) -> Result<(), Fail> {
     assert_refused(&rt, alloc, b"SECTIONS { .a : AT(1) { } AT>r }", wanted)?;
     assert_refused(&rt, alloc, b"SECTIONS { .a : { } =0X90 }", wanted)?;
     assert_refused(&rt, alloc, b"SECTIONS { .a : { } =0x901 }", wanted)?;
-    assert_refused(&rt, alloc, b"SECTIONS { .a : { } =0x00000000000000001 }", wanted)?;
+    assert_refused(
+        &rt,
+        alloc,
+        b"SECTIONS { .a : { } =0x00000000000000001 }",
+        wanted,
+    )?;
     assert_refused(&rt, alloc, b"SECTIONS { .a : { } =90 }", wanted)?;
     assert_refused(&rt, alloc, b"SECTIONS { .a : { } =0x90K }", wanted)?;
     assert_refused(&rt, alloc, b"SECTIONS { .a : { *(.a]) } }", wanted)?;
@@ -438,13 +486,38 @@ fn repeated(rt: HostRuntime) -> Result<(), Fail> {
     assert_refused(&rt, alloc, b"MEMORY { } MEMORY { }", wanted)?;
     assert_refused(&rt, alloc, b"SECTIONS { } SECTIONS { }", wanted)?;
     assert_refused(&rt, alloc, b"SECTIONS { .a : { } .a : { } }", wanted)?;
-    assert_refused(&rt, alloc, b"a = 1; SECTIONS { .a : { PROVIDE(a = 1) } }", wanted)?;
-    assert_refused(&rt, alloc, b"MEMORY { r : ORIGIN = 0, LENGTH = 1 r : ORIGIN = 0, LENGTH = 1 }", wanted)?;
-    assert_refused(&rt, alloc, b"MEMORY { r : ORIGIN = 0, LENGTH = ORIGIN(r) }", wanted)?;
-    assert_refused(&rt, alloc, b"SECTIONS { .a : { } >r } MEMORY { r : ORIGIN = 0, LENGTH = 1 }", wanted)?;
+    assert_refused(
+        &rt,
+        alloc,
+        b"a = 1; SECTIONS { .a : { PROVIDE(a = 1) } }",
+        wanted,
+    )?;
+    assert_refused(
+        &rt,
+        alloc,
+        b"MEMORY { r : ORIGIN = 0, LENGTH = 1 r : ORIGIN = 0, LENGTH = 1 }",
+        wanted,
+    )?;
+    assert_refused(
+        &rt,
+        alloc,
+        b"MEMORY { r : ORIGIN = 0, LENGTH = ORIGIN(r) }",
+        wanted,
+    )?;
+    assert_refused(
+        &rt,
+        alloc,
+        b"SECTIONS { .a : { } >r } MEMORY { r : ORIGIN = 0, LENGTH = 1 }",
+        wanted,
+    )?;
     assert_refused(&rt, alloc, b"SECTIONS { .a : { } AT>r }", wanted)?;
     assert_refused(&rt, alloc, b"x = LENGTH(r);", wanted)?;
-    assert_told(&rt, alloc, b"SECTIONS { /DISCARD/ : { } /DISCARD/ : { } }", b" 1:sections { 1:discard { } 1:discard { } }")
+    assert_told(
+        &rt,
+        alloc,
+        b"SECTIONS { /DISCARD/ : { } /DISCARD/ : { } }",
+        b" 1:sections { 1:discard { } 1:discard { } }",
+    )
 }
 
 #[test]
@@ -455,12 +528,27 @@ fn misplaced_dots(rt: HostRuntime) -> Result<(), Fail> {
     assert_refused(&rt, alloc, b"a = ALIGN(8);", wanted)?;
     assert_refused(&rt, alloc, b"MEMORY { r : ORIGIN = ., LENGTH = 1 }", wanted)?;
     assert_refused(&rt, alloc, b"SECTIONS { ASSERT(., \"\") }", wanted)?;
-    assert_refused(&rt, alloc, b"SECTIONS { .a : { ASSERT(ALIGN(4), \"\") } }", wanted)?;
+    assert_refused(
+        &rt,
+        alloc,
+        b"SECTIONS { .a : { ASSERT(ALIGN(4), \"\") } }",
+        wanted,
+    )?;
     assert_refused(&rt, alloc, b"SECTIONS { .a : { . = . + 4 + 4; } }", wanted)?;
     assert_refused(&rt, alloc, b"SECTIONS { .a : { . = 4 + .; } }", wanted)?;
     assert_refused(&rt, alloc, b"SECTIONS { .a : { . = ALIGN(.); } }", wanted)?;
-    assert_refused(&rt, alloc, b"SECTIONS { .a : { . = ALIGN(., 8); } }", wanted)?;
-    assert_refused(&rt, alloc, b"SECTIONS { .a : { . = ALIGN(8, 8); } }", wanted)
+    assert_refused(
+        &rt,
+        alloc,
+        b"SECTIONS { .a : { . = ALIGN(., 8); } }",
+        wanted,
+    )?;
+    assert_refused(
+        &rt,
+        alloc,
+        b"SECTIONS { .a : { . = ALIGN(8, 8); } }",
+        wanted,
+    )
 }
 
 #[test]
