@@ -3,7 +3,7 @@
 ghost use Rattle.std.specs.Prelude.{◌≡◌};
 ghost use Rattle.std.specs.List.{list_any};
 ghost use Rattle.ldscript.specs.Dots.{assert_misplaces, body_command_misplaces, body_misplaces, common_uses_dot, dot_misplaces, has_misplaced_dot, is_dot_form, item_command_misplaces, item_misplaces, region_misplaces, top_command_misplaces, top_misplaces, uses_dot};
-ghost use Rattle.ldscript.specs.declared.statement.Statement.{Statement};
+ghost use Rattle.ldexpr.specs.Expressions.{expr_of};
 
 use crate::common::{Common, DotCommand};
 use crate::formula::Formula;
@@ -30,7 +30,9 @@ impl Formula {
 }
 
 /// Whether `.` may be set to an expression in an output section.
-fn is_form(expr: &Expr) -> bool {
+fn is_form(expr: &Expr) -> bool
+    ensures { result ≡ is_dot_form (expr_of expr.now) }
+{
     match expr {
         Expr::Binary(BinaryOperator::Add, left, _) if matches!(**left, Expr::Dot) => true,
         Expr::AlignDot(a) => !a.has_dot(),

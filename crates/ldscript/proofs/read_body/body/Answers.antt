@@ -11,12 +11,12 @@ pub reading-preserved-in-Some : goal.reading-preserved-in-Some
 reading-preserved-in-Some c = let m = rw c.copy.ensures at c.in-Some.ensures in so_far_semicolon (λ ts. Unit {0}) (mark CloseBrace) body_statement body_listed _ _ _ _ c.reading.invariant m.0 m.1
 
 pub returns-in-Some-after : goal.returns-in-Some-after
-returns-in-Some-after c = let m = rw c.copy-2.ensures at c.in-Some-after.ensures in so_far_closed (mark CloseBrace) body_statement _ _ _ _ c.reading.invariant m.0 m.1
+returns-in-Some-after c = let m = rw c.copy-in-reading.ensures at c.in-Some-after.ensures in so_far_closed (mark CloseBrace) body_statement _ _ _ _ c.reading.invariant m.0 m.1
 
 pub returns-in_err-command : goal.returns-in_err-command
 returns-in_err-command c = exit (λ ss. statements body_statement ss ▸ mark CloseBrace) _ (λ x. x.0) (λ x. x.1) _ _ c.from_residual.ensures.1
     (fails_as body_command (λ ss. statements body_statement ss ▸ mark CloseBrace) _ _ c.in_err-command.field-0.0
-    (λ n. so_far_stuck (λ ts. Unit {0}) (mark CloseBrace) body_statement body_listed _ _ _ c.reading.invariant (rw c.copy-2.ensures at c.in_default-after.ensures) (rw c.copy.ensures at c.in_default.ensures)
+    (λ n. so_far_stuck (λ ts. Unit {0}) (mark CloseBrace) body_statement body_listed _ _ _ c.reading.invariant (rw c.copy-in-reading.ensures at c.in_default-after.ensures) (rw c.copy.ensures at c.in_default.ensures)
     (λ y more d st. n y.command more d.1)) c.in_err-command.ensures)
 
 pub reading-preserved : goal.reading-preserved

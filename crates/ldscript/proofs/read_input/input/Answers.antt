@@ -16,5 +16,5 @@ returns-in_err-input c = exit input _ (λ x. x.0) (λ x. x.1) _ _ c.from_residua
 
 pub returns-in-None : goal.returns-in-None
 returns-in-None c = kept_plain_none _ _ _ (rw c.copy.ensures at c.in-Some.ensures.0) c.in-Some-after.ensures.0 (λ y ws r x z.
-    let s = plain_same y _ _ ws _ x c.in_ok-input.ensures.read.spells in
+    let s = plain_same y c.in_ok-input.input _ ws _ x c.in_ok-input.ensures.read.spells in
     c.in-None.ensures r (subst (λ l. mark CloseParenthesis l r) s.same_rest z))
