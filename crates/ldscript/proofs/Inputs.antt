@@ -1,6 +1,6 @@
 -- Input statements: no tokens are two of them.
-use Rattle.std.proofs.Common.{◌≡◌, ◌∙◌, refl, sym, ap, subst, ℕ, List, [], ◌∷◌, ◌++◌, Bool, true, false, Option, Some, None, ◌⊎◌, inl, inr, length, ◌<◌, ◌≤◌, arith, append_assoc}
-use Rattle.std.specs.Prelude.{IsTrue, codes, bytes_eq}
+use Rattle.std.proofs.Common.{◌≡◌, ◌∙◌, refl, sym, ap, subst, ℕ, List, [], ◌∷◌, ◌++◌, Bool, true, false, Option, Some, None, Result, Ok, Err, ◌⊎◌, inl, inr, length, ◌<◌, ◌≤◌, arith, append_assoc}
+use Rattle.std.specs.Prelude.{IsTrue, IfOk, codes, bytes_eq}
 use Rattle.std.proofs.lemmas.Bool.{false≢true}
 use Rattle.ldtokens.specs.Tokens.{Token, Lexeme, lexeme, first_line, Word, Punctuation}
 use Rattle.ldtokens.specs.Words.{is_free_word, is_reserved}
@@ -11,7 +11,9 @@ use Rattle.ldpattern.specs.Parts as patterns
 use Rattle.ldpattern.specs.Spelling.{Spells}
 use Rattle.ldscript.specs.Steps.{Part, ◌▸◌, mark, token, key, pattern, each, nothing, statements}
 use Rattle.ldscript.specs.Grammar.{sort, patterns_of, selection, plain, kept, input, input_statement}
-use Rattle.ldscript.specs.Readings.{Takes, NoneAt, selected}
+use Rattle.ldscript.specs.Readings.{Takes, NoneAt, Reads, selected}
+use Rattle.ldscript.specs.declared.fault.Fault.{Fault}
+use Rattle.ldscript.specs.declared.fault.Fault.TheVariants.{NotAScript, NoMemory}
 use Rattle.ldscript.specs.declared.input.Sort.{Sort}
 use Rattle.ldscript.specs.declared.input.Sort.TheVariants.{ByName, ByAlignment}
 use Rattle.ldscript.specs.declared.input.Input.{Input}
@@ -255,3 +257,10 @@ kept_plain_none ts us vs h m n y more d = elim (kept_cases y.keep y ts more d) [
 -- a read input statement under KEEP or not
 pub kept_as : (k : Bool) (i : Input) (ts r : List Lexeme) → i.keep ≡ k → kept k (plain i) ts r → input i ts r
 kept_as k i ts r e d = subst (λ b. kept b (plain i) ts r) (sym e) d
+
+-- an input statement without KEEP
+pub input_plain : {X : Type 0} (ts : List Lexeme) → ((us : List Lexeme) → key Pattern (codes "KEEP") ts us → ⊥) → (tree : X → Input) (rest : X → List Lexeme) (r : Result X Fault)
+    → Reads plain ts tree rest r → IfOk r (λ x. (tree x).keep ≡ false) → Reads input ts tree rest r
+input_plain ts k tree rest (Ok x) d e = record { spells = kept_as false (tree x) ts (rest x) e d.spells; shorter = d.shorter }
+input_plain ts k tree rest (Err NotAScript) d e = not_kept_none ts k d
+input_plain ts k tree rest (Err NoMemory) d e = tt

@@ -80,12 +80,19 @@ fn body_misplaces(statement: &BodyStatement) -> bool
     }
 }
 
+/// Whether a statement of an output section uses `.` where the profile does not have it.
+fn any_body_misplaces(all: &[BodyStatement]) -> bool
+    ensures { result ≡ list_any body_misplaces all.now }
+{
+    all.iter().any(|x| body_misplaces(x))
+}
+
 fn item_misplaces(item: &Item) -> bool
     ensures { result ≡ item_misplaces item.now }
 {
     match &item.command {
         ItemCommand::Common(command) => assert_misplaces(command),
-        ItemCommand::Section(section) => section.body.as_slice().iter().any(|s| body_misplaces(s)),
+        ItemCommand::Section(section) => any_body_misplaces(section.body.as_slice()),
         ItemCommand::Dot(_) | ItemCommand::Discard(_) => false,
     }
 }
@@ -96,13 +103,27 @@ fn region_misplaces(region: &Region) -> bool
     region.origin.uses_dot() || region.extent.uses_dot()
 }
 
+/// Whether a region uses `.` where the profile does not have it.
+fn any_region_misplaces(all: &[Region]) -> bool
+    ensures { result ≡ list_any region_misplaces all.now }
+{
+    all.iter().any(|x| region_misplaces(x))
+}
+
+/// Whether a statement of `SECTIONS` uses `.` where the profile does not have it.
+fn any_item_misplaces(all: &[Item]) -> bool
+    ensures { result ≡ list_any item_misplaces all.now }
+{
+    all.iter().any(|x| item_misplaces(x))
+}
+
 fn top_misplaces(statement: &Statement) -> bool
     ensures { result ≡ top_misplaces statement.now }
 {
     match &statement.command {
         Command::Entry(_) => false,
-        Command::Memory(regions) => regions.as_slice().iter().any(|r| region_misplaces(r)),
-        Command::Sections(items) => items.as_slice().iter().any(|i| item_misplaces(i)),
+        Command::Memory(regions) => any_region_misplaces(regions.as_slice()),
+        Command::Sections(items) => any_item_misplaces(items.as_slice()),
         Command::Common(command) => common_uses_dot(command),
     }
 }
