@@ -1,0 +1,10 @@
+//! What holds of the definitions themselves.
+
+ghost use Rattle.std.specs.Prelude.{◌≡◌, ℕ, List};
+ghost use Rattle.ldscript.specs.Script.{IsTree};
+ghost use Rattle.ldscript.specs.declared.statement.Statement.{Statement};
+
+/// No text has two trees.
+pub fn one_tree()
+    ensures { (text : List ℕ) (s t : List Statement) → IsTree text s → IsTree text t → s ≡ t }
+{}

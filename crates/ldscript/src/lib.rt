@@ -1,0 +1,26 @@
+//! The reader of linker scripts: the tree of a text, or why it has none.
+#![tactic(auto)]
+
+pub mod common;
+mod dots;
+pub mod fault;
+mod fill;
+pub mod formula;
+pub mod input;
+pub mod law;
+mod mentions;
+mod read_body;
+mod read_common;
+mod read_input;
+mod read_item;
+mod read_region;
+mod read_script;
+mod read_section;
+pub mod refusal;
+pub mod script;
+pub mod section;
+pub mod sequence;
+pub mod statement;
+mod steps;
+#[cfg(test)]
+mod tests;
