@@ -17,8 +17,7 @@ pub enum Count {
     Bytes,
 }
 
-/// Five counts of the work of a link, each from 0 to the greatest `u64`, where it stands still. This version
-/// counts objects alone.
+/// Five counts of the work of a link, each from 0 to the greatest `u64`, where it stands still.
 #[derive(Drop)]
 pub struct Meter {
     objects: u64,

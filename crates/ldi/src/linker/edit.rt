@@ -40,7 +40,7 @@ pub struct Linked {
 pub struct EditRefusal {
     /// 1 name in use, 3 position past the end, 4 object, 5 script, 6 limit, 7 want of memory.
     pub n: u8,
-    /// For 4 and 5 the reader's own number, else 0.
+    /// For 4 and 5 the reader's own number, or 15 for an object that isn't linked yet; else 0.
     pub m: u8,
 }
 
