@@ -17,7 +17,8 @@ modulo_64_bits (negsuc n) = 2 ^ 64 - 1 - n % 2 ^ 64
 abbrev pub signed : ℕ → ℤ
 signed v = cast_signed w64 v
 
--- column "Calculation" of the table, as an integer; in a static link PLT32 counts from the symbol itself, as PC32 does
+-- column "Calculation" of the table, as an integer; in a static link PLT32 counts from the symbol itself, as PC32 does.
+-- NONE has none, and is never asked for
 abbrev pub calculation : RelocationKind → ℤ → ℤ → ℤ → ℤ
 calculation None s a p = pos 0
 calculation Abs64 s a p = s +ℤ a

@@ -9,7 +9,7 @@ patch_end p = p.offset + length p.field
 abbrev pub covers : Patch → ℕ → Bool
 covers p i = nat_le p.offset i && nat_lt i (patch_end p)
 
--- a byte of a piece: of the field that covers it, else its own
+-- a byte of a piece: of the first field that covers it (no two do where they share no byte), else its own
 abbrev pub patched_byte : List ℕ → List Patch → ℕ → ℕ
 patched_byte bytes [] i = slice_index bytes i
 patched_byte bytes (p ∷ ps) i = if covers p i then slice_index p.field (i - p.offset) else patched_byte bytes ps i
@@ -27,7 +27,7 @@ meets p q = nat_lt (max p.offset q.offset) (min (patch_end p) (patch_end q))
 abbrev pub AreApart : List Patch → Type 0
 AreApart ps = AllPairs (λ p q. meets p q ≡ false) ps
 
--- a field with a byte, and none of its bytes past the limit
+-- a field with a byte, which ends at the limit at the latest
 pub record IsWithin (limit : ℕ) (p : Patch) : Type 0 where
   pub some : 0 < length p.field
   pub end : patch_end p ≤ limit

@@ -66,7 +66,7 @@ RefusesObject bytes r =
     ((why : ObjectRefusal) × (object_refusal bytes ≡ Some why) × (r ≡ refusal 4 (refusal_number why)))
     ⊎ ((object_refusal bytes ≡ None) × (is_beyond (object_of bytes) ≡ true) × (r ≡ not_yet))
 
--- refusals 4 (object) and 5 (script), with the reader's own number
+-- refusals 4 (object) and 5 (script), with the reader's own number, or 15 for an object that isn't linked yet
 abbrev pub Refuses : Project → Change → EditRefusal → Type 0
 Refuses p (Add name at bytes) r = RefusesObject bytes r
 Refuses p (SetScript text) r = (why : ScriptRefusal) × IsScriptRefusal text why × (r ≡ refusal 5 (script_refusal_number why))

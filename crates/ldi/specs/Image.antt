@@ -48,8 +48,8 @@ headers entry gs = elf_header entry (length gs) ++ flat_map program_header (asce
 abbrev pub covers : ℕ → ℕ → ℕ → Bool
 covers from size at = nat_le from at && nat_lt at (from + size)
 
--- the byte of a section at an address: of the piece that stands there (0 where the piece has no bytes), else of a
--- gap, which is 0
+-- the byte of a section at an address: of the piece that stands there (0 where the piece has no bytes), which comes with
+-- its fields (`Relocating`), else of a gap, which is 0
 abbrev pub byte_of_piece : ℕ → Option PlacedPiece → ℕ
 byte_of_piece address None = 0
 byte_of_piece address (Some x) = slice_index x.piece.section.bytes (address - x.start)

@@ -31,7 +31,8 @@ abbrev pub start_of : List Laid → List ℕ → SectionIndex → Option ℕ
 start_of sections object number = option_map (λ (x : PlacedPiece). x.start) (find (is_of object number) (pieces_of sections))
 
 -- the value of a local symbol: in a section its start plus st_value, modulo 2^64, if the section has a piece in
--- the output; for an absolute one st_value. Entry number 0 alone is not defined, and counts as 0
+-- the output; for an absolute one st_value. Entry number 0 is not defined, and counts as 0; the object reader leaves no
+-- other local symbol undefined, and none common
 abbrev pub symbol_value : List Laid → List ℕ → SymbolPlace → ℕ → Option ℕ
 symbol_value sections object place.Undefined v = Some 0
 symbol_value sections object place.Absolute v = Some v
@@ -68,14 +69,15 @@ is_evaluated_by _ = true
 abbrev pub sites : PlacedPiece → List Relocation
 sites x = filter (λ (r : Relocation). is_evaluated_by r.kind) x.piece.section.relocations
 
--- a target that is not in the output, or a value out of range
+-- the relocations with a target that is not in the output, or a value out of range
 abbrev pub faults_in : List NamedObject → List Laid → PlacedPiece → List Relocation
 faults_in objects sections x = filter (λ r. is_none (field_in objects sections x r)) (sites x)
 
 abbrev pub relocation_faults : List NamedObject → List Laid → List Relocation
 relocation_faults objects sections = flat_map (faults_in objects sections) (pieces_of sections)
 
--- bytes with fields over them: each is that of the field that covers it, else the one below
+-- bytes with fields over them: each is that of the field that covers it, of which there is one at most, else the one
+-- below
 unfoldable pub patched : List ℕ → List Patch → List ℕ
 patched bytes fields = map (patched_byte bytes fields) (range_with_len 0 (length bytes))
 
