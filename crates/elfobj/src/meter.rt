@@ -72,28 +72,28 @@ impl Meter {
         self.objects
     }
 
-    /// How many names were worked on.
+    /// How many names were decided.
     pub fn names(&self) -> u64
         ensures { result ≡ self.now.names }
     {
         self.names
     }
 
-    /// How many pieces were worked on.
+    /// How many pieces were placed.
     pub fn pieces(&self) -> u64
         ensures { result ≡ self.now.pieces }
     {
         self.pieces
     }
 
-    /// How many fields were worked on.
+    /// How many relocations were evaluated.
     pub fn fields(&self) -> u64
         ensures { result ≡ self.now.fields }
     {
         self.fields
     }
 
-    /// How many bytes were worked on.
+    /// How many bytes of the image were written.
     pub fn bytes(&self) -> u64
         ensures { result ≡ self.now.bytes }
     {

@@ -1,11 +1,25 @@
 -- The bytes of a field among the eight bytes of its value.
-use Rattle.std.proofs.Common.{◌≡◌, ℕ, List, Bool, true, false, Ok, Err, take, refl, sym, ap, ◌∙◌, if◌then◌else◌}
+use Rattle.std.proofs.Common.{◌≡◌, ◌≤◌, ℕ, arith, List, Bool, true, false, Ok, Err, take, refl, sym, ap, ◌∙◌, if◌then◌else◌}
 use Rattle.byteorder.specs.Endian.{little_bytes}
 use Rattle.elfobj.specs.declared.relocation.Relocation.{Relocation}
 use Rattle.elfobj.specs.declared.relocation.RelocationKind.{RelocationKind}
 use Rattle.elfobj.specs.declared.relocation.RelocationKind.TheVariants.{None, Abs64, Pc32, Plt32, Abs32, Abs32Signed, Abs16, Pc16, Abs8, Pc8, Pc64}
 use Rattle.emit.specs.declared.field.Overflow.{Overflow}
-use Rattle.emit.specs.Fields.{width, value, fits, field_with, field_of}
+use Rattle.elfobj.specs.Relocations.{width}
+use Rattle.emit.specs.Fields.{value, fits, field_with, field_of}
+
+pub width_at_most : (kind : RelocationKind) → width kind ≤ 8
+width_at_most None = omega arith
+width_at_most Abs64 = omega arith
+width_at_most Pc32 = omega arith
+width_at_most Plt32 = omega arith
+width_at_most Abs32 = omega arith
+width_at_most Abs32Signed = omega arith
+width_at_most Abs16 = omega arith
+width_at_most Pc16 = omega arith
+width_at_most Abs8 = omega arith
+width_at_most Pc8 = omega arith
+width_at_most Pc64 = omega arith
 
 pub take_little_bytes : (kind : RelocationKind) (v : ℕ) → take (width kind) (little_bytes 8 v) ≡ little_bytes (width kind) v
 take_little_bytes None v = refl

@@ -6,6 +6,7 @@ use Rattle.byteorder.specs.Endian.{little_bytes}
 use Rattle.elfobj.specs.declared.relocation.Relocation.{Relocation}
 use Rattle.elfobj.specs.declared.relocation.RelocationKind.{RelocationKind}
 use Rattle.elfobj.specs.declared.relocation.RelocationKind.TheVariants.{None, Abs64, Pc32, Plt32, Abs32, Abs32Signed, Abs16, Pc16, Abs8, Pc8, Pc64}
+use Rattle.elfobj.specs.Relocations.{width}
 use Rattle.emit.specs.declared.field.Overflow.{Overflow}
 
 -- the number below 2^64 that differs from an integer by a multiple of 2^64
@@ -35,20 +36,6 @@ calculation Pc64 s a p = s +ℤ a -ℤ p
 -- the value of a relocation, modulo 2^64
 abbrev pub value : Relocation → ℕ → ℕ → ℕ
 value r s p = modulo_64_bits (calculation r.kind (pos s) r.addend (pos p))
-
--- how many bytes its field has: word8, word16, word32 or word64 of the table; NONE has no field
-abbrev pub width : RelocationKind → ℕ
-width None = 0
-width Abs64 = 8
-width Pc32 = 4
-width Plt32 = 4
-width Abs32 = 4
-width Abs32Signed = 4
-width Abs16 = 2
-width Pc16 = 2
-width Abs8 = 1
-width Pc8 = 1
-width Pc64 = 8
 
 -- read as a signed number, it is not below the first nor above the second
 abbrev pub is_between : ℤ → ℤ → ℕ → Bool

@@ -1,7 +1,7 @@
 //! The parts that a good object has.
 
 use super::samples::{
-    HeaderRow, SAME, calling_object, changed, number_of, object_of, plain_object, read,
+    HeaderRow, SAME, SymbolRow, calling_object, changed, number_of, object_of, plain_object, read,
 };
 use crate::meter::{Count, Meter};
 use crate::object::Object;
@@ -83,82 +83,78 @@ fn reads_a_local_symbol(rt: HostRuntime) -> Result<(), Fail> {
     Ok(())
 }
 
+/// Entries 1 to 6 of a symbol table, as they stand in the file.
+const ROWS: [SymbolRow; 6] = [
+    // local: a file without a name, a section
+    (0x7fff_ffff, 0x04, 0xfff1, 0, 0),
+    (0, 0x03, 4, 0, 0),
+    // a weak function past the end of its section, an absolute number, a common block, an undefined one
+    (7, 0x22, 4, 17, 3),
+    (9, 0x10, 0xfff1, u64::MAX, 0),
+    (11, 0x11, 0xfff2, 8, 0x8000_0000),
+    (1, 0x25, 0, 0, 0),
+];
+
+/// What is read of them, behind entry 0.
+const SYMBOLS: [Symbol; 7] = [
+    Symbol {
+        binding: Binding::Local,
+        kind: SymbolKind::NoType,
+        place: SymbolPlace::Undefined,
+        value: 0,
+        size: 0,
+    },
+    Symbol {
+        binding: Binding::Local,
+        kind: SymbolKind::File,
+        place: SymbolPlace::Absolute,
+        value: 0,
+        size: 0,
+    },
+    Symbol {
+        binding: Binding::Local,
+        kind: SymbolKind::Section,
+        place: SymbolPlace::Section(SectionIndex(4)),
+        value: 0,
+        size: 0,
+    },
+    Symbol {
+        binding: Binding::Weak,
+        kind: SymbolKind::Function,
+        place: SymbolPlace::Section(SectionIndex(4)),
+        value: 17,
+        size: 3,
+    },
+    Symbol {
+        binding: Binding::Global,
+        kind: SymbolKind::NoType,
+        place: SymbolPlace::Absolute,
+        value: u64::MAX,
+        size: 0,
+    },
+    Symbol {
+        binding: Binding::Global,
+        kind: SymbolKind::Object,
+        place: SymbolPlace::Common,
+        value: 8,
+        size: 0x8000_0000,
+    },
+    Symbol {
+        binding: Binding::Weak,
+        kind: SymbolKind::Common,
+        place: SymbolPlace::Undefined,
+        value: 0,
+        size: 0,
+    },
+];
+
 #[test]
 fn reads_symbols_of_each_kind(rt: HostRuntime) -> Result<(), Fail> {
-    let rows = [
-        // local: a file without a name, a section
-        (0x7fff_ffff, 0x04, 0xfff1, 0, 0),
-        (0, 0x03, 4, 0, 0),
-        // a weak function past the end of its section, an absolute number, a common block, an undefined one
-        (7, 0x22, 4, 17, 3),
-        (9, 0x10, 0xfff1, u64::MAX, 0),
-        (11, 0x11, 0xfff2, 8, 0x8000_0000),
-        (1, 0x25, 0, 0, 0),
-    ];
-    let object = read(rt.alloc(), object_of(rt.alloc(), 3, &rows, &[], &[TEXT])?)?;
-    let kinds = [
-        (
-            Binding::Local,
-            SymbolKind::NoType,
-            SymbolPlace::Undefined,
-            0,
-            0,
-        ),
-        (
-            Binding::Local,
-            SymbolKind::File,
-            SymbolPlace::Absolute,
-            0,
-            0,
-        ),
-        (
-            Binding::Local,
-            SymbolKind::Section,
-            SymbolPlace::Section(SectionIndex(4)),
-            0,
-            0,
-        ),
-        (
-            Binding::Weak,
-            SymbolKind::Function,
-            SymbolPlace::Section(SectionIndex(4)),
-            17,
-            3,
-        ),
-        (
-            Binding::Global,
-            SymbolKind::NoType,
-            SymbolPlace::Absolute,
-            u64::MAX,
-            0,
-        ),
-        (
-            Binding::Global,
-            SymbolKind::Object,
-            SymbolPlace::Common,
-            8,
-            0x8000_0000,
-        ),
-        (
-            Binding::Weak,
-            SymbolKind::Common,
-            SymbolPlace::Undefined,
-            0,
-            0,
-        ),
-    ];
+    let object = read(rt.alloc(), object_of(rt.alloc(), 3, &ROWS, &[], &[TEXT])?)?;
     let names: [&[u8]; 7] = [b"", b"", b"", b"w", b"v", b"c", b".text"];
     assert_eq!(rt; object.symbols().len(), 7);
     for (i, symbol) in object.symbols().iter().enumerate() {
-        let (binding, kind, place, value, size) = kinds[i % 7];
-        let want = Symbol {
-            binding,
-            kind,
-            place,
-            value,
-            size,
-        };
-        assert_eq!(rt; *symbol, want, "at {i}");
+        assert_eq!(rt; *symbol, SYMBOLS[i % 7], "at {i}");
         assert_eq!(rt;
             object.name_of(SymbolIndex(i as u32)),
             names[i % 7],

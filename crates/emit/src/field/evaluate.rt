@@ -3,7 +3,8 @@
 ghost use Rattle.std.specs.Prelude.{◌≡◌, ◌≢◌, ◌≤◌, ◌&&◌, IfOk, int_le, length};
 ghost use Rattle.byteorder.specs.Endian.{little_bytes};
 ghost use Rattle.elfobj.specs.Raised.{raised};
-ghost use Rattle.emit.specs.Fields.{value, width, fits, field_of};
+ghost use Rattle.elfobj.specs.Relocations.{width};
+ghost use Rattle.emit.specs.Fields.{value, fits, field_of};
 
 use super::{Field, Overflow};
 use byteorder::{ByteOrder, LittleEndian};
@@ -31,20 +32,12 @@ fn value(relocation: &Relocation, s: u64, p: u64) -> u64
 }
 
 /// How many bytes the field has.
+#[tactic(auto, using(crate::proofs::FieldBytes::width_at_most))]
 fn width(kind: RelocationKind) -> usize
     ensures width { result ≡ width kind }
     ensures most { result ≤ 8 }
 {
-    match kind {
-        RelocationKind::None => 0,
-        RelocationKind::Abs64 | RelocationKind::Pc64 => 8,
-        RelocationKind::Abs32
-        | RelocationKind::Abs32Signed
-        | RelocationKind::Pc32
-        | RelocationKind::Plt32 => 4,
-        RelocationKind::Abs16 | RelocationKind::Pc16 => 2,
-        RelocationKind::Abs8 | RelocationKind::Pc8 => 1,
-    }
+    kind.width() as usize
 }
 
 /// Whether a number is neither below `low` nor above `high`.
