@@ -1,17 +1,14 @@
 -- What of an expression the rules determine: readings, and that there is none.
-use Rattle.std.proofs.Common.{◌≡◌, ℕ, suc, ◌+◌, ◌*◌, ◌^◌, ◌<◌, ◌≤◌, List, [], ◌∷◌, length, Option, Some, None, refl, sym, ap, subst, arith, ◌∙◌}
-use Rattle.ldtokens.specs.Tokens as token
-use Rattle.ldtokens.specs.Tokens.{Token, Lexeme}
+use Rattle.std.proofs.Common.{◌≡◌, ℕ, suc, ◌^◌, ◌<◌, List, [], ◌∷◌, length, Option, Some, None, refl, sym, ap, subst, arith, ◌∙◌}
+use Rattle.ldtokens.specs.Tokens.{Lexeme}
 use Rattle.ldtokens.specs.declared.token.Mark.{Mark}
 use Rattle.ldtokens.specs.declared.token.Mark.TheVariants.{OpenParenthesis, CloseParenthesis, Comma, Question, Colon}
 use Rattle.ldexpr.specs.declared.operator.UnaryOperator.{UnaryOperator}
 use Rattle.ldexpr.specs.declared.operator.BinaryOperator.{BinaryOperator}
 use Rattle.ldexpr.specs.declared.expression.Property.{Property}
-use Rattle.ldexpr.specs.declared.fault.ParseFault.{ParseFault}
-use Rattle.ldexpr.specs.declared.fault.ParseFault.TheVariants.{NotAnExpression, NoMemory}
 use Rattle.ldexpr.specs.Operators.{unary_of, binary_of, level_of}
 use Rattle.ldexpr.specs.Expressions.{Expr, Number, Dot, Name, Unary, Binary, Choice, Of, AlignDot, Align}
-use Rattle.ldexpr.specs.Grammar.{Word, Point, Asks, Aligns, Free, Reserved, Terminal, Numeral, Worded, Sign, Other, terminal_of, Begins, BeginsUnary, BeginsBinary, BeginsNamed, Level, Primary, Arguments, Within, Whole, Spells, number, dot, name, group, property, align, one_argument, two_arguments, primary, unary, operand, binary, operators, choice, IsLooser, IsNoOperator, StopsAt, Stops, Reading, NoReading, Fails}
+use Rattle.ldexpr.specs.Grammar.{Point, Asks, Aligns, Free, Reserved, Terminal, Numeral, Worded, Sign, Other, terminal_of, Begins, BeginsUnary, BeginsBinary, BeginsNamed, Primary, Arguments, Within, Whole, Spells, number, dot, name, group, property, align, one_argument, two_arguments, primary, unary, operand, binary, operators, choice, IsLooser, IsNoOperator, StopsAt, Stops, Reading}
 
 -- the tokens don't begin with this terminal
 abbrev pub Lacks : List Lexeme → Terminal → Type 0

@@ -1,18 +1,16 @@
 -- Where there is no expression.
-use Rattle.std.proofs.Common.{◌≡◌, ℕ, suc, ◌+◌, ◌<◌, List, [], ◌∷◌, Result, Ok, Err, refl, sym, ap, subst, arith, ◌∙◌}
+use Rattle.std.proofs.Common.{◌≡◌, ℕ, suc, List, [], ◌∷◌, Result, Ok, Err, refl, subst}
 use Rattle.ldtokens.specs.Tokens as token
 use Rattle.ldtokens.specs.Tokens.{Token, Lexeme, lexeme, spelled_token}
 use Rattle.ldtokens.specs.declared.token.Mark.{Mark}
 use Rattle.ldtokens.specs.declared.token.Mark.TheVariants.{OpenParenthesis, CloseParenthesis, Comma, Question, Colon}
-use Rattle.ldtokens.specs.declared.token.TokenKind.{TokenKind}
-use Rattle.ldtokens.specs.declared.token.TokenKind.TheVariants as kind
 use Rattle.ldexpr.specs.declared.operator.UnaryOperator.{UnaryOperator}
 use Rattle.ldexpr.specs.declared.operator.BinaryOperator.{BinaryOperator}
 use Rattle.ldexpr.specs.declared.expression.Property.{Property}
 use Rattle.ldexpr.specs.declared.fault.ParseFault.{ParseFault}
 use Rattle.ldexpr.specs.declared.fault.ParseFault.TheVariants.{NotAnExpression, NoMemory}
 use Rattle.ldexpr.specs.Expressions.{Expr}
-use Rattle.ldexpr.specs.Grammar.{Point, Asks, Aligns, Free, Reserved, Terminal, Numeral, Worded, Sign, Other, terminal_of, Begins, BeginsUnary, BeginsBinary, BeginsNamed, Level, Primary, Arguments, Within, Whole, Spells, number, dot, name, group, property, align, one_argument, two_arguments, primary, unary, operand, binary, operators, choice, Stops, Reading, NoReading, Fails, Reads}
+use Rattle.ldexpr.specs.Grammar.{Asks, Aligns, Free, Reserved, Worded, Sign, terminal_of, Begins, BeginsUnary, BeginsBinary, BeginsNamed, Level, Primary, Arguments, Within, Whole, Spells, number, dot, name, group, property, align, one_argument, two_arguments, primary, unary, operators, choice, Stops, Reading, NoReading, Fails, Reads}
 use Rattle.ldexpr.proofs.Readings.{Lacks, begins_same, Shape, primary_shape, primary_begins_no_unary, primary_reading, align_reading, unary_same, binary_same, level_tail, tail_stops, Tail, done, longer, SoFar, operator_goes_on, whole_stops, whole_stops_before, within_stops_at, question_goes_on}
 
 pub fails_map : {l k : Level} {ts us : List Lexeme} → (NoReading l ts → NoReading k us) → (e : ParseFault) → Fails l ts e → Fails k us e

@@ -1,11 +1,9 @@
 -- Each derivation whose rest can't go on it is a reading, so no tokens have two.
-use Rattle.std.proofs.Common.{◌≡◌, ℕ, zero, suc, List, ◌∙◌, sym, subst}
+use Rattle.std.proofs.Common.{ℕ, zero, suc, List, sym}
 use Rattle.ldtokens.specs.Tokens.{Lexeme}
 use Rattle.ldtokens.specs.declared.token.Mark.TheVariants.{Question}
-use Rattle.ldexpr.specs.declared.operator.UnaryOperator.{UnaryOperator}
-use Rattle.ldexpr.specs.declared.operator.BinaryOperator.{BinaryOperator}
 use Rattle.ldexpr.specs.Expressions.{Expr}
-use Rattle.ldexpr.specs.Grammar.{Begins, Sign, BeginsUnary, BeginsBinary, Level, Primary, Arguments, Within, Whole, Spells, number, dot, name, group, property, align, one_argument, two_arguments, primary, unary, operand, binary, operators, choice, Stops, Reading, OneTree, OneReading}
+use Rattle.ldexpr.specs.Grammar.{Sign, Level, Primary, Arguments, Within, Whole, Spells, number, dot, name, group, property, align, one_argument, two_arguments, primary, unary, operand, binary, operators, choice, Stops, Reading, OneTree, OneReading}
 use Rattle.ldexpr.proofs.Readings.{SoFar, Lacks, primary_begins_no_unary, number_reading, dot_reading, name_reading, group_reading, property_reading, align_reading, one_reading, two_reading, unary_reading, primary_reading, lower_stops, operator_stops, operator_goes_on, level_start, level_end, level_step, within_stops_at, whole_stops_before, whole_stops, question_goes_on, operators_reading, choice_reading}
 
 -- what a derivation says beside itself

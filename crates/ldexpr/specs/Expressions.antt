@@ -1,5 +1,5 @@
 -- Expressions of a script, apart from where they lie in memory, and what a script's reader asks of them.
-use Rattle.std.specs.Prelude.{ℕ, List, Bool, true, false, not, ◌&&◌, ◌||◌}
+use Rattle.std.specs.Prelude.{ℕ, List, Bool, true, false, ◌||◌}
 use Rattle.ldexpr.specs.declared.operator.UnaryOperator.{UnaryOperator}
 use Rattle.ldexpr.specs.declared.operator.BinaryOperator.{BinaryOperator}
 use Rattle.ldexpr.specs.declared.expression.Property.{Property}
@@ -72,15 +72,3 @@ is_of_region Length = true
 is_of_region Address = false
 is_of_region LoadAddress = false
 is_of_region Size = false
-
--- each name in an ORIGIN or a LENGTH passes a test
-abbrev pub regions_pass : (List ℕ → Bool) → Expr → Bool
-regions_pass test (Number n) = true
-regions_pass test Dot = true
-regions_pass test (Name n) = true
-regions_pass test (Unary o a) = regions_pass test a
-regions_pass test (Binary o a b) = regions_pass test a && regions_pass test b
-regions_pass test (Choice t a b) = regions_pass test t && regions_pass test a && regions_pass test b
-regions_pass test (Of p n) = not (is_of_region p) || test n
-regions_pass test (AlignDot a) = regions_pass test a
-regions_pass test (Align a b) = regions_pass test a && regions_pass test b

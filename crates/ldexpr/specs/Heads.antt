@@ -1,5 +1,5 @@
 -- How a primary expression begins.
-use Rattle.std.specs.Prelude.{◌≡◌, ℕ, ◌^◌, ◌<◌, List}
+use Rattle.std.specs.Prelude.{◌≡◌, ◌^◌, ◌<◌, List}
 use Rattle.ldtokens.specs.Tokens.{Lexeme}
 use Rattle.ldtokens.specs.declared.token.Mark.TheVariants.{OpenParenthesis}
 use Rattle.ldexpr.specs.declared.head.Head.{Head}

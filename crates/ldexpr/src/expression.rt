@@ -1,12 +1,10 @@
 //! Trees of expressions.
 
-ghost use Rattle.std.specs.Prelude.{◌≡◌, bytes_eq};
-ghost use Rattle.std.specs.List.{list_any};
-ghost use Rattle.ldexpr.specs.Expressions.{expr_of, has_dot, has_align_dot, has_align, is_of_region, regions_pass};
+ghost use Rattle.std.specs.Prelude.{◌≡◌};
+ghost use Rattle.ldexpr.specs.Expressions.{expr_of, has_dot, has_align_dot, has_align};
 
 use crate::operator::{BinaryOperator, UnaryOperator};
 use ldtokens::name::ScriptName;
-use ldtokens::words::is_one_of;
 
 /// What a word with a name in parentheses asks of a memory region or an output section.
 #[derive(Clone, Copy, Debug, PartialEq, Eq)]
@@ -21,16 +19,6 @@ pub enum Property {
     LoadAddress,
     /// `SIZEOF`: how many bytes an output section has.
     Size,
-}
-
-/// Whether it is asked of a memory region.
-fn is_of_region(property: Property) -> bool
-    ensures { result ≡ is_of_region property }
-{
-    match property {
-        Property::Origin | Property::Length => true,
-        Property::Address | Property::LoadAddress | Property::Size => false,
-    }
 }
 
 /// An expression. Parentheses leave nothing in it.
@@ -95,26 +83,6 @@ impl Expr {
             Expr::Unary(_, a) => a.has_align(),
             Expr::Binary(_, a, b) => a.has_align() || b.has_align(),
             Expr::Choice(test, a, b) => test.has_align() || a.has_align() || b.has_align(),
-        }
-    }
-
-    /// Whether each name in an `ORIGIN` or a `LENGTH` is one of these.
-    pub fn regions_are_among(&self, names: &[&[u8]]) -> bool
-        ensures { result ≡ regions_pass (λ region. list_any (λ w. bytes_eq w.now region) names.now) (expr_of self.now) }
-    {
-        match self {
-            Expr::Number(_) | Expr::Dot | Expr::Name(_) => true,
-            Expr::Unary(_, a) | Expr::AlignDot(a) => a.regions_are_among(names),
-            Expr::Binary(_, a, b) | Expr::Align(a, b) => {
-                a.regions_are_among(names) && b.regions_are_among(names)
-            }
-            Expr::Choice(test, a, b) => {
-                test.regions_are_among(names)
-                    && a.regions_are_among(names)
-                    && b.regions_are_among(names)
-            }
-            Expr::Of(property, name) => !is_of_region(*property)
-                || is_one_of(names, name.as_bytes()),
         }
     }
 }

@@ -408,27 +408,3 @@ fn asks_of_trees(rt: HostRuntime) -> Result<(), Fail> {
     }
     Ok(())
 }
-
-#[test]
-fn asks_for_known_regions(rt: HostRuntime) -> Result<(), Fail> {
-    let names = [b"ram".as_slice(), b"rom".as_slice()];
-    let table = [
-        ("1 + a", true),
-        ("ORIGIN(ram) + LENGTH(rom)", true),
-        ("ORIGIN(ram) + LENGTH(flash)", false),
-        ("ORIGIN(ramp) - 1", false),
-        ("- ORIGIN(ra)", false),
-        ("ADDR(flash) + LOADADDR(flash) + SIZEOF(flash)", true),
-        ("a ? ORIGIN(ram) : LENGTH(rom)", true),
-        ("LENGTH(a) ? 1 : 2", false),
-        ("a ? 1 : ORIGIN(RAM)", false),
-        ("ALIGN(ORIGIN(rom))", true),
-        ("ALIGN(ORIGIN(ram), LENGTH(b))", false),
-    ];
-    for (text, wanted) in table {
-        let tree = tree(rt.alloc(), text)?;
-        let found = tree.regions_are_among(names.as_slice());
-        assert_eq!(rt; found, wanted, "at {text}");
-    }
-    Ok(())
-}

@@ -5,7 +5,7 @@ ghost use Rattle.std.specs.Prelude.{◌≡◌, IfOk};
 use std::alloc::{AllocError, Global};
 use std::marker::Model;
 
-/// A name or word of a script, of any bytes.
+/// Bytes that a script gives: a name, a word, or the text of a message.
 #[derive(Drop)]
 pub struct ScriptName {
     bytes: Vec<u8>,

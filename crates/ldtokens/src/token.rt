@@ -131,7 +131,7 @@ pub enum Stretch {
 /// What the mode depends on: how many braces are open, and the stretch.
 #[derive(Clone, Copy, Debug, PartialEq, Eq)]
 pub struct LexState {
-    /// `{` less `}` so far, never below 0.
+    /// `{` less `}` so far; a `}` at 0 leaves it at 0.
     pub depth: usize,
     /// The stretch that is open here.
     pub stretch: Stretch,

@@ -1,4 +1,4 @@
-use Rattle.std.proofs.Common.{◌≡◌, ◌∷◌, ◌∙◌, sym, rules}
+use Rattle.std.proofs.Common.{◌≡◌, ◌∷◌, ◌∙◌, sym}
 use Rattle.ldtokens.specs.Tokens.{lexeme, Punctuation}
 use Rattle.ldtokens.specs.declared.token.Mark.TheVariants.{OpenParenthesis}
 use Rattle.ldexpr.proofs.Refusals.{mark_none}

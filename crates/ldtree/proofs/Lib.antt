@@ -1,0 +1,4 @@
+pub mod Listing
+pub mod Derived
+pub mod Clashing
+pub mod Scanning

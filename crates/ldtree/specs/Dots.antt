@@ -1,0 +1,82 @@
+-- Uses of `.` that the profile does not have.
+use Rattle.std.specs.Prelude.{List, Bool, true, false, not, ◌&&◌, ◌||◌}
+use Rattle.std.specs.List.{list_any}
+use Rattle.ldexpr.specs.declared.operator.BinaryOperator.TheVariants.{Add}
+use Rattle.ldexpr.specs.Expressions.{Expr, Dot, Binary, AlignDot, has_dot, has_align_dot, has_align}
+use Rattle.ldtree.specs.declared.common.Common.{Common}
+use Rattle.ldtree.specs.declared.common.Common.TheVariants as commons
+use Rattle.ldtree.specs.declared.common.DotCommand.{DotCommand}
+use Rattle.ldtree.specs.declared.common.DotCommand.TheVariants.{Set, Add}
+use Rattle.ldtree.specs.declared.section.BodyCommand.{BodyCommand}
+use Rattle.ldtree.specs.declared.section.BodyCommand.TheVariants as body
+use Rattle.ldtree.specs.declared.section.BodyStatement.{BodyStatement}
+use Rattle.ldtree.specs.declared.statement.Region.{Region}
+use Rattle.ldtree.specs.declared.statement.ItemCommand.{ItemCommand}
+use Rattle.ldtree.specs.declared.statement.ItemCommand.TheVariants as item
+use Rattle.ldtree.specs.declared.statement.Item.{Item}
+use Rattle.ldtree.specs.declared.statement.Command.{Command}
+use Rattle.ldtree.specs.declared.statement.Command.TheVariants as top
+use Rattle.ldtree.specs.declared.statement.Statement.{Statement}
+
+-- `.`, or an ALIGN of one argument, which stands for one with `.`
+abbrev pub uses_dot : Expr → Bool
+uses_dot e = has_dot e || has_align_dot e
+
+-- what `.` may be set to in an output section, beside `. += e`: `. + e`; `ALIGN(e)` where `.` is not in e; an expression
+-- with neither `.` nor ALIGN
+abbrev pub is_dot_form : Expr → Bool
+is_dot_form (Binary Add Dot e) = true
+is_dot_form (AlignDot e) = not (has_dot e)
+is_dot_form e = not (has_dot e) && not (has_align e)
+
+-- a `.` or such an ALIGN in an ASSERT
+abbrev pub assert_misplaces : Common → Bool
+assert_misplaces (commons.Assign a) = false
+assert_misplaces (commons.Provide a) = false
+assert_misplaces (commons.Assert a) = uses_dot a.condition
+
+-- a `.` or such an ALIGN in the expression of a command
+abbrev pub common_uses_dot : Common → Bool
+common_uses_dot (commons.Assign a) = uses_dot a.value
+common_uses_dot (commons.Provide a) = uses_dot a.value
+common_uses_dot (commons.Assert a) = uses_dot a.condition
+
+-- `.` is set to what is none of the forms
+abbrev pub dot_misplaces : DotCommand → Bool
+dot_misplaces (Set e) = not (is_dot_form e)
+dot_misplaces (Add e) = false
+
+abbrev pub body_command_misplaces : BodyCommand → Bool
+body_command_misplaces (body.Dot c) = dot_misplaces c
+body_command_misplaces (body.Common c) = assert_misplaces c
+body_command_misplaces (body.Data w e) = false
+body_command_misplaces (body.Input i) = false
+
+abbrev pub body_misplaces : BodyStatement → Bool
+body_misplaces s = body_command_misplaces s.command
+
+abbrev pub item_command_misplaces : ItemCommand → Bool
+item_command_misplaces (item.Dot c) = false
+item_command_misplaces (item.Common c) = assert_misplaces c
+item_command_misplaces (item.Section o) = list_any body_misplaces o.body
+item_command_misplaces (item.Discard inputs) = false
+
+abbrev pub item_misplaces : Item → Bool
+item_misplaces s = item_command_misplaces s.command
+
+-- a `.` or such an ALIGN in a region
+abbrev pub region_misplaces : Region → Bool
+region_misplaces r = uses_dot r.origin || uses_dot r.extent
+
+abbrev pub top_command_misplaces : Command → Bool
+top_command_misplaces (top.Entry n) = false
+top_command_misplaces (top.Memory regions) = list_any region_misplaces regions
+top_command_misplaces (top.Sections items) = list_any item_misplaces items
+top_command_misplaces (top.Common c) = common_uses_dot c
+
+abbrev pub top_misplaces : Statement → Bool
+top_misplaces s = top_command_misplaces s.command
+
+-- a use of `.` that the profile does not have
+abbrev pub has_misplaced_dot : List Statement → Bool
+has_misplaced_dot s = list_any top_misplaces s

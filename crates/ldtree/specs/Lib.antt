@@ -1,0 +1,4 @@
+pub mod FormulaCode
+pub mod Mentions
+pub mod Dots
+pub mod Listed

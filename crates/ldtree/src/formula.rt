@@ -1,0 +1,42 @@
+//! Expressions as parts of a tree.
+
+ghost use Rattle.std.specs.Prelude.{◌≡◌};
+ghost use Rattle.ldexpr.specs.Expressions.{expr_of};
+
+use ldexpr::expression::Expr;
+use std::marker::Model;
+
+/// An expression of a statement. Contracts see what it says, not where its parts lie in memory.
+#[derive(Drop)]
+pub struct Formula {
+    expr: Expr,
+}
+
+impl Model for Formula {
+    ghost use Rattle.ldexpr.specs.Expressions.{Expr, expr_of};
+    ghost use Rattle.std.specs.Prelude.{List};
+    ghost use Rattle.std.specs.Coded.{codes, code_by};
+    ghost use Rattle.ldtree.specs.FormulaCode.{Instruction, to_instructions, from_instructions, from_to};
+
+    ghost Value = { Expr };
+
+    ghost coded = { code_by (List Instruction) (Prim.hlevel codes) to_instructions from_instructions from_to };
+
+    ghost view = { λ f. expr_of f.expr };
+}
+
+impl Formula {
+    /// The formula of an expression.
+    pub fn new(expr: Expr) -> Formula
+        ensures { result ≡ expr_of expr }
+    {
+        Formula { expr }
+    }
+
+    /// The expression, to be matched on.
+    pub fn expr(&self) -> &Expr
+        ensures { expr_of result.now ≡ self.now }
+    {
+        &self.expr
+    }
+}

@@ -1,0 +1,43 @@
+//! What a script gives twice, and memory regions that it names before it has declared them.
+
+ghost use Rattle.std.specs.Prelude.{MatchBool, IfOk};
+ghost use Rattle.ldtree.specs.Mentions.{HasClash};
+ghost use Rattle.ldtree.specs.Listed.{HasClashIn, Meets, mention_of, shown};
+
+pub use crate::mention::NoRoom;
+use crate::mention::{Mention, note_statements};
+use crate::statement::Statement;
+use std::alloc::Global;
+use std::collections::HashSet;
+
+/// Whether it may not stand behind those that are in the set; if it may, it is put in as well.
+fn meet<'a>(given: &mut HashSet<Mention<'a>>, mention: Mention<'a>) -> Result<bool, NoRoom>
+    ensures { IfOk result (Meets given.old.keys given.new.keys (mention_of mention.entry)) }
+{
+    match mention {
+        Mention::RegionUsed(name) => Ok(!given.contains(&Mention::RegionDeclared(name))),
+        once => Ok(!given.insert(once)?),
+    }
+}
+
+/// Whether one of these may not stand behind those before it.
+fn any_clashes(alloc: Global, mentions: &[Mention]) -> Result<bool, NoRoom>
+    ensures { IfOk result (λ b. MatchBool b (HasClashIn (shown mentions.now)) (HasClashIn (shown mentions.now) → ⊥)) }
+{
+    let mut given = HashSet::new(alloc);
+    for mention in mentions {
+        if meet(&mut given, *mention)? {
+            return Ok(true);
+        }
+    }
+    Ok(false)
+}
+
+/// Whether something is given twice, or a memory region is named before it is declared.
+pub fn has_clash(alloc: Global, statements: &[Statement]) -> Result<bool, NoRoom>
+    ensures { IfOk result (λ b. MatchBool b (HasClash statements.now) (HasClash statements.now → ⊥)) }
+{
+    let mut list = Vec::new(alloc);
+    note_statements(&mut list, statements)?;
+    any_clashes(alloc, &list)
+}

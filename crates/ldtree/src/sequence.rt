@@ -1,0 +1,48 @@
+//! Lists that a tree holds.
+
+ghost use Rattle.std.specs.Prelude.{◌≡◌, [], ◌∷◌, ◌++◌, OnOk};
+
+use std::alloc::{AllocError, Global};
+use std::marker::Model;
+
+/// A list in the order of the text. Contracts see it as that list, not where it lies in memory.
+#[derive(Drop)]
+pub struct Sequence<T> {
+    elements: Vec<T>,
+}
+
+impl<T> Model for Sequence<T> {
+    ghost use Rattle.std.specs.Prelude.{List};
+
+    ghost Value = { List T };
+
+    ghost view = { λ s. s.elements.items };
+}
+
+impl<T> Sequence<T> {
+    /// The list of nothing.
+    pub fn new(alloc: Global) -> Sequence<T>
+        ensures { result ≡ [] }
+    {
+        Sequence {
+            elements: Vec::new(alloc),
+        }
+    }
+
+    /// Its elements.
+    pub fn as_slice(&self) -> &[T]
+        ensures { result.now ≡ self.now }
+    {
+        self.elements.as_slice()
+    }
+}
+
+impl<T: Drop> Sequence<T> {
+    /// One more at the end, or an error for want of memory.
+    pub fn push(&mut self, element: T) -> Result<(), AllocError>
+        ensures { OnOk result (self.new ≡ self.old ++ element ∷ []) }
+    {
+        self.elements.push(element)?;
+        Ok(())
+    }
+}
