@@ -1,0 +1,266 @@
+-- Input statements: no tokens are two of them.
+use Rattle.std.proofs.Common.{◌≡◌, ◌∙◌, refl, sym, ap, subst, ℕ, List, [], ◌∷◌, Bool, true, false, Option, Some, None, Result, Ok, Err, ◌⊎◌, inl, inr}
+use Rattle.std.specs.Prelude.{IfOk, codes}
+use Rattle.std.proofs.lemmas.Bool.{false≢true}
+use Rattle.ldtokens.specs.Tokens.{Lexeme, Word, Punctuation}
+use Rattle.ldtokens.specs.Words.{is_free_word, is_reserved}
+use Rattle.ldtokens.specs.declared.token.Mark.{Mark}
+use Rattle.ldtokens.specs.declared.token.Mark.TheVariants.{OpenParenthesis, CloseParenthesis, CloseBrace, Semicolon}
+use Rattle.ldtokens.specs.declared.token.Mode.TheVariants.{Pattern}
+use Rattle.ldpattern.specs.Parts as patterns
+use Rattle.ldpattern.specs.Spelling.{Spells}
+use Rattle.ldscript.specs.Steps.{Part, ◌▸◌, mark, token, key, pattern, each, statements}
+use Rattle.ldscript.specs.Grammar.{sort, patterns_of, selection, plain, kept, input, input_statement}
+use Rattle.ldscript.specs.Readings.{NoneAt, Reads, selected}
+use Rattle.ldscript.specs.declared.fault.Fault.{Fault}
+use Rattle.ldscript.specs.declared.fault.Fault.TheVariants.{NotAScript, NoMemory}
+use Rattle.ldtree.specs.declared.input.Sort.{Sort}
+use Rattle.ldtree.specs.declared.input.Sort.TheVariants.{ByName, ByAlignment}
+use Rattle.ldtree.specs.declared.input.Input.{Input}
+use Rattle.ldtree.specs.declared.input.InputStatement.{InputStatement}
+use Rattle.ldscript.proofs.Singles.{Single, tokens_same, mark_fixed, key_fixed, skip_single, pair_single, keys_differ, behind, behind_tree}
+use Rattle.ldscript.proofs.Each.{EachListed, each_single}
+use Rattle.ldscript.proofs.Lists.{Listed, closing_single}
+
+same_words : (v w : List ℕ) → Word v ≡ Word w → v ≡ w
+same_words v w e = cc
+
+pub pattern_single : Single pattern
+pattern_single ts r s a b x y =
+    let e = tokens_same (Word x.0) (Word y.0) ts r s x.3 y.3 in
+    let w = same_words x.0 y.0 e.0 in
+    (sym (x.2.only b (subst (λ v. Spells b v) (sym w) y.2.spelled)), e.1)
+
+-- a word of the language is no pattern
+pub pattern_no_key : (w : List ℕ) → is_free_word w ≡ false → (p : List patterns.Part) (ts r s : List Lexeme) → pattern p ts r → key Pattern w ts s → ⊥
+pattern_no_key w k p ts r s x y =
+    let e = tokens_same (Word x.0) (Word w) ts r s x.3 y in
+    false≢true (sym k ∙ sym (ap is_free_word (same_words x.0 w e.0)) ∙ x.1)
+
+pub word_no_mark : (w : List ℕ) (m : Mark) (ts r s : List Lexeme) → token (Word w) ts r → mark m ts s → ⊥
+word_no_mark w m ts r s x y = let e = (tokens_same (Word w) (Punctuation m) ts r s x y).0 in cc
+
+pub patterns_listed : EachListed (λ ts. Unit {0}) (mark CloseParenthesis) pattern
+patterns_listed = record {
+  single = λ ts r s a b x y h k. pattern_single ts r s a b x y;
+  closes = mark_fixed CloseParenthesis;
+  no_close = λ x ts r s d e. word_no_mark d.0 CloseParenthesis ts r s d.3 e;
+  at_close = λ ts r d. tt;
+  at_start = λ x ts r d. tt;
+}
+
+-- WORD {WORD} ")"
+pub closed_patterns_single : Single (λ ps. patterns_of ps ▸ mark CloseParenthesis)
+closed_patterns_single ts r s [] b x y = absurd x.1
+closed_patterns_single ts r s (a ∷ as') [] x y = absurd y.1
+closed_patterns_single ts r s (a ∷ as') (b ∷ bs) x y =
+    each_single patterns_listed (a ∷ as') (b ∷ bs) ts r s x y
+
+sort_free : is_free_word (codes "SORT") ≡ false
+unfolding is_free_word is_reserved
+sort_free = refl
+
+sort_by_name_free : is_free_word (codes "SORT_BY_NAME") ≡ false
+unfolding is_free_word is_reserved
+sort_by_name_free = refl
+
+sort_by_alignment_free : is_free_word (codes "SORT_BY_ALIGNMENT") ≡ false
+unfolding is_free_word is_reserved
+sort_by_alignment_free = refl
+
+pub keep_free : is_free_word (codes "KEEP") ≡ false
+unfolding is_free_word is_reserved
+keep_free = refl
+
+-- the word of a sort
+sort_key : (a : Sort) (ts r : List Lexeme) → sort a ts r → (w : List ℕ) × (is_free_word w ≡ false) × key Pattern w ts r
+sort_key ByName ts r (inl d) = (codes "SORT", sort_free, d)
+sort_key ByName ts r (inr d) = (codes "SORT_BY_NAME", sort_by_name_free, d)
+sort_key ByAlignment ts r d = (codes "SORT_BY_ALIGNMENT", sort_by_alignment_free, d)
+
+name_no_alignment : (ts r s : List Lexeme) → sort ByName ts r → sort ByAlignment ts s → ⊥
+name_no_alignment ts r s (inl x) y = keys_differ Pattern (codes "SORT") (codes "SORT_BY_ALIGNMENT") refl refl ts r s x y
+name_no_alignment ts r s (inr x) y = keys_differ Pattern (codes "SORT_BY_NAME") (codes "SORT_BY_ALIGNMENT") refl refl ts r s x y
+
+pub sort_single : Single sort
+sort_single ts r s ByName ByName x y =
+    let a = sort_key ByName ts r x in
+    let b = sort_key ByName ts s y in
+    (refl, (tokens_same (Word a.0) (Word b.0) ts r s a.2 b.2).1)
+sort_single ts r s ByAlignment ByAlignment x y = (refl, key_fixed Pattern (codes "SORT_BY_ALIGNMENT") ts r s x y)
+sort_single ts r s ByName ByAlignment x y = absurd (name_no_alignment ts r s x y)
+sort_single ts r s ByAlignment ByName x y = absurd (name_no_alignment ts s r y x)
+
+sort_no_patterns : (a : Sort) (ps : List (List patterns.Part)) (ts r s : List Lexeme) → sort a ts r → patterns_of ps ts s → ⊥
+sort_no_patterns a [] ts r s x y = y
+sort_no_patterns a (p ∷ ps) ts r s x y = let k = sort_key a ts r x in pattern_no_key k.0 k.1 p ts y.0 r y.1 k.2
+
+-- what the parentheses of an input statement hold, with the `)`
+abbrev Selected : Option Sort → List (List patterns.Part) → Part
+Selected o ps = selection o ps ▸ mark CloseParenthesis
+
+pub selected_single : (a b : Option Sort) (ps qs : List (List patterns.Part)) (ts r s : List Lexeme) → Selected a ps ts r → Selected b qs ts s → (a ≡ b) × (ps ≡ qs) × (r ≡ s)
+selected_single None None ps qs ts r s x y = let e = closed_patterns_single ts r s ps qs x y in (refl, e.0, e.1)
+selected_single None (Some b) ps qs ts r s x y = absurd (sort_no_patterns b ps ts y.1.0 x.0 y.1.1 x.1)
+selected_single (Some a) None ps qs ts r s x y = absurd (sort_no_patterns a qs ts x.1.0 y.0 x.1.1 y.1)
+selected_single (Some a) (Some b) ps qs ts r s x y =
+    let e = pair_single sort (λ p. mark OpenParenthesis ▸ patterns_of p ▸ mark CloseParenthesis) sort_single
+    (skip_single (mark OpenParenthesis) (λ p. patterns_of p ▸ mark CloseParenthesis) (mark_fixed OpenParenthesis) closed_patterns_single)
+    ts x.0 y.0 a b ps qs x.1 y.1 in
+    (ap Some e.0, e.1, mark_fixed CloseParenthesis y.0 r s (subst (λ l. mark CloseParenthesis l r) e.2 x.2) y.2)
+
+-- an input statement but for KEEP
+pub record SameInput (a b : Input) (r s : List Lexeme) : Type 0 where
+  pub same_file : a.file ≡ b.file
+  pub same_sort : a.sort ≡ b.sort
+  pub same_sections : a.sections ≡ b.sections
+  pub same_rest : r ≡ s
+
+pub plain_same : (a b : Input) (ts r s : List Lexeme) → plain a ts r → plain b ts s → SameInput a b r s
+plain_same a b ts r s x y =
+    let e = behind_tree pattern (mark OpenParenthesis ▸ Selected b.sort b.sections) pattern_single ts x.0 s a.file b.file x.1 y in
+    let f = behind (mark OpenParenthesis) (Selected b.sort b.sections) (mark_fixed OpenParenthesis) x.0 x.2.0 s x.2.1 e.1 in
+    let g = selected_single a.sort b.sort a.sections b.sections x.2.0 r s x.2.2 f in
+    record { same_file = sym e.0; same_sort = g.0; same_sections = g.1; same_rest = g.2 }
+
+inputs_same : (a b : Input) (r s : List Lexeme) → a.keep ≡ b.keep → SameInput a b r s → (a ≡ b) × (r ≡ s)
+inputs_same a b r s k e =
+    let mk : Bool → List patterns.Part → Option Sort → List (List patterns.Part) → Input = λ k f o ps. record { keep = k; file = f; sort = o; sections = ps } in (
+      ap (λ k. mk k a.file a.sort a.sections) k ∙ ap (λ f. mk b.keep f a.sort a.sections) e.same_file
+          ∙ ap (λ o. mk b.keep b.file o a.sections) e.same_sort ∙ ap (λ ps. mk b.keep b.file b.sort ps) e.same_sections,
+      e.same_rest,
+    )
+
+kept_same : (k l : Bool) (a b : Input) (ts r s : List Lexeme) → kept k (plain a) ts r → kept l (plain b) ts s → (k ≡ l) × SameInput a b r s
+kept_same false false a b ts r s x y = (refl, plain_same a b ts r s x y)
+kept_same false true a b ts r s x y = absurd (pattern_no_key (codes "KEEP") keep_free a.file ts x.0 y.0 x.1 y.1)
+kept_same true false a b ts r s x y = absurd (pattern_no_key (codes "KEEP") keep_free b.file ts y.0 x.0 y.1 x.1)
+kept_same true true a b ts r s x y =
+    let e = behind (key Pattern (codes "KEEP")) (mark OpenParenthesis ▸ plain b ▸ mark CloseParenthesis) (key_fixed Pattern (codes "KEEP")) ts x.0 s x.1 y in
+    let f = behind (mark OpenParenthesis) (plain b ▸ mark CloseParenthesis) (mark_fixed OpenParenthesis) x.0 x.2.0 s x.2.1 e in
+    let g = plain_same a b x.2.0 x.2.2.0 f.0 x.2.2.1 f.1 in
+    let h = mark_fixed CloseParenthesis f.0 r s (subst (λ l. mark CloseParenthesis l r) g.same_rest x.2.2.2) f.2 in
+    (refl, record { same_file = g.same_file; same_sort = g.same_sort; same_sections = g.same_sections; same_rest = h })
+
+pub input_single : Single input
+input_single ts r s a b x y = let e = kept_same a.keep b.keep a b ts r s x y in inputs_same a b r s e.0 e.1
+
+-- it begins with a word
+kept_word : (k : Bool) (i : Input) (ts r : List Lexeme) → kept k (plain i) ts r → (w : List ℕ) × (us : List Lexeme) × token (Word w) ts us
+kept_word false i ts r x = (x.1.0, x.0, x.1.3)
+kept_word true i ts r x = (codes "KEEP", x.0, x.1)
+
+pub input_no_mark : (m : Mark) (i : Input) (ts r s : List Lexeme) → input i ts r → mark m ts s → ⊥
+input_no_mark m i ts r s x y = let w = kept_word i.keep i ts r x in word_no_mark w.0 m ts w.1 s w.2 y
+
+input_statements_same : (a b : InputStatement) → a.line ≡ b.line → a.input ≡ b.input → a ≡ b
+input_statements_same a b e f =
+    let mk : ℕ → Input → InputStatement = λ n i. record { line = n; input = i } in
+    ap (λ n. mk n a.input) e ∙ ap (λ i. mk b.line i) f
+
+pub input_statement_single : Single input_statement
+input_statement_single ts r s a b x y =
+    let e = input_single ts r s a.input b.input x.1 y.1 in
+    (input_statements_same a b (x.0 ∙ sym y.0) e.0, e.1)
+
+pub marks_apart : (m n : Mark) (ts r s : List Lexeme) → (m ≡ n → ⊥) → mark m ts r → mark n ts s → ⊥
+marks_apart m n ts r s d x y = d (same (tokens_same (Punctuation m) (Punctuation n) ts r s x y).0) where
+  same : Punctuation m ≡ Punctuation n → m ≡ n
+  same e = cc
+
+pub inputs_listed : Listed (λ ts. Unit {0}) (mark CloseBrace) input_statement
+inputs_listed = record {
+  single = λ ts r s a b x y h k. input_statement_single ts r s a b x y;
+  closes = mark_fixed CloseBrace;
+  no_close = λ x ts r s d e. input_no_mark CloseBrace x.input ts r s d.1 e;
+  no_semicolon = λ x ts r s d e. input_no_mark Semicolon x.input ts r s d.1 e;
+  apart = λ ts r s d e. marks_apart CloseBrace Semicolon ts r s (λ q. cc) d e;
+  at_close = λ ts r d. tt;
+  at_semicolon = λ ts r d. tt;
+  at_start = λ x ts r d. tt;
+}
+
+pub closed_inputs_single : Single (λ is. statements input_statement is ▸ mark CloseBrace)
+closed_inputs_single ts r s a b x y = closing_single inputs_listed a b ts r s x y
+
+pub sort_none : (ts : List Lexeme) → ((us : List Lexeme) → key Pattern (codes "SORT_BY_ALIGNMENT") ts us → ⊥) → ((us : List Lexeme) → key Pattern (codes "SORT_BY_NAME") ts us → ⊥)
+    → ((us : List Lexeme) → key Pattern (codes "SORT") ts us → ⊥) → NoneAt sort ts
+sort_none ts a n s ByName more (inl d) = s more d
+sort_none ts a n s ByName more (inr d) = n more d
+sort_none ts a n s ByAlignment more d = a more d
+
+pub sort_mark_none : (ts us : List Lexeme) (a : Sort) → sort a ts us → ((r : List Lexeme) → mark OpenParenthesis us r → ⊥) → NoneAt (λ s. sort s ▸ mark OpenParenthesis) ts
+sort_mark_none ts us a h n y more d = n more (behind_tree sort (mark OpenParenthesis) sort_single ts us more a y h d).1
+
+-- where no word is, the list of words is empty
+pub no_words : (ts us : List Lexeme) → (each pattern [] ▸ mark CloseParenthesis) ts us → NoneAt (λ ps. patterns_of ps ▸ mark CloseParenthesis) ts
+no_words ts us h [] more d = d.1
+no_words ts us h (p ∷ ps) more d = let e = (each_single patterns_listed [] (p ∷ ps) ts us more h d).0 in cc
+
+pub some_words : (ps : List (List patterns.Part)) (ts us : List Lexeme) → (ps ≡ [] → ⊥) → (each pattern ps ▸ mark CloseParenthesis) ts us → (patterns_of ps ▸ mark CloseParenthesis) ts us
+some_words [] ts us n d = absurd (n refl)
+some_words (p ∷ ps) ts us n d = d
+
+pub words_none : (ts : List Lexeme) → NoneAt (λ ps. each pattern ps ▸ mark CloseParenthesis) ts → NoneAt (λ ps. patterns_of ps ▸ mark CloseParenthesis) ts
+words_none ts n [] more d = d.1
+words_none ts n (p ∷ ps) more d = n (p ∷ ps) more d
+
+-- what stands between the parentheses of an input statement
+pub selected_unsorted : (ts : List Lexeme) → NoneAt (λ s. sort s ▸ mark OpenParenthesis) ts → NoneAt (λ ps. patterns_of ps ▸ mark CloseParenthesis) ts → NoneAt selected ts
+selected_unsorted ts s n (None, ps) more d = n ps more d
+selected_unsorted ts s n (Some a, ps) more d = s a d.1.2.0 (d.1.0, d.1.1, d.1.2.1)
+
+pub selected_sorted : (ts us : List Lexeme) (a : Sort) → (sort a ▸ mark OpenParenthesis) ts us → ((ps : List (List patterns.Part)) (vs r : List Lexeme) → (patterns_of ps ▸ mark CloseParenthesis) us vs → mark CloseParenthesis vs r → ⊥)
+    → NoneAt selected ts
+selected_sorted ts us a h n (None, ps) more d = sort_no_patterns a ps ts h.0 d.0 h.1 d.1
+selected_sorted ts us a h n (Some b, ps) more d =
+    let e = behind_tree sort (mark OpenParenthesis ▸ patterns_of ps ▸ mark CloseParenthesis) sort_single ts h.0 d.0 a b h.1 d.1 in
+    let f = behind (mark OpenParenthesis) (patterns_of ps ▸ mark CloseParenthesis) (mark_fixed OpenParenthesis) h.0 us d.0 h.2 e.1 in
+    n ps d.0 more f d.2
+
+pub plain_file_none : (ts : List Lexeme) → NoneAt pattern ts → NoneAt plain ts
+plain_file_none ts n y more d = n y.file d.0 d.1
+
+pub plain_open_none : (ts us : List Lexeme) (p : List patterns.Part) → pattern p ts us → ((r : List Lexeme) → mark OpenParenthesis us r → ⊥) → NoneAt plain ts
+plain_open_none ts us p h n y more d =
+    let e = behind_tree pattern (mark OpenParenthesis ▸ Selected y.sort y.sections) pattern_single ts us more p y.file h d in
+    n e.1.0 e.1.1
+
+pub plain_selected_none : (ts us vs : List Lexeme) (p : List patterns.Part) → pattern p ts us → mark OpenParenthesis us vs → NoneAt selected vs → NoneAt plain ts
+plain_selected_none ts us vs p h m n y more d =
+    let e = behind_tree pattern (mark OpenParenthesis ▸ Selected y.sort y.sections) pattern_single ts us more p y.file h d in
+    let f = behind (mark OpenParenthesis) (Selected y.sort y.sections) (mark_fixed OpenParenthesis) us vs more m e.1 in
+    n (y.sort, y.sections) more f
+
+pub kept_cases : (k : Bool) (y : Input) (ts r : List Lexeme) → kept k (plain y) ts r → (plain y ts r) ⊎ ((key Pattern (codes "KEEP") ▸ mark OpenParenthesis ▸ plain y ▸ mark CloseParenthesis) ts r)
+kept_cases false y ts r d = inl d
+kept_cases true y ts r d = inr d
+
+pub not_kept_none : (ts : List Lexeme) → ((us : List Lexeme) → key Pattern (codes "KEEP") ts us → ⊥) → NoneAt plain ts → NoneAt input ts
+not_kept_none ts k n y more d = elim (kept_cases y.keep y ts more d) [ inl e ↦ n y more e | inr e ↦ k e.0 e.1 ]
+
+pub kept_open_none : (ts us : List Lexeme) → key Pattern (codes "KEEP") ts us → ((r : List Lexeme) → mark OpenParenthesis us r → ⊥) → NoneAt input ts
+kept_open_none ts us h n y more d = elim (kept_cases y.keep y ts more d) [
+  | inl e ↦ pattern_no_key (codes "KEEP") keep_free y.file ts e.0 us e.1 h
+  | inr e ↦ (let f = behind (key Pattern (codes "KEEP")) (mark OpenParenthesis ▸ plain y ▸ mark CloseParenthesis) (key_fixed Pattern (codes "KEEP")) ts us more h e in n f.0 f.1)
+]
+
+pub kept_plain_none : (ts us vs : List Lexeme) → key Pattern (codes "KEEP") ts us → mark OpenParenthesis us vs → ((y : Input) (ws r : List Lexeme) → plain y vs ws → mark CloseParenthesis ws r → ⊥) → NoneAt input ts
+kept_plain_none ts us vs h m n y more d = elim (kept_cases y.keep y ts more d) [
+  | inl e ↦ pattern_no_key (codes "KEEP") keep_free y.file ts e.0 us e.1 h
+  | inr e ↦
+      let f = behind (key Pattern (codes "KEEP")) (mark OpenParenthesis ▸ plain y ▸ mark CloseParenthesis) (key_fixed Pattern (codes "KEEP")) ts us more h e in
+      let g = behind (mark OpenParenthesis) (plain y ▸ mark CloseParenthesis) (mark_fixed OpenParenthesis) us vs more m f in
+      n y g.0 more g.1 g.2
+]
+
+-- a read input statement under KEEP or not
+pub kept_as : (k : Bool) (i : Input) (ts r : List Lexeme) → i.keep ≡ k → kept k (plain i) ts r → input i ts r
+kept_as k i ts r e d = subst (λ b. kept b (plain i) ts r) (sym e) d
+
+-- an input statement without KEEP
+pub input_plain : {X : Type 0} (ts : List Lexeme) → ((us : List Lexeme) → key Pattern (codes "KEEP") ts us → ⊥) → (tree : X → Input) (rest : X → List Lexeme) (r : Result X Fault)
+    → Reads plain ts tree rest r → IfOk r (λ x. (tree x).keep ≡ false) → Reads input ts tree rest r
+input_plain ts k tree rest (Ok x) d e = record { spells = kept_as false (tree x) ts (rest x) e d.spells; shorter = d.shorter }
+input_plain ts k tree rest (Err NotAScript) d e = not_kept_none ts k d
+input_plain ts k tree rest (Err NoMemory) d e = tt

@@ -1,0 +1,14 @@
+pub mod Expressions
+pub mod Fills
+pub mod Singles
+pub mod Lists
+pub mod Each
+pub mod Reading
+pub mod Commons
+pub mod Inputs
+pub mod Bodies
+pub mod Regions
+pub mod Tails
+pub mod Starts
+pub mod Items
+pub mod Tops

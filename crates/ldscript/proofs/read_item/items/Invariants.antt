@@ -1,0 +1,12 @@
+use Rattle.std.proofs.Common.{length}
+use Rattle.ldtokens.specs.declared.token.Mark.TheVariants.{CloseBrace}
+use Rattle.ldscript.specs.Steps.{mark}
+use Rattle.ldscript.specs.Grammar.{item_statement}
+use Rattle.ldscript.proofs.Lists.{SoFar}
+use Rattle.ldscript.proofs.read_item.items.Given as goal
+
+abbrev pub decreases-reading : goal.decreases-reading
+decreases-reading l = length l.rest
+
+abbrev pub invariant-reading : goal.invariant-reading
+invariant-reading l = SoFar (mark CloseBrace) item_statement l.fn.tokens l.items l.rest

@@ -1,0 +1,263 @@
+-- The grammar of a linker script (GNU ld manual, "Linker Scripts", as far as this profile has it). Each definition
+-- below is a rule: which tokens a tree stands for. `{x}` is any number of x, `[x]` one or none.
+--
+--   script  = {top}
+--   top     = ";" | ENTRY "(" NAME ")" | MEMORY "{" {region} "}" | SECTIONS "{" {item} "}" | NAME "=" e ";" | provide | assert
+--   region  = NAME ":" ORIGIN "=" e "," LENGTH "=" e
+--   item    = ";" | "." "=" e ";" | "." "+=" e ";" | NAME "=" e ";" | provide | assert | section
+--   section = NAME [e] ":" [AT "(" e ")"] [ALIGN "(" e ")"] "{" {body} "}" [">" NAME] [AT ">" NAME] ["=" fill]
+--           | "/DISCARD/" ":" "{" {";" | input} "}"
+--   body    = ";" | "." "=" e ";" | "." "+=" e ";" | NAME "=" e ";" | provide | assert | data "(" e ")" | input
+--   data    = BYTE | SHORT | LONG | QUAD
+--   provide = PROVIDE "(" NAME "=" e ")"
+--   assert  = ASSERT "(" e "," STRING ")"
+--   input   = plain | KEEP "(" plain ")"
+--   plain   = WORD "(" WORD {WORD} ")" | WORD "(" sort "(" WORD {WORD} ")" ")"
+--   sort    = SORT | SORT_BY_NAME | SORT_BY_ALIGNMENT
+--
+-- A `;` stands before, between and behind the statements of a list, by `statements`. The tokens of a body are read in
+-- another mode, in which a name, `.` or a word of the language at the front of a statement is a word token.
+use Rattle.std.specs.Prelude.{◌≡◌, ℕ, List, [], ◌∷◌, Option, Some, None, Bool, true, false, codes}
+use Rattle.ldtokens.specs.Tokens.{Lexeme, Number, Discard}
+use Rattle.ldtokens.specs.declared.token.Mark.{Mark}
+use Rattle.ldtokens.specs.declared.token.Mark.TheVariants.{OpenParenthesis, CloseParenthesis, OpenBrace, CloseBrace, Semicolon, Colon, Comma, Assign, AddAssign, Greater}
+use Rattle.ldtokens.specs.declared.token.Mode.{Mode}
+use Rattle.ldtokens.specs.declared.token.Mode.TheVariants.{Expression, Pattern}
+use Rattle.ldexpr.specs.Expressions.{Expr}
+use Rattle.ldpattern.specs.Parts as patterns
+use Rattle.ldscript.specs.Fill.{fill_of}
+use Rattle.ldscript.specs.Steps.{Part, ◌▸◌, ◌or◌, optional, each, token, mark, statements, on_line, key, name_in, name, string, expression, pattern}
+use Rattle.ldtree.specs.declared.input.Sort.{Sort}
+use Rattle.ldtree.specs.declared.input.Sort.TheVariants.{ByName, ByAlignment}
+use Rattle.ldtree.specs.declared.input.Input.{Input}
+use Rattle.ldtree.specs.declared.input.InputStatement.{InputStatement}
+use Rattle.ldtree.specs.declared.section.Width.{Width}
+use Rattle.ldtree.specs.declared.section.Width.TheVariants.{Byte, Short, Long, Quad}
+use Rattle.ldtree.specs.declared.section.BodyCommand.{BodyCommand}
+use Rattle.ldtree.specs.declared.section.BodyCommand.TheVariants as body
+use Rattle.ldtree.specs.declared.section.BodyStatement.{BodyStatement}
+use Rattle.ldtree.specs.declared.section.Load.{Load}
+use Rattle.ldtree.specs.declared.section.Load.TheVariants.{Unstated, At, InRegion}
+use Rattle.ldtree.specs.declared.section.OutputSection.{OutputSection}
+use Rattle.ldtree.specs.declared.common.Assignment.{Assignment}
+use Rattle.ldtree.specs.declared.common.Assertion.{Assertion}
+use Rattle.ldtree.specs.declared.common.Common.{Common}
+use Rattle.ldtree.specs.declared.common.Common.TheVariants as commons
+use Rattle.ldtree.specs.declared.common.DotCommand.{DotCommand}
+use Rattle.ldtree.specs.declared.common.DotCommand.TheVariants.{Set, Add}
+use Rattle.ldtree.specs.declared.statement.Region.{Region}
+use Rattle.ldtree.specs.declared.statement.ItemCommand.{ItemCommand}
+use Rattle.ldtree.specs.declared.statement.ItemCommand.TheVariants as item
+use Rattle.ldtree.specs.declared.statement.Item.{Item}
+use Rattle.ldtree.specs.declared.statement.Command.{Command}
+use Rattle.ldtree.specs.declared.statement.Command.TheVariants as top
+use Rattle.ldtree.specs.declared.statement.Statement.{Statement}
+
+-- sort = SORT | SORT_BY_NAME | SORT_BY_ALIGNMENT
+abbrev pub sort : Sort → Part
+sort ByName = key Pattern (codes "SORT") or key Pattern (codes "SORT_BY_NAME")
+sort ByAlignment = key Pattern (codes "SORT_BY_ALIGNMENT")
+
+-- WORD {WORD}
+abbrev pub patterns_of : List (List patterns.Part) → Part
+patterns_of [] ts rest = ⊥
+patterns_of (p ∷ ps) ts rest = (pattern p ▸ each pattern ps) ts rest
+
+-- what the parentheses of an input statement hold
+abbrev pub selection : Option Sort → List (List patterns.Part) → Part
+selection None ps = patterns_of ps
+selection (Some s) ps = sort s ▸ mark OpenParenthesis ▸ patterns_of ps ▸ mark CloseParenthesis
+
+-- plain = WORD "(" WORD {WORD} ")" | WORD "(" sort "(" WORD {WORD} ")" ")"
+abbrev pub plain : Input → Part
+plain i = pattern i.file ▸ mark OpenParenthesis ▸ selection i.sort i.sections ▸ mark CloseParenthesis
+
+-- in KEEP ( ), or not
+abbrev pub kept : Bool → Part → Part
+kept false p = p
+kept true p = key Pattern (codes "KEEP") ▸ mark OpenParenthesis ▸ p ▸ mark CloseParenthesis
+
+-- input = plain | KEEP "(" plain ")"
+abbrev pub input : Input → Part
+input i = kept i.keep (plain i)
+
+-- an expression and the mark behind it
+abbrev pub ended : Mark → Expr → Part
+ended m e = expression e ▸ mark m
+
+-- "=" e ";"
+abbrev pub set_to : Expr → Part
+set_to e = mark Assign ▸ ended Semicolon e
+
+-- "+=" e ";"
+abbrev pub add_to : Expr → Part
+add_to e = mark AddAssign ▸ ended Semicolon e
+
+abbrev pub dot_change : DotCommand → Part
+dot_change (Set e) = set_to e
+dot_change (Add e) = add_to e
+
+-- "." "=" e ";" | "." "+=" e ";"
+abbrev pub dot_command : Mode → DotCommand → Part
+dot_command mode c = key mode (codes ".") ▸ dot_change c
+
+-- NAME "=" e ";"
+abbrev pub assign : Mode → Assignment → Part
+assign mode a = name_in mode a.name ▸ set_to a.value
+
+-- "(" NAME "="
+abbrev pub provided_name : List ℕ → Part
+provided_name n = mark OpenParenthesis ▸ name n ▸ mark Assign
+
+-- "(" NAME "=" e ")"
+abbrev pub provided : Assignment → Part
+provided a = provided_name a.name ▸ ended CloseParenthesis a.value
+
+-- provide = PROVIDE "(" NAME "=" e ")"
+abbrev pub provide : Mode → Assignment → Part
+provide mode a = key mode (codes "PROVIDE") ▸ provided a
+
+-- "(" e "," STRING ")"
+abbrev pub asserted : Assertion → Part
+asserted a = mark OpenParenthesis ▸ ended Comma a.condition ▸ string a.message ▸ mark CloseParenthesis
+
+-- assert = ASSERT "(" e "," STRING ")"
+abbrev pub assertion : Mode → Assertion → Part
+assertion mode a = key mode (codes "ASSERT") ▸ asserted a
+
+-- NAME "=" e ";" | provide | assert
+abbrev pub common : Mode → Common → Part
+common mode (commons.Assign a) = assign mode a
+common mode (commons.Provide a) = provide mode a
+common mode (commons.Assert a) = assertion mode a
+
+-- data = BYTE | SHORT | LONG | QUAD
+abbrev pub width_word : Width → List ℕ
+width_word Byte = codes "BYTE"
+width_word Short = codes "SHORT"
+width_word Long = codes "LONG"
+width_word Quad = codes "QUAD"
+
+-- "(" e ")"
+abbrev pub in_parentheses : Expr → Part
+in_parentheses e = mark OpenParenthesis ▸ ended CloseParenthesis e
+
+-- body = ";" | "." "=" e ";" | "." "+=" e ";" | NAME "=" e ";" | provide | assert | data "(" e ")" | input
+abbrev pub body_command : BodyCommand → Part
+body_command (body.Dot c) = dot_command Pattern c
+body_command (body.Common c) = common Pattern c
+body_command (body.Data w e) = key Pattern (width_word w) ▸ in_parentheses e
+body_command (body.Input i) = input i
+
+abbrev pub body_statement : BodyStatement → Part
+body_statement s = on_line s.line (body_command s.command)
+
+-- fill: `0x` and an even number of 2 to 16 hex digits, no suffix
+abbrev pub fill : List ℕ → Part
+fill bytes ts rest = (spelled : List ℕ) × (fill_of spelled ≡ Some bytes) × token (Number spelled) ts rest
+
+-- AT "(" e ")"
+abbrev pub at_address : Expr → Part
+at_address e = key Expression (codes "AT") ▸ in_parentheses e
+
+abbrev pub load_in_head : Load → Option Expr
+load_in_head Unstated = None
+load_in_head (At e) = Some e
+load_in_head (InRegion r) = None
+
+-- AT ">" NAME
+abbrev pub at_region : List ℕ → Part
+at_region r = key Expression (codes "AT") ▸ mark Greater ▸ name r
+
+abbrev pub load_in_tail : Load → Option (List ℕ)
+load_in_tail Unstated = None
+load_in_tail (At e) = None
+load_in_tail (InRegion r) = Some r
+
+-- ALIGN "(" e ")"
+abbrev pub alignment : Expr → Part
+alignment e = key Expression (codes "ALIGN") ▸ in_parentheses e
+
+-- ">" NAME
+abbrev pub in_region : List ℕ → Part
+in_region r = mark Greater ▸ name r
+
+-- "=" fill
+abbrev pub filled : List ℕ → Part
+filled bytes = mark Assign ▸ fill bytes
+
+-- [e] ":"
+abbrev pub address : Option Expr → Part
+address None = mark Colon
+address (Some e) = ended Colon e
+
+-- NAME [e] ":" [AT "(" e ")"] [ALIGN "(" e ")"] "{"
+abbrev pub section_head : OutputSection → Part
+section_head s = name s.name ▸ address s.address ▸ optional at_address (load_in_head s.load) ▸ optional alignment s.alignment ▸ mark OpenBrace
+
+-- [">" NAME] [AT ">" NAME] ["=" fill]
+abbrev pub section_tail : OutputSection → Part
+section_tail s = optional in_region s.region ▸ optional at_region (load_in_tail s.load) ▸ optional filled s.fill
+
+-- section = NAME [e] ":" [AT "(" e ")"] [ALIGN "(" e ")"] "{" {body} "}" [">" NAME] [AT ">" NAME] ["=" fill]
+abbrev pub section : OutputSection → Part
+section s = section_head s ▸ statements body_statement s.body ▸ mark CloseBrace ▸ section_tail s
+
+abbrev pub input_statement : InputStatement → Part
+input_statement s = on_line s.line (input s.input)
+
+-- ":" "{" {";" | input} "}"
+abbrev pub discarded : List InputStatement → Part
+discarded inputs = mark Colon ▸ mark OpenBrace ▸ statements input_statement inputs ▸ mark CloseBrace
+
+-- "/DISCARD/" ":" "{" {";" | input} "}"
+abbrev pub discard : List InputStatement → Part
+discard inputs = token Discard ▸ discarded inputs
+
+-- item = ";" | "." "=" e ";" | "." "+=" e ";" | NAME "=" e ";" | provide | assert | section
+abbrev pub item_command : ItemCommand → Part
+item_command (item.Dot c) = dot_command Expression c
+item_command (item.Common c) = common Expression c
+item_command (item.Section s) = section s
+item_command (item.Discard inputs) = discard inputs
+
+abbrev pub item_statement : Item → Part
+item_statement s = on_line s.line (item_command s.command)
+
+-- NAME ":" ORIGIN "="
+abbrev pub region_head : List ℕ → Part
+region_head n = name n ▸ mark Colon ▸ key Expression (codes "ORIGIN") ▸ mark Assign
+
+-- LENGTH "="
+abbrev pub region_middle : Part
+region_middle = key Expression (codes "LENGTH") ▸ mark Assign
+
+-- region = NAME ":" ORIGIN "=" e "," LENGTH "=" e
+abbrev pub region : Region → Part
+region r = on_line r.line (region_head r.name ▸ ended Comma r.origin ▸ region_middle ▸ expression r.extent)
+
+-- ENTRY "(" NAME ")"
+abbrev pub entry : List ℕ → Part
+entry n = key Expression (codes "ENTRY") ▸ mark OpenParenthesis ▸ name n ▸ mark CloseParenthesis
+
+-- MEMORY "{" {region} "}"
+abbrev pub memory : List Region → Part
+memory regions = key Expression (codes "MEMORY") ▸ mark OpenBrace ▸ each region regions ▸ mark CloseBrace
+
+-- SECTIONS "{" {item} "}"
+abbrev pub sections : List Item → Part
+sections items = key Expression (codes "SECTIONS") ▸ mark OpenBrace ▸ statements item_statement items ▸ mark CloseBrace
+
+-- top = ";" | ENTRY "(" NAME ")" | MEMORY "{" {region} "}" | SECTIONS "{" {item} "}" | NAME "=" e ";" | provide | assert
+abbrev pub top_command : Command → Part
+top_command (top.Entry n) = entry n
+top_command (top.Memory regions) = memory regions
+top_command (top.Sections items) = sections items
+top_command (top.Common c) = common Expression c
+
+abbrev pub top_statement : Statement → Part
+top_statement s = on_line s.line (top_command s.command)
+
+-- script = {top}, all of the tokens
+abbrev pub script : List Statement → List Lexeme → Type 0
+script s ts = statements top_statement s ts []

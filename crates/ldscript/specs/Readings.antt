@@ -1,0 +1,121 @@
+-- What the readers of the parts of a script answer, and the parts that one reader reads at once.
+use Rattle.std.specs.Prelude.{◌≡◌, ◌<◌, ◌≤◌, List, [], codes, length, Option, Some, None, Result, Ok, Err}
+use Rattle.ldtokens.specs.Tokens.{Lexeme, Discard}
+use Rattle.ldtokens.specs.declared.token.Mark.TheVariants.{CloseParenthesis, OpenBrace, Colon, Greater, Assign}
+use Rattle.ldtokens.specs.declared.token.Mode.TheVariants.{Expression, Pattern}
+use Rattle.ldexpr.specs.Expressions.{Expr}
+use Rattle.ldpattern.specs.Parts as patterns
+use Rattle.ldscript.specs.Steps.{Part, ◌▸◌, key, mark, optional, token}
+use Rattle.ldscript.specs.Grammar.{selection, width_word, in_parentheses, alignment, at_address, in_region, at_region, filled}
+use Rattle.ldtree.specs.declared.input.Sort.{Sort}
+use Rattle.ldscript.specs.declared.read_section.SectionHead.{SectionHead}
+use Rattle.ldscript.specs.declared.read_section.SectionTail.{SectionTail}
+use Rattle.ldtree.specs.declared.section.Width.{Width}
+use Rattle.ldscript.specs.declared.fault.Fault.{Fault}
+use Rattle.ldscript.specs.declared.fault.Fault.TheVariants.{NotAScript, NoMemory}
+
+-- this tree stands here, and takes a token or more
+pub record Takes {A : Type 0} (p : A → Part) (ts : List Lexeme) (x : A) (rest : List Lexeme) : Type 0 where
+  pub spells : p x ts rest
+  pub shorter : length rest < length ts
+
+-- no tree stands here
+abbrev pub NoneAt : {A : Type 0} → (A → Part) → List Lexeme → Type 0
+NoneAt {A} p ts = (y : A) (more : List Lexeme) → p y ts more → ⊥
+
+abbrev pub Finds : {A X : Type 0} → (A → Part) → List Lexeme → (X → A) → (X → List Lexeme) → Option X → Type 0
+Finds p ts tree rest (Some x) = Takes p ts (tree x) (rest x)
+Finds p ts tree rest None = NoneAt p ts
+
+-- want of memory says nothing of the tokens
+abbrev pub Fails : {A : Type 0} → (A → Part) → List Lexeme → Fault → Type 0
+Fails p ts NotAScript = NoneAt p ts
+Fails p ts NoMemory = Unit {0}
+
+abbrev pub Reads : {A X : Type 0} → (A → Part) → List Lexeme → (X → A) → (X → List Lexeme) → Result X Fault → Type 0
+Reads p ts tree rest (Ok x) = Takes p ts (tree x) (rest x)
+Reads p ts tree rest (Err fault) = Fails p ts fault
+
+-- a part without a tree
+abbrev pub Follows : {X : Type 0} → Part → List Lexeme → (X → List Lexeme) → Option X → Type 0
+Follows p ts rest (Some x) = p ts (rest x) × (length (rest x) < length ts)
+Follows p ts rest None = (more : List Lexeme) → p ts more → ⊥
+
+-- what stands between the parentheses of an input statement, and the `)` behind it
+abbrev pub selected : (Option Sort × List (List patterns.Part)) → Part
+selected s = selection s.0 s.1 ▸ mark CloseParenthesis
+
+-- BYTE | SHORT | LONG | QUAD
+abbrev pub width_part : Width → Part
+width_part w = key Pattern (width_word w)
+
+-- data "(" e ")"
+abbrev pub data_part : (Width × Expr) → Part
+data_part d = width_part d.0 ▸ in_parentheses d.1
+
+-- [ALIGN "(" e ")"] "{"
+abbrev pub opened_part : Option Expr → Part
+opened_part a = optional alignment a ▸ mark OpenBrace
+
+-- [AT "(" e ")"] [ALIGN "(" e ")"] "{"
+abbrev pub head_part : SectionHead → Part
+head_part h = optional at_address h.load ▸ opened_part h.alignment
+
+-- the end of the tokens
+abbrev pub at_end : Part
+at_end ts rest = (ts ≡ []) × (rest ≡ [])
+
+-- this tree stands here, and no other of which what follows stops it
+pub record TakesOnly {A : Type 0} (Stop : List Lexeme → Type 0) (p : A → Part) (ts : List Lexeme) (x : A) (rest : List Lexeme) : Type 0 where
+  pub spells : p x ts rest
+  pub only : (y : A) (more : List Lexeme) → p y ts more → Stop more → (y ≡ x) × (more ≡ rest)
+  pub shorter : length rest < length ts
+
+abbrev pub NoneUntil : {A : Type 0} → (List Lexeme → Type 0) → (A → Part) → List Lexeme → Type 0
+NoneUntil {A} Stop p ts = (y : A) (more : List Lexeme) → p y ts more → Stop more → ⊥
+
+abbrev pub FailsUntil : {A : Type 0} → (List Lexeme → Type 0) → (A → Part) → List Lexeme → Fault → Type 0
+FailsUntil Stop p ts NotAScript = NoneUntil Stop p ts
+FailsUntil Stop p ts NoMemory = Unit {0}
+
+abbrev pub ReadsOnly : {A X : Type 0} → (List Lexeme → Type 0) → (A → Part) → List Lexeme → (X → A) → (X → List Lexeme) → Result X Fault → Type 0
+ReadsOnly Stop p ts tree rest (Ok x) = TakesOnly Stop p ts (tree x) (rest x)
+ReadsOnly Stop p ts tree rest (Err fault) = FailsUntil Stop p ts fault
+
+-- what can't go on an output section
+pub record EndsSection (ts : List Lexeme) : Type 0 where
+  pub no_region : (rest : List Lexeme) → mark Greater ts rest → ⊥
+  pub no_load : (rest : List Lexeme) → key Expression (codes "AT") ts rest → ⊥
+  pub no_fill : (rest : List Lexeme) → mark Assign ts rest → ⊥
+
+-- a part that may stand there or not, with what it begins with
+abbrev pub Maybe : {A : Type 0} → Part → (A → Part) → List Lexeme → Option A → List Lexeme → Type 0
+Maybe f p ts None rest = (ts ≡ rest) × ((us : List Lexeme) → f ts us → ⊥)
+Maybe f p ts (Some x) rest = p x ts rest × (length rest < length ts)
+
+-- it begins, and does not go on as it must
+abbrev pub FailsMaybe : {A : Type 0} → Part → (A → Part) → List Lexeme → Fault → Type 0
+FailsMaybe f p ts NotAScript = (us : List Lexeme) × f ts us × NoneAt p ts
+FailsMaybe f p ts NoMemory = Unit {0}
+
+abbrev pub ReadsMaybe : {A X : Type 0} → Part → (A → Part) → List Lexeme → (X → Option A) → (X → List Lexeme) → Result X Fault → Type 0
+ReadsMaybe f p ts tree rest (Ok x) = Maybe f p ts (tree x) (rest x)
+ReadsMaybe f p ts tree rest (Err fault) = FailsMaybe f p ts fault
+
+-- [">" NAME] [AT ">" NAME] ["=" fill]
+abbrev pub tail_part : SectionTail → Part
+tail_part t = optional in_region t.region ▸ optional at_region t.load ▸ optional filled t.fill
+
+-- the tail that stands here, and no other of which what follows ends the section
+pub record TakesTail (ts : List Lexeme) (t : SectionTail) (rest : List Lexeme) : Type 0 where
+  pub spells : tail_part t ts rest
+  pub only : (u : SectionTail) (more : List Lexeme) → tail_part u ts more → EndsSection more → (u ≡ t) × (more ≡ rest)
+  pub within : length rest ≤ length ts
+
+abbrev pub ReadsTail : {X : Type 0} → List Lexeme → (X → SectionTail) → (X → List Lexeme) → Result X Fault → Type 0
+ReadsTail ts tree rest (Ok x) = TakesTail ts (tree x) (rest x)
+ReadsTail ts tree rest (Err fault) = FailsUntil EndsSection tail_part ts fault
+
+-- "/DISCARD/" ":" "{"
+abbrev pub discard_head : Part
+discard_head = token Discard ▸ mark Colon ▸ mark OpenBrace

@@ -1,0 +1,51 @@
+-- The script of a text, and why a text is none.
+use Rattle.std.specs.Prelude.{◌≡◌, ℕ, List, true, false}
+use Rattle.ldtokens.specs.Tokens.{Lexeme}
+use Rattle.ldtokens.specs.Limits.{IsTokens, IsTokenRefusal}
+use Rattle.ldtokens.specs.declared.refusal.TokenRefusal.TheVariants as tokens
+use Rattle.ldscript.specs.Grammar.{script}
+use Rattle.ldtree.specs.Mentions.{HasClash}
+use Rattle.ldtree.specs.Dots.{has_misplaced_dot}
+use Rattle.ldtree.specs.declared.statement.Statement.{Statement}
+use Rattle.ldscript.specs.declared.refusal.ScriptRefusal.{ScriptRefusal}
+use Rattle.ldscript.specs.declared.refusal.ScriptRefusal.TheVariants.{NotTokens, NotAScript, Repeated, MisplacedDot, Limit, NoMemory}
+
+-- the tokens of the text are those that the tree stands for
+pub record IsTree (text : List ℕ) (s : List Statement) : Type 0 where
+  pub lexemes : List Lexeme
+  pub tokens : IsTokens text lexemes
+  pub spelled : script s lexemes
+
+-- a script of the profile
+pub record IsScript (text : List ℕ) (s : List Statement) : Type 0 where
+  pub tree : IsTree text s
+  pub no_clash : HasClash s → ⊥
+  pub no_misplaced_dot : has_misplaced_dot s ≡ false
+
+-- tokens for which no tree stands
+pub record IsNoTree (text : List ℕ) : Type 0 where
+  pub lexemes : List Lexeme
+  pub tokens : IsTokens text lexemes
+  pub none : (s : List Statement) → script s lexemes → ⊥
+
+-- a tree in which something clashes
+pub record IsClashing (text : List ℕ) : Type 0 where
+  pub statements : List Statement
+  pub tree : IsTree text statements
+  pub clash : HasClash statements
+
+-- a tree without a clash in which a `.` is misplaced
+pub record IsMisplacing (text : List ℕ) : Type 0 where
+  pub statements : List Statement
+  pub tree : IsTree text statements
+  pub no_clash : HasClash statements → ⊥
+  pub misplaced : has_misplaced_dot statements ≡ true
+
+-- the refusal of a text, the first that applies; want of memory says nothing of it
+abbrev pub IsRefusal : List ℕ → ScriptRefusal → Type 0
+IsRefusal text NotTokens = IsTokenRefusal text tokens.NotAToken
+IsRefusal text NotAScript = IsNoTree text
+IsRefusal text Repeated = IsClashing text
+IsRefusal text MisplacedDot = IsMisplacing text
+IsRefusal text Limit = IsTokenRefusal text tokens.Limit
+IsRefusal text NoMemory = Unit {0}

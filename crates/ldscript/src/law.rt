@@ -1,0 +1,14 @@
+//! What holds of the definitions themselves.
+
+ghost use Rattle.std.specs.Prelude.{◌≡◌, ℕ, List};
+ghost use Rattle.ldscript.specs.Script.{IsTree};
+ghost use Rattle.ldtree.specs.declared.statement.Statement.{Statement};
+
+use ldtokens::laws::one_cut;
+
+/// No text has two trees.
+pub fn one_tree()
+    ensures { (text : List ℕ) (s t : List Statement) → IsTree text s → IsTree text t → s ≡ t }
+{
+    one_cut();
+}

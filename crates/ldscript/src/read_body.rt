@@ -1,0 +1,96 @@
+//! Readers of what stands in an output section.
+
+ghost use Rattle.std.specs.Prelude.{◌≡◌, ◌<◌, ℕ, List, IsTrue, length};
+ghost use Rattle.ldscript.specs.Steps.{◌▸◌, mark, statements};
+ghost use Rattle.ldscript.specs.Grammar.{body_command as body_command_part, body_statement};
+ghost use Rattle.ldscript.specs.Readings.{Reads, Finds, data_part, width_part};
+
+use crate::fault::Fault;
+use crate::read_common::{common, dot_command};
+use crate::read_input::input;
+use crate::steps::{after, after_key, in_parentheses};
+use ldtokens::cursor::Cursor;
+use ldtokens::token::{Mark, Mode};
+use ldtree::formula::Formula;
+use ldtree::section::{BodyCommand, BodyStatement, Width};
+use ldtree::sequence::Sequence;
+use std::alloc::Global;
+
+/// The word of a data command, and what follows it.
+fn width<'a>(tokens: Cursor<'a>) -> Option<(Width, Cursor<'a>)>
+    ensures { Finds width_part tokens.entry (λ x. x.0) (λ x. x.1) result }
+{
+    if let Some(rest) = after_key(Mode::Pattern, b"BYTE", tokens.copy()) {
+        return Some((Width::Byte, rest));
+    }
+    if let Some(rest) = after_key(Mode::Pattern, b"SHORT", tokens.copy()) {
+        return Some((Width::Short, rest));
+    }
+    if let Some(rest) = after_key(Mode::Pattern, b"LONG", tokens.copy()) {
+        return Some((Width::Long, rest));
+    }
+    let rest = after_key(Mode::Pattern, b"QUAD", tokens)?;
+    Some((Width::Quad, rest))
+}
+
+/// A data command and its value.
+fn data<'a>(alloc: Global, tokens: Cursor<'a>) -> Result<(Width, Formula, Cursor<'a>), Fault>
+    ensures { Reads data_part tokens.entry (λ x. (x.0, x.1)) (λ x. x.2) result }
+{
+    let Some((width, rest)) = width(tokens) else {
+        return Err(Fault::NotAScript);
+    };
+    let (value, rest) = in_parentheses(alloc, rest)?;
+    Ok((width, value, rest))
+}
+
+/// What a statement in an output section says.
+#[tactic(auto, using(crate::proofs::Bodies::body_none))]
+fn body_command<'a>(alloc: Global, tokens: Cursor<'a>) -> Result<(BodyCommand, Cursor<'a>), Fault>
+    ensures { Reads body_command_part tokens.entry (λ x. x.0) (λ x. x.1) result }
+{
+    match dot_command(alloc, Mode::Pattern, tokens.copy()) {
+        Ok((command, rest)) => return Ok((BodyCommand::Dot(command), rest)),
+        Err(Fault::NoMemory) => return Err(Fault::NoMemory),
+        Err(Fault::NotAScript) => {}
+    }
+    match common(alloc, Mode::Pattern, tokens.copy()) {
+        Ok((command, rest)) => return Ok((BodyCommand::Common(command), rest)),
+        Err(Fault::NoMemory) => return Err(Fault::NoMemory),
+        Err(Fault::NotAScript) => {}
+    }
+    match data(alloc, tokens.copy()) {
+        Ok((width, value, rest)) => return Ok((BodyCommand::Data(width, value), rest)),
+        Err(Fault::NoMemory) => return Err(Fault::NoMemory),
+        Err(Fault::NotAScript) => {}
+    }
+    match input(alloc, tokens) {
+        Ok((input, rest)) => Ok((BodyCommand::Input(input), rest)),
+        Err(Fault::NoMemory) => Err(Fault::NoMemory),
+        Err(Fault::NotAScript) => Err(Fault::NotAScript),
+    }
+}
+
+/// {body} `}`
+pub fn body<'a>(
+    alloc: Global,
+    tokens: Cursor<'a>,
+) -> Result<(Sequence<BodyStatement>, Cursor<'a>), Fault>
+    ensures { Reads (λ ss. statements body_statement ss ▸ mark Mark.CloseBrace) tokens.entry (λ x. x.0) (λ x. x.1) result }
+{
+    let mut body = Sequence::new(alloc);
+    let mut rest = tokens;
+    'reading: loop {
+        if let Some(more) = after(Mark::Semicolon, rest.copy()) {
+            rest = more;
+            continue;
+        }
+        if let Some(behind) = after(Mark::CloseBrace, rest.copy()) {
+            return Ok((body, behind));
+        }
+        let line = rest.line();
+        let (command, more) = body_command(alloc, rest)?;
+        body.push(BodyStatement { line, command })?;
+        rest = more;
+    }
+}

@@ -1,0 +1,168 @@
+//! Readers of the commands that stand in more than one list.
+
+ghost use Rattle.std.specs.Prelude.{◌≡◌, ◌<◌, ℕ, List, IsTrue, length};
+ghost use Rattle.ldtokens.specs.Tokens.{Lexeme};
+ghost use Rattle.ldscript.specs.Steps.{◌▸◌, mark, string};
+ghost use Rattle.ldscript.specs.Grammar.{assign as assign_part, asserted as asserted_part, assertion as assertion_part, common as common_part, dot_change as dot_change_part, dot_command as dot_command_part, provide as provide_part, provided as provided_part, provided_name as provided_name_part, set_to as set_to_part};
+ghost use Rattle.ldscript.specs.Readings.{Reads, Finds};
+
+use crate::fault::Fault;
+use crate::steps::{after, after_key, ended, front_name, plain_name};
+use ldtokens::cursor::Cursor;
+use ldtokens::name::ScriptName;
+use ldtokens::token::{Mark, Mode};
+use ldtree::common::{Assertion, Assignment, Common, DotCommand};
+use ldtree::formula::Formula;
+use std::alloc::Global;
+
+/// `= e ;`
+fn set_to<'a>(alloc: Global, tokens: Cursor<'a>) -> Result<(Formula, Cursor<'a>), Fault>
+    ensures { Reads set_to_part tokens.entry (λ x. x.0) (λ x. x.1) result }
+{
+    match after(Mark::Assign, tokens) {
+        Some(rest) => ended(alloc, rest, Mark::Semicolon),
+        None => Err(Fault::NotAScript),
+    }
+}
+
+/// `= e ;` or `+= e ;`
+fn dot_change<'a>(alloc: Global, tokens: Cursor<'a>) -> Result<(DotCommand, Cursor<'a>), Fault>
+    ensures { Reads dot_change_part tokens.entry (λ x. x.0) (λ x. x.1) result }
+{
+    if let Some(rest) = after(Mark::AddAssign, tokens.copy()) {
+        let (value, rest) = ended(alloc, rest, Mark::Semicolon)?;
+        return Ok((DotCommand::Add(value), rest));
+    }
+    let (value, rest) = set_to(alloc, tokens)?;
+    Ok((DotCommand::Set(value), rest))
+}
+
+/// `. = e ;` or `. += e ;`
+pub fn dot_command<'a>(
+    alloc: Global,
+    mode: Mode,
+    tokens: Cursor<'a>,
+) -> Result<(DotCommand, Cursor<'a>), Fault>
+    ensures { Reads (dot_command_part mode) tokens.entry (λ x. x.0) (λ x. x.1) result }
+{
+    match after_key(mode, b".", tokens) {
+        Some(rest) => dot_change(alloc, rest),
+        None => Err(Fault::NotAScript),
+    }
+}
+
+/// NAME `= e ;`
+fn assign<'a>(
+    alloc: Global,
+    mode: Mode,
+    tokens: Cursor<'a>,
+) -> Result<(Assignment, Cursor<'a>), Fault>
+    ensures { Reads (assign_part mode) tokens.entry (λ x. x.0) (λ x. x.1) result }
+{
+    let Some((name, rest)) = front_name(mode, tokens) else {
+        return Err(Fault::NotAScript);
+    };
+    let (value, rest) = set_to(alloc, rest)?;
+    let name = ScriptName::new(alloc, name)?;
+    Ok((Assignment { name, value }, rest))
+}
+
+/// `(` NAME `=`
+fn provided_name<'a>(tokens: Cursor<'a>) -> Option<(&'a [u8], Cursor<'a>)>
+    ensures { Finds provided_name_part tokens.entry (λ x. x.0.now) (λ x. x.1) result }
+{
+    let rest = after(Mark::OpenParenthesis, tokens)?;
+    let (name, rest) = plain_name(rest)?;
+    let rest = after(Mark::Assign, rest)?;
+    Some((name, rest))
+}
+
+/// `(` NAME `= e )`
+fn provided<'a>(alloc: Global, tokens: Cursor<'a>) -> Result<(Assignment, Cursor<'a>), Fault>
+    ensures { Reads provided_part tokens.entry (λ x. x.0) (λ x. x.1) result }
+{
+    let Some((name, rest)) = provided_name(tokens) else {
+        return Err(Fault::NotAScript);
+    };
+    let (value, rest) = ended(alloc, rest, Mark::CloseParenthesis)?;
+    let name = ScriptName::new(alloc, name)?;
+    Ok((Assignment { name, value }, rest))
+}
+
+/// `PROVIDE (` NAME `= e )`
+fn provide<'a>(
+    alloc: Global,
+    mode: Mode,
+    tokens: Cursor<'a>,
+) -> Result<(Assignment, Cursor<'a>), Fault>
+    ensures { Reads (provide_part mode) tokens.entry (λ x. x.0) (λ x. x.1) result }
+{
+    match after_key(mode, b"PROVIDE", tokens) {
+        Some(rest) => provided(alloc, rest),
+        None => Err(Fault::NotAScript),
+    }
+}
+
+/// STRING `)`
+fn message<'a>(tokens: Cursor<'a>) -> Option<(&'a [u8], Cursor<'a>)>
+    ensures { Finds (λ s. string s ▸ mark Mark.CloseParenthesis) tokens.entry (λ x. x.0.now) (λ x. x.1) result }
+{
+    let (text, rest) = tokens.text_in_quotes()?;
+    let rest = after(Mark::CloseParenthesis, rest)?;
+    Some((text, rest))
+}
+
+/// `( e ,` STRING `)`
+fn asserted<'a>(alloc: Global, tokens: Cursor<'a>) -> Result<(Assertion, Cursor<'a>), Fault>
+    ensures { Reads asserted_part tokens.entry (λ x. x.0) (λ x. x.1) result }
+{
+    let Some(rest) = after(Mark::OpenParenthesis, tokens) else {
+        return Err(Fault::NotAScript);
+    };
+    let (condition, rest) = ended(alloc, rest, Mark::Comma)?;
+    let Some((message, rest)) = message(rest) else {
+        return Err(Fault::NotAScript);
+    };
+    let message = ScriptName::new(alloc, message)?;
+    Ok((Assertion { condition, message }, rest))
+}
+
+/// `ASSERT ( e ,` STRING `)`
+fn assertion<'a>(
+    alloc: Global,
+    mode: Mode,
+    tokens: Cursor<'a>,
+) -> Result<(Assertion, Cursor<'a>), Fault>
+    ensures { Reads (assertion_part mode) tokens.entry (λ x. x.0) (λ x. x.1) result }
+{
+    match after_key(mode, b"ASSERT", tokens) {
+        Some(rest) => asserted(alloc, rest),
+        None => Err(Fault::NotAScript),
+    }
+}
+
+/// NAME `= e ;`, `PROVIDE` or `ASSERT`
+#[tactic(auto, using(crate::proofs::Commons::common_none))]
+pub fn common<'a>(
+    alloc: Global,
+    mode: Mode,
+    tokens: Cursor<'a>,
+) -> Result<(Common, Cursor<'a>), Fault>
+    ensures { Reads (common_part mode) tokens.entry (λ x. x.0) (λ x. x.1) result }
+{
+    match assign(alloc, mode, tokens.copy()) {
+        Ok((assignment, rest)) => return Ok((Common::Assign(assignment), rest)),
+        Err(Fault::NoMemory) => return Err(Fault::NoMemory),
+        Err(Fault::NotAScript) => {}
+    }
+    match provide(alloc, mode, tokens.copy()) {
+        Ok((assignment, rest)) => return Ok((Common::Provide(assignment), rest)),
+        Err(Fault::NoMemory) => return Err(Fault::NoMemory),
+        Err(Fault::NotAScript) => {}
+    }
+    match assertion(alloc, mode, tokens) {
+        Ok((assertion, rest)) => Ok((Common::Assert(assertion), rest)),
+        Err(Fault::NoMemory) => Err(Fault::NoMemory),
+        Err(Fault::NotAScript) => Err(Fault::NotAScript),
+    }
+}

@@ -1,0 +1,90 @@
+//! Readers of memory regions.
+
+ghost use Rattle.std.specs.Prelude.{◌≡◌, ◌<◌, ℕ, List, IsTrue, length};
+ghost use Rattle.ldscript.specs.Steps.{◌▸◌, each, expression, mark};
+ghost use Rattle.ldscript.specs.Grammar.{region as region_part, region_head as region_head_part, region_middle as region_middle_part};
+ghost use Rattle.ldscript.specs.Readings.{Reads, ReadsOnly, Finds, Follows};
+ghost use Rattle.ldexpr.specs.Grammar.{Stops, Whole};
+
+use crate::fault::Fault;
+use crate::steps::{after, after_key, ended, plain_name};
+use ldexpr::fault::ParseFault;
+use ldexpr::reader::expr;
+use ldtokens::cursor::Cursor;
+use ldtokens::name::ScriptName;
+use ldtokens::token::{Mark, Mode};
+use ldtree::formula::Formula;
+use ldtree::sequence::Sequence;
+use ldtree::statement::Region;
+use std::alloc::Global;
+
+/// NAME `: ORIGIN =`
+fn region_head<'a>(tokens: Cursor<'a>) -> Option<(&'a [u8], Cursor<'a>)>
+    ensures { Finds region_head_part tokens.entry (λ x. x.0.now) (λ x. x.1) result }
+{
+    let (name, rest) = plain_name(tokens)?;
+    let rest = after(Mark::Colon, rest)?;
+    let rest = after_key(Mode::Expression, b"ORIGIN", rest)?;
+    let rest = after(Mark::Assign, rest)?;
+    Some((name, rest))
+}
+
+/// `LENGTH =`
+fn region_middle(tokens: Cursor<'_>) -> Option<Cursor<'_>>
+    ensures { Follows region_middle_part tokens.entry (λ x. x) result }
+{
+    let rest = after_key(Mode::Expression, b"LENGTH", tokens)?;
+    after(Mark::Assign, rest)
+}
+
+/// An expression.
+fn formula<'a>(alloc: Global, tokens: Cursor<'a>) -> Result<(Formula, Cursor<'a>), Fault>
+    ensures { ReadsOnly (Stops Whole) expression tokens.entry (λ x. x.0) (λ x. x.1) result }
+{
+    match expr(alloc, tokens) {
+        Ok((expr, rest)) => Ok((Formula::new(expr), rest)),
+        Err(ParseFault::NotAnExpression) => Err(Fault::NotAScript),
+        Err(ParseFault::NoMemory) => Err(Fault::NoMemory),
+    }
+}
+
+/// A memory region.
+fn region<'a>(alloc: Global, tokens: Cursor<'a>) -> Result<(Region, Cursor<'a>), Fault>
+    ensures { ReadsOnly (Stops Whole) region_part tokens.entry (λ x. x.0) (λ x. x.1) result }
+{
+    let line = tokens.line();
+    let Some((name, rest)) = region_head(tokens) else {
+        return Err(Fault::NotAScript);
+    };
+    let (origin, rest) = ended(alloc, rest, Mark::Comma)?;
+    let Some(rest) = region_middle(rest) else {
+        return Err(Fault::NotAScript);
+    };
+    let (extent, rest) = formula(alloc, rest)?;
+    let region = Region {
+        line,
+        name: ScriptName::new(alloc, name)?,
+        origin,
+        extent,
+    };
+    Ok((region, rest))
+}
+
+/// {region} `}`
+pub fn regions<'a>(
+    alloc: Global,
+    tokens: Cursor<'a>,
+) -> Result<(Sequence<Region>, Cursor<'a>), Fault>
+    ensures { Reads (λ rs. each region_part rs ▸ mark Mark.CloseBrace) tokens.entry (λ x. x.0) (λ x. x.1) result }
+{
+    let mut regions = Sequence::new(alloc);
+    let mut rest = tokens;
+    'reading: loop {
+        if let Some(behind) = after(Mark::CloseBrace, rest.copy()) {
+            return Ok((regions, behind));
+        }
+        let (region, more) = region(alloc, rest)?;
+        regions.push(region)?;
+        rest = more;
+    }
+}

@@ -1,0 +1,143 @@
+//! Steps that the readers of statements share.
+
+ghost use Rattle.std.specs.Prelude.{◌≡◌, ◌<◌, ◌∷◌, ◌==◌, ◌&&◌, ℕ, List, IsTrue, MatchOption, length, slice_index};
+ghost use Rattle.std.specs.List.{list_all};
+ghost use Rattle.ldtokens.specs.Bytes.{is_name_byte};
+ghost use Rattle.ldtokens.specs.Tokens.{Lexeme};
+ghost use Rattle.ldexpr.specs.Grammar.{StopsAt, Whole, Sign};
+ghost use Rattle.ldscript.specs.Steps.{◌▸◌, key, mark as mark_part, token, word_in, is_name_in, is_name_spelling, name_in, name as name_part, string, expression};
+ghost use Rattle.ldscript.specs.Grammar.{ended as ended_part, in_parentheses as parenthesized};
+ghost use Rattle.ldscript.specs.Readings.{Reads, Finds, Follows};
+
+use crate::fault::Fault;
+use ldexpr::fault::ParseFault;
+use ldexpr::reader::expr;
+use ldtokens::bytes::{byte_at, is_name_byte, is_name_start};
+use ldtokens::cursor::Cursor;
+use ldtokens::token::{Mark, Mode};
+use ldtokens::words::is_free_name;
+use ldtree::formula::Formula;
+use std::alloc::Global;
+
+/// Whether a word begins with `.-`, as no name does.
+fn begins_with_dot_minus(word: &[u8]) -> bool
+    ensures { result ≡ ((slice_index word.now 0 == 46) && (slice_index word.now 1 == 45)) }
+{
+    byte_at(word, 0) == b'.' && byte_at(word, 1) == b'-'
+}
+
+/// Whether a word has bytes of names alone.
+fn has_name_bytes(word: &[u8]) -> bool
+    ensures { result ≡ list_all is_name_byte word.now }
+{
+    word.iter().all(|b| is_name_byte(*b))
+}
+
+/// Whether a word is spelled as a name.
+#[tactic(auto, unfolding(crate::specs::Steps::is_name_spelling))]
+fn is_spelled_as_name(word: &[u8]) -> bool
+    ensures { result ≡ is_name_spelling word.now }
+{
+    if !is_name_start(byte_at(word, 0)) {
+        return false;
+    }
+    if begins_with_dot_minus(word) {
+        return false;
+    }
+    has_name_bytes(word)
+}
+
+/// Whether the word of a token of a mode may be given a value.
+fn may_be_given(mode: Mode, word: &[u8]) -> bool
+    ensures { result ≡ is_name_in mode word.now }
+{
+    match mode {
+        Mode::Expression => is_free_name(word),
+        Mode::Pattern => is_free_name(word) && is_spelled_as_name(word),
+    }
+}
+
+/// The word at the front of a statement, and what follows it.
+fn front_word<'a>(mode: Mode, tokens: Cursor<'a>) -> Option<(&'a [u8], Cursor<'a>)>
+    ensures { Finds (λ w. token (word_in mode w)) tokens.entry (λ x. x.0.now) (λ x. x.1) result }
+{
+    match mode {
+        Mode::Expression => tokens.name(),
+        Mode::Pattern => tokens.word(),
+    }
+}
+
+/// What follows this very word at the front of a statement.
+pub fn after_key<'a>(mode: Mode, word: &[u8], tokens: Cursor<'a>) -> Option<Cursor<'a>>
+    ensures { Follows (key mode word.now) tokens.entry (λ x. x) result }
+{
+    match mode {
+        Mode::Expression => tokens.this_name(word),
+        Mode::Pattern => tokens.this_word(word),
+    }
+}
+
+/// A name at the front of a statement, and what follows it.
+pub fn front_name<'a>(mode: Mode, tokens: Cursor<'a>) -> Option<(&'a [u8], Cursor<'a>)>
+    ensures { Finds (name_in mode) tokens.entry (λ x. x.0.now) (λ x. x.1) result }
+{
+    let (word, rest) = front_word(mode, tokens)?;
+    if may_be_given(mode, word) {
+        Some((word, rest))
+    } else {
+        None
+    }
+}
+
+/// A name in an expression's place, and what follows it.
+pub fn plain_name<'a>(tokens: Cursor<'a>) -> Option<(&'a [u8], Cursor<'a>)>
+    ensures { Finds name_part tokens.entry (λ x. x.0.now) (λ x. x.1) result }
+{
+    front_name(Mode::Expression, tokens)
+}
+
+/// What follows a mark.
+pub fn after(mark: Mark, tokens: Cursor<'_>) -> Option<Cursor<'_>>
+    ensures { Follows (mark_part mark) tokens.entry (λ x. x) result }
+{
+    tokens.mark(mark)
+}
+
+/// `(` NAME `)`
+pub fn name_in_parentheses<'a>(tokens: Cursor<'a>) -> Option<(&'a [u8], Cursor<'a>)>
+    ensures { Finds (λ n. mark_part Mark.OpenParenthesis ▸ name_part n ▸ mark_part Mark.CloseParenthesis) tokens.entry (λ x. x.0.now) (λ x. x.1) result }
+{
+    let rest = after(Mark::OpenParenthesis, tokens)?;
+    let (name, rest) = plain_name(rest)?;
+    let rest = after(Mark::CloseParenthesis, rest)?;
+    Some((name, rest))
+}
+
+/// An expression and a mark behind it that can't go on one.
+pub fn ended<'a>(
+    alloc: Global,
+    tokens: Cursor<'a>,
+    mark: Mark,
+) -> Result<(Formula, Cursor<'a>), Fault>
+    requires { StopsAt Whole (Sign mark) }
+    ensures { Reads (ended_part mark) tokens.entry (λ x. x.0) (λ x. x.1) result }
+{
+    match expr(alloc, tokens) {
+        Ok((expr, rest)) => match after(mark, rest) {
+            Some(rest) => Ok((Formula::new(expr), rest)),
+            None => Err(Fault::NotAScript),
+        },
+        Err(ParseFault::NotAnExpression) => Err(Fault::NotAScript),
+        Err(ParseFault::NoMemory) => Err(Fault::NoMemory),
+    }
+}
+
+/// `( e )`
+pub fn in_parentheses<'a>(alloc: Global, tokens: Cursor<'a>) -> Result<(Formula, Cursor<'a>), Fault>
+    ensures { Reads parenthesized tokens.entry (λ x. x.0) (λ x. x.1) result }
+{
+    match after(Mark::OpenParenthesis, tokens) {
+        Some(rest) => ended(alloc, rest, Mark::CloseParenthesis),
+        None => Err(Fault::NotAScript),
+    }
+}
