@@ -5,9 +5,6 @@ pub mod OneSectionImage
 pub mod OneSectionMembers
 pub mod OneSectionRelocating
 pub mod OneObject
-pub mod ScriptCut
-pub mod ScriptNumber
-pub mod ScriptTokens
 pub mod StreamLines
 pub mod StreamWriting
 pub mod StreamGrammar
@@ -15,3 +12,5 @@ pub mod StreamRuns
 pub mod StreamSteps
 pub mod StreamEnds
 pub mod StreamWords
+pub mod Outcomes
+pub mod LinkedForms

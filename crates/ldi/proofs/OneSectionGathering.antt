@@ -1,7 +1,7 @@
 -- Gathering where there is one section and one input statement.
 use Rattle.std.proofs.Common.{◌≡◌, ℕ, List, [], ◌∷◌, length, true, refl, nat_eq}
 use Rattle.ldi.specs.Tree.{Tree, Exact, matches}
-use Rattle.ldi.specs.ScriptForm.{form_tree}
+use Rattle.ldi.specs.LinkedScript.{form_tree}
 use Rattle.ldi.specs.Gathering.{Member, orphans, rows, piece_of}
 
 -- the section is taken by the statement

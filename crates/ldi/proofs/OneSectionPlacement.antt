@@ -4,7 +4,7 @@ use Rattle.std.proofs.lemmas.Bool.{lt-ltb, eqb-true, eqb-false}
 use Rattle.std.proofs.Math.Nat.{mul-mod_left, mod_self, mod-eq_of_lt, sub-zero}
 use Rattle.std.specs.Int.{next_multiple_of}
 use Rattle.ldi.specs.Tree.{Tree}
-use Rattle.ldi.specs.ScriptForm.{form_tree}
+use Rattle.ldi.specs.LinkedScript.{form_tree}
 use Rattle.ldi.specs.Gathering.{Piece}
 use Rattle.ldi.specs.Placement.{placement, address, placed, alignment_of, widest}
 use Rattle.ldi.specs.OneSection.{rows_with, PlacedAs}

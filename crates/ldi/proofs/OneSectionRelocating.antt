@@ -1,13 +1,11 @@
 -- Relocation where there is one object with one linked section.
 use Rattle.std.proofs.lemmas.Bool.{ne_eqb}
-use Rattle.std.proofs.Common.{◌≡◌, zero, suc, Ok, Err, arith, ◌+◌, ◌%◌, ◌^◌, ℕ, List, [], ◌∷◌, length, map, filter, slice_get, Bool, true, false, cond, Option, Some, None, refl, sym, ap, ◌∙◌, append-nil, nat_eq, is_none, rules, get_or, ◌<◌, ◌≤◌, nat_lt, min, max}
+use Rattle.std.proofs.Common.{◌≡◌, zero, suc, arith, ◌+◌, ◌%◌, ◌^◌, ℕ, List, [], ◌∷◌, length, map, filter, slice_get, Bool, true, false, cond, Option, Some, None, refl, sym, ap, ◌∙◌, append-nil, nat_eq, is_none, rules, get_or, ◌<◌, ◌≤◌, nat_lt, min, max}
 use Rattle.std.specs.List.{All, Contains, filter_map}
 use Rattle.std.specs.Option.{option_map, option_and_then}
 use Rattle.std.specs.Str.{bytes_eq}
-use Rattle.std.proofs.lemmas.Slice.Eq.{bytes_eq-Decides}
 use Rattle.elfobj.specs.declared.relocation.Relocation.{Relocation}
 use Rattle.elfobj.specs.declared.relocation.SymbolIndex.{SymbolIndex}
-use Rattle.elfobj.specs.declared.section.SectionIndex.{SectionIndex}
 use Rattle.elfobj.specs.declared.symbol.Symbol.{Symbol}
 use Rattle.elfobj.specs.declared.symbol.SymbolPlace.{SymbolPlace}
 use Rattle.elfobj.specs.declared.symbol.SymbolPlace.TheVariants as place
@@ -27,8 +25,8 @@ use Rattle.emit.specs.Patches.{AreApart, IsWithin, patch_end}
 use Rattle.ldi.specs.Project.{NamedObject}
 use Rattle.ldi.specs.Gathering.{Piece, piece_of}
 use Rattle.ldi.specs.Placement.{PlacedPiece, Laid}
-use Rattle.ldi.specs.Relocating.{is_evaluated_by, start_of, symbol_value, symbols_of, target_value, field_in, sites, relocation_faults, relocated, relocated_bytes}
-use Rattle.ldi.specs.OneSection.{member_of, row_of, laid, one_value, one_target, one_field, evaluated, patched_row, AreFields, span_of, span_of_patch, MissesField, RowHasFields, RowMissesField, IsOf, IsWhole}
+use Rattle.ldi.specs.Relocating.{is_evaluated_by, symbol_value, symbols_of, target_value, field_in}
+use Rattle.ldi.specs.OneSection.{member_of, row_of, laid, one_value, one_target, one_field, evaluated, patched_row, span_of, span_of_patch, MissesField, RowHasFields, RowMissesField, IsOf, IsWhole}
 use Rattle.ldi.specs.Image.{image_of}
 use Rattle.ldi.specs.Link.{Link, faulty, linked_placed}
 use Rattle.ldi.specs.Segments.{segments}

@@ -1,14 +1,17 @@
 -- What `apply` leaves, by cases on its result.
-use Rattle.std.specs.Prelude.{◌≡◌, ◌⊎◌, [], ◌∷◌, Result, Ok, Err, true, false}
+use Rattle.std.specs.Prelude.{◌≡◌, ◌⊎◌, [], ◌∷◌, List, Some, None, Result, Ok, Err, true, false}
 use Rattle.ldi.specs.Project.{Project, NamedObject}
 use Rattle.ldi.specs.NotYet.{is_beyond}
 use Rattle.elfobj.specs.RefusalNumber.{refusal_number}
 use Rattle.elfobj.specs.declared.refusal.ObjectRefusal.{ObjectRefusal}
 use Rattle.elfobj.specs.declared.refusal.ObjectRefusal.TheVariants as object
-use Rattle.ldi.specs.declared.script.refusal.ScriptRefusal.{ScriptRefusal}
-use Rattle.ldi.specs.declared.script.refusal.ScriptRefusal.TheVariants as script
-use Rattle.ldi.specs.ScriptForm.{script_refusal_number}
-use Rattle.ldi.specs.Edits.{Change, After, RefusedAs, refusal, no_memory, not_yet}
+use Rattle.ldscript.specs.RefusalNumber as number
+use Rattle.ldscript.specs.declared.refusal.ScriptRefusal.{ScriptRefusal}
+use Rattle.ldscript.specs.declared.refusal.ScriptRefusal.TheVariants as script
+use Rattle.ldtree.specs.declared.statement.Statement.{Statement}
+use Rattle.ldi.specs.Tree.{Tree}
+use Rattle.ldi.specs.LinkedScript.{linked_part}
+use Rattle.ldi.specs.Edits.{Change, After, RefusedAs, refusal, no_memory, not_yet, script_not_yet}
 use Rattle.ldi.specs.Link.{link, linked_of}
 use Rattle.ldi.specs.declared.linker.edit.Linked.{Linked}
 use Rattle.ldi.specs.declared.linker.edit.EditRefusal.{EditRefusal}
@@ -23,6 +26,11 @@ abbrev pub Taken : Project → NamedObject → Project → Result Linked EditRef
 Taken old o new (Ok l) = (is_beyond o.object ≡ false) × (new ≡ record old { objects = o ∷ [] }) × (l ≡ linked_of (link new))
 Taken old o new (Err r) = (((is_beyond o.object ≡ true) × (r ≡ not_yet)) ⊎ (r ≡ no_memory)) × (new ≡ old)
 
+-- a script that is taken: it is linked; or it isn't linked yet; or memory was wanting
+abbrev pub ScriptTaken : Project → List Statement → Project → Result Linked EditRefusal → Type 0
+ScriptTaken old s new (Ok l) = (tree : Tree) × (linked_part s ≡ Some tree) × (new ≡ record old { script = tree }) × (l ≡ linked_of (link new))
+ScriptTaken old s new (Err r) = (((linked_part s ≡ None) × (r ≡ script_not_yet)) ⊎ (r ≡ no_memory)) × (new ≡ old)
+
 -- how a linker tells a reader's refusal
 abbrev pub object_refused : ObjectRefusal → EditRefusal
 object_refused object.NoMemory = no_memory
@@ -30,4 +38,4 @@ object_refused why = refusal 4 (refusal_number why)
 
 abbrev pub script_refused : ScriptRefusal → EditRefusal
 script_refused script.NoMemory = no_memory
-script_refused why = refusal 5 (script_refusal_number why)
+script_refused why = refusal 5 (number.refusal_number why)

@@ -1,16 +1,20 @@
 -- What an edit makes of a project, or why it is refused.
-use Rattle.std.specs.Prelude.{◌≡◌, ◌⊎◌, ℕ, ◌^◌, List, length, insert, Option, Some, None, Result, Ok, Err, Bool, not, ◌||◌, ◌&&◌, true, false, nat_lt, nat_le, if◌then◌else◌, bytes_eq}
+use Rattle.std.specs.Prelude.{◌≡◌, ◌≢◌, ◌⊎◌, ℕ, ◌^◌, List, length, insert, Option, Some, None, Result, Ok, Err, Bool, not, ◌||◌, ◌&&◌, true, false, nat_lt, nat_le, if◌then◌else◌, bytes_eq}
 use Rattle.std.specs.List.{list_any, list_all}
 use Rattle.elfobj.specs.Object.{object_of}
 use Rattle.elfobj.specs.Refusal.{object_refusal}
 use Rattle.elfobj.specs.RefusalNumber.{refusal_number}
 use Rattle.elfobj.specs.declared.refusal.ObjectRefusal.{ObjectRefusal}
 use Rattle.elfobj.specs.Names.{is_graphic}
+use Rattle.ldscript.specs.Script.{IsScript, IsRefusal}
+use Rattle.ldscript.specs.RefusalNumber as script
+use Rattle.ldscript.specs.declared.refusal.ScriptRefusal.{ScriptRefusal}
+use Rattle.ldscript.specs.declared.refusal.ScriptRefusal.TheVariants.{NoMemory}
+use Rattle.ldtree.specs.declared.statement.Statement.{Statement}
 use Rattle.ldi.specs.Project.{Project, NamedObject}
 use Rattle.ldi.specs.NotYet.{is_beyond}
 use Rattle.ldi.specs.Tree.{Tree}
-use Rattle.ldi.specs.ScriptForm.{IsScript, IsScriptRefusal, script_refusal_number}
-use Rattle.ldi.specs.declared.script.refusal.ScriptRefusal.{ScriptRefusal}
+use Rattle.ldi.specs.LinkedScript.{linked_part}
 use Rattle.ldi.specs.declared.linker.edit.EditRefusal.{EditRefusal}
 use Rattle.ldi.specs.declared.linker.edit.TheConstants.{MAX_OBJECTS}
 
@@ -54,7 +58,8 @@ early_refusal p (SetScript text) = if is_payload_too_long text then Some (refusa
 abbrev pub Accepts : Project → Change → Project → Type 0
 Accepts p (Add name at bytes) q =
     (object_refusal bytes ≡ None) × (is_beyond (object_of bytes) ≡ false) × (q ≡ record p { objects = insert p.objects at (record { name = name; object = object_of bytes }) })
-Accepts p (SetScript text) q = (tree : Tree) × IsScript text tree × (q ≡ record p { script = tree })
+Accepts p (SetScript text) q =
+    (s : List Statement) × IsScript text s × (tree : Tree) × (linked_part s ≡ Some tree) × (q ≡ record p { script = tree })
 
 -- an object of the profile that this version doesn't link yet
 abbrev pub not_yet : EditRefusal
@@ -66,10 +71,21 @@ RefusesObject bytes r =
     ((why : ObjectRefusal) × (object_refusal bytes ≡ Some why) × (r ≡ refusal 4 (refusal_number why)))
     ⊎ ((object_refusal bytes ≡ None) × (is_beyond (object_of bytes) ≡ true) × (r ≡ not_yet))
 
--- refusals 4 (object) and 5 (script), with the reader's own number, or 15 for an object that isn't linked yet
+-- a script that this version doesn't link yet
+abbrev pub script_not_yet : EditRefusal
+script_not_yet = refusal 5 7
+
+-- bytes that are no script, or one that isn't linked yet; want of memory is no such refusal
+abbrev pub RefusesScript : List ℕ → EditRefusal → Type 0
+RefusesScript text r =
+    ((why : ScriptRefusal) × (why ≢ NoMemory) × IsRefusal text why × (r ≡ refusal 5 (script.refusal_number why)))
+    ⊎ ((s : List Statement) × IsScript text s × (linked_part s ≡ None) × (r ≡ script_not_yet))
+
+-- refusals 4 (object) and 5 (script), with the reader's own number, or 15 for an object and 7 for a script that isn't
+-- linked yet
 abbrev pub Refuses : Project → Change → EditRefusal → Type 0
 Refuses p (Add name at bytes) r = RefusesObject bytes r
-Refuses p (SetScript text) r = (why : ScriptRefusal) × IsScriptRefusal text why × (r ≡ refusal 5 (script_refusal_number why))
+Refuses p (SetScript text) r = RefusesScript text r
 
 abbrev pub After : Project → Change → Result Project EditRefusal → Type 0
 After p c (Ok q) = (early_refusal p c ≡ None) × Accepts p c q

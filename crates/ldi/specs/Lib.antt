@@ -1,8 +1,7 @@
-pub mod Bytes
-pub mod Tokens
-pub mod Modes
 pub mod Tree
-pub mod ScriptForm
+pub mod LinkedScript
+pub mod LinkedPart
+pub mod LinkedForm
 pub mod Project
 pub mod NotYet
 pub mod Edits

@@ -1,4 +1,4 @@
--- What a linker holds: objects in their order, each under its name, the script, and the options.
+-- What a linker holds: objects in their order, each under its name, what is linked of the script, and the options.
 use Rattle.std.specs.Prelude.{ℕ, List, []}
 use Rattle.elfobj.specs.Object.{ObjectData}
 use Rattle.ldi.specs.Tree.{Tree}

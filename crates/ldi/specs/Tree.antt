@@ -1,5 +1,5 @@
--- The tree of a script (GNU ld manual, "Linker Scripts"), as far as this version reads it: assignments of a
--- number to `.`, and output sections whose bodies are input statements.
+-- What this version links of a script's tree (GNU ld manual, "Linker Scripts"): assignments of a number to `.`, and
+-- output sections whose bodies are input statements.
 use Rattle.std.specs.Prelude.{ℕ, List, Bool, true, bytes_eq}
 
 pub data Expr : Type 0 where

@@ -4,7 +4,7 @@ ghost use Rattle.std.specs.Prelude.{◌≡◌, [], None, ◌==◌, if◌then◌e
 ghost use Rattle.ldi.specs.declared.gather.Gathered.TheVariants.{Orphan, Row};
 ghost use Rattle.ldi.specs.OneSection.{members_of, GatheredAs, IsRowOf};
 
-use crate::script::form::Script;
+use crate::linked_script::LinkedScript;
 use elfobj::relocation::Relocation;
 use elfobj::section::Section;
 use elfobj::symbol::Symbol;
@@ -47,7 +47,7 @@ fn untaken(m: Member<'_>) -> Gathered<'_>
 }
 
 /// Gives the section, if there is one, to the first input statement that takes it.
-pub fn gather<'a>(script: &Script, member: Option<Member<'a>>) -> Gathered<'a>
+pub fn gather<'a>(script: &LinkedScript, member: Option<Member<'a>>) -> Gathered<'a>
     ensures gathered { GatheredAs script.now (members_of member.entry) result }
     ensures row { IsRowOf member.entry result }
 {
@@ -67,7 +67,7 @@ pub fn gather<'a>(script: &Script, member: Option<Member<'a>>) -> Gathered<'a>
 }
 
 /// Without a section there is nothing to take.
-fn no_section<'a>(script: &Script) -> Gathered<'a>
+fn no_section<'a>(script: &LinkedScript) -> Gathered<'a>
     ensures gathered { GatheredAs script.now [] result }
     ensures row { IsRowOf None result }
 {

@@ -10,6 +10,7 @@ use crate::linker::edit::{Edit, EditRefusal, Linked};
 use elfobj::meter::Meter;
 
 pub mod edit;
+pub mod law;
 pub mod link;
 pub mod named;
 pub mod not_yet;

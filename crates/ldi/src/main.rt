@@ -19,10 +19,11 @@ use std::{env, io};
 
 mod gather;
 mod image_writer;
+mod linked_part;
+mod linked_script;
 mod linker;
 mod place;
 mod relocate;
-mod script;
 mod stream;
 #[cfg(test)]
 mod tests;

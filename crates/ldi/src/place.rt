@@ -10,7 +10,7 @@ ghost use Rattle.ldi.specs.Segments.{segments, headers_end};
 ghost use Rattle.ldi.specs.OneSection.{member_of, row_of, rows_with, PlacedAs, IsWhole, IsFilledBy, EndsBelow, laid, segment_of};
 
 use crate::gather::Member;
-use crate::script::form::Script;
+use crate::linked_script::LinkedScript;
 use elfobj::constants::{SHF_EXECINSTR, SHF_WRITE};
 use elfobj::section::SectionKind;
 
@@ -102,7 +102,7 @@ fn span(dot: u64, m: &Member<'_>) -> Option<(u64, u64)>
 }
 
 /// Places the script's output section with its row, if the script has one.
-pub fn place(script: &Script, row: Option<Member<'_>>) -> Result<Option<Placed>, PlaceFault>
+pub fn place(script: &LinkedScript, row: Option<Member<'_>>) -> Result<Option<Placed>, PlaceFault>
     requires { ForSome row IsWhole }
     ensures placed { PlacedAs (placement script.now (rows_with script.now (row_of row.entry))) (row_of row.entry) result }
     ensures filled { IfOk result (λ p. IfSome p (λ q. IsFilledBy q row.entry)) }

@@ -11,6 +11,7 @@ use std::process::Abort;
 use std::test::Fail;
 
 mod relocating;
+mod scripts;
 
 /// An object with the four bytes `90 90 90 C3` in `.text`.
 const OBJECT_A: [u8; 280] = [
@@ -195,7 +196,7 @@ fn refuses_edits_and_keeps_the_image(rt: HostRuntime) -> Result<(), Fail> {
                 IMAGE,
             ],
             &[
-                b"linked 0 64\nlinked 0 4100\nrefused 1 0\nrefused 3 0\nrefused 6 0\nrefused 5 7\nbytes 4100\n",
+                b"linked 0 64\nlinked 0 4100\nrefused 1 0\nrefused 3 0\nrefused 6 0\nrefused 5 2\nbytes 4100\n",
                 &HEADERS,
                 &GAP,
                 b"\x90\x90\x90\xc3",
@@ -213,7 +214,7 @@ fn refuses_edits_and_keeps_the_image(rt: HostRuntime) -> Result<(), Fail> {
         ),
         (
             &[b"add a 18446744073709551615 0\nscript 31\nSECTIONS{.=0;.-a:{*(x)}}       IMAGE\n"],
-            &[b"refused 3 0\nrefused 5 7\nstream\n"],
+            &[b"refused 3 0\nrefused 5 2\nstream\n"],
             Status::Malformed,
         ),
     ];

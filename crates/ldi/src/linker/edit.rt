@@ -40,7 +40,7 @@ pub struct Linked {
 pub struct EditRefusal {
     /// 1 name in use, 3 position past the end, 4 object, 5 script, 6 limit, 7 want of memory.
     pub n: u8,
-    /// For 4 and 5 the reader's own number, or 15 for an object that isn't linked yet; else 0.
+    /// For 4 and 5 the reader's own number, or 15 for an object and 7 for a script that isn't linked yet; else 0.
     pub m: u8,
 }
 
@@ -49,4 +49,6 @@ impl EditRefusal {
     pub const NO_MEMORY: EditRefusal = EditRefusal { n: 7, m: 0 };
     /// An object of the profile that this version doesn't link yet.
     pub const NOT_YET: EditRefusal = EditRefusal { n: 4, m: 15 };
+    /// A script of the language that this version doesn't link yet.
+    pub const SCRIPT_NOT_YET: EditRefusal = EditRefusal { n: 5, m: 7 };
 }

@@ -15,11 +15,11 @@ ghost use Rattle.ldi.specs.Project.{NamedObject};
 
 use crate::gather::{Gathered, Member, gather};
 use crate::image_writer::image;
+use crate::linked_script::LinkedScript;
 use crate::linker::edit::Linked;
 use crate::linker::named::NamedObject;
 use crate::place::{Placed, place, segments};
 use crate::relocate::{RelocateFault, relocate};
-use crate::script::form::Script;
 use elfobj::meter::Meter;
 use emit::canvas::Canvas;
 use emit::patch::{Patch, in_order};
@@ -141,7 +141,7 @@ fn with_fields(
 /// The link of a script whose output section has this row.
 fn with_row(
     alloc: Global,
-    script: &Script,
+    script: &LinkedScript,
     row: Option<Member<'_>>,
     meter: &mut Meter,
 ) -> Result<Linkage, AllocError>
@@ -159,7 +159,7 @@ fn with_row(
 pub fn link(
     alloc: Global,
     objects: &[NamedObject],
-    script: &Script,
+    script: &LinkedScript,
     meter: &mut Meter,
 ) -> Result<Linkage, AllocError>
     requires few { length objects.now ≤ 1 }

@@ -5,21 +5,24 @@ ghost use Rattle.std.specs.List.{list_all};
 ghost use Rattle.elfobj.specs.Names.{is_graphic};
 ghost use Rattle.ldi.specs.Edits.{Add, SetScript, early_refusal, is_in_use, is_object_name, is_payload_too_long, is_over_limit};
 ghost use Rattle.ldi.specs.NotYet.{is_beyond};
-ghost use Rattle.ldi.specs.Applied.{Applied, Taken, object_refused, script_refused};
+ghost use Rattle.ldi.specs.Applied.{Applied, ScriptTaken, Taken, object_refused, script_refused};
 ghost use Rattle.ldi.specs.Project.{Project, empty_project};
 ghost use Rattle.ldi.specs.Link.{link, linked_of};
 
+use crate::linked_part::linked_part;
+use crate::linked_script::LinkedScript;
 use crate::linker::Linker;
 use crate::linker::edit::{Edit, EditRefusal, Linked, MAX_OBJECT_NAME, MAX_OBJECTS, MAX_PAYLOAD};
 use crate::linker::link::{Linkage, link};
 use crate::linker::named::NamedObject;
 use crate::linker::not_yet::is_beyond;
 use crate::linker::options::Options;
-use crate::script::form::Script;
-use crate::script::refusal::ScriptRefusal;
 use elfobj::meter::Meter;
 use elfobj::object::Object;
 use elfobj::refusal::ObjectRefusal;
+use ldscript::refusal::ScriptRefusal;
+use ldscript::script::Script;
+use ldtree::statement::Statement;
 use std::alloc::{AllocError, Global};
 use std::marker::Model;
 
@@ -28,7 +31,7 @@ use std::marker::Model;
 pub struct Plain {
     alloc: Global,
     objects: Vec<NamedObject>,
-    script: Script,
+    script: LinkedScript,
     options: Options,
     linkage: Linkage,
 }
@@ -138,7 +141,7 @@ impl Plain {
         ensures { IfOk result (λ s. s ≡ empty_project options) }
     {
         let objects = Vec::new(alloc);
-        let script = Script::empty();
+        let script = LinkedScript::empty();
         let linkage = link(alloc, &objects, &script, &mut Meter::new())?;
         Ok(Plain {
             alloc,
@@ -171,7 +174,7 @@ impl Plain {
     }
 
     /// Takes another script, and links.
-    fn take_script(&mut self, script: Script, meter: &mut Meter) -> Result<Linked, AllocError>
+    fn take_script(&mut self, script: LinkedScript, meter: &mut Meter) -> Result<Linked, AllocError>
         ensures taken { IfOk result (λ l. (self.new ≡ record self.old { script = script }) × (l ≡ linked_of (link self.new))) }
         ensures unchanged { OnErr result (self.new ≡ self.old) }
     {
@@ -218,6 +221,25 @@ impl Plain {
         }
     }
 
+    /// Takes what this version links of a script, if it links it.
+    fn link_script(
+        &mut self,
+        statements: &[Statement],
+        meter: &mut Meter,
+    ) -> Result<Linked, EditRefusal>
+        ensures { ScriptTaken self.old statements.now self.new result }
+    {
+        let script = match linked_part(self.alloc, statements) {
+            Err(_) => return Err(EditRefusal::NO_MEMORY),
+            Ok(None) => return Err(EditRefusal::SCRIPT_NOT_YET),
+            Ok(Some(script)) => script,
+        };
+        match self.take_script(script, meter) {
+            Err(_) => Err(EditRefusal::NO_MEMORY),
+            Ok(linked) => Ok(linked),
+        }
+    }
+
     fn set_script(&mut self, text: &[u8], meter: &mut Meter) -> Result<Linked, EditRefusal>
         ensures { Applied self.old (SetScript text.now) self.new result }
     {
@@ -226,10 +248,7 @@ impl Plain {
         }
         match Script::read(self.alloc, text) {
             Err(why) => Err(script_refused(why)),
-            Ok(script) => match self.take_script(script, meter) {
-                Err(_) => Err(EditRefusal::NO_MEMORY),
-                Ok(linked) => Ok(linked),
-            },
+            Ok(script) => self.link_script(script.statements(), meter),
         }
     }
 }

@@ -1,4 +1,4 @@
-use Rattle.std.proofs.Common.{◌≡◌, ◌∙◌, ◌+◌, ◌<◌, ◌≤◌, ℕ, List, [], ◌∷◌, inl, inr, sym, ap, refl, arith, length, get_or}
+use Rattle.std.proofs.Common.{◌≡◌, ◌∙◌, ◌+◌, [], ◌∷◌, inl, inr, sym, ap, arith, length, get_or}
 use Rattle.std.proofs.lemmas.List.{get_or-replicate, length-replicate}
 use Rattle.ldi.specs.OneSection.{row_of, patched_row, member_of}
 use Rattle.ldi.specs.Gathering.{Piece, piece_of}

@@ -1,4 +1,4 @@
-use Rattle.std.proofs.Common.{rules, sym}
+use Rattle.std.proofs.Common.{rules}
 use Rattle.ldi.proofs.OneSectionRelocating.{fault_is, evaluated_one}
 use Rattle.ldi.proofs.relocate.fields_of.Goals as goal
 

@@ -1,9 +1,5 @@
-use Rattle.std.proofs.Common.{◌≡◌, ◌∙◌, sym, ap, List}
-use Rattle.ldi.specs.Image.{image_of}
-use Rattle.ldi.specs.Gathering.{Piece}
-use Rattle.ldi.specs.Link.{Link}
-use Rattle.ldi.specs.Segments.{segments}
-use Rattle.ldi.specs.OneSection.{laid, row_of, patched_row}
+use Rattle.std.proofs.Common.{◌≡◌, ◌∙◌, sym, ap}
+use Rattle.ldi.specs.OneSection.{row_of, patched_row}
 use Rattle.ldi.proofs.OneSectionRelocating.{row_apart, row_within, same_row, with_fields, without_fields, image_with}
 use Rattle.ldi.specs.declared.relocate.RelocateFault.TheVariants.{NotInOutput, OutOfRange}
 use Rattle.ldi.proofs.linker.link.with_fields.Goals as goal

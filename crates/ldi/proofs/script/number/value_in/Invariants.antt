@@ -1,7 +1,0 @@
-use Rattle.std.proofs.Common.{◌≡◌, ◌<◌, ◌^◌, drop}
-use Rattle.ldi.specs.ScriptForm.{value_in}
-use Rattle.ldi.proofs.ScriptNumber.{more_digits}
-use Rattle.ldi.proofs.script.number.value_in.Given as goal
-
-abbrev pub invariant-loop-digit : goal.invariant-loop-digit
-invariant-loop-digit l = (value_in l.base l.digits ≡ more_digits l.base l.value (drop l.digit-index l.digits)) × (l.value < 2 ^ 64)
