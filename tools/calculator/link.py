@@ -11,10 +11,12 @@ LONGEST_IMAGE = 2 ** 28
 
 @dataclass(frozen=True)
 class Linked:
+    """The four parts of a link; and for a good one what its image's bytes depend on (`image.byte_at`)."""
     status: int
     image: bytes
     map: bytes
     faults: bytes
+    built: image.Link = None
 
 
 def faulty(lines):
@@ -50,4 +52,4 @@ def placed_link(project, output):
     if faults:
         return faulty(faults)
     built = image.Link(output.placement, file_layout, output.entry, fields.content, ending)
-    return Linked(0, image.image(built), texts.map_text(project, output), b"")
+    return Linked(0, image.image(built), texts.map_text(project, output), b"", built)
