@@ -76,7 +76,7 @@ def relocation_bytes(relocation, symbols):
 
 
 def build(sections, symbols=(), relocations=()):
-    """The bytes of an object: contents, symbol table, string tables, RELA sections, headers. Local symbols come first."""
+    """The bytes of an object: contents, symbol table (local symbols first), string tables, RELA sections, headers."""
     names, strings = Strings(), Strings()
     symbols = sorted(symbols, key=lambda symbol: symbol.binding != elf.STB_LOCAL)
     table = bytes(elf.SYMBOL_SIZE) + b"".join(symbol_bytes(symbol, strings) for symbol in symbols)
@@ -88,7 +88,8 @@ def build(sections, symbols=(), relocations=()):
     parts.append((".strtab", elf.SHT_STRTAB, 0, strings.data, 0, 0, 1, 0, len(strings.data)))
     for of in sorted({relocation.of for relocation in relocations}):
         data = b"".join(relocation_bytes(entry, symbols) for entry in relocations if entry.of == of)
-        parts.append((".rela" + sections[of - 1].name, elf.SHT_RELA, 0, data, number + 1, of, 8, elf.RELA_SIZE, len(data)))
+        name = ".rela" + sections[of - 1].name
+        parts.append((name, elf.SHT_RELA, 0, data, number + 1, of, 8, elf.RELA_SIZE, len(data)))
     return assemble(parts, names)
 
 

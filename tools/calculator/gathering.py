@@ -35,7 +35,7 @@ class Piece:
 
 @dataclass(frozen=True)
 class InputStatement:
-    """An input statement and where it stands: the number of its output section in script order, or None under /DISCARD/."""
+    """An input statement and its number in text order; the number of its output section, None under /DISCARD/."""
     number: int
     section: int
     statement: tree.Input
@@ -58,7 +58,7 @@ def pieces(project, decisions):
         for section in member.object.sections:
             found.append(Piece(at, member.name, section.number, False, section.name, section.kind, section.flags,
                                section.size, max(1, section.alignment), section.content))
-        for _, block in decisions.commons(at):
+        for block in decisions.commons.get(at, []):
             found.append(Piece(at, member.name, block.entry.symbol.number, True, "COMMON", elf.SHT_NOBITS,
                                elf.SHF_ALLOC | elf.SHF_WRITE, block.size, block.alignment, b""))
     return found

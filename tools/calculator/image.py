@@ -3,7 +3,9 @@
 The cases are: the file header, a program header; in an output section with file bytes a field, a piece, a data command,
 a gap; the tail; else 0. `byte_at` is that definition. `image` writes the same bytes run by run.
 """
-from . import elf, relocation
+from bisect import bisect_left
+
+from . import elf
 from .elf import spell
 from .layout import PlacedData
 
@@ -114,21 +116,10 @@ def image(link):
     """All bytes of the image, `byte_at` at 0, 1, .. up to its length."""
     data = bytearray(link.layout.end)
     data[0:len(link.headers)] = link.headers
-    offsets = []
+    places = sorted(link.fields)
     for start, placed in link.file_sections():
         data[start:start + placed.size] = section_bytes(placed)
-        offsets.append((placed, start))
-    for place, content in fields_in_file(link, offsets):
-        data[place:place + len(content)] = content
+        for place in places[bisect_left(places, placed.start):bisect_left(places, placed.end)]:
+            content = link.fields[place]
+            data[start + place - placed.start:start + place - placed.start + len(content)] = content
     return bytes(data) + link.tail.content
-
-
-def fields_in_file(link, offsets):
-    """(offset in the file, bytes) of each field."""
-    return [(start + place - placed.start, link.fields[place])
-            for placed, start in offsets for place in field_places(link, placed)]
-
-
-def field_places(link, placed):
-    """The places of fields inside an output section."""
-    return [place for place in link.fields if placed.start <= place < placed.end]

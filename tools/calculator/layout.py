@@ -32,7 +32,7 @@ class PlacedData:
 
 @dataclass(frozen=True)
 class Placed:
-    """An output section with its numbers. `contents` has its pieces and data commands in the order of their addresses."""
+    """An output section with its numbers; `contents` are its pieces and data commands in order of address."""
     section: tree.OutputSection
     alignment: int
     start: int

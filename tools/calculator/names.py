@@ -4,6 +4,7 @@ The declarations of a name are all non-local symbol entries with that name, in o
 """
 from dataclasses import dataclass
 from enum import Enum
+from functools import cached_property
 
 from . import elf, tree
 from .objects import Symbol
@@ -58,22 +59,22 @@ def is_undefined(declaration):
     return declaration.symbol.is_undefined
 
 
-def assigned(project, name):
-    """Whether the script assigns the name."""
-    return any(statement.name == name for statement in tree.of_kind(project.script, tree.Assign))
+def assigned(project):
+    """The names that the script assigns."""
+    return {statement.name for statement in tree.of_kind(project.script, tree.Assign)}
 
 
-def provided(project, name):
-    """Whether a PROVIDE of the script names it."""
-    return any(statement.name == name for statement in tree.of_kind(project.script, tree.Provide))
+def provided(project):
+    """The names that a PROVIDE of the script gives."""
+    return {statement.name for statement in tree.of_kind(project.script, tree.Provide)}
 
 
-def decision(project, entries, name):
-    """The first of seven cases that holds of the declarations of a name and the script."""
+def decision(entries, plain, offered):
+    """The first of seven cases that holds of the declarations of a name; `plain` where the script assigns it, `offered`
+    where it provides it."""
     strong = list(filter(is_strong, entries))
     commons = list(filter(is_common, entries))
     weak = list(filter(is_weak, entries))
-    plain = assigned(project, name)
     if len(strong) + plain >= 2:
         return Decision(Case.DUPLICATE)
     if strong:
@@ -85,7 +86,7 @@ def decision(project, entries, name):
                         max(entry.symbol.value for entry in commons))
     if weak:
         return Decision(Case.WEAK, weak[0])
-    if provided(project, name) and any(map(is_undefined, entries)):
+    if offered and any(map(is_undefined, entries)):
         return Decision(Case.PROVIDED)
     return Decision(Case.UNDEFINED)
 
@@ -102,22 +103,26 @@ class Decisions:
 
     def __init__(self, project):
         self.declarations = declarations(project)
-        script = [statement.name for statement in tree.of_kind(project.script, (tree.Assign, tree.Provide))]
-        self.names = sorted(set(self.declarations) | set(script))
-        self.decided = {name: decision(project, self.declarations.get(name, []), name) for name in self.names}
+        self.assigned, self.provided = assigned(project), provided(project)
+        self.names = sorted(set(self.declarations) | self.assigned | self.provided)
+        self.decided = {name: decision(self.declarations.get(name, []), name in self.assigned, name in self.provided)
+                        for name in self.names}
 
     def of(self, name):
         return self.decided.get(name, Decision(Case.UNDEFINED))
 
-    def commons(self, at):
-        """The (name, decision) of each common block that an object owns, by symbol number."""
-        owned = [(name, decision) for name, decision in self.decided.items()
-                 if decision.case is Case.COMMON and decision.entry.object == at]
-        return sorted(owned, key=lambda pair: pair[1].entry.symbol.number)
+    @cached_property
+    def commons(self):
+        """The decisions of the common blocks that each object owns, by symbol number."""
+        found = {}
+        for decision in self.decided.values():
+            if decision.case is Case.COMMON:
+                found.setdefault(decision.entry.object, []).append(decision)
+        return {at: sorted(owned, key=lambda block: block.entry.symbol.number) for at, owned in found.items()}
 
 
 def faults(project, decisions):
-    """The first phase: F1 for each strong definition too many, in object and symbol order, then F2 for the entry symbol."""
+    """The first phase: F1 for each strong definition too many, in object and symbol order; F2 for the entry symbol."""
     lines = []
     for at, member in enumerate(project.members):
         for symbol in member.object.symbols:
@@ -130,12 +135,12 @@ def faults(project, decisions):
 
 
 def duplicate_line(project, decisions, declaration):
-    """F1 NAME OBJECT FIRST: FIRST is the script where it assigns the name, else the first strong definition's object."""
+    """F1 NAME OBJECT FIRST: FIRST is `script` where it assigns the name, else the object of the first strong one."""
     name = declaration.symbol.name
     if decisions.of(name).case is not Case.DUPLICATE or not is_strong(declaration):
         return []
     first = next(filter(is_strong, decisions.declarations[name]))
-    by_script = assigned(project, name)
+    by_script = name in decisions.assigned
     if not by_script and declaration == first:
         return []
     return [f"F1 {name} {project.members[declaration.object].name} "

@@ -68,10 +68,6 @@ class Object:
     symbols: list
     relocations: dict
 
-    def section(self, at):
-        """The linked section of that number, or None."""
-        return next((section for section in self.sections if section.number == at), None)
-
 
 @dataclass(frozen=True)
 class Header:
@@ -93,7 +89,7 @@ class Header:
 
 
 class File:
-    """The bytes of a file as ELF structures. A structure is asked for only after the refusals that keep it in the file."""
+    """The bytes of a file as ELF structures. One is asked for only after the refusals that keep it in the file."""
 
     def __init__(self, data):
         self.data = data
@@ -244,7 +240,7 @@ def has_bad_symbol(file):
 
 
 def is_bad_symbol(file, symbol):
-    """Its binding, type or section; what only local or only other entries may be; the name; a common block's numbers."""
+    """Its binding, type or section; what local and what other entries may be; the name; a common block's numbers."""
     if (symbol.binding > elf.STB_WEAK or symbol.kind > elf.STT_COMMON
             or symbol.section >= len(file.headers) and symbol.section not in (elf.SHN_ABS, elf.SHN_COMMON)):
         return True
@@ -257,7 +253,7 @@ def is_bad_symbol(file, symbol):
 
 
 def has_bad_relocation_section(file):
-    """10: a REL or RELA section that changes no section of the file, or one of a linked section that is not as it must be."""
+    """10: a REL or RELA section that names no section of the file, or a bad one of a linked section."""
     if any(header.info >= len(file.headers) for header in file.sections if header.kind in (elf.SHT_RELA, elf.SHT_REL)):
         return True
     changed = [header.info for header in file.relocation_sections]

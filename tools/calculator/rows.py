@@ -1,7 +1,7 @@
 """Streams with the answers demanded: how a worked row is written, run and stored.
 
-A row is a list of steps. A step is a command and what its answer must be: the answer itself, or a check of the bytes of an
-image. The bytes of every small image are computed a second time, one by one, from their definition.
+A row is a list of steps. A step is a command and what its answer must be: the answer itself, or a check of the bytes of
+an image. The bytes of every small image are computed a second time, one by one, from their definition.
 """
 import os
 from dataclasses import dataclass, field
@@ -114,7 +114,8 @@ def run(row, result):
         assert after == len(command)
         given, project, following = answers.answer(project, current, found)
         good = wanted(given) if callable(wanted) else given == wanted
-        result.check(good, f"{row.title}, step {number}: {given[:200]!r}" + ("" if callable(wanted) else f", not {wanted[:200]!r}"))
+        other = "" if callable(wanted) else f", not {wanted[:200]!r}"
+        result.check(good, f"{row.title}, step {number}: {given[:200]!r}{other}")
         if following is not current:
             check_bytes(row, number, following, result)
         current = following

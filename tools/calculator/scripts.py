@@ -1,4 +1,4 @@
-"""The reader of scripts: the one tree of a text, or the first of five refusals that applies, and what a tree may not have.
+"""The reader of scripts: the one tree of a text, or the first of five refusals that applies.
 
 Tested in this order: 5 for a text that is too long, 1 no token, 5 a limit, 2 no script, 3 something given twice or a
 region not declared, 4 a use of the location counter outside the profile.
@@ -58,7 +58,7 @@ def regions_used(statement):
 
 
 def has_foreign_dot(script):
-    """Refusal 4: the location counter outside SECTIONS or in an ASSERT; or a bad assignment to it in an output section."""
+    """Refusal 4: the location counter outside SECTIONS or in an ASSERT; a bad assignment to it in an output section."""
     for statement in tree.statements(script):
         if isinstance(statement, (tree.Region, tree.Assert)) and uses(statement, tree.Dot, tree.AlignDot):
             return True

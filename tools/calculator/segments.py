@@ -51,8 +51,8 @@ class Segment:
 def joins(earlier, placed):
     """Whether a section joins the segment of the one before it.
 
-    Equal flags, an equal distance of address and load address, a start not below the other's end and less than a page past
-    it; and it isn't so that only this one has file bytes.
+    Equal flags, an equal distance of address and load address, a start not below the other's end and less than a page
+    past it; and it isn't so that only this one has file bytes.
     """
     return (earlier.flags == placed.flags
             and (earlier.start - earlier.load) % 2 ** 64 == (placed.start - placed.load) % 2 ** 64

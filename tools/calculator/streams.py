@@ -3,8 +3,8 @@
     python3 -m calculator.streams FOLDER COUNT [SEED]     (in tools/)
 
 writes COUNT streams and prints which answers, faults and refusals they have. A seed always gives the same streams.
-Objects and scripts are mostly good; each stream has a measure of trouble, by which names are missing or doubled, addresses
-meet, fields overflow, and bytes are broken.
+Objects and scripts are mostly good; each stream has a measure of trouble, by which names are missing or doubled,
+addresses meet, fields overflow, and bytes are broken.
 """
 import collections
 import os
@@ -20,10 +20,10 @@ from .tokens import NAME_FORM
 
 SHARED = ["w", "f", "g", "_start", "main", "end", "tbl", "buf", "v.1", "$x", "small", "top"]
 FILES = ["a.o", "b.o", "c.o", "lib/d.o", "lib/e.o", "x*.o", "[y].o", "z.obj", "crt0.o"]
-SECTION_NAMES = [".text", ".text.f", ".text.g", ".data", ".data.x", ".bss", ".bss.z", ".rodata", ".rodata.s", ".init_array",
-                 ".note", ".odd-1", ".[set]", "COMMON", ".ctors"]
-PATTERNS = [".text", ".text.*", ".text.?", ".data*", ".bss .bss.*", ".ro*", "*", ".[a-d]*", ".[rt]*", ".*_array", ".note",
-            "COMMON", ".\\[set]".replace("]", "\\]"), ".odd[-]?", ".[b-a]*", ".ctors", "*.f", ".d[a-z]t[!a]".replace("[!a]", "a")]
+SECTION_NAMES = [".text", ".text.f", ".text.g", ".data", ".data.x", ".bss", ".bss.z", ".rodata", ".rodata.s",
+                 ".init_array", ".note", ".odd-1", ".[set]", "COMMON", ".ctors"]
+PATTERNS = [".text", ".text.*", ".text.?", ".data*", ".bss .bss.*", ".ro*", "*", ".[a-d]*", ".[rt]*", ".*_array",
+            ".note", "COMMON", ".\\[set\\]", ".odd[-]?", ".[b-a]*", ".ctors", "*.f", ".d[a-z]ta"]
 FILE_PATTERNS = ["*"] * 8 + ["a.o", "*.o", "lib/*", "?.o", "[a-c].o", "x\\*.o", "*d.o", "\\[y\\].o", "crt*"]
 EXCLUDED = ["b.o", "a*", "lib/*", "*.obj", "x\\*.o", "?.o"]
 OUTPUTS = [".text", ".data", ".bss", ".rodata", ".init", "out-1", "_z", ".x1", "Y", ".rest"]
@@ -100,7 +100,8 @@ class Objects(Chance):
                 found.append(Sym("abs", elf.SHN_ABS, self.absolute(), 0, elf.STB_LOCAL, self.one(0, 4)))
         if numbers:
             at = self.of(numbers)
-            found.append(Sym(f"own{self.serial}", at, self.value(sections, at), self.upto(9), elf.STB_GLOBAL, self.upto(2)))
+            value = self.value(sections, at)
+            found.append(Sym(f"own{self.serial}", at, value, self.upto(9), elf.STB_GLOBAL, self.upto(2)))
         for name in self.random.sample(SHARED, self.upto(5)):
             found.append(self.shared(name, sections, numbers))
         return found
@@ -113,7 +114,8 @@ class Objects(Chance):
         way = self.random.random()
         kind = self.one(0, 1, 2, 5)
         if way < 0.35 or not numbers and way < 0.75:
-            return Sym(name, elf.SHN_UNDEF, 0, 0, elf.STB_WEAK if self.chance(0.5) and not self.bad(0.7) else elf.STB_GLOBAL, kind)
+            binding = elf.STB_WEAK if self.chance(0.5) and not self.bad(0.7) else elf.STB_GLOBAL
+            return Sym(name, elf.SHN_UNDEF, 0, 0, binding, kind)
         if way < 0.65:
             at = self.of(numbers) if numbers else elf.SHN_ABS
             value = self.value(sections, at) if numbers else self.absolute()
@@ -160,8 +162,8 @@ class Objects(Chance):
             return data[:self.upto(len(data))]
         changed = bytearray(data)
         for _ in range(self.one(1, 1, 1, 2)):
-            at = self.one(self.anywhere, self.in_header, self.in_symbols, self.in_relocations, self.in_relocations)(data)
-            changed[at] = self.one(0, 1, 2, 3, 4, 5, 9, 0x10, 0x12, 0x17, 0x20, 0x7F, 0xF1, 0xF2, 0xFF)
+            place = self.one(self.anywhere, self.in_header, self.in_symbols, self.in_relocations, self.in_relocations)
+            changed[place(data)] = self.one(0, 1, 2, 3, 4, 5, 9, 0x10, 0x12, 0x17, 0x20, 0x7F, 0xF1, 0xF2, 0xFF)
         return bytes(changed)
 
     def anywhere(self, data):
@@ -244,7 +246,7 @@ class Scripts(Expressions):
         self.free = self.random.sample(NAMES, len(NAMES))
         parts = []
         if self.defined and self.chance(0.3) or self.bad(0.1):
-            names = self.defined if self.defined and not self.bad(0.2) else ["_start", "main", "w", "own1", "own2", "base"]
+            names = self.defined if self.defined and not self.bad(0.2) else ["_start", "main", "w", "own1", "base"]
             parts.append(f"ENTRY({self.of(names)})")
         if self.chance(0.35):
             parts.append(self.memory(known))
@@ -370,7 +372,8 @@ class Scripts(Expressions):
         """Some spaces become line feeds, tabs or comments, outside strings."""
         parts = re.split(r'("[^"]*")', text)
         choices = [" "] * 12 + ["\n", "\n", "\t", " /* c */ ", "\r\n", "  "]
-        return "".join(part if part.startswith('"') else re.sub(" ", lambda _: self.of(choices), part) for part in parts)
+        return "".join(part if part.startswith('"') else re.sub(" ", lambda _: self.of(choices), part)
+                       for part in parts)
 
     def broken_text(self, text):
         """A token put in, taken out or doubled; a byte changed; or something given twice."""
@@ -381,11 +384,14 @@ class Scripts(Expressions):
             del tokens[at]
         elif way == 1:
             if self.chance(0.3):
-                return text + self.one(" x1 = " + "~" * 65 + "1;", " x2 = 18446744073709551616;", " " + "n" * 256 + " = 1;")
-            tokens.insert(at, self.one("{", "}", "(", ")", ";", ".", "+=", "=", ":", "`", "@", '"', "/*", "SORT", "KEEP", "08",
-                                       "1x", "\\", "]", "[", "&", "x = 1;", " ORIGIN(zz) ", "ENTRY(q)", "99999999999999999999"))
+                return text + self.one(" x1 = " + "~" * 65 + "1;", " x2 = 18446744073709551616;",
+                                       " " + "n" * 256 + " = 1;")
+            tokens.insert(at, self.one("{", "}", "(", ")", ";", ".", "+=", "=", ":", "`", "@", '"', "/*", "SORT",
+                                       "KEEP", "08", "1x", "\\", "]", "[", "&", "x = 1;", " ORIGIN(zz) ", "ENTRY(q)",
+                                       "99999999999999999999"))
         elif way == 2:
-            tokens[at] = self.one(".", "ALIGN(4)", "1", "x", "AT", "*", "~" * 70 + "1", "(" * 65, "n" * 256, "18014398509481984K")
+            tokens[at] = self.one(".", "ALIGN(4)", "1", "x", "AT", "*", "~" * 70 + "1", "(" * 65, "n" * 256,
+                                  "18014398509481984K")
         elif way == 3:
             return text + self.one(" MEMORY { }", " SECTIONS { }", " x1 = .;", " ASSERT(., \"d\")", " base = 1;",
                                    " ENTRY(a) ENTRY(b)", " MEMORY { q : ORIGIN = ., LENGTH = 1 }", " x = ORIGIN(none);")
@@ -433,7 +439,8 @@ class Streams:
                 if maker.chance(0.4) and (query != rows.IMAGE or len(self.linked.image) < 100_000):
                     self.send(query)
         if maker.bad(0.3):
-            self.data += maker.one(b"image", b"add a.o 01 0\n", b"script 9\nSECT", b"move a.o\n", b"\n", b"map \n", b"Remove a\n")
+            self.data += maker.one(b"image", b"add a.o 01 0\n", b"script 9\nSECT", b"move a.o\n", b"\n", b"map \n",
+                                   b"Remove a\n")
         return self
 
     def edit(self):

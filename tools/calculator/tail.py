@@ -11,7 +11,7 @@ TABLES = (".symtab", ".strtab", ".shstrtab")
 
 
 def symbols(output):
-    """(name, value, decision) of each name that has a meaning, in byte order; no value where its piece isn't in the output."""
+    """(name, value, decision) of each name that has a meaning, in byte order; None where its piece isn't there."""
     found = []
     for name in output.decisions.names:
         decision = output.decisions.of(name)

@@ -4,7 +4,7 @@ From the gABI (symbol values) and the x86-64 psABI (relocation).
 """
 from dataclasses import dataclass
 
-from . import elf, gathering, names, relocation
+from . import elf, gathering, names, objects, relocation
 from .names import Case
 
 
@@ -76,10 +76,10 @@ class Output:
 
 @dataclass(frozen=True)
 class Site:
-    """A relocation, not NONE, of a piece in the output."""
+    """A relocation, not NONE, of a piece in the output: the position of its object, its section, and its address."""
     object: int
-    section: int
-    relocation: object
+    section: objects.Section
+    relocation: objects.Relocation
     place: int
 
 
@@ -90,7 +90,7 @@ def sites(output):
         for section in member.object.sections:
             if (at, False, section.number) in output.homes:
                 address = output.homes[at, False, section.number].address
-                found += [Site(at, section.number, entry, (address + entry.offset) % 2 ** 64)
+                found += [Site(at, section, entry, (address + entry.offset) % 2 ** 64)
                           for entry in member.object.relocations.get(section.number, [])
                           if entry.kind != relocation.R_NONE]
     return found
@@ -109,7 +109,7 @@ def fields(output):
     for site in sites(output):
         member = output.project.members[site.object]
         symbol = member.object.symbols[site.relocation.symbol]
-        where = f"{member.name} {section_name(member, site.section)} {site.relocation.offset:016x}"
+        where = f"{member.name} {site.section.name} {site.relocation.offset:016x}"
         try:
             s = output.site_value(site.object, symbol)
         except Undefined:
@@ -133,8 +133,3 @@ def entry_fault(output):
     except NotInOutput:
         return ["F13 entry"]
     return []
-
-
-def section_name(member, at):
-    """The name of a linked section by its number."""
-    return next(section.name for section in member.object.sections if section.number == at)

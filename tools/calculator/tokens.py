@@ -51,8 +51,8 @@ class Token:
 class Modes:
     """Where the cutting stands: the depth of braces, and the two stretches that are read as expressions.
 
-    Pattern mode holds at depth 2 outside both. One stretch lasts from an `=` or `+=` of pattern mode to the next `;`; the
-    other from the `(` right after BYTE, SHORT, LONG, QUAD, PROVIDE or ASSERT, read in pattern mode, to its `)`.
+    Pattern mode holds at depth 2 outside both. One stretch lasts from an `=` or `+=` of pattern mode to the next `;`;
+    the other from the `(` right after BYTE, SHORT, LONG, QUAD, PROVIDE or ASSERT, read in pattern mode, to its `)`.
     """
 
     def __init__(self):
@@ -164,7 +164,7 @@ def is_over_limit(tokens):
 
 
 def runs(tokens):
-    """How many operators and opening parentheses stand in each run of expression-mode tokens without `;`, `{` and `}`."""
+    """The number of operators and `(` in each run of expression-mode tokens, which `;`, `{` and `}` break."""
     operators = 0
     for token in tokens:
         if not token.in_expression or token.kind == MARK and token.text in (";", "{", "}"):

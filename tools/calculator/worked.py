@@ -29,7 +29,7 @@ def code(size, *symbols, name=".text"):
 
 def data(*contents):
     """An object of data sections: (name, hexadecimal content, alignment)."""
-    return build([Sec(name, bytes.fromhex(content), DATA, alignment=alignment) for name, content, alignment in contents])
+    return build([Sec(name, bytes.fromhex(content), DATA, alignment=least) for name, content, least in contents])
 
 
 def body(inside, start="0x1000"):
@@ -63,7 +63,8 @@ def first_rows():
                    "section .text 0000000000401000 0000000000401000 0000000000000004 r-x",
                    "piece 0000000000401000 0000000000000004 a.o .text")),
         (IMAGE, at({24: "00" * 8 + "40" + "00" * 7, 56: "01 00",
-                    64: "01 00 00 00 05 00 00 00 00 10 00 00 00 00 00 00 00 10 40 00 00 00 00 00 00 10 40 00 00 00 00 00"
+                    64: "01 00 00 00 05 00 00 00 00 10 00 00 00 00 00 00 00 10 40 00 00 00 00 00 00 10 40 00 00 00 00"
+                        "00"
                         "04 00 00 00 00 00 00 00 04 00 00 00 00 00 00 00 00 10 00 00 00 00 00 00",
                     4096: "90 90 90 C3", 40: "48 10", 58: "40 00 05 00 04 00",
                     4168 + 64: "01 00 00 00", 4168 + 128: "07 00 00 00", 4168 + 192: "0F 00 00 00",
@@ -88,7 +89,8 @@ def name_rows():
         (script(T), anything), (add("a.o", 0, code(4, f)), anything), (add("b.o", 1, code(4)), anything),
         (add("c.o", 2, code(4, f)), linked(1)), (FAULTS, text("F1 f c.o a.o")), (IMAGE, text()), (MAP, text()),
         (remove("a.o"), linked(0, length(4104, [".text"], ["f"])))])
-    yield once("duplicate of the script", "f = 1; " + T, [("a.o", code(4, f)), ("b.o", code(4, Sym("f", 1, binding=WEAK)))],
+    weak = code(4, Sym("f", 1, binding=WEAK))
+    yield once("duplicate of the script", "f = 1; " + T, [("a.o", code(4, f)), ("b.o", weak)],
                (FAULTS, text("F1 f a.o script")), status=1)
     commons = [("a.o", build([], [Sym("buf", COMMON, 8, 4)])), ("b.o", build([], [Sym("buf", COMMON, 4, 16)]))]
     yield once("commons", "SECTIONS { . = 0x404004; .bss : { *(COMMON) } }", commons,
@@ -153,7 +155,8 @@ def gathering_rows():
     yield once("two statements", body("*(.a) *(.b)"), two, (IMAGE, at({4096: "01 03 02 04"})))
     three = [(name, data((".a", content, 1))) for name, content in (("a.o", "01"), ("b.o", "02"), ("c.o", "03"))]
     yield once("an excluded file", body("*(EXCLUDE_FILE(b*.o) .a) *(.a)"), three, (IMAGE, at({4096: "01 03 02"})))
-    yield once("an exclusion for one word", body("*(EXCLUDE_FILE(b.o) .a .b) *(.a)"), two, (IMAGE, at({4096: "01 02 04 03"})))
+    yield once("an exclusion for one word", body("*(EXCLUDE_FILE(b.o) .a .b) *(.a)"), two,
+               (IMAGE, at({4096: "01 02 04 03"})))
     yield once("an excluded orphan", body("*(EXCLUDE_FILE(b.o) .a .b)"), two, (FAULTS, text("F3 b.o .a")), status=1)
     by_alignment = data((".a", "01", 1), (".b", "02", 4), (".c", "03", 4))
     yield once("by alignment", body("*(SORT_BY_ALIGNMENT(.a .b .c))"), [("a.o", by_alignment)],
@@ -168,7 +171,8 @@ def gathering_rows():
 
 def calls(*names):
     """`_start` of 10 bytes, which calls two names."""
-    return build([Sec(".text", bytes.fromhex("E800000000E800000000"))], [Sym("_start", 1)] + [Sym(n) for n in sorted(set(names))],
+    symbols = [Sym("_start", 1)] + [Sym(name) for name in sorted(set(names))]
+    return build([Sec(".text", bytes.fromhex("E800000000E800000000"))], symbols,
                  [Rel(1, 1, 4, names[0], -4), Rel(1, 6, 4, names[1], -4)])
 
 
@@ -178,7 +182,8 @@ B_F, C_G = code(16, Sym("f", 1), name=".text.f"), code(1, Sym("g", 1), name=".te
 
 def state(text_of_script, options):
     """`_start` that calls f and g, each in a section of its own."""
-    return [(script(text_of_script), anything), (add("a.o", 0, calls("f", "g")), anything), (add("b.o", 1, B_F), anything),
+    return [(script(text_of_script), anything), (add("a.o", 0, calls("f", "g")), anything),
+            (add("b.o", 1, B_F), anything),
             (add("c.o", 2, C_G), linked(0, length(4123, [".text"], ["_start", "f", "g"])))]
 
 
@@ -200,11 +205,13 @@ def collected_rows():
     table = [
         (replace("a.o", calls("g", "g")), linked(0, length(4107, [".text"], only_g)), [], 0),
         (add("d.o", 3, A), linked(0, length(4123, [".text"], both)), [], 0),
-        (move("c.o", 0), linked(0, length(4123, [".text"], both)), [(IMAGE, at({4097 + 0: "06 00 00 00", 4102: "00 00 00 00"}))], 0),
+        (move("c.o", 0), linked(0, length(4123, [".text"], both)),
+         [(IMAGE, at({4097: "06 00 00 00", 4102: "00 00 00 00"}))], 0),
         (remove("b.o"), linked(1), [(FAULTS, text("F12 a.o .text 0000000000000001 f"))], 1),
         (script(T), linked(1), [(FAULTS, text("F3 b.o .text.f", "F3 c.o .text.g"))], 1)]
     for number, (edit, answer, more, status) in enumerate(table, 1):
-        yield Row(f"from one state, edit {number}", state(COLLECTED, options) + [(edit, answer)] + more, options, status)
+        steps = state(COLLECTED, options) + [(edit, answer)] + more
+        yield Row(f"from one state, edit {number}", steps, options, status)
 
 
 def layout_rows():
@@ -230,7 +237,8 @@ def layout_rows():
         (IMAGE, at({4096: "01 01 00"})), (script(statements + ".d : { LONG(SIZEOF(.d)) } }"), linked(1)),
         (FAULTS, text("F4 1 .d")), (script(statements + ".d : { . += 8; } }"), linked(0, length(120, [".d"]))),
         (IMAGE, at({68: "06 00 00 00", 96: "00" * 8 + "08" + "00" * 7}))])
-    yield once("an address as given", statements + ".d 0x1002 : ALIGN(8) { *(.d) } }", [("a.o", data((".d", "010203", 1)))],
+    given = statements + ".d 0x1002 : ALIGN(8) { *(.d) } }"
+    yield once("an address as given", given, [("a.o", data((".d", "010203", 1)))],
                (IMAGE, lambda answer: answer.startswith(b"bytes %d\n" % length(4101, [".d"]))),
                (MAP, has_lines("section .d 0000000000001002 0000000000001002 0000000000000003 rw-")))
     for start, end in (("0x401000", 4100), ("0x401001", 4101), ("0x4010C8", 204), ("0xFFFFFFFFFFFFFFFB", 4095),
@@ -268,8 +276,9 @@ def load_rows():
     moved = "SECTIONS { . = 0x401000; .text : { c.o(.text) a.o(.text) b.o(.text) } }"
     yield Row("a call moves", [
         (script(moved), anything), (add("c.o", 0, B), anything), (add("a.o", 1, A), anything),
-        (add("b.o", 2, code(4, Sym("w", 1))), linked(0, length(4109, [".text"], ["w"]))), (IMAGE, at({4097: "04 00 00 00"})),
-        (replace("a.o", code(16)), linked(0, length(4121, [".text"], ["w"]))), (IMAGE, at({4097: "10 00 00 00"}))])
+        (add("b.o", 2, code(4, Sym("w", 1))), linked(0, length(4109, [".text"], ["w"]))),
+        (IMAGE, at({4097: "04 00 00 00"})), (replace("a.o", code(16)), linked(0, length(4121, [".text"], ["w"]))),
+        (IMAGE, at({4097: "10 00 00 00"}))])
 
 
 def expression_rows():
@@ -281,8 +290,8 @@ def expression_rows():
         yield once(start, start + LATER, [], (add("a.o", 0, A), linked(0, length(end, [".text"], names))))
     for start, fault in (("SECTIONS { . = 1 / 0;", "F5 1"), ("SECTIONS { . = ~0 - 3;", "F8 1")):
         yield once(start, start + LATER, [], (add("a.o", 0, A), linked(1)), (FAULTS, text(fault)), status=1)
-    yield once("a name that comes later", "SECTIONS { . = late; .text : { *(.text) } late = 1; }", [], (FAULTS, text("F4 1 late")),
-               status=1)
+    late = "SECTIONS { . = late; .text : { *(.text) } late = 1; }"
+    yield once("a name that comes later", late, [], (FAULTS, text("F4 1 late")), status=1)
     yield once("an ASSERT", T + ' ASSERT(SIZEOF(.text) <= 3, "text too big")', [("a.o", A)],
                (FAULTS, text("F15 1 text too big")), status=1)
     yield once("an ASSERT that holds", 'ASSERT(SIZEOF(.text) == 4 && (1 || nope), "x") ' + T, [("a.o", A)],
@@ -331,7 +340,8 @@ def script_rows():
         ('SECTIONS { ASSERT(., "x") }', 4), ("MEMORY { r : ORIGIN = ., LENGTH = 1 }", 4),
         ("MEMORY { r : ORIGIN = ORIGIN(r), LENGTH = 1 }", 3), ("SECTIONS { .a : { } >r }", 3),
         ("SECTIONS { .a : { } >r } MEMORY { r : ORIGIN = 0, LENGTH = 1 }", 3), ("ENTRY(a) ENTRY(a)", 3),
-        ("SECTIONS { } SECTIONS { }", 3), ("MEMORY { } MEMORY { }", 3), ("x = 1; x = 2;", 3), ("x = 1; PROVIDE(x = 1)", 3),
+        ("SECTIONS { } SECTIONS { }", 3), ("MEMORY { } MEMORY { }", 3), ("x = 1; x = 2;", 3),
+        ("x = 1; PROVIDE(x = 1)", 3),
         ("MEMORY { r : ORIGIN = 0, LENGTH = 1 } SECTIONS { .a : AT(1) { } AT>r }", 2), ("x = 1K2;", 1), ("x = 0x;", 1),
         ("x = 1-2;", 0), ("x = A-B;", 0), ("SECTIONS { . = .-4; .a : { } }", 0), ("x = 1M-1K;", 0),
         ("SECTIONS { .a : { } =0x909 }", 2), ("SECTIONS { .a : { } =144 }", 2), ("SECTIONS { .a : { } =0X90 }", 2),
@@ -355,7 +365,8 @@ def has_fault(given):
 
 def stream_rows():
     """Bad tails and limits of lines."""
-    for end in (b"add a.o 0\n", b"script 5\nSECT", b"add a.o 01 0\n", b"add  a.o 0 0\n", b"image \n", b"IMAGE\n", b"a" * 513 + b"\n",
+    for end in (b"add a.o 0\n", b"script 5\nSECT", b"add a.o 01 0\n", b"add  a.o 0 0\n", b"image \n", b"IMAGE\n",
+                b"a" * 513 + b"\n",
                 b"add a.o 0 67108865\n", b"image", b"\n", b"add a.o 18446744073709551616 0\n", b"add a.o +1 0\n",
                 b"add a.o 0 4\nabc", b"add  0 0\n", b"script\n", b"replace a.o\n", b"image\r\n"):
         yield Row(f"tail {end[:30]!r}", [], status=2, end=end)
@@ -369,7 +380,8 @@ def stream_rows():
 
 def all_rows():
     """Every worked row."""
-    for group in (first_rows, name_rows, gathering_rows, layout_rows, expression_rows, edit_rows, script_rows, stream_rows):
+    for group in (first_rows, name_rows, gathering_rows, layout_rows, expression_rows, edit_rows, script_rows,
+                  stream_rows):
         yield from group()
 
 
@@ -386,7 +398,9 @@ def field_cases(result):
         (4, 0, -0x80000001, 0, None), (10, 0x100000000, 0, 0, None), (11, 0x80000000, 0, 0, None)]
     for kind, s, a, p, wanted in table:
         found = relocation.field(kind, s, a, p)
-        good = isinstance(found, relocation.Overflow) if wanted is None else found == relocation.Field(bytes.fromhex(wanted))
+        good = isinstance(found, relocation.Overflow)
+        if wanted is not None:
+            good = found == relocation.Field(bytes.fromhex(wanted))
         result.check(good, f"field {kind} {s:x} {a} {p:x}: {found}")
 
 
@@ -403,13 +417,14 @@ def pattern_cases(result):
 
 
 def object_cases(result):
-    """Every prefix and every single byte set to 00, 7F and FF: an object or a number, and never a fault of the reader."""
+    """Every single byte set to 00, 7F and FF: an object or a number, and never a fault of the reader."""
     for given in (A, B):
         for at_byte in range(len(given)):
             for value in (0x00, 0x7F, 0xFF):
                 bytes_changed = changed(given, {at_byte: value})
                 number = objects.refusal(bytes_changed)
-                result.check(0 <= number <= 13 and (number or objects.read(bytes_changed) is not None), "an object or a number")
+                read = objects.read(bytes_changed) if number == 0 else None
+                result.check(1 <= number <= 13 or read is not None, "an object or a number")
 
 
 def program_cases(result):
@@ -422,8 +437,9 @@ def program_cases(result):
         table = [
             ("-T t.ld -o out --Map m a.o", 0, b"", True), ("-T t.ld -o out a.o a.o", 2, b"a.o: refused 1 0\n", False),
             ("-T t.ld -o out no.o", 3, b"device\n", False), ("-T bad.ld -o out no.o", 3, b"device\n", False),
-            ("-T bad.ld -o out bad.o", 2, b"script: refused 5 2\n", False), ("-T t.ld -o out bad.o", 2, b"bad.o: refused 4 1\n", False),
-            ("-T t.ld -o out --Map m c.o", 1, b"F12 c.o .text 0000000000000001 w\n", False), ("-T t.ld -o out", 0, b"", True),
+            ("-T bad.ld -o out bad.o", 2, b"script: refused 5 2\n", False),
+            ("-T t.ld -o out bad.o", 2, b"bad.o: refused 4 1\n", False), ("-T t.ld -o out", 0, b"", True),
+            ("-T t.ld -o out --Map m c.o", 1, b"F12 c.o .text 0000000000000001 w\n", False),
             ("-T t.ld -o no/out a.o", 3, b"device\n", False), ("-T t.ld -o out -e nope a.o", 1, b"F2 nope\n", False)]
         for words, status, errors, made in table:
             for name in ("out", "m"):
