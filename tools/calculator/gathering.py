@@ -161,15 +161,17 @@ class Gathered:
 
 
 def gather(project, decisions):
-    """Takes, marks and puts in rows."""
+    """Takes, marks, and puts in rows: the row of an output section is what its statements take, one after the other."""
     found, statements = pieces(project, decisions), input_statements(project)
     taken = {piece.key: first_match(statements, piece) for piece in found}
     standing = {piece.key for piece in found if not is_out(project, piece, taken[piece.key])}
     marked = live(project, decisions, taken, standing)
     alive = [piece for piece in found if piece.key in marked]
     count = len(tree.of_kind(project.script, tree.OutputSection))
-    rows = [[entry for statement in statements if statement.section == section
-             for entry in taken_by(statement, alive, taken)] for section in range(count)]
+    rows = [[] for _ in range(count)]
+    for statement in statements:
+        if statement.section is not None:
+            rows[statement.section] += taken_by(statement, alive, taken)
     return Gathered(rows, [piece for piece in alive if taken[piece.key] is None])
 
 

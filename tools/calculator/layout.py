@@ -4,6 +4,7 @@ From the GNU ld manual: Location Counter, Output Section Address and LMA, MEMORY
 Sums of addresses and sizes are whole numbers; an address, `.`, an end or a load end of 2^64 or more is a fault.
 """
 from dataclasses import dataclass
+from functools import cached_property
 
 from . import elf, scripts, tree
 from .elf import align_up
@@ -44,11 +45,11 @@ class Placed:
     def end(self):
         return self.start + self.size
 
-    @property
+    @cached_property
     def pieces(self):
         return [content for content in self.contents if isinstance(content, PlacedPiece)]
 
-    @property
+    @cached_property
     def has_file_bytes(self):
         """It has a data command, or a piece of nonzero size of a type other than NOBITS."""
         return any(isinstance(content, PlacedData) or content.piece.gives_file_bytes for content in self.contents)
@@ -61,7 +62,7 @@ class Placed:
     def load_end(self):
         return self.load + self.load_size
 
-    @property
+    @cached_property
     def flags(self):
         """WRITE and EXECINSTR of the pieces of nonzero size; a section of nonzero size without file bytes has WRITE."""
         found = elf.SHF_WRITE if self.size > 0 and not self.has_file_bytes else 0
@@ -279,27 +280,34 @@ class Layout:
             self.free[placed.section.load_region] = placed.load_end
 
 
-def meets(first, size, other_first, other_size):
-    """Whether two ranges of nonzero size share a number."""
-    return size > 0 and other_size > 0 and first < other_first + other_size and other_first < first + size
+@dataclass(frozen=True)
+class Range:
+    """The addresses or load addresses of an output section, from `first` up to but without `end`."""
+    name: str
+    first: int
+    end: int
+
+    def meets(self, other):
+        """Whether two ranges of nonzero size share a number."""
+        return self.first < other.end and other.first < self.end
 
 
-def first_met(placed, earlier, first, size):
-    """The first earlier section that a section meets in ranges given by `first` and `size`."""
-    return next((other for other in earlier if meets(first(placed), size(placed), first(other), size(other))), None)
+def first_met(ranges):
+    """(name, name of the first earlier one that it meets) of each range that meets an earlier one."""
+    for at, one in enumerate(ranges):
+        met = next((other for other in ranges[:at] if one.meets(other)), None)
+        if met is not None:
+            yield one.name, met.name
 
 
 def overlaps(placement):
     """F9 for each section whose addresses meet an earlier one's, then F10 likewise for load addresses."""
-    ranges = [("F9", lambda placed: placed.start, lambda placed: placed.size),
-              ("F10", lambda placed: placed.load, lambda placed: placed.load_size)]
-    lines = []
-    for number, first, size in ranges:
-        for at, placed in enumerate(placement.sections):
-            met = first_met(placed, placement.sections[:at], first, size)
-            if met is not None:
-                lines.append(f"{number} {placed.section.name} {met.section.name}")
-    return lines
+    addresses = [Range(placed.section.name, placed.start, placed.end)
+                 for placed in placement.sections if placed.size > 0]
+    loads = [Range(placed.section.name, placed.load, placed.load_end)
+             for placed in placement.sections if placed.load_size > 0]
+    return ([f"F9 {name} {earlier}" for name, earlier in first_met(addresses)]
+            + [f"F10 {name} {earlier}" for name, earlier in first_met(loads)])
 
 
 def place(project, decisions, rows):

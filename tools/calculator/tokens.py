@@ -20,7 +20,7 @@ SPACE, NAME, NUMBER, STRING, DISCARD, MARK, WORD = "space", "name", "number", "s
 
 WHITE_SPACE = re.compile(r"[ \t\n\r]+")
 # `.` before a `-` is the location counter: no name begins with `.-`.
-NAME_FORM = re.compile(r"\.(?=-)|[A-Za-z_.][A-Za-z0-9_.$-]*")
+NAME_FORM = re.compile(r"(?!\.-)[A-Za-z_.][A-Za-z0-9_.$-]*|\.")
 NUMBER_FORM = re.compile(r"(?:0[xX][0-9A-Fa-f]+|0[0-7]*|[1-9][0-9]*)[KM]?(?![A-Za-z0-9_.$])")
 EXPRESSION_FORMS = [
     (NAME, NAME_FORM), (NUMBER, NUMBER_FORM), (STRING, re.compile(r'"[ !#-~]*"')),

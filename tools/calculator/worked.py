@@ -8,7 +8,7 @@ import subprocess
 import sys
 import tempfile
 
-from . import elf, objects, patterns, relocation, rows
+from . import choices, elf, objects, patterns, relocation, rows
 from .build import DATA, Rel, Sec, Sym, build, changed, object_a, object_b
 from .edits import Options
 from .rows import (FAULTS, IMAGE, MAP, Result, Row, add, at, has_lines, lacks, length, linked, move, refused, remove,
@@ -47,6 +47,21 @@ def once(title, text_of_script, given, *steps, options=Options(), status=0):
 def anything(answer):
     """An edit that is accepted, with or without faults."""
     return answer.startswith(b"linked")
+
+
+class Differences:
+    """Compares two images of one length byte by byte."""
+
+    def first(self, answer):
+        self.image = answer[answer.index(b"\n") + 1:]
+        return True
+
+    def only(self, *offsets):
+        """A check that just these bytes differ."""
+        def check(answer):
+            second = answer[answer.index(b"\n") + 1:]
+            return {at for at, pair in enumerate(zip(self.image, second)) if pair[0] != pair[1]} == set(offsets)
+        return check
 
 
 def first_rows():
@@ -115,10 +130,11 @@ def name_rows():
     weak = code(4, Sym("w", 1, 0, 4, WEAK, elf.STT_FUNC))
     call = build([Sec(".text", bytes.fromhex("E800000000"))], [Sym("w")], [Rel(1, 1, 4, "w", -4)])
     symbol = "01 00 00 00 22 00 01 00"
+    differences = Differences()
     yield once("first weak by order", three, [("a.o", weak), ("b.o", weak), ("c.o", call)],
                (IMAGE, lambda answer: answer.startswith(b"bytes 4520\n")),
                (IMAGE, at({4104: "E8 F3 FF FF FF", 4136: symbol, 4144: "00 10 40 00", 4152: "04"})),
-               (move("b.o", 0), linked(0, 4520)),
+               (IMAGE, differences.first), (move("b.o", 0), linked(0, 4520)), (IMAGE, differences.only(0x1009, 4144)),
                (IMAGE, at({4104: "E8 F7 FF FF FF", 4136: symbol, 4144: "04 10 40 00", 4152: "04"})))
     yield from call_rows()
 
@@ -379,9 +395,9 @@ def stream_rows():
 
 
 def all_rows():
-    """Every worked row."""
+    """Every worked row, and the rows for corners."""
     for group in (first_rows, name_rows, gathering_rows, layout_rows, expression_rows, edit_rows, script_rows,
-                  stream_rows):
+                  stream_rows, choices.all_rows):
         yield from group()
 
 
