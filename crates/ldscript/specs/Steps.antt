@@ -41,6 +41,11 @@ abbrev pub each : {A : Type 0} → (A → Part) → List A → Part
 each p [] = nothing
 each p (x ∷ xs) = p x ▸ each p xs
 
+-- one or more of these
+abbrev pub some : {A : Type 0} → (A → Part) → List A → Part
+some p [] ts rest = ⊥
+some p (x ∷ xs) ts rest = (p x ▸ each p xs) ts rest
+
 -- this token, on any line
 abbrev pub token : Token → Part
 token t ts rest = (line : ℕ) × (ts ≡ lexeme t line ∷ rest)
