@@ -1,0 +1,14 @@
+pub mod Options
+pub mod Project
+pub mod Edits
+pub mod Given
+pub mod Names
+pub mod NameFaults
+pub mod FirstMatch
+pub mod Sections
+pub mod InputSections
+pub mod Gathering
+pub mod Reach
+pub mod Live
+pub mod Sorting
+pub mod Rows
