@@ -19,5 +19,3 @@ pub mod Reading
 pub mod Linkable
 pub mod Profile
 pub mod RefusalNumber
-pub mod Counts
-pub mod Raised

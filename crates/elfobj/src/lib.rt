@@ -5,7 +5,6 @@ pub mod constants;
 mod elf_header;
 mod field;
 mod linked;
-pub mod meter;
 mod names;
 mod numbers;
 pub mod object;

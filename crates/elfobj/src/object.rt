@@ -2,17 +2,17 @@
 
 ghost use Rattle.std.specs.Prelude.{◌≡◌, ◌<◌, ◌^◌, ◌⊎◌, IfErr, IfOk, None, Some, find, length, map};
 ghost use Rattle.std.specs.List.{All, slice_get};
-ghost use Rattle.elfobj.specs.Raised.{raised};
-ghost use Rattle.elfobj.specs.declared.meter.Count.TheVariants.{Objects};
+ghost use Rattle.ldbase.specs.Raised.{raised};
+ghost use Rattle.ldbase.specs.declared.meter.Count.TheVariants.{Objects};
 ghost use Rattle.elfobj.specs.declared.refusal.ObjectRefusal.TheVariants.{NoMemory};
 
-use crate::meter::{Count, Meter};
 use crate::place::{Place, Span};
 use crate::refusal::ObjectRefusal;
 use crate::relocation::{Relocation, SymbolIndex};
 use crate::section::Section;
 use crate::section_table::{Parts, read_parts};
 use crate::symbol::Symbol;
+use ldbase::meter::{Count, Meter};
 use std::alloc::Global;
 use std::marker::Model;
 

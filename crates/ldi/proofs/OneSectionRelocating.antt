@@ -9,7 +9,7 @@ use Rattle.elfobj.specs.declared.relocation.SymbolIndex.{SymbolIndex}
 use Rattle.elfobj.specs.declared.symbol.Symbol.{Symbol}
 use Rattle.elfobj.specs.declared.symbol.SymbolPlace.{SymbolPlace}
 use Rattle.elfobj.specs.declared.symbol.SymbolPlace.TheVariants as place
-use Rattle.emit.specs.declared.patch.Patch.{Patch}
+use Rattle.ldfields.specs.declared.patch.Patch.{Patch}
 use Rattle.std.proofs.lemmas.List.{get_or-map, length-map}
 use Rattle.elfobj.specs.Profile as elf
 use Rattle.elfobj.specs.Relocations.{field_end, width}
@@ -19,9 +19,9 @@ use Rattle.std.proofs.lemmas.List.Elements.{All-filter, All-cons}
 use Rattle.std.proofs.lemmas.List.Kept.{AllPairs-filter}
 use Rattle.std.proofs.lemmas.Option.{same_Some}
 use Rattle.ldi.proofs.Patched.{same_patched}
-use Rattle.emit.specs.Patches.{patched_byte}
+use Rattle.ldfields.specs.Patches.{patched_byte}
 use Rattle.elfobj.specs.declared.relocation.RelocationKind.TheVariants as kind
-use Rattle.emit.specs.Patches.{AreApart, IsWithin, patch_end}
+use Rattle.ldfields.specs.Patches.{AreApart, IsWithin, patch_end}
 use Rattle.ldi.specs.Project.{NamedObject}
 use Rattle.ldi.specs.Gathering.{Piece, piece_of}
 use Rattle.ldi.specs.Placement.{PlacedPiece, Laid}

@@ -2,8 +2,8 @@
 use Rattle.std.proofs.Common.{◌≡◌, ◌<◌, ℕ, List, length, get_or, map, arith, ◌∙◌}
 use Rattle.std.proofs.lemmas.List.FromFn.{get_or-map-range_with_len, length-map-range_with_len, fill_by_all}
 use Rattle.std.specs.List.{range_with_len}
-use Rattle.emit.specs.Patches.{patched_byte}
-use Rattle.emit.specs.declared.patch.Patch.{Patch}
+use Rattle.ldfields.specs.Patches.{patched_byte}
+use Rattle.ldfields.specs.declared.patch.Patch.{Patch}
 use Rattle.ldi.specs.Relocating.{patched}
 
 pub patched_at : (bytes : List ℕ) (fields : List Patch) (i : ℕ) → i < length bytes → get_or (patched bytes fields) i 0 ≡ patched_byte bytes fields i

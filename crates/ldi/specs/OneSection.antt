@@ -5,14 +5,14 @@ use Rattle.std.specs.List.{All, Contains}
 use Rattle.std.specs.Option.{option_map, option_and_then, ForSome}
 use Rattle.elfobj.specs.Profile.{AreApart}
 use Rattle.elfobj.specs.Relocations.{field_end}
-use Rattle.emit.specs.Patches.{patch_end}
+use Rattle.ldfields.specs.Patches.{patch_end}
 use Rattle.elfobj.specs.declared.relocation.Relocation.{Relocation}
 use Rattle.elfobj.specs.declared.relocation.SymbolIndex.{SymbolIndex}
 use Rattle.elfobj.specs.declared.symbol.Symbol.{Symbol}
 use Rattle.elfobj.specs.declared.symbol.SymbolPlace.{SymbolPlace}
 use Rattle.elfobj.specs.declared.symbol.SymbolPlace.TheVariants as place
-use Rattle.emit.specs.Fields.{field_of}
-use Rattle.emit.specs.declared.patch.Patch.{Patch}
+use Rattle.ldfields.specs.Fields.{field_of}
+use Rattle.ldfields.specs.declared.patch.Patch.{Patch}
 use Rattle.ldi.specs.Project.{NamedObject}
 use Rattle.ldi.specs.Relocating.{field_or_none, is_evaluated_by, patched, symbols_of}
 use Rattle.ldi.specs.declared.relocate.RelocateFault.{RelocateFault}

@@ -12,10 +12,10 @@ use Rattle.elfobj.specs.declared.section.SectionIndex.{SectionIndex}
 use Rattle.elfobj.specs.declared.symbol.Symbol.{Symbol}
 use Rattle.elfobj.specs.declared.symbol.SymbolPlace.{SymbolPlace}
 use Rattle.elfobj.specs.declared.symbol.SymbolPlace.TheVariants as place
-use Rattle.emit.specs.Fields.{field_of}
-use Rattle.emit.specs.Patches.{patched_byte}
-use Rattle.emit.specs.declared.patch.Patch.{Patch}
-use Rattle.emit.specs.declared.field.Overflow.{Overflow}
+use Rattle.ldfields.specs.Fields.{field_of}
+use Rattle.ldfields.specs.Patches.{patched_byte}
+use Rattle.ldfields.specs.declared.patch.Patch.{Patch}
+use Rattle.ldfields.specs.declared.field.Overflow.{Overflow}
 use Rattle.ldi.specs.Project.{NamedObject}
 use Rattle.ldi.specs.Placement.{PlacedPiece, Laid}
 

@@ -7,14 +7,14 @@ ghost use Rattle.ldi.specs.Gathering.{Piece};
 ghost use Rattle.ldi.specs.Image.{elf_header, load_header, flags_of, headers, image_of};
 ghost use Rattle.ldi.specs.Segments.{file_size};
 ghost use Rattle.ldi.specs.OneSection.{row_of, patched_row, one_segment, segment_of, IsWritable};
-ghost use Rattle.emit.specs.Patches.{AreInOrder};
+ghost use Rattle.ldfields.specs.Patches.{AreInOrder};
 
 use crate::gather::Member;
 use crate::place::{EHSIZE, PAGE, PHENTSIZE, Segment};
 use elfobj::constants::EM_X86_64;
-use elfobj::meter::Meter;
-use emit::canvas::Canvas;
-use emit::patch::{Patch, write_patched};
+use ldbase::meter::Meter;
+use ldfields::canvas::Canvas;
+use ldfields::patch::{Patch, write_patched};
 use std::alloc::{AllocError, Global};
 
 /// Identification of a little-endian 64-bit file of version 1.

@@ -7,7 +7,7 @@ ghost use Rattle.ldi.specs.EditMeaning.{change_of};
 ghost use Rattle.ldi.specs.Link.{link, linked_of};
 
 use crate::linker::edit::{Edit, EditRefusal, Linked};
-use elfobj::meter::Meter;
+use ldbase::meter::Meter;
 
 pub mod edit;
 pub mod law;

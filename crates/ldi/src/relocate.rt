@@ -7,11 +7,11 @@ ghost use Rattle.ldi.specs.OneSection.{one_value, one_target, one_field, span_of
 
 use crate::gather::Member;
 use crate::place::Placed;
-use elfobj::meter::Meter;
 use elfobj::relocation::{Relocation, RelocationKind, SymbolIndex};
 use elfobj::symbol::SymbolPlace;
-use emit::field::evaluate::field;
-use emit::patch::Patch;
+use ldbase::meter::Meter;
+use ldfields::field::evaluate::field;
+use ldfields::patch::Patch;
 use std::alloc::Global;
 
 /// Why a piece is not relocated.

@@ -20,8 +20,8 @@ mod listing;
 mod names;
 
 use crate::listing::print_object;
-use elfobj::meter::Meter;
 use elfobj::object::Object;
+use ldbase::meter::Meter;
 use std::io;
 use std::io::{BufWriter, Read, Write};
 use std::process::ExitCode;

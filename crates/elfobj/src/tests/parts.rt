@@ -3,11 +3,11 @@
 use super::samples::{
     HeaderRow, SAME, SymbolRow, calling_object, changed, number_of, object_of, plain_object, read,
 };
-use crate::meter::{Count, Meter};
 use crate::object::Object;
 use crate::relocation::{Relocation, RelocationKind, SymbolIndex};
 use crate::section::{Section, SectionIndex, SectionKind};
 use crate::symbol::{Binding, Symbol, SymbolKind, SymbolPlace};
+use ldbase::meter::{Count, Meter};
 use std::test::Fail;
 
 /// Entry number 0 of each symbol table.

@@ -1,8 +1,8 @@
 //! Objects written out byte by byte.
 
-use crate::meter::Meter;
 use crate::object::Object;
 use crate::refusal::ObjectRefusal;
+use ldbase::meter::Meter;
 use std::alloc::{AllocError, Global};
 use std::test::Fail;
 

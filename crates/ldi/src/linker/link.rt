@@ -10,7 +10,7 @@ ghost use Rattle.ldi.specs.Segments.{segments};
 ghost use Rattle.ldi.specs.Image.{image_of};
 ghost use Rattle.ldi.specs.Link.{faulty, linked_by, linked_placed, linked_of, link_of};
 ghost use Rattle.ldi.specs.OneSection.{members_of, row_of, rows_with, patched_row, laid, IsWhole, IsFilledBy, EndsBelow, IsOf};
-ghost use Rattle.emit.specs.Patches.{AreInOrder};
+ghost use Rattle.ldfields.specs.Patches.{AreInOrder};
 ghost use Rattle.ldi.specs.Project.{NamedObject};
 
 use crate::gather::{Gathered, Member, gather};
@@ -20,9 +20,9 @@ use crate::linker::edit::Linked;
 use crate::linker::named::NamedObject;
 use crate::place::{Placed, place, segments};
 use crate::relocate::{RelocateFault, relocate};
-use elfobj::meter::Meter;
-use emit::canvas::Canvas;
-use emit::patch::{Patch, in_order};
+use ldbase::meter::Meter;
+use ldfields::canvas::Canvas;
+use ldfields::patch::{Patch, in_order};
 use std::alloc::{AllocError, Global};
 use std::marker::Model;
 

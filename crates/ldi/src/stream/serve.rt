@@ -14,7 +14,7 @@ use crate::stream::fault::{ReadFault, RunFault, WriteFault};
 use crate::stream::head::{HeadInLine, NAME_START, read_head};
 use crate::stream::line::{LineEnd, MAX_LINE, read_line};
 use crate::stream::payload::{Payload, read_payload};
-use elfobj::meter::Meter;
+use ldbase::meter::Meter;
 use std::alloc::Global;
 
 /// What a step of a run comes to.
