@@ -1,1 +1,7 @@
 pub mod Options
+pub mod Project
+pub mod Numbering
+pub mod Given
+pub mod Names
+pub mod Sections
+pub mod Rows
