@@ -5,3 +5,13 @@ pub mod Given
 pub mod Names
 pub mod Sections
 pub mod Rows
+pub mod Chain
+pub mod Arithmetic
+pub mod Fault
+pub mod Value
+pub mod Layout
+pub mod Assigning
+pub mod Body
+pub mod SectionHead
+pub mod SectionEnd
+pub mod Placement
