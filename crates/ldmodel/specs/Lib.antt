@@ -15,3 +15,8 @@ pub mod Body
 pub mod SectionHead
 pub mod SectionEnd
 pub mod Placement
+pub mod Overlaps
+pub mod Segments
+pub mod SymbolValues
+pub mod Targets
+pub mod Relocations
