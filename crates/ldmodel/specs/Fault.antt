@@ -2,10 +2,11 @@
 -- of the fault text (`FaultText`). Lines are those of the script's statements, from 1.
 use Rattle.std.specs.Prelude.{ℕ, List}
 use Rattle.elfobj.specs.declared.relocation.RelocationKind.{RelocationKind}
+use Rattle.ldmodel.specs.NameFaults.{Definer}
 
 pub data Fault : Type 0 where
-  -- a strong definition of a name beside an earlier one: that of the object `first`, or the script's
-  DuplicateDefinition : (name object first : List ℕ) → Fault
+  -- a name that an object defines once more, after the first definition, in the script or in an object
+  DuplicateDefinition : (name object : List ℕ) → (first : Definer) → Fault
   -- nothing defines the entry symbol
   UndefinedEntry : (name : List ℕ) → Fault
   -- no input statement takes a section that the program needs

@@ -20,3 +20,15 @@ pub mod Segments
 pub mod SymbolValues
 pub mod Targets
 pub mod Relocations
+pub mod OutputSymbols
+pub mod Headers
+pub mod Tail
+pub mod SectionHeaders
+pub mod Image
+pub mod Lines
+pub mod MapText
+pub mod FaultText
+pub mod Assertions
+pub mod Link
+pub mod Stayed
+pub mod WorkBound
