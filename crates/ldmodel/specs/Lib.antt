@@ -1,9 +1,16 @@
 pub mod Options
 pub mod Project
-pub mod Numbering
+pub mod Edits
 pub mod Given
 pub mod Names
+pub mod NameFaults
+pub mod FirstMatch
 pub mod Sections
+pub mod InputSections
+pub mod Gathering
+pub mod Reach
+pub mod Live
+pub mod Sorting
 pub mod Rows
 pub mod Chain
 pub mod Arithmetic

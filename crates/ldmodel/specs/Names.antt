@@ -12,7 +12,8 @@ use Rattle.elfobj.specs.declared.symbol.Symbol.{Symbol}
 use Rattle.elfobj.specs.declared.symbol.SymbolPlace.{SymbolPlace}
 use Rattle.elfobj.specs.declared.symbol.SymbolPlace.TheVariants as place
 use Rattle.ldmodel.specs.Project.{NamedObject, Project}
-use Rattle.ldmodel.specs.Given.{assigned_names, provided_names, is_assigned, is_provided, script_entry}
+use Rattle.ldtree.specs.Numbering.{entry_of}
+use Rattle.ldmodel.specs.Given.{assigned_names, provided_names, is_assigned, is_provided}
 
 -- an entry of an object's symbol table: the place of the object in the project, from 0, and the number of the symbol
 pub record Entry : Type 0 where
@@ -136,7 +137,7 @@ provided p = filter (λ name. is_provided_case (decision p name)) (provided_name
 
 -- the entry symbol: that of the option, else that of ENTRY; without one the entry point is 0
 unfoldable pub entry_symbol : Project → Option (List ℕ)
-entry_symbol p = option_or p.options.entry (script_entry p.script)
+entry_symbol p = option_or p.options.entry (entry_of p.script)
 
 -- a list without what stands in it a second time
 abbrev pub distinct : List (List ℕ) → List (List ℕ)
