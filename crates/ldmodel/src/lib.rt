@@ -1,0 +1,4 @@
+//! What a link is given and what it is.
+#![tactic(auto)]
+
+pub mod options;
