@@ -39,3 +39,9 @@ pub mod Assertions
 pub mod Link
 pub mod Stayed
 pub mod WorkBound
+pub mod ThinProject
+pub mod ThinEdits
+pub mod ThinEditMeaning
+pub mod ThinLink
+pub use Rattle.ldbase.specs.Counts
+pub use Rattle.ldbase.specs.Raised
