@@ -273,7 +273,86 @@ def segment_rows():
         yield given(f"segments of {rest}", start % rest, four, count(found))
 
 
+# An object with sections 1 `.text`, 2 `.bss`, 3 `.debug` (not allocated), 4 the symbols, 5 their names, 6 and 7 the
+# relocations of 1 and 3, 8 the section names; and with symbols 1 local, 2 global, 3 common.
+WHOLE = build([data(".text", "00" * 8), Sec(".bss", b"", DATA, elf.SHT_NOBITS, 1, 16), Sec(".debug", bytes(8), 0)],
+              [Sym("l", 1, 0, 0, LOCAL), Sym("g", 1, 4), Sym("c", COMMON, 8, 24)],
+              [Rel(1, 0, 10, "g"), Rel(1, 4, 10, "g"), Rel(3, 0, 10, "g")])
+NAME, KIND, FLAGS, OFFSET, SIZE, LINK, INFO, LEAST, ENTRY_SIZE = (
+    (0, 4), (4, 4), (8, 8), (24, 8), (32, 8), (40, 4), (44, 4), (48, 8), (56, 8))
+ST_NAME, ST_INFO, ST_SECTION, ST_VALUE, ST_SIZE = (0, 4), (4, 1), (6, 2), (8, 8), (16, 8)
+R_OFFSET, R_TYPE, R_SYMBOL = (0, 8), (8, 4), (12, 4)
+
+
+def header(at, field, value):
+    """A field of section header `at` set."""
+    return elf.number(WHOLE, 40, 8) + 64 * at + field[0], field[1], value
+
+
+def entry(table, at, field, value):
+    """A field of an entry of the table in section `table` set."""
+    start = elf.number(WHOLE, elf.number(WHOLE, 40, 8) + 64 * table + OFFSET[0], 8)
+    return start + 24 * at + field[0], field[1], value
+
+
+def objects_changed():
+    """Changes of the whole object and the refusal of each, 0 for none."""
+    symbol = lambda *change: entry(4, *change)
+    field = lambda *change: entry(6, *change)
+    most = 2 ** 31
+    return [
+        ([], 0), ([(0, 1, 0), (60, 2, 0)], 2), ([(4, 1, 1)], 3), ([(7, 1, 9), (48, 4, 7), (52, 2, 9), (24, 8, 5)], 0),
+        ([(60, 2, 0), (40, 8, 2 ** 60)], 4), ([(60, 2, 0)], 5), ([(62, 2, 9)], 5), ([(62, 2, 0)], 6), ([(62, 2, 5)], 7),
+        ([header(1, OFFSET, len(WHOLE))], 6), ([header(2, OFFSET, 2 ** 63)], 0), ([header(2, SIZE, most)], 0),
+        ([header(2, SIZE, most + 1)], 6), ([header(3, LEAST, 3)], 6), ([header(3, LEAST, 0)], 0),
+        ([header(3, LEAST, 2 ** 63)], 0), ([header(3, OFFSET, len(WHOLE)), header(3, SIZE, 0), header(7, INFO, 0)], 0),
+        ([header(3, OFFSET, len(WHOLE) + 1), header(3, SIZE, 0)], 6),
+        ([header(0, OFFSET, 2 ** 63), header(0, LEAST, 3)], 0),
+        ([header(1, FLAGS, 0x202)], 7), ([header(3, FLAGS, 0x200)], 0), ([header(1, FLAGS, 0x32)], 0),
+        ([header(1, NAME, 0)], 7), ([header(3, NAME, 2 ** 32 - 1)], 0), ([header(1, NAME, 2 ** 32 - 1)], 7),
+        ([header(1, KIND, 5)], 7), ([header(3, KIND, 5)], 0), ([header(4, FLAGS, 2)], 7), ([header(1, KIND, 0)], 0),
+        ([header(3, KIND, 2)], 8), ([header(4, INFO, 0)], 8), ([header(4, INFO, 1)], 8), ([header(4, INFO, 3)], 8),
+        ([header(4, INFO, 5)], 8), ([header(4, ENTRY_SIZE, 25)], 8), ([header(4, SIZE, 0)], 8),
+        ([header(4, SIZE, 95)], 8),
+        ([header(4, LINK, 0)], 8), ([header(4, LINK, 3)], 8), ([header(4, LINK, 9)], 8), ([header(4, LINK, 8)], 0),
+        ([symbol(1, ST_INFO, 0x30)], 8), ([symbol(2, ST_INFO, 0x30)], 9), ([symbol(2, ST_INFO, 0x16)], 9),
+        ([symbol(2, ST_INFO, 0x13)], 9), ([symbol(2, ST_INFO, 0x14)], 9), ([symbol(2, ST_INFO, 0x15)], 0),
+        ([symbol(1, ST_INFO, 3)], 0), ([symbol(1, ST_INFO, 4), symbol(1, ST_SECTION, ABS)], 0),
+        ([symbol(1, ST_INFO, 6)], 9),
+        ([symbol(1, ST_SECTION, 0)], 9), ([symbol(1, ST_SECTION, COMMON)], 9), ([symbol(1, ST_NAME, 2 ** 31)], 0),
+        ([symbol(2, ST_SECTION, 9)], 9), ([symbol(2, ST_SECTION, 8)], 0), ([symbol(2, ST_SECTION, 0xFFFF)], 9),
+        ([symbol(2, ST_NAME, 0)], 9), ([symbol(2, ST_NAME, 2 ** 31)], 9), ([symbol(0, ST_INFO, 0xFF)], 0),
+        ([symbol(3, ST_INFO, 0x20)], 9), ([symbol(3, ST_VALUE, 0)], 9), ([symbol(3, ST_VALUE, 6)], 9),
+        ([symbol(3, ST_VALUE, 2 ** 63)], 0), ([symbol(3, ST_SIZE, most)], 0), ([symbol(3, ST_SIZE, most + 1)], 9),
+        ([header(6, INFO, 9)], 10), ([header(7, INFO, 9)], 10), ([header(7, INFO, 0)], 0), ([header(7, INFO, 1)], 10),
+        ([header(7, ENTRY_SIZE, 1)], 0), ([header(7, KIND, 9)], 0), ([header(6, KIND, 9)], 10),
+        ([header(6, SIZE, 47)], 10),
+        ([header(6, SIZE, 0)], 0), ([header(6, ENTRY_SIZE, 16)], 10), ([header(6, LINK, 5)], 10),
+        ([field(0, R_SYMBOL, 4)], 10),
+        ([field(0, R_SYMBOL, 0)], 0), ([field(0, R_TYPE, 3)], 11), ([entry(7, 0, R_TYPE, 99)], 0),
+        ([field(1, R_TYPE, 9)], 11),
+        ([header(6, INFO, 2)], 12), ([header(6, INFO, 2), header(6, SIZE, 0)], 0), ([field(1, R_OFFSET, 5)], 12),
+        ([field(1, R_OFFSET, 2 ** 64 - 1)], 12), ([field(1, R_TYPE, 0), field(1, R_OFFSET, 8)], 0),
+        ([field(1, R_TYPE, 0), field(1, R_OFFSET, 9)], 12), ([field(1, R_OFFSET, 3)], 13),
+        ([field(1, R_OFFSET, 0)], 13),
+        ([field(1, R_TYPE, 0), field(1, R_OFFSET, 2)], 0), ([field(0, R_OFFSET, 4), field(1, R_OFFSET, 0)], 0),
+        ([field(0, R_OFFSET, 4), field(1, R_OFFSET, 1)], 13), ([field(0, R_TYPE, 1)], 13),
+        ([header(6, INFO, 3)], 0), ([header(4, KIND, 1), header(6, SIZE, 0)], 10)]
+
+
+def object_rows():
+    """Each change by itself, added with all orphans discarded."""
+    for changes, number in objects_changed():
+        given_object = bytearray(WHOLE)
+        for place, size, value in changes:
+            given_object[place:place + size] = elf.spell(value, size)
+        yield Row(f"object {changes}",
+                  [(add("a.o", 0, bytes(given_object)), refused(4, number) if number else accepted)],
+                  Options(orphans="discard"))
+
+
 def all_rows():
     """Every row for a corner."""
-    for group in (script_rows, value_rows, moving_rows, region_rows, name_rows, gathering_rows, segment_rows):
+    for group in (script_rows, object_rows, value_rows, moving_rows, region_rows, name_rows, gathering_rows,
+                  segment_rows):
         yield from group()

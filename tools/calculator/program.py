@@ -1,5 +1,6 @@
 """The two programs: `session` answers a stream of commands, `link` links files once."""
 import argparse
+import os
 import sys
 
 from . import edits, elf
@@ -33,10 +34,17 @@ def name(word):
 
 def session(options):
     """Standard input to standard output."""
-    def write(data):
-        sys.stdout.buffer.write(data)
-        sys.stdout.buffer.flush()
-    return answers(options, sys.stdin.buffer.read(), write)
+    try:
+        return answers(options, sys.stdin.buffer.read(), write)
+    except OSError:
+        return DEVICE
+
+
+def write(data):
+    """All of the bytes to standard output."""
+    left = memoryview(data)
+    while left:
+        left = left[os.write(1, left):]
 
 
 def link_files(given, options):

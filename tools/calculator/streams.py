@@ -1,6 +1,6 @@
 """Random streams of commands with their answers, for comparing a linker with the calculator.
 
-    python3 -m calculator.streams FOLDER COUNT [SEED]     (in tools/)
+    tools/model-streams FOLDER COUNT [SEED]
 
 writes COUNT streams and prints which answers, faults and refusals they have. A seed always gives the same streams.
 Objects and scripts are mostly good; each stream has a measure of trouble, by which names are missing or doubled,
@@ -488,7 +488,3 @@ def main(folder, count, seed=0):
         rows.store(folder, f"{at:05}", made.options, made.data)
     for what, times in sorted(seen.items()):
         print(f"{times:7} {what}")
-
-
-if __name__ == "__main__":
-    main(sys.argv[1], *map(int, sys.argv[2:]))

@@ -1,7 +1,7 @@
 """Worked rows: small links whose answers were worked out by hand, with every table of the rules.
 
-    python3 -m calculator.worked             (in tools/) runs them and prints how many cases agree
-    python3 -m calculator.worked FOLDER      also stores each stream with its answers there
+    tools/model-rows             runs them and prints how many cases agree
+    tools/model-rows FOLDER      also stores each stream with its answers there
 """
 import os
 import subprocess
@@ -473,6 +473,8 @@ def main(folders):
     """Runs all rows and cases; stores the streams where folders are given."""
     sys.setrecursionlimit(10_000)
     result, count = Result(), 0
+    for folder in folders:
+        os.makedirs(folder, exist_ok=True)
     for row in all_rows():
         rows.run(row, result)
         for folder in folders:
@@ -485,7 +487,3 @@ def main(folders):
         print(line)
     print(f"{count} rows, {result.cases} cases, {len(result.differences)} differ")
     return int(bool(result.differences))
-
-
-if __name__ == "__main__":
-    sys.exit(main(sys.argv[1:]))
