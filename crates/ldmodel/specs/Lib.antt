@@ -39,6 +39,8 @@ pub mod Assertions
 pub mod Link
 pub mod Stayed
 pub mod WorkBound
+pub mod Commands
+pub mod Answers
 pub mod ThinProject
 pub mod ThinEdits
 pub mod ThinEditMeaning
