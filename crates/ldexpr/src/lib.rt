@@ -7,5 +7,3 @@ mod head;
 pub mod law;
 pub mod operator;
 pub mod reader;
-#[cfg(test)]
-mod tests;

@@ -14,5 +14,3 @@ mod read_section;
 pub mod refusal;
 pub mod script;
 mod steps;
-#[cfg(test)]
-mod tests;

@@ -11,5 +11,3 @@ pub mod mentions;
 pub mod section;
 pub mod sequence;
 pub mod statement;
-#[cfg(test)]
-mod tests;
