@@ -3,6 +3,7 @@
 
 mod bytes;
 mod front;
+pub mod law;
 mod matching;
 mod part;
 pub mod pattern;
