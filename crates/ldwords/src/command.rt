@@ -35,7 +35,7 @@ fn entry_arg<'a>(alloc: Global) -> Arg<'a>
     Arg::new(alloc, "entry")
         .short('e')
         .value_name("SYMBOL")
-        .help("Start the program at this symbol [default: the one that the script's ENTRY names]")
+        .help("Start the program at this symbol [default: the one of the script's ENTRY]")
 }
 
 /// `--orphan-handling HANDLING`.
@@ -48,7 +48,7 @@ fn orphans_arg<'a>(alloc: Global, choices: &'a [&'a str]) -> Arg<'a>
         .value_name("HANDLING")
         .value_parser(choices)
         .default_value("error")
-        .help("What to do with sections that no statement of the script takes")
+        .help("Handling of sections that no statement takes")
 }
 
 /// `-T SCRIPT`.
@@ -80,10 +80,9 @@ fn map_arg<'a>(alloc: Global) -> Arg<'a>
     ensures rule { rule_of result ≡ map_rule }
     ensures local { result.global ≡ false }
 {
-    Arg::new(alloc, "map")
-        .long("Map")
-        .value_name("MAP")
-        .help("The file to write the map to [default: no map is written]")
+    Arg::new(alloc, "map").long("Map").value_name("MAP").help(
+        "The file to write the map to [default: no map is written]",
+    )
 }
 
 /// The objects.

@@ -65,8 +65,8 @@ impl WordsFault {
     }
 
     /// Prints the fault and gives the status that a program ends with. Help and the version go to standard output, the
-    /// text of a refusal to standard error; out of memory, nothing is printed. The status is 3 where help or the version
-    /// cannot be written, and `exit_status` otherwise.
+    /// text of a refusal to standard error; out of memory, nothing is printed. The status is 3 where help or the
+    /// version cannot be written, else `exit_status`.
     pub fn report<R: Print + Eprint>(&self, rt: &R) -> u8
         ensures { (result ≡ exit_status self.now) ⊎ ((exit_status self.now ≡ 0) × (result ≡ 3)) }
     {

@@ -18,7 +18,7 @@ use crate::values::call_of;
 use std::alloc::Global;
 
 /// What a program prints that has no words to read, since one of its arguments is no text.
-pub const USAGE: &str = "usage: ldi <session|link> [OPTIONS], in UTF-8";
+pub const USAGE: &str = "usage: ldi <session|link> [OPTIONS], all words in UTF-8";
 
 /// The call that the words of a command line ask for. The first word is the name of the program.
 ///
@@ -33,3 +33,6 @@ pub fn words(alloc: Global, args: &[String]) -> Result<Call, WordsFault>
     let matches = ldi_command(alloc)?.try_get_matches_from(args)?;
     Ok(call_of(alloc, &matches)?)
 }
+
+#[cfg(test)]
+mod tests;
