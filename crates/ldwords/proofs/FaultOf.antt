@@ -16,7 +16,7 @@ pub memory_fault : (a : App) (words : List Text) (P : Call → Type 0) (r : Resu
 memory_fault a words P (Ok x) is = absurd is
 memory_fault a words P (Err f) is = subst (IsFaultAt a words) (sym is) tt
 
--- the kind is among those, where it is not want of memory
+-- a kind other than OutOfMemory is among those that are stated
 among : (e : Error) (a : App) (words : List Text) → kind_of e ≢ OutOfMemory → HasKind (fault_of a words) e → IsAmong (kind_of e) (fault_of a words)
 among e a words other (inl m) = absurd (other m)
 among e a words other (inr k) = k
@@ -28,7 +28,7 @@ refused_fault a words P (Err Memory) e is passes kinds = tt
 refused_fault a words P (Err (Refused d)) e is passes kinds =
     subst (λ x. IsFaultAt a words (Refused x)) (sym is.0) (λ t. is.1 (passes t), is.1, among e a words is.1 kinds)
 
--- some reference to the two choices: before the command stands there is none of the program's
+-- some reference to the two handlings of orphans, for a fault before there is a command
 abbrev text_at : Text → Bor Text
 text_at t = record { ref_ptr = (0, 0); now = t }
 

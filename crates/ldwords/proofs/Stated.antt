@@ -1,4 +1,4 @@
--- What `clap` states of words that it takes: a subcommand, with all that it has to be given.
+-- What `clap` states for words in which it finds no fault: a subcommand, with all that it must be given.
 use Rattle.std.proofs.Common.{◌≡◌, ◌∙◌, ◌<◌, ◌&&◌, ◌||◌, ℕ, Bool, true, false, not, List, [], ◌∷◌, ◌++◌, length, drop, Option, Some, None, IsSome, is_some, refl, sym, ap, subst, arith, inl, inr, true≢false, codes, unwrap_or}
 use Rattle.std.specs.Prelude.{if◌then◌else◌, cond, option_and_then, option_map, slice_get}
 use Rattle.std.specs.List.{find, fold, list_all, list_any}

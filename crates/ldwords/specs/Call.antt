@@ -1,5 +1,5 @@
 -- The call that `clap` states for the words of a command line.
-use Rattle.std.specs.Prelude.{◌≡◌, ◌↔◌, ◌⊎◌, List, Option, Some, None, true, IsSome, IsTrue, codes}
+use Rattle.std.specs.Prelude.{◌≡◌, ◌↔◌, ◌⊎◌, List, Option, Some, None, IsSome, IsTrue, codes}
 use Rattle.std.specs.Prelude.{map, option_map, unwrap_or, string_bytes, []}
 use Rattle.clap.specs.Words.{App, Row, Text, all_of, first_of, one_of, subcommand_of}
 use Rattle.clap.specs.Faults.{fault_of}

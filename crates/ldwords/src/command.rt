@@ -1,4 +1,4 @@
-//! The command `ldi` with its two subcommands, as `clap` is told of it.
+//! The command `ldi` with its two subcommands, as it is described to `clap`.
 
 ghost use Rattle.std.specs.Prelude.{◌≡◌, IfOk, false};
 ghost use Rattle.clap.specs.Words.{App, rule_of};

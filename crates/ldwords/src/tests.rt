@@ -12,7 +12,7 @@ use std::process::Abort;
 use std::test::Fail;
 
 /// Lines that come to a call, and the call as `call_text` writes it.
-static CALLS: [(&str, &str); 34] = [
+static CALLS: [(&str, &str); 37] = [
     // each option, in each of its forms
     ("ldi session", "session"),
     ("/usr/bin/ldi session", "session"),
@@ -79,6 +79,13 @@ static CALLS: [(&str, &str); 34] = [
     (
         "ldi link -T a.ld -o b -- -e --gc-sections -x.o --",
         "link [a.ld] [b]: [-e] [--gc-sections] [-x.o] [--]",
+    ),
+    // values that begin with a hyphen
+    ("ldi session -e=-x", "session entry [-x]"),
+    ("ldi session -e-x", "session entry [-x]"),
+    (
+        "ldi link -T a.ld -o b --Map=-m",
+        "link [a.ld] [b] map [-m]:",
     ),
     // empty texts
     ("ldi session -e ", "session entry []"),
