@@ -34,6 +34,3 @@ pub fn words(alloc: Global, args: &[String]) -> Result<Call, WordsFault>
     let matches = ldi_command(alloc)?.try_get_matches_from(args)?;
     Ok(call_of(alloc, &matches)?)
 }
-
-#[cfg(test)]
-mod tests;
