@@ -1,7 +1,7 @@
 -- What a name stands for, by all that declare it (gABI, "Symbol Table"; GNU ld manual, "Assigning Values to Symbols",
 -- "The PROVIDE command"). Of several definitions a global one goes before a common one, and that before a weak one; two
 -- global definitions of a name are a fault.
-use Rattle.std.specs.Prelude.{ℕ, ◌+◌, List, [], ◌∷◌, ◌++◌, length, map, filter, flat_map, Option, Some, None, Bool, true, false, not, ◌&&◌, nat_lt, max, if◌then◌else◌, bytes_eq}
+use Rattle.std.specs.Prelude.{ℕ, ◌+◌, List, [], ◌∷◌, ◌++◌, length, map, filter, flat_map, Option, Bool, true, false, not, ◌&&◌, nat_lt, max, if◌then◌else◌, bytes_eq}
 use Rattle.std.specs.List.{list_any, enumerate_from}
 use Rattle.std.specs.Option.{option_or}
 use Rattle.elfobj.specs.Symbols.{NamedSymbol}
@@ -13,7 +13,7 @@ use Rattle.elfobj.specs.declared.symbol.SymbolPlace.{SymbolPlace}
 use Rattle.elfobj.specs.declared.symbol.SymbolPlace.TheVariants as place
 use Rattle.ldmodel.specs.Project.{NamedObject, Project}
 use Rattle.ldtree.specs.Numbering.{entry_of}
-use Rattle.ldmodel.specs.Given.{assigned_names, provided_names, is_assigned, is_provided}
+use Rattle.ldmodel.specs.ScriptNames.{assigned_names, provided_names, is_assigned, is_provided}
 
 -- an entry of an object's symbol table: the place of the object in the project, from 0, and the number of the symbol
 pub record Entry : Type 0 where
