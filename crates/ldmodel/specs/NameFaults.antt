@@ -1,5 +1,5 @@
--- The faults that names give. Each strong definition of a name after the first is one; where the script assigns the name,
--- that assignment is the first. An entry symbol that nothing defines is one.
+-- The faults that names give. Each strong definition of a name after the first is one; where the script assigns the
+-- name, that assignment is the first. An entry symbol that nothing defines is one.
 use Rattle.std.specs.Prelude.{ℕ, List, [], ◌∷◌, map, filter, Option, Some, None, Bool, false, not, ◌&&◌, ◌||◌, if◌then◌else◌, slice_get}
 use Rattle.std.specs.Option.{option_map_or}
 use Rattle.ldmodel.specs.ScriptNames.{is_assigned}

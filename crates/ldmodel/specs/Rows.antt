@@ -69,9 +69,13 @@ is_in_section k InDiscard = false
 abbrev pub sorted_pieces : Project → ℕ → InputStatementAt → List Piece
 sorted_pieces p n i = sort_by (below i.input.sort) (taken p n)
 
--- the row of output section number k
+-- those of an input statement, with its number, where it stands in output section number k
+abbrev pub pieces_in : Project → ℕ → ℕ × InputStatementAt → List Piece
+pieces_in p k i = if is_in_section k i.1.place then sorted_pieces p i.0 i.1 else []
+
+-- the row of output section number k, statement by statement
 abbrev pub row : Project → ℕ → List Piece
-row p k = flat_map (λ (i : ℕ × InputStatementAt). if is_in_section k i.1.place then sorted_pieces p i.0 i.1 else []) (enumerate_from 0 (input_statements p.script))
+row p k = flat_map (pieces_in p k) (enumerate_from 0 (input_statements p.script))
 
 -- one row for each output section, in script order; /DISCARD/ has none
 unfoldable pub rows : Project → List (List Piece)
