@@ -4,8 +4,8 @@
 use Rattle.std.specs.Prelude.{ℕ, ◌+◌, List, [], ◌∷◌, ◌++◌, length, map, Option, Some, None}
 use Rattle.ldtree.specs.declared.input.Input.{Input}
 use Rattle.ldtree.specs.declared.input.InputStatement.{InputStatement}
-use Rattle.ldtree.specs.declared.place.InputPlace.{InputPlace}
-use Rattle.ldtree.specs.declared.place.InputPlace.TheVariants.{InSection, InDiscard}
+pub use Rattle.ldtree.specs.declared.place.InputPlace.{InputPlace}
+pub use Rattle.ldtree.specs.declared.place.InputPlace.TheVariants.{InSection, InDiscard}
 use Rattle.ldtree.specs.declared.section.BodyCommand.{BodyCommand}
 use Rattle.ldtree.specs.declared.section.BodyCommand.TheVariants as body
 use Rattle.ldtree.specs.declared.section.BodyStatement.{BodyStatement}
