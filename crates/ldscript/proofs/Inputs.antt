@@ -9,6 +9,7 @@ use Rattle.ldtokens.specs.declared.token.Mark.TheVariants.{OpenParenthesis, Clos
 use Rattle.ldtokens.specs.declared.token.Mode.TheVariants.{Pattern}
 use Rattle.ldpattern.specs.Parts as patterns
 use Rattle.ldpattern.specs.Spelling.{Spells}
+use Rattle.ldpattern.proofs.Reading.{one_pattern}
 use Rattle.ldscript.specs.Steps.{Part, ◌▸◌, mark, token, key, pattern, some, statements}
 use Rattle.ldscript.specs.Grammar.{sort, excluded, exclusion, one, bare, selection, plain, kept, input, input_statement}
 use Rattle.ldscript.specs.Readings.{NoneAt, Reads, excluded_files, word_part, selected}
@@ -30,7 +31,7 @@ pub pattern_single : Single pattern
 pattern_single ts r s a b x y =
     let e = tokens_same (Word x.0) (Word y.0) ts r s x.3 y.3 in
     let w = same_words x.0 y.0 e.0 in
-    (sym (x.2.only b (subst (λ v. Spells b v) (sym w) y.2.spelled)), e.1)
+    (one_pattern a b x.0 x.2 (subst (λ v. Spells b v) (sym w) y.2), e.1)
 
 -- a word of the language is no pattern
 pub pattern_no_key : (w : List ℕ) → is_free_word w ≡ false → (p : List patterns.Part) (ts r s : List Lexeme) → pattern p ts r → key Pattern w ts s → ⊥

@@ -16,7 +16,7 @@
 --   one     = [EXCLUDE_FILE "(" WORD {WORD} ")"] WORD
 --   sort    = SORT | SORT_BY_NAME | SORT_BY_ALIGNMENT
 --
--- A `;` stands before, between and behind the statements of a list, by `statements`. The tokens of a body are read in
+-- A `;` stands before, between and after the statements of a list, by `statements`. The tokens of a body are read in
 -- another mode, in which a name, `.` or a word of the language at the front of a statement is a word token.
 use Rattle.std.specs.Prelude.{◌≡◌, ℕ, List, [], ◌∷◌, Option, Some, None, Bool, true, false, codes}
 use Rattle.ldtokens.specs.Tokens.{Lexeme, Number, Discard}
@@ -95,7 +95,7 @@ kept true p = key Pattern (codes "KEEP") ▸ mark OpenParenthesis ▸ p ▸ mark
 abbrev pub input : Input → Part
 input i = kept i.keep (plain i)
 
--- an expression and the mark behind it
+-- an expression and the mark after it
 abbrev pub ended : Mark → Expr → Part
 ended m e = expression e ▸ mark m
 

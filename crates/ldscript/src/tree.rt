@@ -3,8 +3,7 @@
 pub use ldexpr::dot_forms::DotForm;
 pub use ldexpr::expression::{Expr, RegionQuery, SectionQuery};
 pub use ldexpr::operator::{BinaryOperator, UnaryOperator};
-pub use ldpattern::matching::matches;
-pub use ldpattern::pattern::Pattern;
+pub use ldpattern::pattern::{Pattern, matches};
 pub use ldtokens::name::ScriptName;
 pub use ldtree::common::{Assertion, Assignment, Common, DotCommand};
 pub use ldtree::fill::Fill;
