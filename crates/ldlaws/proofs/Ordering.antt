@@ -136,9 +136,10 @@ module _ {X : Type 0} (lt : X → X → Bool) (o : IsStrictWeakOrder lt) where
   sort_is_ordered xs = record { sorted = is_sorted xs; stable = is_stable xs }
 
   pub ordered_once : (xs ys : List X) → IsOrdered lt xs ys ↔ ys ≡ sort_by lt xs
-  ordered_once xs ys =
-      (λ r. one_order ys (sort_by lt xs) r.sorted (is_sorted xs) (λ a. r.stable a ∙ sym (is_stable xs a)),
-      λ e. subst (λ zs. IsOrdered lt xs zs) (sym e) (sort_is_ordered xs))
+  ordered_once xs ys = (
+    λ r. one_order ys (sort_by lt xs) r.sorted (is_sorted xs) (λ a. r.stable a ∙ sym (is_stable xs a)),
+    λ e. subst (λ zs. IsOrdered lt xs zs) (sym e) (sort_is_ordered xs),
+  )
 
 ranks : (sort : Option Sort) → IsStrictWeakOrder (below sort)
 ranks None = record { one_way = λ x y h. absurd (false≢true h); chain = λ x y z h k. refl }

@@ -30,4 +30,5 @@ pub record IsFirstMatch (script : List Statement) (file section : List ℕ) (n :
 
 -- no statement takes the section
 abbrev pub IsUnmatched : List Statement → (file section : List ℕ) → Type 0
-IsUnmatched script file section = (i : InputStatementAt) → Contains (input_statements script) i → Takes file section i.input → ⊥
+IsUnmatched script file section =
+    (i : InputStatementAt) → Contains (input_statements script) i → Takes file section i.input → ⊥

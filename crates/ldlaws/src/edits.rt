@@ -2,7 +2,8 @@
 
 ghost use Rattle.std.specs.Prelude.{◌≡◌, Ok, Result};
 ghost use Rattle.ldmodel.specs.Edits.{After, AreNamesDistinct, Change, Refusal};
-ghost use Rattle.ldmodel.specs.Project.{Project};
+ghost use Rattle.ldmodel.specs.Options.{LinkOptions};
+ghost use Rattle.ldmodel.specs.Project.{Project, empty_project};
 
 use ldscript::law::one_tree;
 use ldtokens::laws::one_cut;
@@ -15,7 +16,8 @@ pub fn one_outcome()
     one_tree();
 }
 
-/// The names of objects stay pairwise different.
+/// The names of objects are pairwise different: there are none in the empty project, and no edit makes two alike.
 pub fn names_stay_distinct()
-    ensures { (p q : Project) (c : Change) → AreNamesDistinct p.objects → After p c (Ok q) → AreNamesDistinct q.objects }
+    ensures empty { (options : LinkOptions) → AreNamesDistinct (empty_project options).objects }
+    ensures kept { (p q : Project) (c : Change) → AreNamesDistinct p.objects → After p c (Ok q) → AreNamesDistinct q.objects }
 {}
