@@ -1,7 +1,8 @@
 -- The body of an output section (GNU ld manual, "Output Section Description", "Output Section Data" and "The Location
--- Counter"): each input section starts at the least multiple of its alignment not below `.`, and `.` goes on to its end;
--- inside an output section `.` does not go back, and a number that it is set to counts from the section's start.
-use Rattle.std.specs.Prelude.{ℕ, ◌+◌, max, List, [], ◌∷◌, ◌++◌, Option, Some, None, Result, Ok, Err, ◌==◌, nat_lt, if◌then◌else◌}
+-- Counter"): each input section starts at the least multiple of its alignment not below `.`, and `.` goes on to its
+-- end; inside an output section `.` does not go back, and a number that it is set to counts from the section's start.
+use Rattle.std.specs.Prelude.{ℕ, ◌+◌, List, [], ◌∷◌, ◌++◌, Option, Some, None, Result, Ok, Err, ◌==◌, nat_lt}
+use Rattle.std.specs.Prelude.{if◌then◌else◌}
 use Rattle.std.specs.Int.{next_multiple_of}
 use Rattle.byteorder.specs.Endian.{little_bytes}
 use Rattle.ldexpr.specs.Expressions as expression
@@ -18,7 +19,7 @@ use Rattle.ldmodel.specs.Assigning.{common_step}
 use Rattle.ldmodel.specs.Chain.{and_then}
 use Rattle.ldmodel.specs.Fault.{Fault, MovedBack}
 use Rattle.ldmodel.specs.Layout.{Layout, PlacedPiece, PlacedData, number, address, noted}
-use Rattle.ldmodel.specs.Rows.{Piece}
+use Rattle.ldmodel.specs.Rows.{Piece, piece_alignment}
 
 -- an output section whose body is being placed: the layout, in which `.` and the symbols go on; where the section
 -- starts; the entries of its row that are still to be placed, and what has been placed
@@ -33,12 +34,9 @@ pub record Body : Type 0 where
 abbrev pub with_dot : Body → ℕ → Body
 with_dot b x = record b { layout = record b.layout { dot = x } }
 
--- alignment 0 counts as 1
-abbrev pub alignment_of : Piece → ℕ
-alignment_of p = max 1 p.alignment
-
+-- the least multiple of its alignment not below `.`
 abbrev pub piece_start : ℕ → Piece → ℕ
-piece_start dot p = next_multiple_of dot (alignment_of p)
+piece_start dot p = next_multiple_of dot (piece_alignment p)
 
 -- the next entry of the row takes its place
 unfoldable pub piece_placed : ℕ → Body → Piece → List Piece → Result Body Fault
@@ -59,12 +57,15 @@ input_step line b =
     and_then (pieces_placed line b.layout.inputs b b.rest) (λ c.
     Ok (record c { layout = record c.layout { inputs = b.layout.inputs + 1 } }))
 
+abbrev pub with_data : Body → List ℕ → Body
+with_data b bytes = record b { data_commands = b.data_commands ++ record { start = b.layout.dot; bytes = bytes } ∷ [] }
+
 -- BYTE, SHORT, LONG, QUAD: the lowest bytes of a number, the lowest of them first, where `.` stands
 abbrev pub data_step : ℕ → Body → Width → Expr → Result Body Fault
 data_step line b w e =
     and_then (number b.layout line e) (λ x.
     and_then (address line (b.layout.dot + byte_count w)) (λ end.
-    Ok (record (with_dot b end) { data_commands = b.data_commands ++ record { start = b.layout.dot; bytes = little_bytes (byte_count w) x } ∷ [] })))
+    Ok (with_dot (with_data b (little_bytes (byte_count w) x)) end)))
 
 -- `.` goes on to a whole number, and not back
 abbrev pub moved : ℕ → Body → ℕ → Result Body Fault

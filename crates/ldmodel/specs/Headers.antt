@@ -1,8 +1,9 @@
--- The headers at the beginning of the image (gABI, "ELF Header" and "Program Header"; numbers little-endian). The program
--- headers follow the ELF header and stand in ascending order of p_vaddr, as the gABI asks of PT_LOAD.
-use Rattle.std.specs.Prelude.{ℕ, ◌+◌, List, [], ◌∷◌, ◌++◌, length, replicate, nat_lt, ◌==◌, if◌then◌else◌}
+-- The headers at the beginning of the image (gABI, "ELF Header" and "Program Header"; numbers little-endian). The
+-- program headers follow the ELF header and stand in ascending order of p_vaddr, as the gABI asks of PT_LOAD.
+use Rattle.std.specs.Prelude.{ℕ, ◌+◌, List, [], ◌∷◌, ◌++◌, replicate, nat_lt, ◌==◌, if◌then◌else◌}
 use Rattle.std.specs.List.{flat_map}
 use Rattle.std.specs.Int.{to_le_bytes, w16, w32, w64}
+use Rattle.ldmodel.specs.Sorting.{sort_by}
 use Rattle.ldmodel.specs.Segments.{Segment, Group, start_of, load_of, file_size, memory_size, page_size}
 
 -- 64 bytes: the entry point, the number of program headers, where the section headers stand and how many they are, and
@@ -14,7 +15,8 @@ elf_header entry program_headers section_headers_at section_headers names =
     -- e_type ET_EXEC, e_machine EM_X86_64, e_version
     ++ to_le_bytes w16 2 ++ to_le_bytes w16 62 ++ to_le_bytes w32 1
     -- e_entry, e_phoff, e_shoff
-    ++ to_le_bytes w64 entry ++ to_le_bytes w64 (if program_headers == 0 then 0 else 64) ++ to_le_bytes w64 section_headers_at
+    ++ to_le_bytes w64 entry ++ to_le_bytes w64 (if program_headers == 0 then 0 else 64)
+    ++ to_le_bytes w64 section_headers_at
     -- e_flags, e_ehsize, e_phentsize, e_phnum
     ++ to_le_bytes w32 0 ++ to_le_bytes w16 64 ++ to_le_bytes w16 56 ++ to_le_bytes w16 program_headers
     -- e_shentsize, e_shnum, e_shstrndx
@@ -31,13 +33,8 @@ program_header g =
     ++ to_le_bytes w64 g.offset ++ to_le_bytes w64 (start_of g) ++ to_le_bytes w64 (load_of g)
     ++ to_le_bytes w64 (file_size g.group) ++ to_le_bytes w64 (memory_size g.group) ++ to_le_bytes w64 page_size
 
-abbrev pub put_in : Segment → List Segment → List Segment
-put_in g [] = g ∷ []
-put_in g (h ∷ hs) = if nat_lt (start_of h) (start_of g) then h ∷ put_in g hs else (g ∷ h ∷ hs)
-
 abbrev pub ascending : List Segment → List Segment
-ascending [] = []
-ascending (g ∷ gs) = put_in g (ascending gs)
+ascending gs = sort_by (λ (g h : Segment). nat_lt (start_of g) (start_of h)) gs
 
 abbrev pub program_headers : List Segment → List ℕ
 program_headers gs = flat_map program_header (ascending gs)

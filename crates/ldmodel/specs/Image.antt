@@ -1,10 +1,10 @@
--- The image, byte by byte: an executable file (gABI, "Object Files"). A byte is found by the first case that holds at its
--- offset: a header's; that of an output section with file bytes, which is that of the field, else the input section, else
--- the data command, else the gap that it lies in; the tail's; else 0.
-use Rattle.std.specs.Prelude.{ℕ, ◌+◌, ◌-◌, ◌%◌, max, List, [], ◌∷◌, ◌++◌, length, map, find, fold, slice_index, Option, Some, None}
-use Rattle.std.specs.Prelude.{Bool, not, ◌&&◌, ◌==◌, nat_lt, nat_le, bytes_eq, filter, if◌then◌else◌}
+-- The image, byte by byte: an executable file (gABI, "Object Files"). A byte is found by the first case that holds at
+-- its offset: a header's; that of an output section with file bytes, which is that of the field, else the input
+-- section, else the data command, else the gap that it lies in; the tail's; else 0.
+use Rattle.std.specs.Prelude.{ℕ, ◌+◌, ◌-◌, ◌%◌, max, List, ◌++◌, length, map, find, fold, slice_index, Option, Some}
+use Rattle.std.specs.Prelude.{None, Bool, not, ◌&&◌, ◌==◌, nat_lt, nat_le, bytes_eq, filter, if◌then◌else◌}
 use Rattle.std.specs.List.{range_with_len}
-use Rattle.std.specs.Option.{option_map_or, option_or}
+use Rattle.std.specs.Option.{option_map_or}
 use Rattle.elfobj.specs.Sections.{LinkedSection}
 use Rattle.elfobj.specs.declared.section.SectionIndex.{SectionIndex}
 use Rattle.ldfields.specs.Patches.{patched_byte}
@@ -26,7 +26,8 @@ covers start size x = nat_le start x && nat_lt x (start + size)
 unfoldable pub headers : Project → Layout → List ℕ
 headers p s =
     let gs : List Segment = segments s.sections in
-    elf_header (number_or_0 (entry_point p s)) (length gs) ((header_part p s).offset) (header_count s) (header_names_number s)
+    elf_header (number_or_0 (entry_point p s)) (length gs)
+        ((header_part p s).offset) (header_count s) (header_names_number s)
     ++ program_headers gs
 
 abbrev pub object_named : Project → List ℕ → Option NamedObject
@@ -92,7 +93,8 @@ output_byte p s q at = byte_among p s q at (covering_piece q at) (covering_data 
 -- the output section whose file bytes lie at an offset
 abbrev pub section_at : Layout → ℕ → Option SectionInFile
 section_at s o =
-    find (λ (x : SectionInFile). has_file_bytes x.section && covers x.offset x.section.size o) (in_file (segments s.sections))
+    find (λ (x : SectionInFile). has_file_bytes x.section && covers x.offset x.section.size o)
+        (in_file (segments s.sections))
 
 -- the part of the tail that lies there
 abbrev pub tail_at : Project → Layout → ℕ → Option FilePart

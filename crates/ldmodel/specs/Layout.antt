@@ -1,7 +1,7 @@
 -- What a layout gives: where the parts of the program stand in memory (GNU ld manual, "SECTIONS Command" and "MEMORY
 -- Command"). Addresses and sizes are whole numbers; an address of 2^64 or more is a fault.
-use Rattle.std.specs.Prelude.{ℕ, ◌+◌, List, [], ◌∷◌, ◌++◌, find, Option, Some, None, Result, Ok, Err, Bool, bytes_eq, if◌then◌else◌}
-use Rattle.std.specs.Option.{option_map, option_and_then}
+use Rattle.std.specs.Prelude.{ℕ, ◌+◌, List, [], ◌∷◌, ◌++◌, find, Option, Result, Ok, Err, Bool, bytes_eq, if◌then◌else◌}
+use Rattle.std.specs.Option.{option_map}
 use Rattle.ldexpr.specs.Expressions.{Expr}
 use Rattle.ldmodel.specs.Arithmetic.{is_address}
 use Rattle.ldmodel.specs.Fault.{Fault}
@@ -77,11 +77,13 @@ script_value s name = option_map (λ (x : ScriptSymbol). x.value) (symbol_named 
 
 abbrev pub section_numbers : Layout → List ℕ → Option SectionNumbers
 section_numbers s name =
-    option_map (λ (q : PlacedSection). record { start = q.start; load = q.load; size = q.size }) (section_named s.sections name)
+    option_map (λ (q : PlacedSection). record { start = q.start; load = q.load; size = q.size })
+        (section_named s.sections name)
 
 abbrev pub region_numbers : Layout → List ℕ → Option RegionNumbers
 region_numbers s name =
-    option_map (λ (r : MemoryRegion). record { origin = r.origin; extent = r.extent }) (region_named s.regions name)
+    option_map (λ (r : MemoryRegion). record { origin = r.origin; extent = r.extent })
+        (region_named s.regions name)
 
 -- an expression of the layout may name what is complete where it stands
 abbrev pub scope_of : Layout → Scope

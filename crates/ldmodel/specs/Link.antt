@@ -1,6 +1,6 @@
 -- The link of a project: a function of the project alone. It goes in phases: names, gathering, layout, relocation,
 -- assertions. The faults are those of the first phase that has any; without one there are the image and the map.
-use Rattle.std.specs.Prelude.{ℕ, ◌^◌, List, [], ◌∷◌, ◌++◌, map, Option, option_to_list, Result, Ok, Err, nat_lt, if◌then◌else◌}
+use Rattle.std.specs.Prelude.{ℕ, ◌^◌, List, [], ◌∷◌, ◌++◌, map, option_to_list, Result, Ok, Err, nat_lt, if◌then◌else◌}
 use Rattle.ldmodel.specs.Assertions.{assertion_faults}
 use Rattle.ldmodel.specs.Fault.{Fault, UndefinedEntry, Orphan, ImageTooLong}
 use Rattle.ldmodel.specs.Fault as fault

@@ -1,6 +1,7 @@
 -- The map: where everything stands, for people and tools (this project's own format). The entry point; the output
--- sections in the order of the script, after each the input sections in it; and the symbols in byte order of their names.
-use Rattle.std.specs.Prelude.{ℕ, List, [], ◌∷◌, ◌++◌, flat_map, replicate, codes, Bool, if◌then◌else◌}
+-- sections in the order of the script, after each the input sections in it; and the symbols in byte order of their
+-- names.
+use Rattle.std.specs.Prelude.{ℕ, List, [], ◌∷◌, ◌++◌, flat_map, replicate, codes, if◌then◌else◌}
 use Rattle.ldmodel.specs.Layout.{Layout, PlacedPiece, PlacedSection}
 use Rattle.ldmodel.specs.Lines.{line_of, hex}
 use Rattle.ldmodel.specs.OutputSymbols.{OutputSymbol, output_symbols, owner}

@@ -1,11 +1,14 @@
 -- The symbols of the output: the names that stand for something in it, in byte order. They are listed in the map, and
 -- those with a value in the symbol table of the image.
-use Rattle.std.specs.Prelude.{ℕ, List, [], ◌∷◌, map, fold, codes, Option, Some, None, Bool, true, false, ◌&&◌, ◌||◌, ◌==◌, nat_lt}
-use Rattle.std.specs.Prelude.{filter, if◌then◌else◌}
+use Rattle.std.specs.Prelude.{ℕ, List, map, codes, Bool, true, false, filter}
+use Rattle.std.specs.Cmp.Lexicographic.{slice_cmp}
+use Rattle.std.specs.Ordering.{is_lt, nat_cmp}
 use Rattle.ldmodel.specs.Layout.{Layout}
-use Rattle.ldmodel.specs.Names.{Decision, Strong, Script, Common, Weak, Provided, Undefined, Duplicate, decision, declared_names}
+use Rattle.ldmodel.specs.NameFaults.{object_name}
+use Rattle.ldmodel.specs.Names.{Decision, Strong, Common, Weak, Undefined, Duplicate, decision, declared_names}
 use Rattle.ldmodel.specs.Project.{Project}
-use Rattle.ldmodel.specs.SymbolValues.{SymbolValue, name_value, object_name}
+use Rattle.ldmodel.specs.Sorting.{sort_by}
+use Rattle.ldmodel.specs.SymbolValues.{SymbolValue, name_value}
 
 -- a name, what it stands for, and its value
 pub record OutputSymbol : Type 0 where
@@ -13,20 +16,12 @@ pub record OutputSymbol : Type 0 where
   pub decision : Decision
   pub value : SymbolValue
 
--- the order of names: by the first byte that differs, a beginning before what goes on
+-- byte order: by the first byte that differs, and a beginning before what goes on
 abbrev pub is_before : List ℕ → List ℕ → Bool
-is_before [] [] = false
-is_before [] (y ∷ ys) = true
-is_before (x ∷ xs) [] = false
-is_before (x ∷ xs) (y ∷ ys) = nat_lt x y || ((x == y) && is_before xs ys)
+is_before a b = is_lt (slice_cmp nat_cmp a b)
 
-abbrev pub put_in : List ℕ → List (List ℕ) → List (List ℕ)
-put_in name [] = name ∷ []
-put_in name (x ∷ xs) = if is_before x name then x ∷ put_in name xs else (name ∷ x ∷ xs)
-
-unfoldable pub in_byte_order : List (List ℕ) → List (List ℕ)
-in_byte_order [] = []
-in_byte_order (x ∷ xs) = put_in x (in_byte_order xs)
+abbrev pub in_byte_order : List (List ℕ) → List (List ℕ)
+in_byte_order names = sort_by is_before names
 
 -- a name stands for something
 abbrev pub is_defined : Decision → Bool

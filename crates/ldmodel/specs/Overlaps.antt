@@ -1,5 +1,5 @@
--- Output sections that would share addresses (GNU ld manual, option `--check-sections`: two output sections that overlap
--- are an error, in memory as where they are loaded).
+-- Output sections that would share addresses (GNU ld manual, option `--check-sections`: two output sections that
+-- overlap are an error, in memory as where they are loaded).
 use Rattle.std.specs.Prelude.{ℕ, ◌+◌, List, [], ◌∷◌, ◌++◌, find, Option, Some, None, Bool, not, ◌&&◌, ◌==◌, nat_lt}
 use Rattle.ldmodel.specs.Fault.{Fault, AddressesMeet, LoadAddressesMeet}
 use Rattle.ldmodel.specs.Layout.{PlacedSection}

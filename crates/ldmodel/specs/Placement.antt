@@ -1,6 +1,6 @@
--- The layout of a script (GNU ld manual, "SECTIONS Command", "MEMORY Command" and "The Location Counter"): one pass over
--- its statements in the order of the text, each of which begins where the one before ended.
-use Rattle.std.specs.Prelude.{ℕ, ◌+◌, List, [], ◌∷◌, ◌++◌, length, slice_index_or, Result, Ok, Err}
+-- The layout of a script (GNU ld manual, "SECTIONS Command", "MEMORY Command" and "The Location Counter"): one pass
+-- over its statements in the order of the text, each of which begins where the one before ended.
+use Rattle.std.specs.Prelude.{ℕ, ◌+◌, List, [], ◌∷◌, ◌++◌, length, slice_index_or, Result, Ok}
 use Rattle.ldtree.specs.declared.common.DotCommand.{DotCommand}
 use Rattle.ldtree.specs.declared.common.DotCommand.TheVariants.{Set, Add}
 use Rattle.ldtree.specs.declared.section.OutputSection.{OutputSection}
@@ -21,12 +21,16 @@ use Rattle.ldmodel.specs.Rows.{Piece}
 use Rattle.ldmodel.specs.SectionHead.{Head, head_of}
 use Rattle.ldmodel.specs.SectionEnd.{section_end}
 
+abbrev pub with_region : Layout → List ℕ → ℕ → ℕ → Layout
+with_region s name origin extent =
+    record s { regions = s.regions ++ record { name = name; origin = origin; extent = extent; next = origin } ∷ [] }
+
 -- a region of MEMORY, whose next free address is at first where it begins
 unfoldable pub region_step : Layout → Region → Result Layout Fault
 region_step s r =
     and_then (number s r.line r.origin) (λ origin.
     and_then (number s r.line r.extent) (λ extent.
-    Ok (record s { regions = s.regions ++ record { name = r.name; origin = origin; extent = extent; next = origin } ∷ [] })))
+    Ok (with_region s r.name origin extent)))
 
 -- outside output sections `.` may go back, and a sum is one of expressions, modulo 2^64
 abbrev pub free_dot_step : Layout → ℕ → DotCommand → Result Layout Fault
@@ -35,7 +39,13 @@ free_dot_step s line (Add e) = and_then (number s line e) (λ x. Ok (record s { 
 
 -- a section begins to be placed
 abbrev pub opened : Layout → List Piece → Head → Body
-opened s row h = record { layout = record s { dot = h.start }; start = h.start; rest = row; pieces = []; data_commands = [] }
+opened s row h = record {
+  layout = record s { dot = h.start };
+  start = h.start;
+  rest = row;
+  pieces = [];
+  data_commands = [];
+}
 
 -- head, body and end of an output section; after it `.` is its end
 unfoldable pub section_step : List (List ℕ) → List Piece → Layout → ℕ → OutputSection → Result Layout Fault

@@ -1,6 +1,6 @@
 -- Relocations of the link (gABI, "Relocation"; x86-64 psABI, "Relocation Types"): each site, its field or its fault.
-use Rattle.std.specs.Prelude.{ℕ, ◌+◌, List, [], ◌++◌, ◌∷◌, map, filter, flat_map, find, Option, Some, None, Result, Ok, Err, Bool}
-use Rattle.std.specs.Prelude.{true, false, slice_get}
+use Rattle.std.specs.Prelude.{ℕ, ◌+◌, List, [], ◌++◌, ◌∷◌, map, filter, flat_map, Option, Some, None, Result, Ok, Err}
+use Rattle.std.specs.Prelude.{Bool, true, false, slice_get}
 use Rattle.std.specs.List.{filter_map}
 use Rattle.std.specs.Option.{option_map_or}
 use Rattle.std.specs.Result.{result_err}

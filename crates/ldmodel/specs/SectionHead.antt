@@ -1,19 +1,19 @@
--- The head of an output section: its alignment, start and load address (GNU ld manual, "Output Section Address", "Output
--- Section LMA" and "Forced Output Alignment"). In its expressions `.` is the value before the section.
-use Rattle.std.specs.Prelude.{ℕ, max, List, [], ◌∷◌, filter, Option, Some, None, Result, Ok, Err, Bool, true, false, if◌then◌else◌, bytes_eq}
+-- The head of an output section: its alignment, start and load address (GNU ld manual, "Output Section Address",
+-- "Output Section LMA" and "Forced Output Alignment"). In its expressions `.` is the value before the section.
+use Rattle.std.specs.Prelude.{ℕ, max, List, [], ◌∷◌, filter, Option, Some, None, Result, Ok, Err, Bool, true, false}
+use Rattle.std.specs.Prelude.{if◌then◌else◌, bytes_eq}
 use Rattle.std.specs.Int.{is_power_of_two, next_multiple_of}
 use Rattle.std.specs.List.{last_or}
-use Rattle.std.specs.Option.{option_map, option_map_or}
+use Rattle.std.specs.Option.{option_map_or}
 use Rattle.ldexpr.specs.Expressions.{Expr}
 use Rattle.ldtree.specs.declared.section.Load.{Load}
 use Rattle.ldtree.specs.declared.section.Load.TheVariants.{Unstated, At, InRegion}
 use Rattle.ldtree.specs.declared.section.OutputSection.{OutputSection}
 use Rattle.ldmodel.specs.Arithmetic.{minus_modulo}
-use Rattle.ldmodel.specs.Body.{alignment_of}
 use Rattle.ldmodel.specs.Chain.{and_then}
 use Rattle.ldmodel.specs.Fault.{Fault, NoValue}
 use Rattle.ldmodel.specs.Layout.{Layout, MemoryRegion, PlacedSection, number, address, region_named}
-use Rattle.ldmodel.specs.Rows.{Piece}
+use Rattle.ldmodel.specs.Rows.{Piece, piece_alignment}
 
 -- the numbers that the expressions of a head give
 pub record Given : Type 0 where
@@ -55,7 +55,7 @@ given s line o =
 -- the greatest of a number and the alignments of a row
 abbrev pub widest : ℕ → List Piece → ℕ
 widest a [] = a
-widest a (p ∷ row) = widest (max a (alignment_of p)) row
+widest a (p ∷ row) = widest (max a (piece_alignment p)) row
 
 -- the next free address of a region
 abbrev pub next_free : Layout → List ℕ → ℕ
@@ -85,8 +85,8 @@ unfoldable pub difference_in : List PlacedSection → Option (List ℕ) → ℕ
 difference_in sections region =
     option_map_or difference_of (last_or None (filter (λ (q : PlacedSection). same_region q.region region) sections)) 0
 
--- without AT(e) or AT>region: the start, where an address is given; else as far from the start as in the last section of
--- the same region
+-- without AT(e) or AT>region: the start, where an address is given; else as far from the start as in the last section
+-- of the same region
 abbrev pub unstated_load : Layout → Option (List ℕ) → Option ℕ → ℕ → ℕ
 unstated_load s region (Some x) start = start
 unstated_load s region None start = minus_modulo start (difference_in s.sections region)

@@ -1,12 +1,12 @@
--- The section headers of the image, and where the parts of its tail stand (gABI, "Section Header"). `.symtab` stands past
--- the loaded part of the file, aligned to 8, the two string tables right after it, and then the headers, aligned to 8; there
--- the image ends.
-use Rattle.std.specs.Prelude.{ℕ, ◌+◌, ◌*◌, ◌%◌, List, [], ◌∷◌, ◌++◌, length, map, replicate, codes, Bool, ◌==◌, if◌then◌else◌}
+-- The section headers of the image, and where the parts of its tail stand (gABI, "Section Header"). `.symtab` stands
+-- past the loaded part of the file, aligned to 8, the two string tables right after it, and then the headers, aligned
+-- to 8; there the image ends.
+use Rattle.std.specs.Prelude.{ℕ, ◌+◌, ◌%◌, List, [], ◌∷◌, ◌++◌, length, map, replicate, codes, ◌==◌, if◌then◌else◌}
 use Rattle.std.specs.Prelude.{flat_map}
 use Rattle.std.specs.List.{enumerate_from}
 use Rattle.std.specs.Int.{to_le_bytes, next_multiple_of, w32, w64}
-use Rattle.elfobj.specs.declared.constants.TheConstants.{SHT_PROGBITS, SHT_SYMTAB, SHT_STRTAB, SHT_NOBITS}
-use Rattle.elfobj.specs.declared.constants.TheConstants.{SHF_WRITE, SHF_ALLOC, SHF_EXECINSTR}
+use Rattle.elfobj.specs.declared.constants.TheConstants.{SHT_PROGBITS, SHT_SYMTAB, SHT_STRTAB, SHT_NOBITS, SHF_WRITE}
+use Rattle.elfobj.specs.declared.constants.TheConstants.{SHF_ALLOC, SHF_EXECINSTR}
 use Rattle.ldmodel.specs.Layout.{Layout, PlacedSection}
 use Rattle.ldmodel.specs.Project.{Project}
 use Rattle.ldmodel.specs.Segments.{Segment, segments, loaded_end, file_offset, has_file_bytes}

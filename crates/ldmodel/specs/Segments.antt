@@ -1,8 +1,9 @@
--- Segments: what of the program is loaded as one, and where it stands in the file (gABI, "Program Header": the addresses
--- and the file offset of a loaded segment are congruent modulo the page size; x86-64 psABI: pages of 4,096 bytes). Which
--- sections share a segment is this project's choice. Output sections of nonzero size stand in the order of the script.
-use Rattle.std.specs.Prelude.{ℕ, ◌+◌, ◌-◌, ◌*◌, ◌%◌, List, [], ◌∷◌, length, map, filter, find, flat_map, fold, Option, Bool}
-use Rattle.std.specs.Prelude.{not, ◌&&◌, ◌||◌, ◌==◌, nat_lt, nat_le, bytes_eq, if◌then◌else◌}
+-- Segments: what of the program is loaded as one, and where it stands in the file (gABI, "Program Header": the
+-- addresses and the file offset of a loaded segment are congruent modulo the page size; x86-64 psABI: pages of 4,096
+-- bytes). Which sections share a segment is this project's choice. Output sections of nonzero size stand in the order
+-- of the script.
+use Rattle.std.specs.Prelude.{ℕ, ◌+◌, ◌-◌, ◌*◌, ◌%◌, List, [], ◌∷◌, length, map, filter, find, flat_map, fold, Bool}
+use Rattle.std.specs.Prelude.{not, ◌&&◌, ◌==◌, nat_lt, nat_le, bytes_eq, if◌then◌else◌}
 use Rattle.std.specs.Option.{option_map_or}
 use Rattle.std.specs.Bool.{beq}
 use Rattle.ldmodel.specs.Layout.{PlacedSection}
@@ -108,15 +109,15 @@ pub record SectionInFile : Type 0 where
   pub offset : ℕ
   pub section : PlacedSection
 
-abbrev pub in_segment : Segment → List SectionInFile
-in_segment g =
-    map (λ (q : PlacedSection). record { offset = g.offset + (q.start - start_of g); section = q }) (sections_in g.group)
+abbrev pub in_segment : Segment → PlacedSection → SectionInFile
+in_segment g q = record { offset = g.offset + (q.start - start_of g); section = q }
 
 -- the output sections of nonzero size in the file
 abbrev pub in_file : List Segment → List SectionInFile
-in_file gs = flat_map in_segment gs
+in_file gs = flat_map (λ (g : Segment). map (in_segment g) (sections_in g.group)) gs
 
 -- where an output section begins in the file; 0 where its size is 0
 abbrev pub file_offset : List Segment → PlacedSection → ℕ
 file_offset gs q =
-    option_map_or (λ (x : SectionInFile). x.offset) (find (λ (x : SectionInFile). bytes_eq x.section.name q.name) (in_file gs)) 0
+    option_map_or (λ (x : SectionInFile). x.offset)
+        (find (λ (x : SectionInFile). bytes_eq x.section.name q.name) (in_file gs)) 0

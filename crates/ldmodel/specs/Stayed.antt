@@ -1,10 +1,10 @@
--- What two links have in common: the input sections that stayed where they were, with their bytes in the same place of the
--- image, and the relocations in them whose targets have another value. An incremental link need not write the former
--- again, but for the fields of the latter.
-use Rattle.std.specs.Prelude.{ℕ, ◌+◌, ◌-◌, List, map, filter, flat_map, find, Option, Some, None, Bool, ◌&&◌, not, bytes_eq, if◌then◌else◌}
-use Rattle.std.specs.Prelude.{[], ◌==◌}
-use Rattle.std.specs.List.{list_any, filter_map}
-use Rattle.std.specs.Option.{option_map, option_map_or}
+-- What two links have in common: the input sections that stayed where they were, with their bytes in the same place of
+-- the image, and the relocations in them whose targets have another value. An incremental link need not write the
+-- former again, but for the fields of the latter.
+use Rattle.std.specs.Prelude.{Option, Some, None, ℕ, ◌+◌, ◌-◌, List, map, filter, flat_map, Bool, ◌&&◌, not, bytes_eq}
+use Rattle.std.specs.Prelude.{if◌then◌else◌, [], ◌==◌}
+use Rattle.std.specs.List.{list_any}
+use Rattle.std.specs.Option.{option_map_or}
 use Rattle.elfobj.specs.Sections.{LinkedSection}
 use Rattle.ldmodel.specs.Image.{object_named, section_numbered}
 use Rattle.ldmodel.specs.Layout.{Layout, PlacedPiece, PlacedSection}
@@ -12,7 +12,7 @@ use Rattle.ldmodel.specs.Project.{NamedObject, Project}
 use Rattle.ldmodel.specs.Relocations.{Site, sites_at, site_value}
 use Rattle.ldmodel.specs.Sections.{is_same_part}
 use Rattle.ldmodel.specs.Segments.{Segment, segments, file_offset, has_file_bytes}
-use Rattle.ldmodel.specs.SymbolValues.{SymbolValue, Number, NotDefined, NotInOutput, number_or_0}
+use Rattle.ldmodel.specs.SymbolValues.{number_or_0}
 use Rattle.ldmodel.specs.declared.sections.Part.{Part}
 use Rattle.ldmodel.specs.declared.sections.Part.TheVariants.{InTable, InCommon}
 
@@ -21,8 +21,8 @@ pub record FileRange : Type 0 where
   pub offset : ℕ
   pub length : ℕ
 
--- an input section in the output: its object's name and bytes, which part of the object it is, its address and size, and
--- its bytes in the image
+-- an input section in the output: its object's name and bytes, which part of the object it is, its address and size,
+-- and its bytes in the image
 pub record LinkedPiece : Type 0 where
   pub object : List ℕ
   pub text : List ℕ
@@ -78,11 +78,14 @@ has_stayed old x = list_any (same_piece x) (pieces_in old)
 unfoldable pub stayed : GoodLink → GoodLink → List LinkedPiece
 stayed old new = filter (has_stayed old) (pieces_in new)
 
+abbrev pub sites_in_section : NamedObject → LinkedPiece → Option LinkedSection → List Site
+sites_in_section o x None = []
+sites_in_section o x (Some y) = sites_at o y x.start
+
 -- the sites of an input section; a common block has none
 abbrev pub sites_in_part : Project → LinkedPiece → Part → List Site
 sites_in_part p x (InTable k) =
-    option_map_or (λ (o : NamedObject). option_map_or (λ (y : LinkedSection). sites_at o y x.start) (section_numbered o k) [])
-        (object_named p x.object) []
+    option_map_or (λ (o : NamedObject). sites_in_section o x (section_numbered o k)) (object_named p x.object) []
 sites_in_part p x (InCommon k) = []
 
 abbrev pub sites_in : Project → LinkedPiece → List Site

@@ -1,7 +1,7 @@
--- The values of symbols in the output (gABI, "Symbol Table", "Symbol Values": in an executable file a symbol's value is an
--- address; for a symbol of a section it is the section's address and st_value; for SHN_ABS st_value itself).
-use Rattle.std.specs.Prelude.{ℕ, List, [], find, flat_map, Option, Some, None, Bool, ◌&&◌, bytes_eq, slice_get}
-use Rattle.std.specs.Option.{option_map, option_map_or, option_and_then}
+-- The values of symbols in the output (gABI, "Symbol Table", "Symbol Values": in an executable file a symbol's value is
+-- an address; for a symbol of a section it is the section's address and st_value; for SHN_ABS st_value itself).
+use Rattle.std.specs.Prelude.{ℕ, List, find, flat_map, Option, Some, None, Bool, ◌&&◌, bytes_eq}
+use Rattle.std.specs.Option.{option_map, option_map_or}
 use Rattle.elfobj.specs.Symbols.{NamedSymbol}
 use Rattle.elfobj.specs.declared.relocation.SymbolIndex.{SymbolIndex}
 use Rattle.elfobj.specs.declared.symbol.Symbol.{Symbol}
@@ -9,8 +9,11 @@ use Rattle.elfobj.specs.declared.symbol.SymbolPlace.{SymbolPlace}
 use Rattle.elfobj.specs.declared.symbol.SymbolPlace.TheVariants as place
 use Rattle.ldmodel.specs.Arithmetic.{plus_modulo}
 use Rattle.ldmodel.specs.Layout.{Layout, PlacedPiece, PlacedSection, script_value}
-use Rattle.ldmodel.specs.Names.{Entry, Decision, Strong, Script, Common, Weak, Provided, Undefined, Duplicate, decision, entry_symbol}
-use Rattle.ldmodel.specs.Project.{NamedObject, Project}
+use Rattle.ldmodel.specs.Live.{symbol_at}
+use Rattle.ldmodel.specs.NameFaults.{object_name}
+use Rattle.ldmodel.specs.Names.{Entry, Decision, Strong, Script, Common, Weak, Provided, Undefined, Duplicate, decision}
+use Rattle.ldmodel.specs.Names.{entry_symbol}
+use Rattle.ldmodel.specs.Project.{Project}
 use Rattle.ldmodel.specs.Sections.{is_same_part}
 use Rattle.ldmodel.specs.declared.sections.Part.{Part}
 use Rattle.ldmodel.specs.declared.sections.Part.TheVariants.{InTable, InCommon}
@@ -46,18 +49,14 @@ own_value s object place.Absolute value = Number value
 own_value s object place.Undefined value = Number 0
 own_value s object place.Common value = NotDefined
 
-abbrev pub object_name : Project → ℕ → List ℕ
-object_name p k = option_map_or (λ (o : NamedObject). o.name) (slice_get p.objects k) []
-
 -- the symbol of an entry
-abbrev pub symbol_at : Project → Entry → Option Symbol
-symbol_at p e =
-    option_and_then (λ (o : NamedObject). option_map (λ (x : NamedSymbol). x.symbol) (slice_get o.object.symbols e.symbol))
-        (slice_get p.objects e.object)
+abbrev pub symbol_of_entry : Project → Entry → Option Symbol
+symbol_of_entry p e = option_map (λ (x : NamedSymbol). x.symbol) (symbol_at p e.object e.symbol)
 
 abbrev pub entry_value : Project → Layout → Entry → SymbolValue
 entry_value p s e =
-    option_map_or (λ (x : Symbol). own_value s (object_name p e.object) x.place x.value) (symbol_at p e) NotDefined
+    option_map_or (λ (x : Symbol). own_value s (object_name p e.object) x.place x.value)
+        (symbol_of_entry p e) NotDefined
 
 -- the number of the symbol of an entry
 abbrev pub symbol_index : Entry → SymbolIndex
@@ -67,8 +66,8 @@ abbrev pub value_or_undefined : Option ℕ → SymbolValue
 value_or_undefined None = NotDefined
 value_or_undefined (Some x) = Number x
 
--- the value of a name, by what it stands for: that of its definition, the address of its common block, or the number that
--- the script gives it
+-- the value of a name, by what it stands for: that of its definition, the address of its common block, or the number
+-- that the script gives it
 abbrev pub decided_value : Project → Layout → List ℕ → Decision → SymbolValue
 decided_value p s name (Strong e) = entry_value p s e
 decided_value p s name (Weak e) = entry_value p s e

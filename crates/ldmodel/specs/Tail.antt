@@ -1,24 +1,24 @@
--- The tail of the image (gABI, "Sections", "String Table" and "Symbol Table"): `.symtab`, `.strtab`, `.shstrtab` and the
--- section headers. The headers are a null header, one for each output section, and those of the three tables.
-use Rattle.std.specs.Prelude.{ℕ, ◌+◌, ◌*◌, ◌%◌, List, [], ◌∷◌, ◌++◌, length, map, replicate, sum_by, codes, Option, Some, None, Bool}
-use Rattle.std.specs.Prelude.{filter_map, flat_map, position, take, ◌==◌, ◌&&◌, bytes_eq, if◌then◌else◌}
+-- The tail of the image (gABI, "Sections", "String Table" and "Symbol Table"): `.symtab`, `.strtab`, `.shstrtab` and
+-- the section headers. The headers are a null header, one for each output section, and those of the three tables.
+use Rattle.std.specs.Prelude.{ℕ, ◌+◌, ◌*◌, List, [], ◌∷◌, ◌++◌, length, map, replicate, sum_by, Option, Some, None}
+use Rattle.std.specs.Prelude.{filter_map, flat_map, position, take}
 use Rattle.std.specs.List.{list_any, enumerate_from}
-use Rattle.std.specs.Option.{option_map, option_map_or}
-use Rattle.std.specs.Int.{to_le_bytes, next_multiple_of, w16, w32, w64, w8}
-use Rattle.elfobj.specs.declared.constants.TheConstants.{SHT_PROGBITS, SHT_SYMTAB, SHT_STRTAB, SHT_NOBITS}
-use Rattle.elfobj.specs.declared.constants.TheConstants.{SHF_WRITE, SHF_ALLOC, SHF_EXECINSTR, SHN_ABS, SHN_COMMON}
-use Rattle.elfobj.specs.declared.constants.TheConstants.{STB_GLOBAL, STB_WEAK, STT_NOTYPE, STT_OBJECT, STT_FUNC, STT_SECTION, STT_FILE}
+use Rattle.std.specs.Option.{option_map_or}
+use Rattle.std.specs.Int.{to_le_bytes, w16, w32, w64}
+use Rattle.elfobj.specs.declared.constants.TheConstants.{SHN_ABS, STB_GLOBAL, STB_WEAK, STT_NOTYPE, STT_OBJECT}
+use Rattle.elfobj.specs.declared.constants.TheConstants.{STT_FUNC, STT_SECTION, STT_FILE}
 use Rattle.elfobj.specs.declared.symbol.Symbol.{Symbol}
 use Rattle.elfobj.specs.declared.symbol.SymbolKind.{SymbolKind}
 use Rattle.elfobj.specs.declared.symbol.SymbolKind.TheVariants as kind
 use Rattle.elfobj.specs.declared.symbol.SymbolPlace.{SymbolPlace}
 use Rattle.elfobj.specs.declared.symbol.SymbolPlace.TheVariants as place
-use Rattle.ldmodel.specs.Layout.{Layout, PlacedPiece, PlacedSection}
-use Rattle.ldmodel.specs.Names.{Entry, Decision, Strong, Script, Common, Weak, Provided, Undefined, Duplicate}
+use Rattle.ldmodel.specs.Layout.{Layout, PlacedSection}
+use Rattle.ldmodel.specs.NameFaults.{object_name}
+use Rattle.ldmodel.specs.Names.{Entry, Decision, Strong, Common, Weak}
 use Rattle.ldmodel.specs.OutputSymbols.{OutputSymbol, output_symbols}
 use Rattle.ldmodel.specs.Project.{Project}
-use Rattle.ldmodel.specs.Segments.{Segment, file_offset, has_file_bytes}
-use Rattle.ldmodel.specs.SymbolValues.{SymbolValue, Number, NotDefined, NotInOutput, is_part, object_name, symbol_at, symbol_index}
+use Rattle.ldmodel.specs.SymbolValues.{SymbolValue, Number, NotDefined, NotInOutput, is_part, symbol_index}
+use Rattle.ldmodel.specs.SymbolValues.{symbol_of_entry}
 use Rattle.ldmodel.specs.declared.sections.Part.{Part}
 use Rattle.ldmodel.specs.declared.sections.Part.TheVariants.{InTable, InCommon}
 
@@ -59,7 +59,7 @@ kind_number kind.File = STT_FILE
 kind_number kind.Common = STT_OBJECT
 
 abbrev pub entry_type : Project → Entry → ℕ
-entry_type p e = option_map_or (λ (x : Symbol). kind_number x.kind) (symbol_at p e) STT_NOTYPE
+entry_type p e = option_map_or (λ (x : Symbol). kind_number x.kind) (symbol_of_entry p e) STT_NOTYPE
 
 abbrev pub st_type : Project → Decision → ℕ
 st_type p (Strong e) = entry_type p e
@@ -68,7 +68,7 @@ st_type p (Common owner size alignment) = STT_OBJECT
 st_type p _ = STT_NOTYPE
 
 abbrev pub entry_size : Project → Entry → ℕ
-entry_size p e = option_map_or (λ (x : Symbol). x.size) (symbol_at p e) 0
+entry_size p e = option_map_or (λ (x : Symbol). x.size) (symbol_of_entry p e) 0
 
 abbrev pub st_size : Project → Decision → ℕ
 st_size p (Strong e) = entry_size p e
@@ -79,7 +79,8 @@ st_size p _ = 0
 -- the number of the header of the output section that a part of an object stands in
 abbrev pub header_of_part : Layout → List ℕ → Part → ℕ
 header_of_part s object part =
-    option_map_or (λ n. n + 1) (position (λ (q : PlacedSection). list_any (is_part object part) q.pieces) s.sections) SHN_ABS
+    option_map_or (λ n. n + 1)
+        (position (λ (q : PlacedSection). list_any (is_part object part) q.pieces) s.sections) SHN_ABS
 
 abbrev pub header_of_place : Layout → List ℕ → SymbolPlace → ℕ
 header_of_place s object (place.Section k) = header_of_part s object (InTable k)
@@ -87,7 +88,7 @@ header_of_place s object _ = SHN_ABS
 
 abbrev pub entry_header : Project → Layout → Entry → ℕ
 entry_header p s e =
-    option_map_or (λ (x : Symbol). header_of_place s (object_name p e.object) x.place) (symbol_at p e) SHN_ABS
+    option_map_or (λ (x : Symbol). header_of_place s (object_name p e.object) x.place) (symbol_of_entry p e) SHN_ABS
 
 -- SHN_ABS for a number of an object or of the script
 abbrev pub st_shndx : Project → Layout → Decision → ℕ

@@ -1,11 +1,10 @@
 -- What a relocation names (gABI, "Relocation", and "Symbol Table": a local symbol is seen in its own object alone; a
--- symbol that isn't local stands for what its name stands for in the whole link, also where its own object defines it; an
--- undefined weak one has the value 0).
-use Rattle.std.specs.Prelude.{ℕ, List, ◌+◌, Option, Some, None, Bool, if◌then◌else◌}
-use Rattle.std.specs.Option.{option_map, option_map_or}
+-- symbol that isn't local stands for what its name stands for in the whole link, also where its own object defines it;
+-- an undefined weak one has the value 0).
+use Rattle.std.specs.Prelude.{ℕ, List, Bool, if◌then◌else◌}
+use Rattle.std.specs.Option.{option_map_or}
 use Rattle.elfobj.specs.Symbols.{NamedSymbol}
 use Rattle.elfobj.specs.declared.section.SectionIndex.{SectionIndex}
-use Rattle.elfobj.specs.declared.symbol.Symbol.{Symbol}
 use Rattle.elfobj.specs.declared.symbol.SymbolPlace.{SymbolPlace}
 use Rattle.elfobj.specs.declared.symbol.SymbolPlace.TheVariants as place
 use Rattle.ldmodel.specs.Layout.{Layout, PlacedPiece}

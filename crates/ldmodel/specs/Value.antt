@@ -1,7 +1,8 @@
 -- The value of an expression (GNU ld manual, "Expressions in Linker Scripts": numbers are unsigned, and operators are
--- those of C with C's precedence). Here every number is below 2^64, arithmetic is modulo 2^64, and no number is relative
--- to a section.
-use Rattle.std.specs.Prelude.{ℕ, ◌+◌, ◌-◌, ◌*◌, ◌/◌, ◌%◌, ◌^◌, List, Option, Some, None, Result, Ok, Err, Bool, not, nat_lt, nat_le, ◌==◌, bit_and, bit_or, if◌then◌else◌}
+-- those of C with C's precedence). Here every number is below 2^64, arithmetic is modulo 2^64, and no number is
+-- relative to a section.
+use Rattle.std.specs.Prelude.{ℕ, ◌-◌, ◌*◌, ◌/◌, ◌%◌, ◌^◌, List, Option, Some, None, Result, Ok, Err, Bool, not, nat_lt}
+use Rattle.std.specs.Prelude.{nat_le, ◌==◌, bit_and, bit_or, if◌then◌else◌}
 use Rattle.std.specs.Option.{option_map}
 use Rattle.std.specs.Int.{is_power_of_two, next_multiple_of}
 use Rattle.ldexpr.specs.Expressions as expression
