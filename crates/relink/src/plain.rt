@@ -25,7 +25,7 @@ use ldmodel::meter::Meter;
 use ldscript::refusal::ScriptRefusal;
 use ldscript::script::Script;
 use ldthin::limits::MAX_OBJECTS;
-use ldtree::statement::Statement;
+use ldscript::tree::Statement;
 use std::alloc::Global;
 use std::hash::RandomState;
 use std::marker::Model;
