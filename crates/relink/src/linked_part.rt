@@ -8,8 +8,8 @@ ghost use Rattle.ldthin.specs.LinkedPart.{form_data, taker_data};
 use crate::linked_script::{Form, LinkedScript};
 use ldmodel::memory::NoMemory;
 use ldscript::tree::{
-    BodyCommand, BodyStatement, Command, DotCommand, Expr, Input, Item, ItemCommand, Load, OutputSection, Pattern,
-    SectionWord, Statement,
+    BodyCommand, BodyStatement, Command, DotCommand, Expr, Input, Item, ItemCommand, Load,
+    OutputSection, Pattern, SectionWord, Statement,
 };
 use ldthin::form::{LentForm, Taker};
 use std::alloc::Global;
