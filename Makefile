@@ -1,10 +1,14 @@
-# make demo: builds the program, links the worked example and shows the image.
+# make demo: builds the program without proofs, links the worked example and shows the image.
+# make ldi: proves every crate that the program stands on, and builds it.
 # make test: the merge gate, every proof from nothing.
 # make check-real: compares the object reader with readelf on objects of gcc. Needs gcc and readelf, and is no part of the gate.
-.PHONY: demo test check-real
+.PHONY: demo ldi test check-real
 
 demo:
 	tools/demo
+
+ldi:
+	tools/build-ldi
 
 test:
 	rt ci

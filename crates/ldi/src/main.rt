@@ -2,34 +2,29 @@
 //!
 //! `ldi session` reads commands from standard input and answers them on standard output. It ends with
 //! the status of the link (0 or 1), with 2 after bytes that no command begins, with 3 where a device
-//! failed, and with 4 without memory to begin.
+//! failed or the system gives no seed for hash tables, and with 4 without memory to begin.
 #![tactic(auto)]
 
 ghost use Rattle.std.specs.Prelude.{◌≡◌};
 ghost use Rattle.ldi.specs.Exit.{exit_status};
 
-use crate::linker::options::Options;
-use crate::linker::plain::Plain;
-use crate::stream::devices::{Input, Output};
-use crate::stream::fault::RunFault;
-use crate::stream::{Status, run};
-use std::io::{BufReader, BufWriter};
+use ldmodel::options::Options;
+use ldstream::Status;
+use ldstream::fault::RunFault;
+use std::hash::RandomState;
 use std::process::ExitCode;
 use std::{env, io};
 
-mod gather;
-mod image_writer;
-mod linked_part;
-mod linked_script;
-mod linker;
-mod place;
-mod relocate;
-mod stream;
+mod session;
+#[cfg(test)]
+mod testing;
 #[cfg(test)]
 mod tests;
 
 /// The words of the command line are refused.
 const REFUSED: u8 = 2;
+/// The system gives no seed.
+const DEVICE: u8 = 3;
 /// There is no memory to begin.
 const NO_MEMORY: u8 = 4;
 
@@ -55,25 +50,19 @@ fn is_session(rt: &HostRuntime) -> io::Result<bool> {
 }
 
 /// Answers the commands of standard input on standard output, and gives the status to end with.
-fn session(rt: &HostRuntime) -> u8 {
-    let alloc = rt.alloc();
-    let Ok(reader) = BufReader::new(alloc, rt.reader()) else {
-        return NO_MEMORY;
+fn answer_commands(rt: &HostRuntime, options: Options) -> u8 {
+    let Ok(seed) = RandomState::new(rt) else {
+        return DEVICE;
     };
-    let Ok(writer) = BufWriter::new(alloc, io::writer(rt)) else {
-        return NO_MEMORY;
-    };
-    let Ok(mut linker) = Plain::new(alloc, Options {}) else {
-        return NO_MEMORY;
-    };
-    let mut source = Input::new(reader);
-    let mut sink = Output::new(writer);
-    exit_status(run(alloc, &mut source, &mut sink, &mut linker))
+    match session::session(rt.alloc(), seed, rt.reader(), io::writer(rt), options) {
+        Ok(ended) => exit_status(ended.outcome),
+        Err(_) => NO_MEMORY,
+    }
 }
 
 fn main(rt: HostRuntime) -> ExitCode {
     match is_session(&rt) {
-        Ok(true) => ExitCode::from(session(&rt)),
+        Ok(true) => ExitCode::from(answer_commands(&rt, Options::default())),
         Ok(false) => {
             let _ = eprintln!(rt; "usage: ldi session");
             ExitCode::from(REFUSED)

@@ -7,5 +7,4 @@ pub mod law;
 pub mod linker;
 pub mod options;
 
-pub use ldbase::memory;
-pub use ldbase::meter;
+pub use ldbase::{memory, meter};

@@ -7,13 +7,13 @@ ghost use Rattle.ldthin.specs.LinkedPart.{form_data, taker_data};
 
 use crate::linked_script::{Form, LinkedScript};
 use ldexpr::expression::Expr;
+use ldmodel::memory::NoMemory;
 use ldpattern::pattern::Pattern;
 use ldthin::form::{LentForm, Taker};
 use ldtree::common::DotCommand;
 use ldtree::input::Input;
 use ldtree::section::{BodyCommand, BodyStatement, Load, OutputSection};
 use ldtree::statement::{Command, Item, ItemCommand, Statement};
-use ldmodel::memory::NoMemory;
 use std::alloc::Global;
 
 /// Whether a pattern is `*` alone.
