@@ -184,8 +184,7 @@ fn check_rows(
 
 #[test]
 fn answers_streams(rt: HostRuntime) -> Result<(), Fail> {
-    let long = [b'n'; 256];
-    let rows: [Row<'_>; 10] = [
+    let rows: [Row<'_>; 9] = [
         (&[], &[], Status::Done(0)),
         (&[IMAGE], &[b"bytes 64\n", &EMPTY_IMAGE], Status::Done(0)),
         (
@@ -220,15 +219,6 @@ fn answers_streams(rt: HostRuntime) -> Result<(), Fail> {
             Status::Done(0),
         ),
         (
-            &[
-                b"add ",
-                &long,
-                b" 0 0\nadd a\tb 0 0\nadd a 1 0\nadd a 0 0\n",
-            ],
-            &[b"refused 6 0\nrefused 6 0\nrefused 3 0\nrefused 4 1\n"],
-            Status::Done(0),
-        ),
-        (
             &[b"add a 18446744073709551615 0\nscript 31\nSECTIONS{.=0;.-a:{*(x)}}       IMAGE\n"],
             &[b"refused 3 0\nrefused 5 2\nstream\n"],
             Status::Malformed,
@@ -241,6 +231,21 @@ fn answers_streams(rt: HostRuntime) -> Result<(), Fail> {
             Status::Malformed,
         ),
     ];
+    check_rows(&rt, rt.alloc(), RandomState::new(&rt)?, &rows)
+}
+
+#[test]
+fn refuses_names_outside_the_limits(rt: HostRuntime) -> Result<(), Fail> {
+    let long = [b'n'; 256];
+    let rows: [Row<'_>; 1] = [(
+        &[
+            b"add ",
+            &long,
+            b" 0 0\nadd a\tb 0 0\nadd a 1 0\nadd a 0 0\n",
+        ],
+        &[b"refused 6 0\nrefused 6 0\nrefused 3 0\nrefused 4 1\n"],
+        Status::Done(0),
+    )];
     check_rows(&rt, rt.alloc(), RandomState::new(&rt)?, &rows)
 }
 
