@@ -12,6 +12,8 @@ mod place;
 pub mod refusal;
 pub mod relocation;
 mod relocation_entry;
+mod relocation_fault;
+mod relocation_run;
 mod relocation_table;
 pub mod section;
 mod section_header;
@@ -19,5 +21,3 @@ mod section_table;
 pub mod symbol;
 mod symbol_entry;
 mod symbol_table;
-#[cfg(test)]
-mod tests;

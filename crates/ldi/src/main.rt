@@ -1,8 +1,9 @@
 //! `ldi`: a static linker that links again after every edit.
 //!
 //! `ldi session` reads commands from standard input and answers them on standard output. It ends with
-//! the status of the link (0 or 1), with 2 after bytes that no command begins, with 3 where a device
-//! failed or the system gives no seed for hash tables, and with 4 without memory to begin.
+//! the status of the link (0 or 1), with 2 after bytes that no command begins or where the words of the
+//! command line are refused, with 3 where a device failed or the system gives no seed for hash tables,
+//! and with 4 without memory to begin.
 #![tactic(auto)]
 
 ghost use Rattle.std.specs.Prelude.{◌≡◌};
@@ -11,6 +12,8 @@ ghost use Rattle.ldi.specs.Exit.{exit_status};
 use ldmodel::options::Options;
 use ldstream::Status;
 use ldstream::fault::RunFault;
+use ldwords::call::Call;
+use ldwords::{USAGE, words};
 use std::hash::RandomState;
 use std::process::ExitCode;
 use std::{env, io};
@@ -39,14 +42,9 @@ fn exit_status(outcome: Result<Status, RunFault>) -> u8
     }
 }
 
-/// Whether the one word of the command line is `session`.
-fn is_session(rt: &HostRuntime) -> io::Result<bool> {
-    let mut words = env::args(rt)?;
-    let _program = words.next();
-    let Some(word) = words.next() else {
-        return Ok(false);
-    };
-    Ok(word.as_str() == "session" && words.next().is_none())
+/// The words of the command line, with the program's name first.
+fn arguments(rt: &HostRuntime) -> io::Result<Vec<String>> {
+    Ok(env::args(rt)?.collect(rt.alloc())?)
 }
 
 /// Answers the commands of standard input on standard output, and gives the status to end with.
@@ -60,13 +58,37 @@ fn answer_commands(rt: &HostRuntime, options: Options) -> u8 {
     }
 }
 
-fn main(rt: HostRuntime) -> ExitCode {
-    match is_session(&rt) {
-        Ok(true) => ExitCode::from(answer_commands(&rt, Options::default())),
-        Ok(false) => {
-            let _ = eprintln!(rt; "usage: ldi session");
-            ExitCode::from(REFUSED)
+/// Says why the call is not made, and gives the status to end with.
+fn refuse(rt: &HostRuntime, reason: &str) -> u8 {
+    let _ = eprintln!(rt; "{reason}");
+    REFUSED
+}
+
+/// Makes the call of the command line, and gives the status to end with.
+fn run_words(rt: &HostRuntime, args: &[String]) -> u8 {
+    match words(rt.alloc(), args) {
+        Ok(Call::Session(options)) => {
+            if options.is_default() {
+                answer_commands(rt, options)
+            } else {
+                refuse(rt, "ldi: this version links without options only")
+            }
         }
-        Err(_) => ExitCode::from(NO_MEMORY),
+        Ok(Call::Link { .. }) => refuse(rt, "ldi: this version has no `link`"),
+        Err(fault) => fault.report(rt),
     }
+}
+
+fn main(rt: HostRuntime) -> ExitCode {
+    let status = match arguments(&rt) {
+        Ok(args) => run_words(&rt, args.as_slice()),
+        Err(error) => {
+            if error.kind() == io::ErrorKind::OutOfMemory {
+                NO_MEMORY
+            } else {
+                refuse(&rt, USAGE)
+            }
+        }
+    };
+    ExitCode::from(status)
 }
