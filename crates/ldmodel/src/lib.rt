@@ -10,5 +10,4 @@ pub mod options;
 pub mod rows;
 pub mod sections;
 
-pub use ldbase::memory;
-pub use ldbase::meter;
+pub use ldbase::{memory, meter};
