@@ -14,3 +14,4 @@ mod read_section;
 pub mod refusal;
 pub mod script;
 mod steps;
+pub mod tree;
