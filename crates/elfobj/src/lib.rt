@@ -4,6 +4,7 @@
 pub mod constants;
 mod elf_header;
 mod field;
+pub mod law;
 mod linked;
 mod names;
 mod numbers;

@@ -16,7 +16,7 @@ ghost use Rattle.elfobj.specs.Symbols.{symbols_of};
 ghost use Rattle.elfobj.specs.Tables.{is_linked, is_wrong_below, is_wrong_table, linked_sections};
 ghost use Rattle.elfobj.specs.declared.refusal.ObjectRefusal.TheVariants.{NoMemory, RelocationSection};
 
-use crate::constants::SHT_REL;
+use crate::constants::{RELA_SIZE, SHT_REL};
 use crate::field::is_any_shared;
 use crate::refusal::ObjectRefusal;
 use crate::relocation_fault::{EntryFault, is_any_refused};
@@ -42,7 +42,10 @@ fn is_wrong_table(table: &SectionHeader, symtab: Option<usize>) -> bool
         Some(number) => table.sh_link as usize == number,
         None => false,
     };
-    table.sh_type == SHT_REL || table.sh_entsize != 24 || table.sh_size % 24 != 0 || !is_of_symtab
+    table.sh_type == SHT_REL
+        || table.sh_entsize != RELA_SIZE as u64
+        || table.sh_size % RELA_SIZE as u64 != 0
+        || !is_of_symtab
 }
 
 /// Whether a relocation section changes no section, or a linked one in a way outside the profile. `tables` has for each
@@ -123,7 +126,7 @@ fn section_table(section: &Section, table: Option<SectionHeader>, len: usize) ->
         Some(table) => SectionTable {
             section: *section,
             start: table.sh_offset as usize,
-            count: (table.sh_size / 24) as usize,
+            count: table.sh_size as usize / RELA_SIZE,
         },
         None => SectionTable {
             section: *section,

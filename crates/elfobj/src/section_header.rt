@@ -6,7 +6,8 @@ ghost use Rattle.elfobj.specs.SectionHeaders.{header_at, headers};
 ghost use Rattle.elfobj.specs.SectionTable.{HasSectionTable};
 
 use crate::constants::{
-    MAX_SECTION_SIZE, PROFILE_FLAGS, SHF_ALLOC, SHT_NOBITS, SHT_NULL, SHT_REL, SHT_RELA, SHT_SYMTAB,
+    MAX_SECTION_SIZE, PROFILE_FLAGS, SHDR_SIZE, SHF_ALLOC, SHT_NOBITS, SHT_NULL, SHT_REL, SHT_RELA,
+    SHT_SYMTAB,
 };
 use crate::elf_header::{section_count, section_table_offset};
 use crate::names::NameTable;
@@ -159,7 +160,7 @@ pub fn read_headers(alloc: Global, bytes: &[u8]) -> Result<Vec<SectionHeader>, A
     let mut headers = Vec::with_capacity(alloc, count)?;
     headers.push(NULL_HEADER)?;
     for k in 1..count {
-        headers.push(read_header(bytes, start + 64 * k))?;
+        headers.push(read_header(bytes, start + usize::from(SHDR_SIZE) * k))?;
     }
     Ok(headers)
 }
