@@ -18,6 +18,7 @@ ghost use Rattle.elfobj.specs.declared.refusal.ObjectRefusal.TheVariants.{NoMemo
 
 use crate::constants::{RELA_SIZE, SHT_REL};
 use crate::field::is_any_shared;
+use crate::place::Span;
 use crate::refusal::ObjectRefusal;
 use crate::relocation_fault::{EntryFault, is_any_refused};
 use crate::relocation_run::{Relocations, SectionTable, read_tables};
@@ -175,16 +176,22 @@ fn entry_refusal(bytes: &[u8], tables: &[SectionTable], symbols: usize) -> Optio
     None
 }
 
-/// Whether two relocations of one section share a byte.
+/// Whether two relocations of one section share a byte. A section with the same table as the one before is passed over.
 fn is_any_overlap(alloc: Global, relocations: &Relocations) -> Result<bool, AllocError>
     requires { All (IsInside (length relocations.now.all.items)) relocations.now.spans.items }
     ensures { IfOk result (λ b. b ≡ list_any share_bytes (map (relocations_in relocations.now.all.items) relocations.now.spans.items)) }
 {
     let all = relocations.all.as_slice();
+    let mut room = Vec::new(alloc);
+    let mut last = Span { start: 0, end: 0 };
     for span in &relocations.spans {
-        if is_any_shared(alloc, &all[span.start..span.end])? {
+        if span.start == last.start && span.end == last.end {
+            continue;
+        }
+        if is_any_shared(&all[span.start..span.end], &mut room)? {
             return Ok(true);
         }
+        last = *span;
     }
     Ok(false)
 }
