@@ -5,10 +5,11 @@ use Rattle.ldtokens.specs.declared.token.Mark.{Mark}
 use Rattle.ldtokens.specs.declared.token.Mark.TheVariants.{OpenParenthesis, CloseParenthesis, Comma, Question, Colon}
 use Rattle.ldexpr.specs.declared.operator.UnaryOperator.{UnaryOperator}
 use Rattle.ldexpr.specs.declared.operator.BinaryOperator.{BinaryOperator}
-use Rattle.ldexpr.specs.declared.expression.Property.{Property}
+use Rattle.ldexpr.specs.declared.expression.RegionQuery.{RegionQuery}
+use Rattle.ldexpr.specs.declared.expression.SectionQuery.{SectionQuery}
 use Rattle.ldexpr.specs.Operators.{unary_of, binary_of, level_of}
-use Rattle.ldexpr.specs.Expressions.{Expr, Number, Dot, Name, Unary, Binary, Choice, Of, AlignDot, Align}
-use Rattle.ldexpr.specs.Grammar.{Point, Asks, Aligns, Free, Reserved, Terminal, Numeral, Worded, Sign, Other, terminal_of, Begins, BeginsUnary, BeginsBinary, BeginsNamed, Primary, Arguments, Within, Whole, Spells, number, dot, name, group, property, align, one_argument, two_arguments, primary, unary, operand, binary, operators, choice, IsLooser, IsNoOperator, StopsAt, Stops, Reading}
+use Rattle.ldexpr.specs.Expressions.{Expr, Number, Dot, Name, Unary, Binary, Choice, OfRegion, OfSection, AlignDot, Align}
+use Rattle.ldexpr.specs.Grammar.{Point, AsksRegion, AsksSection, Aligns, Free, Reserved, Terminal, Numeral, Worded, Sign, Other, terminal_of, Begins, BeginsUnary, BeginsBinary, BeginsNamed, Primary, Arguments, Within, Whole, Spells, number, dot, name, group, of_region, of_section, align, one_argument, two_arguments, primary, unary, operand, binary, operators, choice, IsLooser, IsNoOperator, StopsAt, Stops, Reading}
 
 -- the tokens don't begin with this terminal
 abbrev pub Lacks : List Lexeme → Terminal → Type 0
@@ -67,7 +68,8 @@ abbrev pub Shape : Terminal → Expr → List Lexeme → List Lexeme → Type 0
 Shape (Numeral v) f us more = (f ≡ Number v) × (more ≡ us) × (v < 2 ^ 64)
 Shape (Worded Point) f us more = (f ≡ Dot) × (more ≡ us)
 Shape (Worded (Free n)) f us more = (f ≡ Name n) × (more ≡ us)
-Shape (Worded (Asks p)) f us more = (n : List ℕ) × (f ≡ Of p n) × BeginsNamed us n more
+Shape (Worded (AsksRegion q)) f us more = (n : List ℕ) × (f ≡ OfRegion q n) × BeginsNamed us n more
+Shape (Worded (AsksSection q)) f us more = (n : List ℕ) × (f ≡ OfSection q n) × BeginsNamed us n more
 Shape (Worded Aligns) f us more = Spells Arguments f us more
 Shape (Worded Reserved) f us more = ⊥
 Shape (Sign OpenParenthesis) f us more = (vs : List Lexeme) × Spells Whole f us vs × Begins vs (Sign CloseParenthesis) more
@@ -81,7 +83,9 @@ primary_shape {f = f} {us = us} {more = more} b (dot d) = let h = begins_same d 
 primary_shape {f = f} {us = us} {more = more} b (name d) = let h = begins_same d b in subst (λ t. Shape t f us more) h.0 (refl, h.1)
 primary_shape {f = f} {us = us} {more = more} b (group {vs = vs} d s c) =
     let h = begins_same d b in subst (λ t. Shape t f us more) h.0 (vs, subst (λ x. Spells Whole f x vs) h.1 s, c)
-primary_shape {f = f} {us = us} {more = more} b (property {name = n} d m) =
+primary_shape {f = f} {us = us} {more = more} b (of_region {name = n} d m) =
+    let h = begins_same d b in subst (λ t. Shape t f us more) h.0 (n, refl, subst (λ x. BeginsNamed x n more) h.1 m)
+primary_shape {f = f} {us = us} {more = more} b (of_section {name = n} d m) =
     let h = begins_same d b in subst (λ t. Shape t f us more) h.0 (n, refl, subst (λ x. BeginsNamed x n more) h.1 m)
 primary_shape {f = f} {us = us} {more = more} b (align d s) =
     let h = begins_same d b in subst (λ t. Shape t f us more) h.0 (subst (λ x. Spells Arguments f x more) h.1 s)
@@ -98,10 +102,17 @@ name_reading b = record { spells = name b; only = λ f more d s. primary_shape b
 pub named_shorter : {n : List ℕ} {ts rest : List Lexeme} → BeginsNamed ts n rest → length rest < length ts
 named_shorter m = omega (arith, begins_shorter m.opens, begins_shorter m.names, begins_shorter m.closes)
 
-pub property_reading : {p : Property} {n : List ℕ} {ts us rest : List Lexeme} → Begins ts (Worded (Asks p)) us → BeginsNamed us n rest → Reading Primary ts (Of p n) rest
-property_reading {p = p} b m = record {
-  spells = property b m;
-  only = λ f more d s. (let h = primary_shape b d in let same = named_same h.2 m in (h.1 ∙ ap (Of p) same.0, same.1));
+pub of_region_reading : {q : RegionQuery} {n : List ℕ} {ts us rest : List Lexeme} → Begins ts (Worded (AsksRegion q)) us → BeginsNamed us n rest → Reading Primary ts (OfRegion q n) rest
+of_region_reading {q = q} b m = record {
+  spells = of_region b m;
+  only = λ f more d s. (let h = primary_shape b d in let same = named_same h.2 m in (h.1 ∙ ap (OfRegion q) same.0, same.1));
+  shorter = omega (arith, begins_shorter b, named_shorter m);
+}
+
+pub of_section_reading : {q : SectionQuery} {n : List ℕ} {ts us rest : List Lexeme} → Begins ts (Worded (AsksSection q)) us → BeginsNamed us n rest → Reading Primary ts (OfSection q n) rest
+of_section_reading {q = q} b m = record {
+  spells = of_section b m;
+  only = λ f more d s. (let h = primary_shape b d in let same = named_same h.2 m in (h.1 ∙ ap (OfSection q) same.0, same.1));
   shorter = omega (arith, begins_shorter b, named_shorter m);
 }
 

@@ -6,11 +6,12 @@ use Rattle.ldtokens.specs.declared.token.Mark.{Mark}
 use Rattle.ldtokens.specs.declared.token.Mark.TheVariants.{OpenParenthesis, CloseParenthesis, Comma, Question, Colon}
 use Rattle.ldexpr.specs.declared.operator.UnaryOperator.{UnaryOperator}
 use Rattle.ldexpr.specs.declared.operator.BinaryOperator.{BinaryOperator}
-use Rattle.ldexpr.specs.declared.expression.Property.{Property}
+use Rattle.ldexpr.specs.declared.expression.RegionQuery.{RegionQuery}
+use Rattle.ldexpr.specs.declared.expression.SectionQuery.{SectionQuery}
 use Rattle.ldexpr.specs.declared.fault.ParseFault.{ParseFault}
 use Rattle.ldexpr.specs.declared.fault.ParseFault.TheVariants.{NotAnExpression, NoMemory}
 use Rattle.ldexpr.specs.Expressions.{Expr}
-use Rattle.ldexpr.specs.Grammar.{Asks, Aligns, Free, Reserved, Worded, Sign, terminal_of, Begins, BeginsUnary, BeginsBinary, BeginsNamed, Level, Primary, Arguments, Within, Whole, Spells, number, dot, name, group, property, align, one_argument, two_arguments, primary, unary, operators, choice, Stops, Reading, NoReading, Fails, Reads}
+use Rattle.ldexpr.specs.Grammar.{AsksRegion, AsksSection, Aligns, Free, Reserved, Worded, Sign, terminal_of, Begins, BeginsUnary, BeginsBinary, BeginsNamed, Level, Primary, Arguments, Within, Whole, Spells, number, dot, name, group, of_region, of_section, align, one_argument, two_arguments, primary, unary, operators, choice, Stops, Reading, NoReading, Fails, Reads}
 use Rattle.ldexpr.proofs.Readings.{Lacks, begins_same, Shape, primary_shape, primary_begins_no_unary, primary_reading, align_reading, unary_same, binary_same, level_tail, tail_stops, Tail, done, longer, SoFar, operator_goes_on, whole_stops, whole_stops_before, within_stops_at, question_goes_on}
 
 pub fails_map : {l k : Level} {ts us : List Lexeme} → (NoReading l ts → NoReading k us) → (e : ParseFault) → Fails l ts e → Fails k us e
@@ -26,7 +27,8 @@ primary_not_empty (number b small) e = let s = b.split in cc
 primary_not_empty (dot b) e = let s = b.split in cc
 primary_not_empty (name b) e = let s = b.split in cc
 primary_not_empty (group b d c) e = let s = b.split in cc
-primary_not_empty (property b m) e = let s = b.split in cc
+primary_not_empty (of_region b m) e = let s = b.split in cc
+primary_not_empty (of_section b m) e = let s = b.split in cc
 primary_not_empty (align b d) e = let s = b.split in cc
 
 pub empty_none : (ts : List Lexeme) → ts ≡ [] → NoReading Primary ts
@@ -44,8 +46,11 @@ group_open b r n f end d s =
     let same = r.only f h.0 h.1 (whole_stops_before h.2 tt) in
     n end (subst (λ x. Begins x (Sign CloseParenthesis) end) same.1 h.2)
 
-pub property_none : {p : Property} {ts us : List Lexeme} → Begins ts (Worded (Asks p)) us → ((n : List ℕ) (rest : List Lexeme) → BeginsNamed us n rest → ⊥) → NoReading Primary ts
-property_none b n f end d s = let h = primary_shape b d in n h.0 end h.2
+pub of_region_none : {q : RegionQuery} {ts us : List Lexeme} → Begins ts (Worded (AsksRegion q)) us → ((n : List ℕ) (rest : List Lexeme) → BeginsNamed us n rest → ⊥) → NoReading Primary ts
+of_region_none b n f end d s = let h = primary_shape b d in n h.0 end h.2
+
+pub of_section_none : {q : SectionQuery} {ts us : List Lexeme} → Begins ts (Worded (AsksSection q)) us → ((n : List ℕ) (rest : List Lexeme) → BeginsNamed us n rest → ⊥) → NoReading Primary ts
+of_section_none b n f end d s = let h = primary_shape b d in n h.0 end h.2
 
 pub align_none : {ts us : List Lexeme} → Begins ts (Worded Aligns) us → NoReading Arguments us → NoReading Primary ts
 align_none b n f end d s = n f end (primary_shape b d) tt

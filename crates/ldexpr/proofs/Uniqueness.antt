@@ -3,8 +3,8 @@ use Rattle.std.proofs.Common.{ℕ, zero, suc, List, sym}
 use Rattle.ldtokens.specs.Tokens.{Lexeme}
 use Rattle.ldtokens.specs.declared.token.Mark.TheVariants.{Question}
 use Rattle.ldexpr.specs.Expressions.{Expr}
-use Rattle.ldexpr.specs.Grammar.{Sign, Level, Primary, Arguments, Within, Whole, Spells, number, dot, name, group, property, align, one_argument, two_arguments, primary, unary, operand, binary, operators, choice, Stops, Reading, OneTree, OneReading}
-use Rattle.ldexpr.proofs.Readings.{SoFar, Lacks, primary_begins_no_unary, number_reading, dot_reading, name_reading, group_reading, property_reading, align_reading, one_reading, two_reading, unary_reading, primary_reading, lower_stops, operator_stops, operator_goes_on, level_start, level_end, level_step, within_stops_at, whole_stops_before, whole_stops, question_goes_on, operators_reading, choice_reading}
+use Rattle.ldexpr.specs.Grammar.{Sign, Level, Primary, Arguments, Within, Whole, Spells, number, dot, name, group, of_region, of_section, align, one_argument, two_arguments, primary, unary, operand, binary, operators, choice, Stops, Reading, OneTree, OneReading}
+use Rattle.ldexpr.proofs.Readings.{SoFar, Lacks, primary_begins_no_unary, number_reading, dot_reading, name_reading, group_reading, of_region_reading, of_section_reading, align_reading, one_reading, two_reading, unary_reading, primary_reading, lower_stops, operator_stops, operator_goes_on, level_start, level_end, level_step, within_stops_at, whole_stops_before, whole_stops, question_goes_on, operators_reading, choice_reading}
 
 -- what a derivation says beside itself
 abbrev Known : Level → Expr → List Lexeme → List Lexeme → Type 0
@@ -26,7 +26,8 @@ known (number b small) = number_reading b small
 known (dot b) = dot_reading b
 known (name b) = name_reading b
 known (group b d c) = group_reading b (known d (whole_stops_before c tt)) c
-known (property b m) = property_reading b m
+known (of_region b m) = of_region_reading b m
+known (of_section b m) = of_section_reading b m
 known (align b d) = align_reading b (known d)
 known (one_argument b d c) = one_reading b (known d (whole_stops_before c tt)) c
 known (two_arguments b d m d2 c) = two_reading b (known d (whole_stops_before m tt)) m (known d2 (whole_stops_before c tt)) c

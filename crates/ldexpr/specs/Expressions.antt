@@ -2,11 +2,12 @@
 use Rattle.std.specs.Prelude.{ℕ, List, Bool, true, false, ◌||◌}
 use Rattle.ldexpr.specs.declared.operator.UnaryOperator.{UnaryOperator}
 use Rattle.ldexpr.specs.declared.operator.BinaryOperator.{BinaryOperator}
-use Rattle.ldexpr.specs.declared.expression.Property.{Property}
-use Rattle.ldexpr.specs.declared.expression.Property.TheVariants.{Origin, Length, Address, LoadAddress, Size}
+use Rattle.ldexpr.specs.declared.expression.RegionQuery.{RegionQuery}
+use Rattle.ldexpr.specs.declared.expression.SectionQuery.{SectionQuery}
 use Rattle.ldexpr.specs.declared.expression.Expr as code
 
--- a number, `.`, a name, operators on expressions, ORIGIN and its like of a name, ALIGN(a), ALIGN(a, b)
+-- a number, `.`, a name, operators on expressions, ORIGIN(r) and LENGTH(r) of a memory region, ADDR(s), LOADADDR(s) and
+-- SIZEOF(s) of an output section, ALIGN(a), ALIGN(a, b)
 pub data Expr : Type 0 where
   Number : (value : ℕ) → Expr
   Dot : Expr
@@ -14,7 +15,8 @@ pub data Expr : Type 0 where
   Unary : (operator : UnaryOperator) → (a : Expr) → Expr
   Binary : (operator : BinaryOperator) → (a b : Expr) → Expr
   Choice : (test a b : Expr) → Expr
-  Of : (property : Property) → (name : List ℕ) → Expr
+  OfRegion : (query : RegionQuery) → (name : List ℕ) → Expr
+  OfSection : (query : SectionQuery) → (name : List ℕ) → Expr
   AlignDot : (a : Expr) → Expr
   Align : (a b : Expr) → Expr
 
@@ -25,7 +27,8 @@ expr_of (code.Name n) = Name n
 expr_of (code.Unary' o p a) = Unary o (expr_of a)
 expr_of (code.Binary' o p a q b) = Binary o (expr_of a) (expr_of b)
 expr_of (code.Choice' p t q a r b) = Choice (expr_of t) (expr_of a) (expr_of b)
-expr_of (code.Of f n) = Of f n
+expr_of (code.OfRegion q n) = OfRegion q n
+expr_of (code.OfSection q n) = OfSection q n
 expr_of (code.AlignDot' p a) = AlignDot (expr_of a)
 expr_of (code.Align' p a q b) = Align (expr_of a) (expr_of b)
 
@@ -37,7 +40,8 @@ has_dot (Name n) = false
 has_dot (Unary o a) = has_dot a
 has_dot (Binary o a b) = has_dot a || has_dot b
 has_dot (Choice t a b) = has_dot t || has_dot a || has_dot b
-has_dot (Of p n) = false
+has_dot (OfRegion q n) = false
+has_dot (OfSection q n) = false
 has_dot (AlignDot a) = has_dot a
 has_dot (Align a b) = has_dot a || has_dot b
 
@@ -49,7 +53,8 @@ has_align_dot (Name n) = false
 has_align_dot (Unary o a) = has_align_dot a
 has_align_dot (Binary o a b) = has_align_dot a || has_align_dot b
 has_align_dot (Choice t a b) = has_align_dot t || has_align_dot a || has_align_dot b
-has_align_dot (Of p n) = false
+has_align_dot (OfRegion q n) = false
+has_align_dot (OfSection q n) = false
 has_align_dot (AlignDot a) = true
 has_align_dot (Align a b) = has_align_dot a || has_align_dot b
 
@@ -61,14 +66,7 @@ has_align (Name n) = false
 has_align (Unary o a) = has_align a
 has_align (Binary o a b) = has_align a || has_align b
 has_align (Choice t a b) = has_align t || has_align a || has_align b
-has_align (Of p n) = false
+has_align (OfRegion q n) = false
+has_align (OfSection q n) = false
 has_align (AlignDot a) = true
 has_align (Align a b) = true
-
--- asked of a memory region, not of an output section
-abbrev pub is_of_region : Property → Bool
-is_of_region Origin = true
-is_of_region Length = true
-is_of_region Address = false
-is_of_region LoadAddress = false
-is_of_region Size = false

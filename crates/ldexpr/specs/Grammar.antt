@@ -1,7 +1,8 @@
 -- The grammar of a script's expressions, rule by rule, tightest first.
 --
---   primary   = NUMBER | "." | NAME | "(" whole ")" | property "(" NAME ")" | ALIGN arguments
---   property  = ORIGIN | LENGTH | ADDR | LOADADDR | SIZEOF
+--   primary   = NUMBER | "." | NAME | "(" whole ")" | of_region "(" NAME ")" | of_section "(" NAME ")" | ALIGN arguments
+--   of_region = ORIGIN | LENGTH
+--   of_section = ADDR | LOADADDR | SIZEOF
 --   arguments = "(" whole ")" | "(" whole "," whole ")"
 --   within 0  = primary | unary operator, within 0
 --   within n  = within n-1 | within n, operator of level n, within n-1          for n from 1 to 9
@@ -15,17 +16,21 @@ use Rattle.ldtokens.specs.declared.token.Mark.{Mark}
 use Rattle.ldtokens.specs.declared.token.Mark.TheVariants.{OpenParenthesis, CloseParenthesis, Comma, Question, Colon}
 use Rattle.ldexpr.specs.declared.operator.UnaryOperator.{UnaryOperator}
 use Rattle.ldexpr.specs.declared.operator.BinaryOperator.{BinaryOperator}
-use Rattle.ldexpr.specs.declared.expression.Property.{Property}
-use Rattle.ldexpr.specs.declared.expression.Property.TheVariants.{Origin, Length, Address, LoadAddress, Size}
+use Rattle.ldexpr.specs.declared.expression.RegionQuery.{RegionQuery}
+use Rattle.ldexpr.specs.declared.expression.RegionQuery.TheVariants.{Origin, Length}
+use Rattle.ldexpr.specs.declared.expression.SectionQuery.{SectionQuery}
+use Rattle.ldexpr.specs.declared.expression.SectionQuery.TheVariants.{Address, LoadAddress, Size}
 use Rattle.ldexpr.specs.declared.fault.ParseFault.{ParseFault}
 use Rattle.ldexpr.specs.declared.fault.ParseFault.TheVariants.{NotAnExpression, NoMemory}
 use Rattle.ldexpr.specs.Operators.{unary_of, binary_of, level_of}
-use Rattle.ldexpr.specs.Expressions.{Expr, Number, Dot, Name, Unary, Binary, Choice, Of, AlignDot, Align}
+use Rattle.ldexpr.specs.Expressions.{Expr, Number, Dot, Name, Unary, Binary, Choice, OfRegion, OfSection, AlignDot, Align}
 
--- what a name is to an expression: `.`, a word that asks for a property, ALIGN, a NAME, or another reserved word
+-- what a name is to an expression: `.`, a word that asks something of a memory region or of an output section, ALIGN, a
+-- NAME, or another reserved word
 pub data Word : Type 0 where
   Point : Word
-  Asks : (property : Property) → Word
+  AsksRegion : (query : RegionQuery) → Word
+  AsksSection : (query : SectionQuery) → Word
   Aligns : Word
   Free : (name : List ℕ) → Word
   Reserved : Word
@@ -40,11 +45,11 @@ pub data Terminal : Type 0 where
 unfoldable pub word_of : List ℕ → Word
 word_of name =
     if bytes_eq name (codes ".") then Point
-    else (if bytes_eq name (codes "ORIGIN") then Asks Origin
-    else (if bytes_eq name (codes "LENGTH") then Asks Length
-    else (if bytes_eq name (codes "ADDR") then Asks Address
-    else (if bytes_eq name (codes "LOADADDR") then Asks LoadAddress
-    else (if bytes_eq name (codes "SIZEOF") then Asks Size
+    else (if bytes_eq name (codes "ORIGIN") then AsksRegion Origin
+    else (if bytes_eq name (codes "LENGTH") then AsksRegion Length
+    else (if bytes_eq name (codes "ADDR") then AsksSection Address
+    else (if bytes_eq name (codes "LOADADDR") then AsksSection LoadAddress
+    else (if bytes_eq name (codes "SIZEOF") then AsksSection Size
     else (if bytes_eq name (codes "ALIGN") then Aligns
     else (if is_free_name name then Free name else Reserved)))))))
 
@@ -94,7 +99,8 @@ pub data Spells : Level → Expr → List Lexeme → List Lexeme → Type 0 wher
   dot : {ts rest : List Lexeme} → Begins ts (Worded Point) rest → Spells Primary Dot ts rest
   name : {name : List ℕ} {ts rest : List Lexeme} → Begins ts (Worded (Free name)) rest → Spells Primary (Name name) ts rest
   group : {e : Expr} {ts us vs rest : List Lexeme} → Begins ts (Sign OpenParenthesis) us → Spells Whole e us vs → Begins vs (Sign CloseParenthesis) rest → Spells Primary e ts rest
-  property : {p : Property} {name : List ℕ} {ts us rest : List Lexeme} → Begins ts (Worded (Asks p)) us → BeginsNamed us name rest → Spells Primary (Of p name) ts rest
+  of_region : {q : RegionQuery} {name : List ℕ} {ts us rest : List Lexeme} → Begins ts (Worded (AsksRegion q)) us → BeginsNamed us name rest → Spells Primary (OfRegion q name) ts rest
+  of_section : {q : SectionQuery} {name : List ℕ} {ts us rest : List Lexeme} → Begins ts (Worded (AsksSection q)) us → BeginsNamed us name rest → Spells Primary (OfSection q name) ts rest
   align : {e : Expr} {ts us rest : List Lexeme} → Begins ts (Worded Aligns) us → Spells Arguments e us rest → Spells Primary e ts rest
   one_argument : {a : Expr} {ts us vs rest : List Lexeme} → Begins ts (Sign OpenParenthesis) us → Spells Whole a us vs → Begins vs (Sign CloseParenthesis) rest → Spells Arguments (AlignDot a) ts rest
   two_arguments : {a b : Expr} {ts us vs ws xs rest : List Lexeme} → Begins ts (Sign OpenParenthesis) us → Spells Whole a us vs → Begins vs (Sign Comma) ws → Spells Whole b ws xs → Begins xs (Sign CloseParenthesis) rest → Spells Arguments (Align a b) ts rest

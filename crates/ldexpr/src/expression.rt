@@ -6,18 +6,23 @@ ghost use Rattle.ldexpr.specs.Expressions.{expr_of, has_dot, has_align_dot, has_
 use crate::operator::{BinaryOperator, UnaryOperator};
 use ldtokens::name::ScriptName;
 
-/// What a word with a name in parentheses asks of a memory region or an output section.
+/// What an expression asks of a memory region.
 #[derive(Clone, Copy, Debug, PartialEq, Eq)]
-pub enum Property {
-    /// `ORIGIN`: where a region begins.
+pub enum RegionQuery {
+    /// `ORIGIN`: where it begins.
     Origin,
-    /// `LENGTH`: how many bytes a region has.
+    /// `LENGTH`: how many bytes it has.
     Length,
-    /// `ADDR`: where an output section begins.
+}
+
+/// What an expression asks of an output section.
+#[derive(Clone, Copy, Debug, PartialEq, Eq)]
+pub enum SectionQuery {
+    /// `ADDR`: where it begins.
     Address,
-    /// `LOADADDR`: where an output section is loaded.
+    /// `LOADADDR`: where it is loaded.
     LoadAddress,
-    /// `SIZEOF`: how many bytes an output section has.
+    /// `SIZEOF`: how many bytes it has.
     Size,
 }
 
@@ -36,8 +41,10 @@ pub enum Expr {
     Binary(BinaryOperator, Box<Expr>, Box<Expr>),
     /// `test ? a : b`, in this order.
     Choice(Box<Expr>, Box<Expr>, Box<Expr>),
-    /// `ORIGIN(r)` and its like.
-    Of(Property, ScriptName),
+    /// `ORIGIN(region)` or `LENGTH(region)`.
+    OfRegion(RegionQuery, ScriptName),
+    /// `ADDR(section)`, `LOADADDR(section)` or `SIZEOF(section)`.
+    OfSection(SectionQuery, ScriptName),
     /// `ALIGN(a)`: the location counter, aligned to `a`.
     AlignDot(Box<Expr>),
     /// `ALIGN(a, b)`: `a`, aligned to `b`.
@@ -51,7 +58,7 @@ impl Expr {
     {
         match self {
             Expr::Dot => true,
-            Expr::Number(_) | Expr::Name(_) | Expr::Of(_, _) => false,
+            Expr::Number(_) | Expr::Name(_) | Expr::OfRegion(_, _) | Expr::OfSection(_, _) => false,
             Expr::Unary(_, a) | Expr::AlignDot(a) => a.has_dot(),
             Expr::Binary(_, a, b) | Expr::Align(a, b) => a.has_dot() || b.has_dot(),
             Expr::Choice(test, a, b) => test.has_dot() || a.has_dot() || b.has_dot(),
@@ -64,7 +71,11 @@ impl Expr {
     {
         match self {
             Expr::AlignDot(_) => true,
-            Expr::Number(_) | Expr::Dot | Expr::Name(_) | Expr::Of(_, _) => false,
+            Expr::Number(_)
+            | Expr::Dot
+            | Expr::Name(_)
+            | Expr::OfRegion(_, _)
+            | Expr::OfSection(_, _) => false,
             Expr::Unary(_, a) => a.has_align_dot(),
             Expr::Binary(_, a, b) | Expr::Align(a, b) => a.has_align_dot() || b.has_align_dot(),
             Expr::Choice(test, a, b) => {
@@ -79,7 +90,11 @@ impl Expr {
     {
         match self {
             Expr::AlignDot(_) | Expr::Align(_, _) => true,
-            Expr::Number(_) | Expr::Dot | Expr::Name(_) | Expr::Of(_, _) => false,
+            Expr::Number(_)
+            | Expr::Dot
+            | Expr::Name(_)
+            | Expr::OfRegion(_, _)
+            | Expr::OfSection(_, _) => false,
             Expr::Unary(_, a) => a.has_align(),
             Expr::Binary(_, a, b) => a.has_align() || b.has_align(),
             Expr::Choice(test, a, b) => test.has_align() || a.has_align() || b.has_align(),

@@ -5,7 +5,7 @@ ghost use Rattle.ldtokens.specs.Tokens.{Lexeme};
 ghost use Rattle.ldexpr.specs.Grammar.{Begins, BeginsUnary, BeginsBinary, BeginsNamed, Sign, Worded, Free, word_of, Reserved, NoReading, Primary};
 ghost use Rattle.ldexpr.specs.Heads.{IsWord, HasHead};
 
-use crate::expression::Property;
+use crate::expression::{RegionQuery, SectionQuery};
 use crate::operator::{BinaryOperator, UnaryOperator, binary_operator, unary_operator};
 use ldtokens::cursor::Cursor;
 use ldtokens::number::number_value;
@@ -21,8 +21,10 @@ pub enum Head<'a> {
     Dot,
     /// With a name, and ends there.
     Name(&'a [u8]),
-    /// With a word that asks for a property.
-    Of(Property),
+    /// With a word that asks something of a memory region.
+    OfRegion(RegionQuery),
+    /// With a word that asks something of an output section.
+    OfSection(SectionQuery),
     /// With `ALIGN`.
     Align,
     /// With `(`.
@@ -37,15 +39,15 @@ fn word<'a>(name: &'a [u8]) -> Option<Head<'a>>
     if name == b".".as_slice() {
         Some(Head::Dot)
     } else if name == b"ORIGIN".as_slice() {
-        Some(Head::Of(Property::Origin))
+        Some(Head::OfRegion(RegionQuery::Origin))
     } else if name == b"LENGTH".as_slice() {
-        Some(Head::Of(Property::Length))
+        Some(Head::OfRegion(RegionQuery::Length))
     } else if name == b"ADDR".as_slice() {
-        Some(Head::Of(Property::Address))
+        Some(Head::OfSection(SectionQuery::Address))
     } else if name == b"LOADADDR".as_slice() {
-        Some(Head::Of(Property::LoadAddress))
+        Some(Head::OfSection(SectionQuery::LoadAddress))
     } else if name == b"SIZEOF".as_slice() {
-        Some(Head::Of(Property::Size))
+        Some(Head::OfSection(SectionQuery::Size))
     } else if name == b"ALIGN".as_slice() {
         Some(Head::Align)
     } else if is_free_name(name) {

@@ -1,11 +1,10 @@
 //! The expressions of a linker script: their trees, and the reader that makes one of tokens.
 #![tactic(auto)]
 
+pub mod dot_forms;
 pub mod expression;
 pub mod fault;
 mod head;
 pub mod law;
 pub mod operator;
 pub mod reader;
-#[cfg(test)]
-mod tests;

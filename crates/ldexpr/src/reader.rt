@@ -5,7 +5,7 @@ ghost use Rattle.std.specs.Prelude.{suc, ◌<◌, ◌≤◌};
 ghost use Rattle.ldexpr.specs.Expressions.{expr_of};
 ghost use Rattle.ldexpr.specs.Grammar.{Reads, Primary, Arguments, Within, Whole};
 
-use crate::expression::{Expr, Property};
+use crate::expression::Expr;
 use crate::fault::ParseFault;
 use crate::head::{Head, after, binary_ahead, name_in_parentheses, read_head, unary_ahead};
 use ldtokens::cursor::Cursor;
@@ -31,12 +31,19 @@ fn primary<'a>(alloc: Global, tokens: Cursor<'a>) -> Result<(Expr, Cursor<'a>), 
             let name = ScriptName::new(alloc, name)?;
             Ok((Expr::Name(name), rest))
         }
-        Head::Of(property) => {
+        Head::OfRegion(query) => {
             let Some((name, rest)) = name_in_parentheses(&rest) else {
                 return Err(ParseFault::NotAnExpression);
             };
             let name = ScriptName::new(alloc, name)?;
-            Ok((Expr::Of(property, name), rest))
+            Ok((Expr::OfRegion(query, name), rest))
+        }
+        Head::OfSection(query) => {
+            let Some((name, rest)) = name_in_parentheses(&rest) else {
+                return Err(ParseFault::NotAnExpression);
+            };
+            let name = ScriptName::new(alloc, name)?;
+            Ok((Expr::OfSection(query, name), rest))
         }
         Head::Align => arguments(alloc, rest),
         Head::Group => {

@@ -2,3 +2,4 @@ pub mod Stars
 pub mod Fronts
 pub mod Reading
 pub mod Exact
+pub mod Testing

@@ -4,7 +4,7 @@ use Rattle.std.specs.List.{slice_range}
 use Rattle.std.proofs.Math.Seq.{drop-append_seam}
 use Rattle.std.proofs.lemmas.List.{drop-drop, map-append, take-append-drop}
 use Rattle.ldpattern.specs.Parts.{Part, OneOf, ranges_of, part_of, part_behind, IsPlace, IsRoomBehind}
-use Rattle.ldpattern.specs.Spelling.{Spells, IsPatternOf, nothing, part}
+use Rattle.ldpattern.specs.Spelling.{SpellsPart, Spells, IsPatternOf, nothing, part}
 use Rattle.ldpattern.specs.Front.{front, front_part, front_of}
 use Rattle.ldpattern.specs.Trying.{parts_of}
 use Rattle.ldpattern.specs.declared.part.CodePart.{CodePart}
@@ -61,6 +61,20 @@ read_all word done rest c e = record {
 }
 
 -- a part by its place in the whole word
+-- no word spells two patterns
+
+some_word : (word bytes rest : List ℕ) (p : Part) → SpellsPart p bytes → word ≡ bytes ++ rest → 0 < length word
+some_word [] bytes rest p s e = absurd (nothing_in_front bytes rest p s e)
+some_word (b ∷ bs) bytes rest p s e = omega arith
+
+pub one_pattern : (ps qs : List Part) (word : List ℕ) → Spells ps word → Spells qs word → ps ≡ qs
+one_pattern [] qs word nothing s = sym (none_left refl s)
+one_pattern (p ∷ ps) qs word (part bytes rest s e others) t =
+    let f : front word ≡ front_part p (length bytes) = ap front e ∙ front_of_spelled p bytes rest s in
+    let q = first_of p (length bytes) f t (some_word word bytes rest p s e) in
+    let d : drop (length bytes) word ≡ rest = ap (drop (length bytes)) e ∙ drop-append_seam bytes rest in
+    ap (λ v. p ∷ v) (one_pattern ps q.0 rest others (subst (λ v. Spells q.0 v) d q.2)) ∙ sym q.1
+
 range_behind : (word : List ℕ) (at start end : ℕ) → slice_range word (at + start) (at + end) ≡ slice_range (drop at word) start end
 range_behind word at start end =
     let e : (at + end) - (at + start) ≡ end - start = omega arith in

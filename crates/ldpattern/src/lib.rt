@@ -3,9 +3,8 @@
 
 mod bytes;
 mod front;
+pub mod law;
 mod matching;
 mod part;
 pub mod pattern;
 mod set;
-#[cfg(test)]
-mod tests;

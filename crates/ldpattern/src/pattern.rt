@@ -6,7 +6,7 @@ ghost use Rattle.ldpattern.specs.Parts.{Part, AnyRun, IsPlace};
 ghost use Rattle.ldpattern.specs.Front.{front, front_of, IsWithin};
 ghost use Rattle.ldpattern.specs.Trying.{parts_of};
 ghost use Rattle.ldpattern.specs.Spelling.{Spells, IsPatternOf};
-ghost use Rattle.ldpattern.specs.Matching.{Matches, exact_name};
+ghost use Rattle.ldpattern.specs.Matching.{Matches, exact_name, is_match};
 
 use crate::front::{Spelled, front};
 use crate::matching::matches_parts;
@@ -127,7 +127,8 @@ impl Pattern {
 /// the lengths of the pattern's word and of the name: behind each `*` the parts up to the next one are tried at each
 /// place of the name at most once.
 pub fn matches(pattern: &Pattern, name: &[u8]) -> bool
-    ensures { IsTrue result ↔ Matches pattern.now name.now }
+    ensures splits { IsTrue result ↔ Matches pattern.now name.now }
+    ensures test { result ≡ is_match pattern.now name.now }
 {
     matches_parts(&pattern.word, &pattern.parts, name)
 }

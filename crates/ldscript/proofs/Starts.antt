@@ -6,7 +6,7 @@ use Rattle.ldtokens.specs.declared.token.Mark.TheVariants.{OpenParenthesis}
 use Rattle.ldexpr.specs.Operators.{unary_of}
 use Rattle.ldexpr.specs.declared.operator.UnaryOperator.{UnaryOperator}
 use Rattle.ldexpr.specs.Expressions.{Expr}
-use Rattle.ldexpr.specs.Grammar.{Word, Terminal, Numeral, Worded, Sign, terminal_of, Begins, Level, Spells, number, dot, name, group, property, align, one_argument, two_arguments, primary, unary, operand, binary, operators, choice}
+use Rattle.ldexpr.specs.Grammar.{Word, Terminal, Numeral, Worded, Sign, terminal_of, Begins, Level, Spells, number, dot, name, group, of_region, of_section, align, one_argument, two_arguments, primary, unary, operand, binary, operators, choice}
 use Rattle.ldscript.specs.Steps.{mark}
 
 same_first : (x y : Lexeme) (r s : List Lexeme) → x ∷ r ≡ y ∷ s → x ≡ y
@@ -35,7 +35,8 @@ starts m o u l e ts r vs (number b s) d = no_numeral _ m (begins_same ts r vs _ 
 starts m o u l e ts r vs (dot b) d = no_worded _ m (begins_same ts r vs _ m b d)
 starts m o u l e ts r vs (name b) d = no_worded _ m (begins_same ts r vs _ m b d)
 starts m o u l e ts r vs (group b x y) d = o (same_sign OpenParenthesis m (begins_same ts _ vs _ m b d))
-starts m o u l e ts r vs (property b x) d = no_worded _ m (begins_same ts _ vs _ m b d)
+starts m o u l e ts r vs (of_region b x) d = no_worded _ m (begins_same ts _ vs _ m b d)
+starts m o u l e ts r vs (of_section b x) d = no_worded _ m (begins_same ts _ vs _ m b d)
 starts m o u l e ts r vs (align b x) d = no_worded _ m (begins_same ts _ vs _ m b d)
 starts m o u l e ts r vs (one_argument b x y) d = o (same_sign OpenParenthesis m (begins_same ts _ vs _ m b d))
 starts m o u l e ts r vs (two_arguments b x y z w) d = o (same_sign OpenParenthesis m (begins_same ts _ vs _ m b d))

@@ -1,8 +1,8 @@
 -- Uses of `.` that the profile does not have.
-use Rattle.std.specs.Prelude.{List, Bool, true, false, not, ◌&&◌, ◌||◌}
+use Rattle.std.specs.Prelude.{List, Bool, false, ◌||◌, is_none}
 use Rattle.std.specs.List.{list_any}
-use Rattle.ldexpr.specs.declared.operator.BinaryOperator.TheVariants.{Add}
-use Rattle.ldexpr.specs.Expressions.{Expr, Dot, Binary, AlignDot, has_dot, has_align_dot, has_align}
+use Rattle.ldexpr.specs.Expressions.{Expr, has_dot, has_align_dot}
+use Rattle.ldexpr.specs.DotForms.{dot_form}
 use Rattle.ldtree.specs.declared.common.Common.{Common}
 use Rattle.ldtree.specs.declared.common.Common.TheVariants as commons
 use Rattle.ldtree.specs.declared.common.DotCommand.{DotCommand}
@@ -22,13 +22,6 @@ use Rattle.ldtree.specs.declared.statement.Statement.{Statement}
 abbrev pub uses_dot : Expr → Bool
 uses_dot e = has_dot e || has_align_dot e
 
--- what `.` may be set to in an output section, beside `. += e`: `. + e`; `ALIGN(e)` where `.` is not in e; an expression
--- with neither `.` nor ALIGN
-abbrev pub is_dot_form : Expr → Bool
-is_dot_form (Binary Add Dot e) = true
-is_dot_form (AlignDot e) = not (has_dot e)
-is_dot_form e = not (has_dot e) && not (has_align e)
-
 -- a `.` or such an ALIGN in an ASSERT
 abbrev pub assert_misplaces : Common → Bool
 assert_misplaces (commons.Assign a) = false
@@ -41,9 +34,9 @@ common_uses_dot (commons.Assign a) = uses_dot a.value
 common_uses_dot (commons.Provide a) = uses_dot a.value
 common_uses_dot (commons.Assert a) = uses_dot a.condition
 
--- `.` is set to what is none of the forms
+-- `.` is set to what it may not be set to in an output section
 abbrev pub dot_misplaces : DotCommand → Bool
-dot_misplaces (Set e) = not (is_dot_form e)
+dot_misplaces (Set e) = is_none (dot_form e)
 dot_misplaces (Add e) = false
 
 abbrev pub body_command_misplaces : BodyCommand → Bool

@@ -3,8 +3,9 @@ use Rattle.std.specs.Prelude.{◌≡◌, ℕ, List, [], ◌∷◌, ◌++◌, ref
 use Rattle.std.proofs.Common.{ap, ◌∙◌, append_assoc}
 use Rattle.ldexpr.specs.declared.operator.UnaryOperator.{UnaryOperator}
 use Rattle.ldexpr.specs.declared.operator.BinaryOperator.{BinaryOperator}
-use Rattle.ldexpr.specs.declared.expression.Property.{Property}
-use Rattle.ldexpr.specs.Expressions.{Expr, Number, Dot, Name, Unary, Binary, Choice, Of, AlignDot, Align}
+use Rattle.ldexpr.specs.declared.expression.RegionQuery.{RegionQuery}
+use Rattle.ldexpr.specs.declared.expression.SectionQuery.{SectionQuery}
+use Rattle.ldexpr.specs.Expressions.{Expr, Number, Dot, Name, Unary, Binary, Choice, OfRegion, OfSection, AlignDot, Align}
 
 pub data Instruction : Type 0 where
   PushNumber : (value : ℕ) → Instruction
@@ -13,7 +14,8 @@ pub data Instruction : Type 0 where
   MakeUnary : (operator : UnaryOperator) → Instruction
   MakeBinary : (operator : BinaryOperator) → Instruction
   MakeChoice : Instruction
-  PushOf : (property : Property) → (name : List ℕ) → Instruction
+  PushOfRegion : (query : RegionQuery) → (name : List ℕ) → Instruction
+  PushOfSection : (query : SectionQuery) → (name : List ℕ) → Instruction
   MakeAlignDot : Instruction
   MakeAlign : Instruction
 
@@ -24,7 +26,8 @@ operands_first (Name n) = PushName n ∷ []
 operands_first (Unary o a) = operands_first a ++ MakeUnary o ∷ []
 operands_first (Binary o a b) = operands_first a ++ (operands_first b ++ MakeBinary o ∷ [])
 operands_first (Choice t a b) = operands_first t ++ (operands_first a ++ (operands_first b ++ MakeChoice ∷ []))
-operands_first (Of p n) = PushOf p n ∷ []
+operands_first (OfRegion q n) = PushOfRegion q n ∷ []
+operands_first (OfSection q n) = PushOfSection q n ∷ []
 operands_first (AlignDot a) = operands_first a ++ MakeAlignDot ∷ []
 operands_first (Align a b) = operands_first a ++ (operands_first b ++ MakeAlign ∷ [])
 
@@ -32,7 +35,8 @@ abbrev pub step : Instruction → List Expr → List Expr
 step (PushNumber v) s = Number v ∷ s
 step PushDot s = Dot ∷ s
 step (PushName n) s = Name n ∷ s
-step (PushOf p n) s = Of p n ∷ s
+step (PushOfRegion q n) s = OfRegion q n ∷ s
+step (PushOfSection q n) s = OfSection q n ∷ s
 step (MakeUnary o) (a ∷ s) = Unary o a ∷ s
 step (MakeBinary o) (b ∷ a ∷ s) = Binary o a b ∷ s
 step MakeChoice (b ∷ a ∷ t ∷ s) = Choice t a b ∷ s
@@ -80,7 +84,8 @@ runs_first (Choice t a b) is s =
     ∙ runs_first a ((operands_first b ++ MakeChoice ∷ []) ++ is) (t ∷ s)
     ∙ ap (λ l. run l (a ∷ t ∷ s)) (append_assoc (operands_first b) (MakeChoice ∷ []) is)
     ∙ runs_first b (MakeChoice ∷ is) (a ∷ t ∷ s)
-runs_first (Of p n) is s = refl
+runs_first (OfRegion q n) is s = refl
+runs_first (OfSection q n) is s = refl
 runs_first (AlignDot a) is s = one_operand a (AlignDot a) MakeAlignDot is s refl (runs_first a)
 runs_first (Align a b) is s = two_operands a b (Align a b) MakeAlign is s refl (runs_first a) (runs_first b)
 

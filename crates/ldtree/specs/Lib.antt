@@ -1,4 +1,10 @@
 pub mod FormulaCode
 pub mod Mentions
 pub mod Dots
+pub mod Widths
+pub mod Numbering
+pub mod Numbered
+pub mod Given
+pub mod NumberTables
+pub mod Tables
 pub mod Listed

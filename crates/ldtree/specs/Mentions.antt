@@ -1,7 +1,7 @@
 -- What a script does with names, in the order of the text, and what it may not give twice or name too early.
-use Rattle.std.specs.Prelude.{◌≡◌, ℕ, List, [], ◌∷◌, ◌++◌, Option, Some, None, if◌then◌else◌}
+use Rattle.std.specs.Prelude.{◌≡◌, ℕ, List, [], ◌∷◌, ◌++◌, Option, Some, None}
 use Rattle.std.specs.List.{Contains}
-use Rattle.ldexpr.specs.Expressions.{Expr, Number, Dot, Name, Unary, Binary, Choice, Of, AlignDot, Align, is_of_region}
+use Rattle.ldexpr.specs.Expressions.{Expr, Number, Dot, Name, Unary, Binary, Choice, OfRegion, OfSection, AlignDot, Align}
 use Rattle.ldtree.specs.declared.section.BodyCommand.{BodyCommand}
 use Rattle.ldtree.specs.declared.section.BodyCommand.TheVariants as body
 use Rattle.ldtree.specs.declared.section.BodyStatement.{BodyStatement}
@@ -40,7 +40,8 @@ regions_of (Name n) = []
 regions_of (Unary o a) = regions_of a
 regions_of (Binary o a b) = regions_of a ++ regions_of b
 regions_of (Choice t a b) = regions_of t ++ regions_of a ++ regions_of b
-regions_of (Of p n) = if is_of_region p then n ∷ [] else []
+regions_of (OfRegion q n) = n ∷ []
+regions_of (OfSection q n) = []
 regions_of (AlignDot a) = regions_of a
 regions_of (Align a b) = regions_of a ++ regions_of b
 

@@ -2,15 +2,12 @@
 
 ghost use Rattle.std.specs.Prelude.{◌≡◌};
 ghost use Rattle.std.specs.List.{list_any};
-ghost use Rattle.ldtree.specs.Dots.{assert_misplaces, body_command_misplaces, body_misplaces, common_uses_dot, dot_misplaces, has_misplaced_dot, is_dot_form, item_command_misplaces, item_misplaces, region_misplaces, top_command_misplaces, top_misplaces, uses_dot};
-ghost use Rattle.ldexpr.specs.Expressions.{expr_of};
+ghost use Rattle.ldtree.specs.Dots.{assert_misplaces, body_command_misplaces, body_misplaces, common_uses_dot, dot_misplaces, has_misplaced_dot, item_command_misplaces, item_misplaces, region_misplaces, top_command_misplaces, top_misplaces, uses_dot};
 
 use crate::common::{Common, DotCommand};
 use crate::formula::Formula;
 use crate::section::{BodyCommand, BodyStatement};
 use crate::statement::{Command, Item, ItemCommand, Region, Statement};
-use ldexpr::expression::Expr;
-use ldexpr::operator::BinaryOperator;
 
 impl Formula {
     /// Whether `.` is in it, or an `ALIGN` of one argument, which stands for one with `.`.
@@ -19,24 +16,6 @@ impl Formula {
     {
         let expr = self.expr();
         expr.has_dot() || expr.has_align_dot()
-    }
-
-    /// Whether `.` may be set to it in an output section.
-    fn is_dot_form(&self) -> bool
-        ensures { result ≡ is_dot_form self.now }
-    {
-        is_form(self.expr())
-    }
-}
-
-/// Whether `.` may be set to an expression in an output section.
-fn is_form(expr: &Expr) -> bool
-    ensures { result ≡ is_dot_form (expr_of expr.now) }
-{
-    match expr {
-        Expr::Binary(BinaryOperator::Add, left, _) if matches!(**left, Expr::Dot) => true,
-        Expr::AlignDot(a) => !a.has_dot(),
-        _ => !expr.has_dot() && !expr.has_align(),
     }
 }
 
@@ -65,7 +44,7 @@ fn dot_misplaces(command: &DotCommand) -> bool
     ensures { result ≡ dot_misplaces command.now }
 {
     match command {
-        DotCommand::Set(value) => !value.is_dot_form(),
+        DotCommand::Set(value) => value.expr().dot_form().is_none(),
         DotCommand::Add(_) => false,
     }
 }

@@ -12,6 +12,16 @@ pub enum Sort {
     ByAlignment,
 }
 
+/// A pattern of section names, with the files that it leaves out.
+#[derive(Drop)]
+pub struct SectionWord {
+    /// What the name of a section meets.
+    pub pattern: Pattern,
+    /// `EXCLUDE_FILE(..)` before it: no section is taken from a file whose name meets one of these. Empty where none is
+    /// written.
+    pub excluded: Sequence<Pattern>,
+}
+
 /// The files and the sections that an input statement takes.
 #[derive(Drop)]
 pub struct Input {
@@ -21,8 +31,8 @@ pub struct Input {
     pub file: Pattern,
     /// The order of the sections, if not that of the files.
     pub sort: Option<Sort>,
-    /// One or more patterns; a section is taken that meets one of them.
-    pub sections: Sequence<Pattern>,
+    /// One or more words; a section is taken that meets one of them. Under a `sort` none leaves a file out.
+    pub sections: Sequence<SectionWord>,
 }
 
 /// An input statement.

@@ -9,7 +9,7 @@ use crate::common::{Assignment, Common, DotCommand};
 use crate::formula::Formula;
 use crate::section::{BodyCommand, BodyStatement, Load, OutputSection};
 use crate::statement::{Command, Item, ItemCommand, Region, Statement};
-use ldexpr::expression::{Expr, Property};
+use ldexpr::expression::Expr;
 use ldtokens::name::ScriptName;
 use std::alloc::AllocFailed;
 
@@ -24,7 +24,7 @@ impl<T: Drop> From<AllocFailed<T>> for NoRoom {
 }
 
 /// One thing that a script does with a name, or a command that it may have once.
-#[derive(Clone, Copy, PartialEq, Eq, Hash)]
+#[derive(Clone, Copy, PartialEq, Eq, PartialOrd, Ord)]
 pub(crate) enum Mention<'a> {
     /// `ENTRY`
     EntryGiven,
@@ -54,11 +54,8 @@ fn note_expression<'a>(list: &mut Vec<Mention<'a>>, expr: &'a Expr) -> Result<()
     ensures { OnOk result (Adds list.old.items list.new.items (in_expression (expr_of expr.now))) }
 {
     match expr {
-        Expr::Number(_) | Expr::Dot | Expr::Name(_) => Ok(()),
-        Expr::Of(Property::Origin | Property::Length, name) => {
-            note(list, Mention::RegionUsed(name.as_bytes()))
-        }
-        Expr::Of(Property::Address | Property::LoadAddress | Property::Size, _) => Ok(()),
+        Expr::Number(_) | Expr::Dot | Expr::Name(_) | Expr::OfSection(_, _) => Ok(()),
+        Expr::OfRegion(_, name) => note(list, Mention::RegionUsed(name.as_bytes())),
         Expr::Unary(_, a) | Expr::AlignDot(a) => note_expression(list, a),
         Expr::Binary(_, a, b) | Expr::Align(a, b) => {
             note_expression(list, a)?;

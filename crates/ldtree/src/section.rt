@@ -20,6 +20,23 @@ pub enum Width {
     Quad,
 }
 
+impl Width {
+    ghost use Rattle.std.specs.Prelude.{◌≡◌};
+    ghost use Rattle.ldtree.specs.Widths.{byte_count};
+
+    /// How many bytes it is: 1, 2, 4 or 8.
+    pub fn byte_count(self) -> u8
+        ensures { result ≡ byte_count self }
+    {
+        match self {
+            Width::Byte => 1,
+            Width::Short => 2,
+            Width::Long => 4,
+            Width::Quad => 8,
+        }
+    }
+}
+
 /// What a statement in an output section says.
 #[derive(Drop)]
 pub enum BodyCommand {

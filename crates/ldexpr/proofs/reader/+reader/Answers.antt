@@ -2,8 +2,8 @@ use Rattle.std.proofs.Common.{◌≡◌, suc, ◌-◌, subst, arith}
 use Rattle.std.proofs.lemmas.Result.{err_from_is_err_and}
 use Rattle.ldexpr.specs.Expressions.{expr_of}
 use Rattle.ldexpr.specs.Grammar.{Reads, Within}
-use Rattle.ldexpr.proofs.Readings.{number_reading, dot_reading, name_reading, property_reading, group_reading, one_reading, two_reading, unary_reading, level_start, level_end, level_step, operators_reading, choice_reading}
-use Rattle.ldexpr.proofs.Refusals.{fails_map, group_none, group_open, property_none, align_reads, arguments_unopened, arguments_unclosed, second_argument_none, second_argument_unclosed, primary_reads, unary_none, level_none, level_stuck, whole_none, first_choice_none, no_colon, second_choice_none}
+use Rattle.ldexpr.proofs.Readings.{number_reading, dot_reading, name_reading, of_region_reading, of_section_reading, group_reading, one_reading, two_reading, unary_reading, level_start, level_end, level_step, operators_reading, choice_reading}
+use Rattle.ldexpr.proofs.Refusals.{fails_map, group_none, group_open, of_region_none, of_section_none, align_reads, arguments_unopened, arguments_unclosed, second_argument_none, second_argument_unclosed, primary_reads, unary_none, level_none, level_stuck, whole_none, first_choice_none, no_colon, second_choice_none}
 use Rattle.ldexpr.proofs.reader.+reader.Goals as goal
 
 pub arguments-returns-in_default : goal.arguments-returns-in_default
@@ -45,7 +45,11 @@ binary-loop-operator-preserved t c =
 
 pub primary-returns-in_default-name_in_parentheses : goal.primary-returns-in_default-name_in_parentheses
 primary-returns-in_default-name_in_parentheses t c =
-    property_none (rw c.in-Of.is at c.in-Some.ensures) c.in_default-name_in_parentheses.ensures
+    of_region_none (rw c.in-OfRegion.is at c.in-Some.ensures) c.in_default-name_in_parentheses.ensures
+
+pub primary-returns-in_default-name_in_parentheses-2 : goal.primary-returns-in_default-name_in_parentheses-2
+primary-returns-in_default-name_in_parentheses-2 t c =
+    of_section_none (rw c.in-OfSection.is at c.in-Some.ensures) c.in_default-name_in_parentheses-2.ensures
 
 pub primary-returns-in_err-tree-in-Group : goal.primary-returns-in_err-tree-in-Group
 primary-returns-in_err-tree-in-Group t c =
@@ -65,9 +69,13 @@ primary-returns-in-Dot t c = dot_reading (rw c.in-Dot.is at c.in-Some.ensures)
 pub primary-returns-in_ok-name-in-Name : goal.primary-returns-in_ok-name-in-Name
 primary-returns-in_ok-name-in-Name t c = rw c.in_ok-name-in-Name.ensures (name_reading (rw c.in-Name.is at c.in-Some.ensures))
 
-pub primary-returns-in_ok-name-in-Of : goal.primary-returns-in_ok-name-in-Of
-primary-returns-in_ok-name-in-Of t c =
-    rw c.in_ok-name-in-Of.ensures (property_reading (rw c.in-Of.is at c.in-Some.ensures) c.in-Some-name_in_parentheses.ensures)
+pub primary-returns-in_ok-name-in-OfRegion : goal.primary-returns-in_ok-name-in-OfRegion
+primary-returns-in_ok-name-in-OfRegion t c =
+    rw c.in_ok-name-in-OfRegion.ensures (of_region_reading (rw c.in-OfRegion.is at c.in-Some.ensures) c.in-Some-name_in_parentheses.ensures)
+
+pub primary-returns-in_ok-name-in-OfSection : goal.primary-returns-in_ok-name-in-OfSection
+primary-returns-in_ok-name-in-OfSection t c =
+    rw c.in_ok-name-in-OfSection.ensures (of_section_reading (rw c.in-OfSection.is at c.in-Some.ensures) c.in-Some-name_in_parentheses-2.ensures)
 
 pub primary-returns-in-Align : goal.primary-returns-in-Align
 primary-returns-in-Align t c = align_reads (λ x. expr_of x.0) (λ x. x.1) c.arguments.result (rw c.in-Align.is at c.in-Some.ensures) c.arguments.ensures
