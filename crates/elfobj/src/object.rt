@@ -87,7 +87,7 @@ impl Object {
     }
 
     /// The bytes that it was read from.
-    pub fn text(&self) -> &[u8]
+    pub fn data(&self) -> &[u8]
         ensures value { result.now ≡ self.now.text }
         ensures accepted { object_refusal self.now.text ≡ None }
         ensures read { self.now ≡ object_of self.now.text }
@@ -112,22 +112,21 @@ impl Object {
         find_number(self.sections(), number)
     }
 
-    /// The name of the section at this place of `sections`, 1 to 65,535 bytes from `!` to `~`.
-    pub fn section_name(&self, i: usize) -> &[u8]
-        requires { i < length self.now.sections }
-        ensures { slice_get (map (λ s. s.name) self.now.sections) i ≡ Some result.now }
+    /// The name of a section, 1 to 65,535 bytes from `!` to `~`.
+    pub fn section_name(&self, section: LinkedIndex) -> &[u8]
+        requires { section.0 < length self.now.sections }
+        ensures { slice_get (map (λ s. s.name) self.now.sections) section.0 ≡ Some result.now }
     {
-        let place = self.places[i];
+        let place = self.places[section.0];
         &self.bytes[place.name_start..place.name_end]
     }
 
-    /// The bytes of the section at this place of `sections`: as many as its size, but none for one that has
-    /// no bytes in the file.
-    pub fn section_bytes(&self, i: usize) -> &[u8]
-        requires { i < length self.now.sections }
-        ensures { slice_get (map (λ s. s.bytes) self.now.sections) i ≡ Some result.now }
+    /// The bytes of a section: as many as its size, but none for one that has no bytes in the file.
+    pub fn section_bytes(&self, section: LinkedIndex) -> &[u8]
+        requires { section.0 < length self.now.sections }
+        ensures { slice_get (map (λ s. s.bytes) self.now.sections) section.0 ≡ Some result.now }
     {
-        let place = self.places[i];
+        let place = self.places[section.0];
         &self.bytes[place.start..place.end]
     }
 
@@ -151,14 +150,14 @@ impl Object {
         &self.bytes[name.start..name.end]
     }
 
-    /// The relocations of the section at this place of `sections`, in the order of their table. Each names one of
-    /// `symbols` and lies in its section, and no two share a byte; a section without bytes has none.
-    pub fn relocations(&self, i: usize) -> &[Relocation]
-        requires { i < length self.now.sections }
-        ensures value { slice_get (map (λ s. s.relocations) self.now.sections) i ≡ Some result.now }
+    /// The relocations of a section, in the order of their table. Each names one of `symbols` and lies in its section, and
+    /// no two share a byte; a section without bytes has none.
+    pub fn relocations(&self, section: LinkedIndex) -> &[Relocation]
+        requires { section.0 < length self.now.sections }
+        ensures value { slice_get (map (λ s. s.relocations) self.now.sections) section.0 ≡ Some result.now }
         ensures limits { All (HasRelocationsOfProfile (length self.now.symbols)) self.now.sections }
     {
-        let span = self.spans[i];
+        let span = self.spans[section.0];
         &self.relocations[span.start..span.end]
     }
 
@@ -176,6 +175,6 @@ impl Object {
         ensures same { OnOk result (IsPermutation (unwrap_or (slice_get (map (λ s. s.relocations) self.now.sections) section.0) []) room.new.items) }
         ensures order { OnOk result (IsNonDecreasingBy (λ r. r.offset) room.new.items) }
     {
-        put_in_order(self.relocations(section.0), room)
+        put_in_order(self.relocations(section), room)
     }
 }
