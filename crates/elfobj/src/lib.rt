@@ -3,6 +3,7 @@
 
 pub mod constants;
 mod elf_header;
+pub mod explain;
 mod field;
 pub mod law;
 mod linked;

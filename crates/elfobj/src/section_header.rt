@@ -41,7 +41,7 @@ pub struct SectionHeader {
 }
 
 /// Header number 0, which counts as unused whatever it says.
-const NULL_HEADER: SectionHeader = SectionHeader {
+pub const NULL_HEADER: SectionHeader = SectionHeader {
     sh_name: 0,
     sh_type: SHT_NULL,
     sh_flags: 0,
@@ -67,7 +67,8 @@ impl SectionHeader {
         self.sh_type != SHT_NULL
     }
 
-    fn is_alloc(&self) -> bool
+    /// Whether its section takes memory when the program runs.
+    pub fn is_alloc(&self) -> bool
         ensures { result ≡ is_alloc self.now }
     {
         self.sh_flags & SHF_ALLOC != 0
@@ -132,7 +133,8 @@ impl SectionHeader {
     }
 }
 
-fn read_header(bytes: &[u8], at: usize) -> SectionHeader
+/// The header in the 64 bytes from `at` on.
+pub fn read_header(bytes: &[u8], at: usize) -> SectionHeader
     requires { at + 64 ≤ length bytes.now }
     ensures { result ≡ header_at bytes.now at }
 {
