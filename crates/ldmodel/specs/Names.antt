@@ -1,6 +1,6 @@
 -- What a name stands for, by all that declare it (gABI, "Symbol Table"; GNU ld manual, "Assigning Values to Symbols",
--- "The PROVIDE command"). Of several definitions a global one goes before a common one, and that before a weak one; two
--- global definitions of a name are a fault.
+-- "PROVIDE"). Of several definitions a global one goes before a common one, and that before a weak one; two global
+-- definitions of a name are a fault.
 use Rattle.std.specs.Prelude.{ℕ, ◌+◌, List, [], ◌∷◌, ◌++◌, length, map, filter, flat_map, Option, Bool, true, false, not, ◌&&◌, nat_lt, max, if◌then◌else◌, bytes_eq}
 use Rattle.std.specs.List.{list_any, enumerate_from}
 use Rattle.std.specs.Option.{option_or}
@@ -139,7 +139,8 @@ is_provided_case _ = false
 unfoldable pub provided : Project → List (List ℕ)
 provided p = filter (λ name. is_provided_case (decision p name)) (provided_names p.script)
 
--- the entry symbol: that of the option, else that of ENTRY; without one the entry point is 0
+-- the entry symbol (GNU ld manual, "Setting the Entry Point"): that of the option, else that of ENTRY; without one the
+-- entry point is 0
 unfoldable pub entry_symbol : Project → Option (List ℕ)
 entry_symbol p = option_or p.options.entry (entry_of p.script)
 
