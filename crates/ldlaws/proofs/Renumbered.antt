@@ -2,7 +2,7 @@
 use Rattle.std.proofs.Common.{◌≡◌, ◌+◌, ℕ, suc, Bool, true, false, cond, ◌&&◌, ◌||◌, List, [], ◌∷◌, length, map, filter, refl, ap, sym, ◌∙◌, nat_lt}
 use Rattle.std.specs.Prelude.{max}
 use Rattle.std.specs.List.{list_any}
-use Rattle.ldmodel.specs.Names.{Entry, Declaration, Decision, Strong, Script, Common, Weak, Provided, Undefined, Duplicate, is_strong, is_common, is_weak, is_undefined, greatest, common_size, common_alignment, for_first, decided}
+use Rattle.ldmodel.specs.Names.{Declaration, Decision, Strong, Script, Common, Weak, Provided, Undefined, Duplicate, is_strong, is_common, is_weak, is_undefined, greatest, common_size, common_alignment, for_first, decided}
 use Rattle.ldlaws.specs.Renumbering.{renumbered, renumbered_decision}
 
 -- the cases, by what the kinds of declarations are
