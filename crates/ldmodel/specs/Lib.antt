@@ -39,3 +39,8 @@ pub mod Assertions
 pub mod Link
 pub mod Stayed
 pub mod WorkBound
+pub mod Mentioned
+pub mod FaultCode
+pub mod Lent
+pub mod Runs
+pub mod FileLayout
