@@ -19,5 +19,3 @@ mod section_table;
 pub mod symbol;
 mod symbol_entry;
 mod symbol_table;
-#[cfg(test)]
-mod tests;

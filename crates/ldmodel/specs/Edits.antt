@@ -1,6 +1,6 @@
--- What an edit makes of a project, or why it is refused. An object's text is read at the edit, so a project holds none
--- that is refused. A script is the one tree that its text spells, which is a relation, and so is `After`; no edit has two
--- outcomes.
+-- What an edit makes of a project, or why it is refused. An object is read when it is added, so a project holds none
+-- that is refused. A script is the one tree that its text spells, which is a relation, and so is `After`; no edit has
+-- two outcomes.
 use Rattle.std.specs.Prelude.{◌≡◌, ◌≢◌, ◌⊎◌, ℕ, ◌^◌, ◌≤◌, List, [], length, insert, remove, slice_set, slice_index_or, position, count_by, Option, Some, None, Result, Ok, Err, Bool, not, ◌||◌, ◌&&◌, nat_lt, nat_le, if◌then◌else◌, bytes_eq}
 use Rattle.std.specs.List.{list_any, list_all}
 use Rattle.elfobj.specs.Names.{is_graphic}
@@ -15,8 +15,8 @@ use Rattle.ldscript.specs.declared.refusal.ScriptRefusal.TheVariants as reader
 use Rattle.ldtree.specs.declared.statement.Statement.{Statement}
 use Rattle.ldmodel.specs.Project.{Project, NamedObject}
 
--- an edit, apart from where its bytes lie: an object is added before a place, from 0 to the number of objects; the object
--- of a name becomes another, in its place; it goes to another place of the list without it; it is removed; the script
+-- an edit, apart from where its bytes lie: an object is added before a place, from 0 to the number of objects; the
+-- object of a name becomes another, in its place; it goes to a place of the list without it; it is removed; the script
 -- becomes that of a text
 pub data Change : Type 0 where
   Add : (name : List ℕ) → (at : ℕ) → (bytes : List ℕ) → Change
@@ -78,8 +78,8 @@ is_too_long bytes = nat_lt (2 ^ 26) (length bytes)
 unfoldable pub is_full : List NamedObject → Bool
 is_full objects = nat_le 4096 (length objects)
 
--- the refusals for which neither the object nor the script is looked at, in the order name in use, name unknown, position
--- past the end, limit
+-- the refusals for which neither the object nor the script is looked at, in the order name in use, name unknown,
+-- position past the end, limit
 unfoldable pub early_refusal : Project → Change → Option Refusal
 early_refusal p (Add name at bytes) =
     if is_in_use p.objects name then Some InUse
@@ -124,9 +124,11 @@ with_objects p objects = record p { objects = objects }
 
 -- the next project, where no early refusal applies
 abbrev pub Accepts : Project → Change → Project → Type 0
-Accepts p (Add name at bytes) q = (object_refusal bytes ≡ None) × (q ≡ with_objects p (insert p.objects at (named name bytes)))
+Accepts p (Add name at bytes) q =
+    (object_refusal bytes ≡ None) × (q ≡ with_objects p (insert p.objects at (named name bytes)))
 Accepts p (Replace name bytes) q =
-    (object_refusal bytes ≡ None) × (q ≡ with_objects p (replaced p.objects (named name bytes) (place_of p.objects name)))
+    (object_refusal bytes ≡ None)
+    × (q ≡ with_objects p (replaced p.objects (named name bytes) (place_of p.objects name)))
 Accepts p (Move name to) q = q ≡ with_objects p (moved p.objects to (place_of p.objects name))
 Accepts p (Remove name) q = q ≡ with_objects p (removed p.objects (place_of p.objects name))
 Accepts p (SetScript text) q = (s : List Statement) × IsScript text s × (q ≡ record p { script = s })

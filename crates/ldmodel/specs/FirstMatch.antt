@@ -24,4 +24,5 @@ takes file section i = is_match i.file file && list_any (word_takes file section
 
 -- the least number of an input statement that takes a section of this name, of an object of this name
 unfoldable pub first_match : List Statement → (file section : List ℕ) → Option ℕ
-first_match script file section = position (λ (i : InputStatementAt). takes file section i.input) (input_statements script)
+first_match script file section =
+    position (λ (i : InputStatementAt). takes file section i.input) (input_statements script)

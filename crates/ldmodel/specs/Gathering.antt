@@ -2,7 +2,9 @@
 -- "Command-line Options", `--orphan-handling`): those that /DISCARD/ takes; and of those that no statement takes the
 -- empty ones, and all where the option says so.
 use Rattle.std.specs.Prelude.{List, filter, Option, Some, None, Bool, true, false, not, ◌||◌, ◌==◌, slice_get, option_and_then}
-use Rattle.ldtree.specs.Numbering.{InputPlace, InSection, InDiscard, InputStatementAt, input_statements}
+use Rattle.ldtree.specs.Numbering.{InputStatementAt, input_statements}
+use Rattle.ldtree.specs.declared.place.InputPlace.{InputPlace}
+use Rattle.ldtree.specs.declared.place.InputPlace.TheVariants.{InSection, InDiscard}
 use Rattle.ldmodel.specs.FirstMatch.{first_match}
 use Rattle.ldmodel.specs.InputSections.{input_sections}
 use Rattle.ldmodel.specs.Project.{Project}

@@ -44,7 +44,8 @@ is_same_entry a b = (a.object == b.object) && (a.symbol == b.symbol)
 
 -- the block of an entry, where its name is decided so
 abbrev pub block_of : List ℕ → Entry → Decision → Option InputSection
-block_of object entry (Common owner size alignment) = if is_same_entry owner entry then Some (common_block object owner size alignment) else None
+block_of object entry (Common owner size alignment) =
+    if is_same_entry owner entry then Some (common_block object owner size alignment) else None
 block_of object entry _ = None
 
 abbrev pub block_at : Project → ℕ → NamedObject → ℕ × NamedSymbol → Option InputSection

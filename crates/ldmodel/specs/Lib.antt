@@ -1,7 +1,7 @@
 pub mod Options
 pub mod Project
 pub mod Edits
-pub mod Given
+pub mod ScriptNames
 pub mod Names
 pub mod NameFaults
 pub mod FirstMatch
@@ -12,6 +12,7 @@ pub mod Reach
 pub mod Live
 pub mod Sorting
 pub mod Rows
+pub mod HandedOver
 pub mod Chain
 pub mod Arithmetic
 pub mod Fault

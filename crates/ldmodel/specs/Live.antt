@@ -26,19 +26,22 @@ section_at i (place.Section k) = Some (record { object = i; part = InTable k })
 section_at i _ = None
 
 abbrev pub section_of_entry : Project → Entry → Option SectionId
-section_of_entry p e = option_and_then (λ (s : NamedSymbol). section_at e.object s.symbol.place) (symbol_at p e.object e.symbol)
+section_of_entry p e =
+    option_and_then (λ (s : NamedSymbol). section_at e.object s.symbol.place) (symbol_at p e.object e.symbol)
 
 -- the section that a name is defined in; a number, as the script's, is in none
 abbrev pub section_of_decision : Project → Decision → Option SectionId
 section_of_decision p (Strong e) = section_of_entry p e
 section_of_decision p (Weak e) = section_of_entry p e
-section_of_decision p (Common owner size alignment) = Some (record { object = owner.object; part = InCommon (record { 0 = owner.symbol }) })
+section_of_decision p (Common owner size alignment) =
+    Some (record { object = owner.object; part = InCommon (record { 0 = owner.symbol }) })
 section_of_decision p _ = None
 
--- the section that a symbol of object number i refers to: a local one its own, another that of its name, also where the
--- object itself defines that
+-- the section that a symbol of object number i refers to: a local one its own, another that of its name, also where
+-- the object itself defines that
 abbrev pub section_of_symbol : Project → ℕ → NamedSymbol → Option SectionId
-section_of_symbol p i s = if is_local s.symbol.binding then section_at i s.symbol.place else section_of_decision p (decision p s.name)
+section_of_symbol p i s =
+    if is_local s.symbol.binding then section_at i s.symbol.place else section_of_decision p (decision p s.name)
 
 -- the section of the target of a relocation of object number i, whatever the relocation does
 unfoldable pub target_section : Project → ℕ → Relocation → Option SectionId

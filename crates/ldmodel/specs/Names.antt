@@ -1,7 +1,7 @@
 -- What a name stands for, by all that declare it (gABI, "Symbol Table"; GNU ld manual, "Assigning Values to Symbols",
 -- "The PROVIDE command"). Of several definitions a global one goes before a common one, and that before a weak one; two
 -- global definitions of a name are a fault.
-use Rattle.std.specs.Prelude.{ℕ, ◌+◌, List, [], ◌∷◌, ◌++◌, length, map, filter, flat_map, Option, Some, None, Bool, true, false, not, ◌&&◌, nat_lt, max, if◌then◌else◌, bytes_eq}
+use Rattle.std.specs.Prelude.{ℕ, ◌+◌, List, [], ◌∷◌, ◌++◌, length, map, filter, flat_map, Option, Bool, true, false, not, ◌&&◌, nat_lt, max, if◌then◌else◌, bytes_eq}
 use Rattle.std.specs.List.{list_any, enumerate_from}
 use Rattle.std.specs.Option.{option_or}
 use Rattle.elfobj.specs.Symbols.{NamedSymbol}
@@ -13,7 +13,7 @@ use Rattle.elfobj.specs.declared.symbol.SymbolPlace.{SymbolPlace}
 use Rattle.elfobj.specs.declared.symbol.SymbolPlace.TheVariants as place
 use Rattle.ldmodel.specs.Project.{NamedObject, Project}
 use Rattle.ldtree.specs.Numbering.{entry_of}
-use Rattle.ldmodel.specs.Given.{assigned_names, provided_names, is_assigned, is_provided}
+use Rattle.ldmodel.specs.ScriptNames.{assigned_names, provided_names, is_assigned, is_provided}
 
 -- an entry of an object's symbol table: the place of the object in the project, from 0, and the number of the symbol
 pub record Entry : Type 0 where
@@ -44,9 +44,13 @@ is_local _ = false
 abbrev pub declaration : ℕ → ℕ × NamedSymbol → Declaration
 declaration object s = record { entry = record { object = object; symbol = s.0 }; name = s.1.name; symbol = s.1.symbol }
 
--- the symbols of an object that aren't local, in the order of the symbol table
+-- the entries of an object's symbol table
+abbrev pub all_entries : ℕ × NamedObject → List Declaration
+all_entries o = map (declaration o.0) (enumerate_from 0 o.1.object.symbols)
+
+-- those that aren't local, in the order of the table
 abbrev pub declarations_in : ℕ × NamedObject → List Declaration
-declarations_in o = filter (λ (d : Declaration). not (is_local d.symbol.binding)) (map (declaration o.0) (enumerate_from 0 o.1.object.symbols))
+declarations_in o = filter (λ (d : Declaration). not (is_local d.symbol.binding)) (all_entries o)
 
 -- all declarations, in object order and then symbol order
 unfoldable pub declarations : List NamedObject → List Declaration
@@ -144,6 +148,9 @@ abbrev pub distinct : List (List ℕ) → List (List ℕ)
 distinct [] = []
 distinct (x ∷ xs) = x ∷ filter (λ y. not (bytes_eq x y)) (distinct xs)
 
+abbrev pub names_in_objects : List NamedObject → List (List ℕ)
+names_in_objects objects = map (λ (d : Declaration). d.name) (declarations objects)
+
 -- the names that objects declare or that the script assigns or provides, each once
 unfoldable pub declared_names : Project → List (List ℕ)
-declared_names p = distinct (map (λ (d : Declaration). d.name) (declarations p.objects) ++ assigned_names p.script ++ provided_names p.script)
+declared_names p = distinct (names_in_objects p.objects ++ assigned_names p.script ++ provided_names p.script)

@@ -6,7 +6,8 @@ use Rattle.std.specs.List.{list_any}
 -- the nodes that a path of at most n steps leads to, in the order of the list of all nodes
 abbrev pub reached_in : {X : Type 0} → ℕ → (is_start : X → Bool) → (leads : X → X → Bool) → List X → List X
 reached_in zero is_start leads nodes = filter is_start nodes
-reached_in (suc n) is_start leads nodes = filter (λ x. is_start x || list_any (λ y. leads y x) (reached_in n is_start leads nodes)) nodes
+reached_in (suc n) is_start leads nodes =
+    filter (λ x. is_start x || list_any (λ y. leads y x) (reached_in n is_start leads nodes)) nodes
 
 -- the nodes that can be reached: by at most as many steps as there are nodes
 unfoldable pub reached : {X : Type 0} → (is_start : X → Bool) → (leads : X → X → Bool) → List X → List X

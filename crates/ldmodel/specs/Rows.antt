@@ -8,9 +8,11 @@ use Rattle.std.specs.List.{enumerate_from, range_with_len}
 use Rattle.std.specs.Option.{option_map_or}
 use Rattle.std.specs.Ordering.{is_lt, nat_cmp}
 use Rattle.elfobj.specs.declared.section.SectionKind.{SectionKind}
-use Rattle.ldtree.specs.Numbering.{InputPlace, InSection, InDiscard, InputStatementAt, input_statements, output_sections}
+use Rattle.ldtree.specs.Numbering.{InputStatementAt, input_statements, output_sections}
 use Rattle.ldtree.specs.declared.input.Sort.{Sort}
 use Rattle.ldtree.specs.declared.input.Sort.TheVariants.{ByName, ByAlignment}
+use Rattle.ldtree.specs.declared.place.InputPlace.{InputPlace}
+use Rattle.ldtree.specs.declared.place.InputPlace.TheVariants.{InSection, InDiscard}
 use Rattle.ldmodel.specs.FirstMatch.{first_match}
 use Rattle.ldmodel.specs.Live.{live}
 use Rattle.ldmodel.specs.Project.{Project}
@@ -67,9 +69,13 @@ is_in_section k InDiscard = false
 abbrev pub sorted_pieces : Project → ℕ → InputStatementAt → List Piece
 sorted_pieces p n i = sort_by (below i.input.sort) (taken p n)
 
--- the row of output section number k
+-- those of an input statement, with its number, where it stands in output section number k
+abbrev pub pieces_in : Project → ℕ → ℕ × InputStatementAt → List Piece
+pieces_in p k i = if is_in_section k i.1.place then sorted_pieces p i.0 i.1 else []
+
+-- the row of output section number k, statement by statement
 abbrev pub row : Project → ℕ → List Piece
-row p k = flat_map (λ (i : ℕ × InputStatementAt). if is_in_section k i.1.place then sorted_pieces p i.0 i.1 else []) (enumerate_from 0 (input_statements p.script))
+row p k = flat_map (pieces_in p k) (enumerate_from 0 (input_statements p.script))
 
 -- one row for each output section, in script order; /DISCARD/ has none
 unfoldable pub rows : Project → List (List Piece)

@@ -1,9 +1,9 @@
 -- Lists without `;`, up to what closes them.
 use Rattle.std.proofs.Common.{◌≡◌, ◌∙◌, refl, sym, ap, subst, List, [], ◌∷◌, ◌++◌, length, ◌<◌, ◌≤◌, arith, append_assoc}
 use Rattle.ldtokens.specs.Tokens.{Lexeme}
-use Rattle.ldscript.specs.Steps.{Part, ◌▸◌, each}
+use Rattle.ldscript.specs.Steps.{Part, ◌▸◌, each, some}
 use Rattle.ldscript.specs.Readings.{Takes, NoneAt}
-use Rattle.ldscript.proofs.Singles.{Fixed, SingleUntil}
+use Rattle.ldscript.proofs.Singles.{Fixed, Single, SingleUntil}
 
 -- what tells the members of a list and what closes it apart
 pub record EachListed {A : Type 0} (Stop : List Lexeme → Type 0) (c : Part) (p : A → Part) : Type 0 where
@@ -36,6 +36,25 @@ module _ {A : Type 0} {Stop : List Lexeme → Type 0} {c : Part} {p : A → Part
       let h = each_member l x ts d.1.0 d.1.1 (λ z more k st. l.single ts more d.1.0 z x k d.1.1 st stops) ys s e in
       let k = each_single l xs h.0 d.1.0 r s (d.0, d.1.2, d.2) h.2 in
       (ap (λ zs. x ∷ zs) k.0 ∙ sym h.1, k.1)
+
+  -- no tokens are two lists of one member or more
+  pub some_single : EachListed Stop c p → Single (λ xs. some p xs ▸ c)
+  some_single l ts r s [] ys x y = absurd x.1
+  some_single l ts r s (a ∷ xs) [] x y = absurd y.1
+  some_single l ts r s (a ∷ xs) (b ∷ ys) x y = each_single l (a ∷ xs) (b ∷ ys) ts r s x y
+
+  -- where the list is empty, there is no list of one member or more
+  pub empty_none : EachListed Stop c p → (xs : List A) (ts us : List Lexeme) → xs ≡ [] → (each p xs ▸ c) ts us → NoneAt (λ xs. some p xs ▸ c) ts
+  empty_none l xs ts us e h [] more d = d.1
+  empty_none l xs ts us e h (y ∷ ys) more d = let q = (each_single l xs (y ∷ ys) ts us more h d).0 in cc
+
+pub some_of_each : {A : Type 0} (c : Part) (p : A → Part) (xs : List A) (ts us : List Lexeme) → (xs ≡ [] → ⊥) → (each p xs ▸ c) ts us → (some p xs ▸ c) ts us
+some_of_each c p [] ts us n d = absurd (n refl)
+some_of_each c p (x ∷ xs) ts us n d = d
+
+pub some_none : {A : Type 0} (c : Part) (p : A → Part) (ts : List Lexeme) → NoneAt (λ xs. each p xs ▸ c) ts → NoneAt (λ xs. some p xs ▸ c) ts
+some_none c p ts n [] more d = d.1
+some_none c p ts n (x ∷ xs) more d = n (x ∷ xs) more d
 
 append_nil : {A : Type 0} (xs : List A) → xs ++ [] ≡ xs
 append_nil [] = refl

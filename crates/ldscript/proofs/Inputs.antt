@@ -9,17 +9,19 @@ use Rattle.ldtokens.specs.declared.token.Mark.TheVariants.{OpenParenthesis, Clos
 use Rattle.ldtokens.specs.declared.token.Mode.TheVariants.{Pattern}
 use Rattle.ldpattern.specs.Parts as patterns
 use Rattle.ldpattern.specs.Spelling.{Spells}
-use Rattle.ldscript.specs.Steps.{Part, ◌▸◌, mark, token, key, pattern, each, statements}
-use Rattle.ldscript.specs.Grammar.{sort, patterns_of, selection, plain, kept, input, input_statement}
-use Rattle.ldscript.specs.Readings.{NoneAt, Reads, selected}
+use Rattle.ldpattern.proofs.Reading.{one_pattern}
+use Rattle.ldscript.specs.Steps.{Part, ◌▸◌, mark, token, key, pattern, some, statements}
+use Rattle.ldscript.specs.Grammar.{sort, excluded, exclusion, one, bare, selection, plain, kept, input, input_statement}
+use Rattle.ldscript.specs.Readings.{NoneAt, Reads, excluded_files, word_part, selected}
 use Rattle.ldscript.specs.declared.fault.Fault.{Fault}
 use Rattle.ldscript.specs.declared.fault.Fault.TheVariants.{NotAScript, NoMemory}
 use Rattle.ldtree.specs.declared.input.Sort.{Sort}
 use Rattle.ldtree.specs.declared.input.Sort.TheVariants.{ByName, ByAlignment}
+use Rattle.ldtree.specs.declared.input.SectionWord.{SectionWord}
 use Rattle.ldtree.specs.declared.input.Input.{Input}
 use Rattle.ldtree.specs.declared.input.InputStatement.{InputStatement}
 use Rattle.ldscript.proofs.Singles.{Single, tokens_same, mark_fixed, key_fixed, skip_single, pair_single, keys_differ, behind, behind_tree}
-use Rattle.ldscript.proofs.Each.{EachListed, each_single}
+use Rattle.ldscript.proofs.Each.{EachListed, some_single}
 use Rattle.ldscript.proofs.Lists.{Listed, closing_single}
 
 same_words : (v w : List ℕ) → Word v ≡ Word w → v ≡ w
@@ -29,7 +31,7 @@ pub pattern_single : Single pattern
 pattern_single ts r s a b x y =
     let e = tokens_same (Word x.0) (Word y.0) ts r s x.3 y.3 in
     let w = same_words x.0 y.0 e.0 in
-    (sym (x.2.only b (subst (λ v. Spells b v) (sym w) y.2.spelled)), e.1)
+    (one_pattern a b x.0 x.2 (subst (λ v. Spells b v) (sym w) y.2), e.1)
 
 -- a word of the language is no pattern
 pub pattern_no_key : (w : List ℕ) → is_free_word w ≡ false → (p : List patterns.Part) (ts r s : List Lexeme) → pattern p ts r → key Pattern w ts s → ⊥
@@ -50,11 +52,8 @@ patterns_listed = record {
 }
 
 -- WORD {WORD} ")"
-pub closed_patterns_single : Single (λ ps. patterns_of ps ▸ mark CloseParenthesis)
-closed_patterns_single ts r s [] b x y = absurd x.1
-closed_patterns_single ts r s (a ∷ as') [] x y = absurd y.1
-closed_patterns_single ts r s (a ∷ as') (b ∷ bs) x y =
-    each_single patterns_listed (a ∷ as') (b ∷ bs) ts r s x y
+pub closed_patterns_single : Single (λ ps. some pattern ps ▸ mark CloseParenthesis)
+closed_patterns_single = some_single patterns_listed
 
 sort_free : is_free_word (codes "SORT") ≡ false
 unfolding is_free_word is_reserved
@@ -91,21 +90,94 @@ sort_single ts r s ByAlignment ByAlignment x y = (refl, key_fixed Pattern (codes
 sort_single ts r s ByName ByAlignment x y = absurd (name_no_alignment ts r s x y)
 sort_single ts r s ByAlignment ByName x y = absurd (name_no_alignment ts s r y x)
 
-sort_no_patterns : (a : Sort) (ps : List (List patterns.Part)) (ts r s : List Lexeme) → sort a ts r → patterns_of ps ts s → ⊥
-sort_no_patterns a [] ts r s x y = y
-sort_no_patterns a (p ∷ ps) ts r s x y = let k = sort_key a ts r x in pattern_no_key k.0 k.1 p ts y.0 r y.1 k.2
+exclude_file_free : is_free_word (codes "EXCLUDE_FILE") ≡ false
+unfolding is_free_word is_reserved
+exclude_file_free = refl
+
+-- "(" WORD {WORD} ")"
+pub excluded_files_single : Single excluded_files
+excluded_files_single = skip_single (mark OpenParenthesis) (λ ps. some pattern ps ▸ mark CloseParenthesis) (mark_fixed OpenParenthesis) closed_patterns_single
+
+exclusion_single : Single exclusion
+exclusion_single = skip_single (key Pattern (codes "EXCLUDE_FILE")) excluded_files (key_fixed Pattern (codes "EXCLUDE_FILE")) excluded_files_single
+
+section_words_same : (a b : SectionWord) → a.pattern ≡ b.pattern → a.excluded ≡ b.excluded → a ≡ b
+section_words_same a b e f =
+    let mk : List patterns.Part → List (List patterns.Part) → SectionWord = λ p x. record { pattern = p; excluded = x } in
+    ap (λ p. mk p a.excluded) e ∙ ap (λ x. mk b.pattern x) f
+
+-- where a word stands at once, there is no EXCLUDE_FILE
+no_exclusion : (p : List patterns.Part) (ps : List (List patterns.Part)) (ts us r s : List Lexeme) → ts ≡ us → pattern p us r → exclusion ps ts s → ⊥
+no_exclusion p ps ts us r s e x y = pattern_no_key (codes "EXCLUDE_FILE") exclude_file_free p ts r y.0 (subst (λ l. pattern p l r) (sym e) x) y.1
+
+one_cases : (x y : List (List patterns.Part)) (p q : List patterns.Part) (ts r s : List Lexeme) → (excluded x ▸ pattern p) ts r → (excluded y ▸ pattern q) ts s → (x ≡ y) × (p ≡ q) × (r ≡ s)
+one_cases [] [] p q ts r s d e =
+    let h = pattern_single e.0 r s p q (subst (λ l. pattern p l r) (sym d.1 ∙ e.1) d.2) e.2 in
+    (refl, h.0, h.1)
+one_cases [] (y ∷ ys) p q ts r s d e = absurd (no_exclusion p (y ∷ ys) ts d.0 r e.0 d.1 d.2 e.1)
+one_cases (x ∷ xs) [] p q ts r s d e = absurd (no_exclusion q (x ∷ xs) ts e.0 s d.0 e.1 e.2 d.1)
+one_cases (x ∷ xs) (y ∷ ys) p q ts r s d e = pair_single exclusion pattern exclusion_single pattern_single ts r s (x ∷ xs) (y ∷ ys) p q d e
+
+pub one_single : Single one
+one_single ts r s a b x y =
+    let h = one_cases a.excluded b.excluded a.pattern b.pattern ts r s x y in
+    (section_words_same a b h.1 h.0, h.2)
+
+pub bare_single : Single bare
+bare_single ts r s a b x y =
+    let h = pattern_single ts r s a.pattern b.pattern x.1 y.1 in
+    (section_words_same a b h.0 (x.0 ∙ sym y.0), h.1)
+
+pub word_single : (e : Bool) → Single (word_part e)
+word_single true = one_single
+word_single false = bare_single
+
+-- a word of an input statement begins with a word token
+one_word : (x : List (List patterns.Part)) (p : List patterns.Part) (ts r : List Lexeme) → (excluded x ▸ pattern p) ts r → (w : List ℕ) × (us : List Lexeme) × token (Word w) ts us
+one_word [] p ts r d = (d.2.0, r, subst (λ l. token (Word d.2.0) l r) (sym d.1) d.2.3)
+one_word (x ∷ xs) p ts r d = (codes "EXCLUDE_FILE", d.1.0, d.1.1)
+
+word_token : (e : Bool) (w : SectionWord) (ts r : List Lexeme) → word_part e w ts r → (v : List ℕ) × (us : List Lexeme) × token (Word v) ts us
+word_token true w ts r d = one_word w.excluded w.pattern ts r d
+word_token false w ts r d = (d.1.0, r, d.1.3)
+
+pub words_listed : (e : Bool) → EachListed (λ ts. Unit {0}) (mark CloseParenthesis) (word_part e)
+words_listed e = record {
+  single = λ ts r s a b x y h k. word_single e ts r s a b x y;
+  closes = mark_fixed CloseParenthesis;
+  no_close = λ x ts r s d m. (let w = word_token e x ts r d in word_no_mark w.0 CloseParenthesis ts w.1 s w.2 m);
+  at_close = λ ts r d. tt;
+  at_start = λ x ts r d. tt;
+}
+
+-- words of an input statement and the `)` after them
+pub closed_words_single : (e : Bool) → Single (λ ws. some (word_part e) ws ▸ mark CloseParenthesis)
+closed_words_single e = some_single (words_listed e)
+
+sort_no_exclusion : (a : Sort) (ts r s : List Lexeme) → sort a ts r → key Pattern (codes "EXCLUDE_FILE") ts s → ⊥
+sort_no_exclusion ByName ts r s (inl x) y = keys_differ Pattern (codes "SORT") (codes "EXCLUDE_FILE") refl refl ts r s x y
+sort_no_exclusion ByName ts r s (inr x) y = keys_differ Pattern (codes "SORT_BY_NAME") (codes "EXCLUDE_FILE") refl refl ts r s x y
+sort_no_exclusion ByAlignment ts r s x y = keys_differ Pattern (codes "SORT_BY_ALIGNMENT") (codes "EXCLUDE_FILE") refl refl ts r s x y
+
+sort_no_word : (a : Sort) (x : List (List patterns.Part)) (p : List patterns.Part) (ts r s : List Lexeme) → sort a ts r → (excluded x ▸ pattern p) ts s → ⊥
+sort_no_word a [] p ts r s d e = let k = sort_key a ts r d in pattern_no_key k.0 k.1 p ts s r (subst (λ l. pattern p l s) (sym e.1) e.2) k.2
+sort_no_word a (x ∷ xs) p ts r s d e = sort_no_exclusion a ts r e.1.0 d e.1.1
+
+sort_no_words : (a : Sort) (ws : List SectionWord) (ts r s : List Lexeme) → sort a ts r → some one ws ts s → ⊥
+sort_no_words a [] ts r s x y = y
+sort_no_words a (w ∷ ws) ts r s x y = sort_no_word a w.excluded w.pattern ts r y.0 x y.1
 
 -- what the parentheses of an input statement hold, with the `)`
-abbrev Selected : Option Sort → List (List patterns.Part) → Part
-Selected o ps = selection o ps ▸ mark CloseParenthesis
+abbrev Selected : Option Sort → List SectionWord → Part
+Selected o ws = selection o ws ▸ mark CloseParenthesis
 
-pub selected_single : (a b : Option Sort) (ps qs : List (List patterns.Part)) (ts r s : List Lexeme) → Selected a ps ts r → Selected b qs ts s → (a ≡ b) × (ps ≡ qs) × (r ≡ s)
-selected_single None None ps qs ts r s x y = let e = closed_patterns_single ts r s ps qs x y in (refl, e.0, e.1)
-selected_single None (Some b) ps qs ts r s x y = absurd (sort_no_patterns b ps ts y.1.0 x.0 y.1.1 x.1)
-selected_single (Some a) None ps qs ts r s x y = absurd (sort_no_patterns a qs ts x.1.0 y.0 x.1.1 y.1)
+pub selected_single : (a b : Option Sort) (ps qs : List SectionWord) (ts r s : List Lexeme) → Selected a ps ts r → Selected b qs ts s → (a ≡ b) × (ps ≡ qs) × (r ≡ s)
+selected_single None None ps qs ts r s x y = let e = closed_words_single true ts r s ps qs x y in (refl, e.0, e.1)
+selected_single None (Some b) ps qs ts r s x y = absurd (sort_no_words b ps ts y.1.0 x.0 y.1.1 x.1)
+selected_single (Some a) None ps qs ts r s x y = absurd (sort_no_words a qs ts x.1.0 y.0 x.1.1 y.1)
 selected_single (Some a) (Some b) ps qs ts r s x y =
-    let e = pair_single sort (λ p. mark OpenParenthesis ▸ patterns_of p ▸ mark CloseParenthesis) sort_single
-    (skip_single (mark OpenParenthesis) (λ p. patterns_of p ▸ mark CloseParenthesis) (mark_fixed OpenParenthesis) closed_patterns_single)
+    let e = pair_single sort (λ p. mark OpenParenthesis ▸ some bare p ▸ mark CloseParenthesis) sort_single
+    (skip_single (mark OpenParenthesis) (λ p. some bare p ▸ mark CloseParenthesis) (mark_fixed OpenParenthesis) (closed_words_single false))
     ts x.0 y.0 a b ps qs x.1 y.1 in
     (ap Some e.0, e.1, mark_fixed CloseParenthesis y.0 r s (subst (λ l. mark CloseParenthesis l r) e.2 x.2) y.2)
 
@@ -125,7 +197,7 @@ plain_same a b ts r s x y =
 
 inputs_same : (a b : Input) (r s : List Lexeme) → a.keep ≡ b.keep → SameInput a b r s → (a ≡ b) × (r ≡ s)
 inputs_same a b r s k e =
-    let mk : Bool → List patterns.Part → Option Sort → List (List patterns.Part) → Input = λ k f o ps. record { keep = k; file = f; sort = o; sections = ps } in (
+    let mk : Bool → List patterns.Part → Option Sort → List SectionWord → Input = λ k f o ps. record { keep = k; file = f; sort = o; sections = ps } in (
       ap (λ k. mk k a.file a.sort a.sections) k ∙ ap (λ f. mk b.keep f a.sort a.sections) e.same_file
           ∙ ap (λ o. mk b.keep b.file o a.sections) e.same_sort ∙ ap (λ ps. mk b.keep b.file b.sort ps) e.same_sections,
       e.same_rest,
@@ -192,30 +264,60 @@ sort_none ts a n s ByAlignment more d = a more d
 pub sort_mark_none : (ts us : List Lexeme) (a : Sort) → sort a ts us → ((r : List Lexeme) → mark OpenParenthesis us r → ⊥) → NoneAt (λ s. sort s ▸ mark OpenParenthesis) ts
 sort_mark_none ts us a h n y more d = n more (behind_tree sort (mark OpenParenthesis) sort_single ts us more a y h d).1
 
--- where no word is, the list of words is empty
-pub no_words : (ts us : List Lexeme) → (each pattern [] ▸ mark CloseParenthesis) ts us → NoneAt (λ ps. patterns_of ps ▸ mark CloseParenthesis) ts
-no_words ts us h [] more d = d.1
-no_words ts us h (p ∷ ps) more d = let e = (each_single patterns_listed [] (p ∷ ps) ts us more h d).0 in cc
+-- a word of an input statement
+pub bare_none : (ts : List Lexeme) → NoneAt pattern ts → NoneAt bare ts
+bare_none ts n w more d = n w.pattern more d.1
 
-pub some_words : (ps : List (List patterns.Part)) (ts us : List Lexeme) → (ps ≡ [] → ⊥) → (each pattern ps ▸ mark CloseParenthesis) ts us → (patterns_of ps ▸ mark CloseParenthesis) ts us
-some_words [] ts us n d = absurd (n refl)
-some_words (p ∷ ps) ts us n d = d
+one_bare_cases : (x : List (List patterns.Part)) (p : List patterns.Part) (ts r : List Lexeme) → ((us : List Lexeme) → key Pattern (codes "EXCLUDE_FILE") ts us → ⊥) → (excluded x ▸ pattern p) ts r → (x ≡ []) × pattern p ts r
+one_bare_cases [] p ts r n d = (refl, subst (λ l. pattern p l r) (sym d.1) d.2)
+one_bare_cases (x ∷ xs) p ts r n d = absurd (n d.1.0 d.1.1)
 
-pub words_none : (ts : List Lexeme) → NoneAt (λ ps. each pattern ps ▸ mark CloseParenthesis) ts → NoneAt (λ ps. patterns_of ps ▸ mark CloseParenthesis) ts
-words_none ts n [] more d = d.1
-words_none ts n (p ∷ ps) more d = n (p ∷ ps) more d
+bare_one_cases : (x : List (List patterns.Part)) (p : List patterns.Part) (ts r : List Lexeme) → x ≡ [] → pattern p ts r → (excluded x ▸ pattern p) ts r
+bare_one_cases x p ts r e d = subst (λ (y : List (List patterns.Part)). (excluded y ▸ pattern p) ts r) (sym e) (ts, refl, d)
+
+-- without EXCLUDE_FILE
+pub one_as_bare : {X : Type 0} (ts : List Lexeme) → ((us : List Lexeme) → key Pattern (codes "EXCLUDE_FILE") ts us → ⊥) → (tree : X → SectionWord) (rest : X → List Lexeme) (r : Result X Fault)
+    → Reads bare ts tree rest r → Reads one ts tree rest r
+one_as_bare ts n tree rest (Ok x) d = record { spells = bare_one_cases (tree x).excluded (tree x).pattern ts (rest x) d.spells.0 d.spells.1; shorter = d.shorter }
+one_as_bare ts n tree rest (Err NotAScript) d = λ w more h. d w more (one_bare_cases w.excluded w.pattern ts more n h)
+one_as_bare ts n tree rest (Err NoMemory) d = tt
+
+-- with EXCLUDE_FILE
+pub one_excluding : (x : List (List patterns.Part)) (p : List patterns.Part) (ts us vs r : List Lexeme) → key Pattern (codes "EXCLUDE_FILE") ts us → excluded_files x us vs → pattern p vs r → (excluded x ▸ pattern p) ts r
+one_excluding [] p ts us vs r k d h = absurd d.2.1
+one_excluding (x ∷ xs) p ts us vs r k d h = (vs, (us, k, d), h)
+
+no_bare_one : (x : List (List patterns.Part)) (p : List patterns.Part) (ts us more : List Lexeme) → key Pattern (codes "EXCLUDE_FILE") ts us → (excluded x ▸ pattern p) ts more
+    → (vs : List Lexeme) × excluded_files x us vs × pattern p vs more
+no_bare_one [] p ts us more k d = absurd (pattern_no_key (codes "EXCLUDE_FILE") exclude_file_free p ts more us (subst (λ l. pattern p l more) (sym d.1) d.2) k)
+no_bare_one (x ∷ xs) p ts us more k d = (d.0, behind (key Pattern (codes "EXCLUDE_FILE")) (excluded_files (x ∷ xs)) (key_fixed Pattern (codes "EXCLUDE_FILE")) ts us d.0 k d.1, d.2)
+
+pub one_files_none : (ts us : List Lexeme) → key Pattern (codes "EXCLUDE_FILE") ts us → NoneAt excluded_files us → NoneAt one ts
+one_files_none ts us k n w more d = let h = no_bare_one w.excluded w.pattern ts us more k d in n w.excluded h.0 h.1
+
+pub one_pattern_none : (ts us vs : List Lexeme) (x : List (List patterns.Part)) → key Pattern (codes "EXCLUDE_FILE") ts us → excluded_files x us vs → NoneAt pattern vs → NoneAt one ts
+one_pattern_none ts us vs x k e n w more d =
+    let h = no_bare_one w.excluded w.pattern ts us more k d in
+    n w.pattern more (subst (λ l. pattern w.pattern l more) (excluded_files_single us h.0 vs w.excluded x h.1 e).1 h.2)
+
+-- a word that may have EXCLUDE_FILE before it, and one that may not
+pub word_excluding : {X : Type 0} (e : Bool) (ts : List Lexeme) (tree : X → SectionWord) (rest : X → List Lexeme) (r : Result X Fault) → e ≡ true → Reads one ts tree rest r → Reads (word_part e) ts tree rest r
+word_excluding e ts tree rest r h d = subst (λ b. Reads (word_part b) ts tree rest r) (sym h) d
+
+pub word_bare : {X : Type 0} (e : Bool) (ts : List Lexeme) (tree : X → SectionWord) (rest : X → List Lexeme) (r : Result X Fault) → e ≡ false → Reads bare ts tree rest r → Reads (word_part e) ts tree rest r
+word_bare e ts tree rest r h d = subst (λ b. Reads (word_part b) ts tree rest r) (sym h) d
 
 -- what stands between the parentheses of an input statement
-pub selected_unsorted : (ts : List Lexeme) → NoneAt (λ s. sort s ▸ mark OpenParenthesis) ts → NoneAt (λ ps. patterns_of ps ▸ mark CloseParenthesis) ts → NoneAt selected ts
+pub selected_unsorted : (ts : List Lexeme) → NoneAt (λ s. sort s ▸ mark OpenParenthesis) ts → NoneAt (λ ws. some one ws ▸ mark CloseParenthesis) ts → NoneAt selected ts
 selected_unsorted ts s n (None, ps) more d = n ps more d
 selected_unsorted ts s n (Some a, ps) more d = s a d.1.2.0 (d.1.0, d.1.1, d.1.2.1)
 
-pub selected_sorted : (ts us : List Lexeme) (a : Sort) → (sort a ▸ mark OpenParenthesis) ts us → ((ps : List (List patterns.Part)) (vs r : List Lexeme) → (patterns_of ps ▸ mark CloseParenthesis) us vs → mark CloseParenthesis vs r → ⊥)
+pub selected_sorted : (ts us : List Lexeme) (a : Sort) → (sort a ▸ mark OpenParenthesis) ts us → ((ws : List SectionWord) (vs r : List Lexeme) → (some bare ws ▸ mark CloseParenthesis) us vs → mark CloseParenthesis vs r → ⊥)
     → NoneAt selected ts
-selected_sorted ts us a h n (None, ps) more d = sort_no_patterns a ps ts h.0 d.0 h.1 d.1
+selected_sorted ts us a h n (None, ps) more d = sort_no_words a ps ts h.0 d.0 h.1 d.1
 selected_sorted ts us a h n (Some b, ps) more d =
-    let e = behind_tree sort (mark OpenParenthesis ▸ patterns_of ps ▸ mark CloseParenthesis) sort_single ts h.0 d.0 a b h.1 d.1 in
-    let f = behind (mark OpenParenthesis) (patterns_of ps ▸ mark CloseParenthesis) (mark_fixed OpenParenthesis) h.0 us d.0 h.2 e.1 in
+    let e = behind_tree sort (mark OpenParenthesis ▸ some bare ps ▸ mark CloseParenthesis) sort_single ts h.0 d.0 a b h.1 d.1 in
+    let f = behind (mark OpenParenthesis) (some bare ps ▸ mark CloseParenthesis) (mark_fixed OpenParenthesis) h.0 us d.0 h.2 e.1 in
     n ps d.0 more f d.2
 
 pub plain_file_none : (ts : List Lexeme) → NoneAt pattern ts → NoneAt plain ts

@@ -12,10 +12,11 @@
 --   provide = PROVIDE "(" NAME "=" e ")"
 --   assert  = ASSERT "(" e "," STRING ")"
 --   input   = plain | KEEP "(" plain ")"
---   plain   = WORD "(" WORD {WORD} ")" | WORD "(" sort "(" WORD {WORD} ")" ")"
+--   plain   = WORD "(" one {one} ")" | WORD "(" sort "(" WORD {WORD} ")" ")"
+--   one     = [EXCLUDE_FILE "(" WORD {WORD} ")"] WORD
 --   sort    = SORT | SORT_BY_NAME | SORT_BY_ALIGNMENT
 --
--- A `;` stands before, between and behind the statements of a list, by `statements`. The tokens of a body are read in
+-- A `;` stands before, between and after the statements of a list, by `statements`. The tokens of a body are read in
 -- another mode, in which a name, `.` or a word of the language at the front of a statement is a word token.
 use Rattle.std.specs.Prelude.{◌≡◌, ℕ, List, [], ◌∷◌, Option, Some, None, Bool, true, false, codes}
 use Rattle.ldtokens.specs.Tokens.{Lexeme, Number, Discard}
@@ -26,9 +27,10 @@ use Rattle.ldtokens.specs.declared.token.Mode.TheVariants.{Expression, Pattern}
 use Rattle.ldexpr.specs.Expressions.{Expr}
 use Rattle.ldpattern.specs.Parts as patterns
 use Rattle.ldscript.specs.Fill.{fill_of}
-use Rattle.ldscript.specs.Steps.{Part, ◌▸◌, ◌or◌, optional, each, token, mark, statements, on_line, key, name_in, name, string, expression, pattern}
+use Rattle.ldscript.specs.Steps.{Part, ◌▸◌, ◌or◌, nothing, optional, each, some, token, mark, statements, on_line, key, name_in, name, string, expression, pattern}
 use Rattle.ldtree.specs.declared.input.Sort.{Sort}
 use Rattle.ldtree.specs.declared.input.Sort.TheVariants.{ByName, ByAlignment}
+use Rattle.ldtree.specs.declared.input.SectionWord.{SectionWord}
 use Rattle.ldtree.specs.declared.input.Input.{Input}
 use Rattle.ldtree.specs.declared.input.InputStatement.{InputStatement}
 use Rattle.ldtree.specs.declared.section.Width.{Width}
@@ -58,17 +60,29 @@ abbrev pub sort : Sort → Part
 sort ByName = key Pattern (codes "SORT") or key Pattern (codes "SORT_BY_NAME")
 sort ByAlignment = key Pattern (codes "SORT_BY_ALIGNMENT")
 
--- WORD {WORD}
-abbrev pub patterns_of : List (List patterns.Part) → Part
-patterns_of [] ts rest = ⊥
-patterns_of (p ∷ ps) ts rest = (pattern p ▸ each pattern ps) ts rest
+-- EXCLUDE_FILE "(" WORD {WORD} ")"
+abbrev pub exclusion : List (List patterns.Part) → Part
+exclusion ps = key Pattern (codes "EXCLUDE_FILE") ▸ mark OpenParenthesis ▸ some pattern ps ▸ mark CloseParenthesis
+
+-- [EXCLUDE_FILE "(" WORD {WORD} ")"]: the list is empty where none is written
+abbrev pub excluded : List (List patterns.Part) → Part
+excluded [] = nothing
+excluded (p ∷ ps) = exclusion (p ∷ ps)
+
+-- one = [EXCLUDE_FILE "(" WORD {WORD} ")"] WORD
+abbrev pub one : SectionWord → Part
+one w = excluded w.excluded ▸ pattern w.pattern
+
+-- WORD, which leaves no file out
+abbrev pub bare : SectionWord → Part
+bare w ts rest = (w.excluded ≡ []) × pattern w.pattern ts rest
 
 -- what the parentheses of an input statement hold
-abbrev pub selection : Option Sort → List (List patterns.Part) → Part
-selection None ps = patterns_of ps
-selection (Some s) ps = sort s ▸ mark OpenParenthesis ▸ patterns_of ps ▸ mark CloseParenthesis
+abbrev pub selection : Option Sort → List SectionWord → Part
+selection None ws = some one ws
+selection (Some s) ws = sort s ▸ mark OpenParenthesis ▸ some bare ws ▸ mark CloseParenthesis
 
--- plain = WORD "(" WORD {WORD} ")" | WORD "(" sort "(" WORD {WORD} ")" ")"
+-- plain = WORD "(" one {one} ")" | WORD "(" sort "(" WORD {WORD} ")" ")"
 abbrev pub plain : Input → Part
 plain i = pattern i.file ▸ mark OpenParenthesis ▸ selection i.sort i.sections ▸ mark CloseParenthesis
 
@@ -81,7 +95,7 @@ kept true p = key Pattern (codes "KEEP") ▸ mark OpenParenthesis ▸ p ▸ mark
 abbrev pub input : Input → Part
 input i = kept i.keep (plain i)
 
--- an expression and the mark behind it
+-- an expression and the mark after it
 abbrev pub ended : Mark → Expr → Part
 ended m e = expression e ▸ mark m
 

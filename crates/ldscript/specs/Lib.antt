@@ -1,3 +1,17 @@
+pub use Rattle.ldtokens.specs.Limits
+pub use Rattle.ldtokens.specs.Tokens
+pub use Rattle.ldexpr.specs.Operators
+pub use Rattle.ldexpr.specs.Expressions
+pub use Rattle.ldexpr.specs.DotForms
+pub use Rattle.ldpattern.specs.Parts
+pub use Rattle.ldpattern.specs.Matching
+pub use Rattle.ldtree.specs.Dots
+pub use Rattle.ldtree.specs.Given
+pub use Rattle.ldtree.specs.Mentions
+pub use Rattle.ldtree.specs.Numbered
+pub use Rattle.ldtree.specs.Numbering
+pub use Rattle.ldtree.specs.Tables
+pub use Rattle.ldtree.specs.Widths
 pub mod RefusalNumber
 pub mod Fill
 pub mod Steps

@@ -1,12 +1,13 @@
 -- What the readers of the parts of a script answer, and the parts that one reader reads at once.
-use Rattle.std.specs.Prelude.{◌≡◌, ◌<◌, ◌≤◌, List, [], codes, length, Option, Some, None, Result, Ok, Err}
+use Rattle.std.specs.Prelude.{◌≡◌, ◌<◌, ◌≤◌, List, [], codes, length, Bool, true, false, Option, Some, None, Result, Ok, Err}
 use Rattle.ldtokens.specs.Tokens.{Lexeme, Discard}
-use Rattle.ldtokens.specs.declared.token.Mark.TheVariants.{CloseParenthesis, OpenBrace, Colon, Greater, Assign}
+use Rattle.ldtokens.specs.declared.token.Mark.TheVariants.{OpenParenthesis, CloseParenthesis, OpenBrace, Colon, Greater, Assign}
 use Rattle.ldtokens.specs.declared.token.Mode.TheVariants.{Expression, Pattern}
 use Rattle.ldexpr.specs.Expressions.{Expr}
 use Rattle.ldpattern.specs.Parts as patterns
-use Rattle.ldscript.specs.Steps.{Part, ◌▸◌, key, mark, optional, token}
-use Rattle.ldscript.specs.Grammar.{selection, width_word, in_parentheses, alignment, at_address, in_region, at_region, filled}
+use Rattle.ldscript.specs.Steps.{Part, ◌▸◌, key, mark, optional, pattern, some, token}
+use Rattle.ldscript.specs.Grammar.{bare, one, selection, width_word, in_parentheses, alignment, at_address, in_region, at_region, filled}
+use Rattle.ldtree.specs.declared.input.SectionWord.{SectionWord}
 use Rattle.ldtree.specs.declared.input.Sort.{Sort}
 use Rattle.ldscript.specs.declared.read_section.SectionHead.{SectionHead}
 use Rattle.ldscript.specs.declared.read_section.SectionTail.{SectionTail}
@@ -42,8 +43,17 @@ Follows p ts rest (Some x) = p ts (rest x) × (length (rest x) < length ts)
 Follows p ts rest None = (more : List Lexeme) → p ts more → ⊥
 
 -- what stands between the parentheses of an input statement, and the `)` behind it
-abbrev pub selected : (Option Sort × List (List patterns.Part)) → Part
+abbrev pub selected : (Option Sort × List SectionWord) → Part
 selected s = selection s.0 s.1 ▸ mark CloseParenthesis
+
+-- "(" WORD {WORD} ")"
+abbrev pub excluded_files : List (List patterns.Part) → Part
+excluded_files ps = mark OpenParenthesis ▸ some pattern ps ▸ mark CloseParenthesis
+
+-- a word of an input statement: with EXCLUDE_FILE before it, or not
+abbrev pub word_part : Bool → SectionWord → Part
+word_part true = one
+word_part false = bare
 
 -- BYTE | SHORT | LONG | QUAD
 abbrev pub width_part : Width → Part

@@ -16,6 +16,11 @@ pub record IsTree (text : List ℕ) (s : List Statement) : Type 0 where
   pub tokens : IsTokens text lexemes
   pub spelled : script s lexemes
 
+-- nothing clashes, and no `.` is misplaced
+pub record IsSound (s : List Statement) : Type 0 where
+  pub no_clash : HasClash s → ⊥
+  pub no_misplaced_dot : has_misplaced_dot s ≡ false
+
 -- a script of the profile
 pub record IsScript (text : List ℕ) (s : List Statement) : Type 0 where
   pub tree : IsTree text s

@@ -12,12 +12,12 @@ use Rattle.ldtokens.specs.declared.token.Mode.TheVariants.{Expression, Pattern}
 use Rattle.ldexpr.specs.Expressions.{Expr}
 use Rattle.ldexpr.specs.Grammar.{Spells, Whole}
 use Rattle.ldpattern.specs.Parts as patterns
-use Rattle.ldpattern.specs.Spelling.{IsPatternOf}
+use Rattle.ldpattern.specs.Spelling as spelling
 
 abbrev pub Part : Type 1
 Part = List Lexeme → List Lexeme → Type 0
 
--- one behind the other
+-- one after the other
 infixr 5 ◌▸◌
 abbrev pub ◌▸◌ : Part → Part → Part
 (p ▸ q) ts rest = (us : List Lexeme) × p ts us × q us rest
@@ -41,6 +41,11 @@ abbrev pub each : {A : Type 0} → (A → Part) → List A → Part
 each p [] = nothing
 each p (x ∷ xs) = p x ▸ each p xs
 
+-- one or more of these
+abbrev pub some : {A : Type 0} → (A → Part) → List A → Part
+some p [] ts rest = ⊥
+some p (x ∷ xs) ts rest = (p x ▸ each p xs) ts rest
+
 -- this token, on any line
 abbrev pub token : Token → Part
 token t ts rest = (line : ℕ) × (ts ≡ lexeme t line ∷ rest)
@@ -53,7 +58,7 @@ pub data Semicolons : List Lexeme → List Lexeme → Type 0 where
   none : {ts : List Lexeme} → Semicolons ts ts
   one : {ts us rest : List Lexeme} → mark Semicolon ts us → Semicolons us rest → Semicolons ts rest
 
--- any number of these, with any number of `;` before, between and behind them
+-- any number of these, with any number of `;` before, between and after them
 abbrev pub statements : {A : Type 0} → (A → Part) → List A → Part
 statements p [] = Semicolons
 statements p (x ∷ xs) = Semicolons ▸ p x ▸ statements p xs
@@ -99,4 +104,4 @@ expression e = Spells Whole e
 
 -- WORD, which must spell a pattern
 abbrev pub pattern : List patterns.Part → Part
-pattern p ts rest = (w : List ℕ) × IsTrue (is_free_word w) × IsPatternOf w p × token (Word w) ts rest
+pattern p ts rest = (w : List ℕ) × IsTrue (is_free_word w) × spelling.Spells p w × token (Word w) ts rest

@@ -1,6 +1,7 @@
 //! Fills of output sections.
 
-ghost use Rattle.std.specs.Prelude.{◌≡◌, ◌<◌, ◌^◌, IfOk, IsTrue};
+ghost use Rattle.std.specs.Prelude.{◌≡◌, ◌<◌, ◌≤◌, IfOk, IsTrue, length};
+ghost use Rattle.std.specs.Bool.{OnTrue};
 ghost use Rattle.ldtokens.specs.Bytes.{is_hex_digit};
 ghost use Rattle.ldtokens.specs.Numbers.{digit_value};
 ghost use Rattle.ldscript.specs.Fill.{fill_of, has_fill_length, hex_bytes, hex_pair};
@@ -35,7 +36,8 @@ fn hex_pair(high: u8, low: u8) -> Option<u8>
 
 /// The bytes that so many pairs of hex digits spell, from left to right, or `None` if one of them is no digit.
 fn hex_bytes(alloc: Global, digits: &[u8], count: usize) -> Result<Option<Fill>, AllocError>
-    requires { count < 2 ^ 32 }
+    requires some { 0 < count }
+    requires few { count ≤ 8 }
     ensures { IfOk result (λ r. r ≡ hex_bytes digits.now count) }
 {
     let mut bytes = Vec::new(alloc);
@@ -50,7 +52,8 @@ fn hex_bytes(alloc: Global, digits: &[u8], count: usize) -> Result<Option<Fill>,
 
 /// Whether these are as many digits as a fill has: an even number from 2 to 16.
 fn has_fill_length(digits: &[u8]) -> bool
-    ensures { result ≡ has_fill_length digits.now }
+    ensures value { result ≡ has_fill_length digits.now }
+    ensures bounds { OnTrue result ((2 ≤ length digits.now) × (length digits.now ≤ 16)) }
 {
     matches!(digits.len(), 2 | 4 | 6 | 8 | 10 | 12 | 14 | 16)
 }

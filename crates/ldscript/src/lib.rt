@@ -16,3 +16,4 @@ pub mod script;
 mod steps;
 #[cfg(test)]
 mod tests;
+pub mod tree;

@@ -1,7 +1,11 @@
 //! The script of a text.
 
 ghost use Rattle.std.specs.Prelude.{◌≡◌, [], IfErr, IfOk};
-ghost use Rattle.ldscript.specs.Script.{IsScript, IsRefusal};
+ghost use Rattle.std.specs.Option.{option_copied};
+ghost use Rattle.ldscript.specs.Script.{IsScript, IsRefusal, IsSound};
+ghost use Rattle.ldtree.specs.Given.{given_by, region_number, section_number};
+ghost use Rattle.ldtree.specs.Numbering.{common_commands, entry_of, input_statements, output_sections, regions};
+ghost use Rattle.ldtree.specs.Numbered.{shown_commons, shown_inputs, shown_regions, shown_sections};
 
 use crate::fault::Fault;
 use crate::read_script::statements_of;
@@ -10,16 +14,22 @@ use ldtokens::cursor::Cursor;
 use ldtokens::lexer::tokens;
 use ldtokens::refusal::TokenRefusal;
 use ldtree::dots::has_misplaced_dot;
+use ldtree::given::Given;
 use ldtree::mentions::has_clash;
+use ldtree::numbering;
+use ldtree::numbering::{CommonAt, InputStatementAt, OutputSectionAt};
 use ldtree::sequence::Sequence;
-use ldtree::statement::Statement;
-use std::alloc::Global;
+use ldtree::statement::{Region, Statement};
+use ldtree::tables::Tables;
+use std::alloc::{AllocError, Global};
 use std::marker::Model;
 
-/// A script: its statements in the order of the text. Only `Script::read` makes one of a text.
+/// A script: its statements in the order of the text, in which nothing clashes and no `.` is misplaced, with tables of
+/// their names. Only `Script::read` makes one of a text.
 #[derive(Drop)]
 pub struct Script {
     statements: Sequence<Statement>,
+    tables: Tables,
 }
 
 impl Model for Script {
@@ -32,7 +42,12 @@ impl Model for Script {
 
     ghost coded = { Prim.hlevel (codes, formula.the_row.coded) };
 
+    ghost use Rattle.ldscript.specs.Script.{IsSound};
+    ghost use Rattle.ldtree.specs.Tables.{IsTablesOf};
+
     ghost view = { λ s. s.statements };
+
+    ghost invariant = { λ s. IsSound s.statements × IsTablesOf s.statements s.tables };
 }
 
 impl Script {
@@ -42,18 +57,78 @@ impl Script {
     {
         Script {
             statements: Sequence::new(alloc),
+            tables: Tables::new(alloc),
         }
     }
 
     /// Its statements, in the order of the text.
     pub fn statements(&self) -> &[Statement]
-        ensures { result.now ≡ self.now }
+        ensures value { result.now ≡ self.now }
+        ensures sound { IsSound self.now }
     {
         self.statements.as_slice()
     }
 
+    /// The command that assigns or provides a symbol, by its number among `common_commands`. The time is logarithmic in
+    /// the number of names.
+    pub fn given(&self, name: &[u8]) -> Option<Given>
+        ensures { result ≡ given_by self.now name.now }
+    {
+        self.tables.given(name)
+    }
+
+    /// The number of the output section of a name, among `output_sections`.
+    pub fn section_number(&self, name: &[u8]) -> Option<usize>
+        ensures { result ≡ section_number self.now name.now }
+    {
+        self.tables.section(name)
+    }
+
+    /// The number of the memory region of a name, among `regions`.
+    pub fn region_number(&self, name: &[u8]) -> Option<usize>
+        ensures { result ≡ region_number self.now name.now }
+    {
+        self.tables.region(name)
+    }
+
+    /// The name that `ENTRY` gives.
+    pub fn entry(&self) -> Option<&[u8]>
+        ensures { option_copied result ≡ entry_of self.now }
+    {
+        numbering::entry(self.statements.as_slice())
+    }
+
+    /// Its output sections in the order of the text, `/DISCARD/` not among them.
+    pub fn output_sections(&self, alloc: Global) -> Result<Vec<OutputSectionAt<'_>>, AllocError>
+        ensures { IfOk result (λ v. shown_sections v.items ≡ output_sections self.now) }
+    {
+        numbering::output_sections(alloc, self.statements.as_slice())
+    }
+
+    /// Its input statements in the order of the text, those of `/DISCARD/` among them.
+    pub fn input_statements(&self, alloc: Global) -> Result<Vec<InputStatementAt<'_>>, AllocError>
+        ensures { IfOk result (λ v. shown_inputs v.items ≡ input_statements self.now) }
+    {
+        numbering::input_statements(alloc, self.statements.as_slice())
+    }
+
+    /// Its assignments of symbols, `PROVIDE`s and `ASSERT`s in the order of the text: outside of `SECTIONS`, in it, and
+    /// in output sections.
+    pub fn common_commands(&self, alloc: Global) -> Result<Vec<CommonAt<'_>>, AllocError>
+        ensures { IfOk result (λ v. shown_commons v.items ≡ common_commands self.now) }
+    {
+        numbering::common_commands(alloc, self.statements.as_slice())
+    }
+
+    /// Its memory regions in the order of the text.
+    pub fn regions(&self, alloc: Global) -> Result<Vec<&Region>, AllocError>
+        ensures { IfOk result (λ v. shown_regions v.items ≡ regions self.now) }
+    {
+        numbering::regions(alloc, self.statements.as_slice())
+    }
+
     /// Reads a script from its text: the one tree that the text has, or the first refusal that applies, or `NoMemory`
-    /// for want of memory alone.
+    /// where memory ran out.
     pub fn read(alloc: Global, text: &[u8]) -> Result<Script, ScriptRefusal>
         ensures read { IfOk result (λ s. IsScript text.now s) }
         ensures refused { IfErr result (λ r. IsRefusal text.now r) }
@@ -77,6 +152,9 @@ impl Script {
         if has_misplaced_dot(statements.as_slice()) {
             return Err(ScriptRefusal::MisplacedDot);
         }
-        Ok(Script { statements })
+        match Tables::of(alloc, statements.as_slice()) {
+            Ok(tables) => Ok(Script { statements, tables }),
+            Err(_) => Err(ScriptRefusal::NoMemory),
+        }
     }
 }

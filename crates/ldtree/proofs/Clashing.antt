@@ -2,11 +2,17 @@
 use Rattle.std.proofs.Common.{◌≡◌, ℕ, ◌<◌, List, [], ◌∷◌, ◌++◌, Bool, true, false, not, refl, ap, ◌∙◌, sym, subst, inl, inr, length, get_or, arith, MatchBool, Bor}
 use Rattle.std.specs.List.{Contains, list_any}
 use Rattle.std.specs.List.Sorted.{IsPermutation}
+use Rattle.std.specs.Prelude.{◌||◌}
+use Rattle.std.specs.Bool.{OnFalse}
+use Rattle.std.specs.BTreeSet.{insert_key}
+use Rattle.std.specs.Ordering.{is_eq, match_ordering}
+use Rattle.std.specs.declared.cmp.Ordering.{Ordering}
+use Rattle.std.specs.declared.cmp.Ordering.TheVariants.{Less, Equal, Greater}
 use Rattle.std.proofs.lemmas.Bool.{false≢true, true≢false}
 use Rattle.std.proofs.lemmas.List.{length-map, get_or-map}
 use Rattle.std.proofs.lemmas.List.Elements.{Contains-append_left, Contains-append_right, Contains-append_cases}
 use Rattle.std.proofs.lemmas.List.Folds.{Any-from_list_any, list_any_at}
-use Rattle.std.proofs.lemmas.List.Sorted.{IsPermutation-map, IsPermutation-sym, Contains-permutation}
+use Rattle.std.proofs.lemmas.List.Sorted.{IsPermutation-map, IsPermutation-refl, IsPermutation-sym, IsPermutation-trans, IsPermutation-append_comm, IsPermutation-append_left, IsPermutation-append_right, Contains-permutation}
 use Rattle.ldtree.specs.declared.mention.Mention as code
 use Rattle.ldtree.specs.declared.mention.Mention.TheVariants as variant
 use Rattle.ldtree.specs.Mentions.{Mention, EntryGiven, MemoryGiven, SectionsGiven, SectionNamed, SymbolGiven, RegionDeclared, RegionUsed, Clashes}
@@ -103,6 +109,25 @@ holds_more key old new before moved holds =
 not_back : (t b : Bool) → b ≡ not t → not b ≡ t
 not_back true b e = ap not e
 not_back false b e = ap not e
+
+placed_at : {K : Type 0} (k x : K) (xs ys : List K) (o : Ordering) (others : Bool) → (is_eq o || others) ≡ false → (others ≡ false → IsPermutation (k ∷ xs) ys)
+    → IsPermutation (k ∷ x ∷ xs) (match_ordering o (k ∷ x ∷ xs) (x ∷ xs) (x ∷ ys))
+placed_at k x xs ys Less others h later = IsPermutation-refl (k ∷ x ∷ xs)
+placed_at k x xs ys Equal others h later = absurd (true≢false h)
+placed_at k x xs ys Greater others h later =
+    let swapped : IsPermutation (k ∷ x ∷ xs) (x ∷ k ∷ xs) = IsPermutation-append_left xs (k ∷ x ∷ []) (x ∷ k ∷ []) (IsPermutation-append_comm (k ∷ []) (x ∷ [])) in
+    IsPermutation-trans (k ∷ x ∷ xs) (x ∷ k ∷ xs) (x ∷ ys) swapped (IsPermutation-append_right (x ∷ []) (k ∷ xs) ys (later h))
+
+-- a new key in its place
+placed : {K : Type 0} (cmp : K → K → Ordering) (k : K) (xs : List K) → list_any (λ y. is_eq (cmp k y)) xs ≡ false → IsPermutation (k ∷ xs) (insert_key cmp xs k)
+placed cmp k [] h = IsPermutation-refl (k ∷ [])
+placed cmp k (x ∷ xs) h = placed_at k x xs (insert_key cmp xs k) (cmp k x) (list_any (λ y. is_eq (cmp k y)) xs) h (placed cmp k xs)
+
+-- what an insertion says of the keys
+pub inserted : {K : Type 0} (cmp : K → K → Ordering) (k : K) (old new : List K) (added : Bool) → added ≡ not (list_any (λ y. is_eq (cmp k y)) old) → new ≡ insert_key cmp old k → OnFalse added (new ≡ old)
+    → MatchBool added (IsPermutation (k ∷ old) new) (new ≡ old)
+inserted cmp k old new true is keys same = subst (λ l. IsPermutation (k ∷ old) l) (sym keys) (placed cmp k old (sym (not_back (list_any (λ y. is_eq (cmp k y)) old) true is)))
+inserted cmp k old new false is keys same = same
 
 -- the answer at what may stand once
 pub meets_once : (added : Bool) (key : code.Mention) (old new : List code.Mention) → IsOnce (mention_of key) → added ≡ not (list_any (same key) old)

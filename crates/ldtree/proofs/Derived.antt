@@ -1,15 +1,17 @@
--- What `==` of two mentions says.
+-- What the order of mentions says of two that it takes for equal.
 use Rattle.std.proofs.Common.{◌≡◌, Bool, true, arith}
+use Rattle.std.specs.Ordering.{is_eq}
+use Rattle.std.proofs.lemmas.Map.Text.{is_eq-slice_cmp}
 use Rattle.std.proofs.lemmas.Slice.Eq.{bytes_eq-Decides}
 use Rattle.ldtree.specs.declared.mention.Mention as code
 use Rattle.ldtree.specs.Listed.{mention_of}
-use Rattle.ldtree.specs.contracts.mention.MentionPartialEq.TheImpl as derived
+use Rattle.ldtree.specs.contracts.mention.MentionOrd.TheImpl as derived
 
 abbrev pub same : code.Mention → code.Mention → Bool
-same x y = derived.eq-value.it x y
+same x y = is_eq (derived.cmp-value.it x y)
 
 pub same_shown : (x y : code.Mention) → same x y ≡ true → mention_of x ≡ mention_of y
-same_shown x y h = grind (arith, bytes_eq-Decides)
+same_shown x y h = grind (arith, bytes_eq-Decides, is_eq-slice_cmp)
 
 pub shown_same : (x y : code.Mention) → mention_of x ≡ mention_of y → same x y ≡ true
-shown_same x y h = grind (arith, bytes_eq-Decides)
+shown_same x y h = grind (arith, bytes_eq-Decides, is_eq-slice_cmp)

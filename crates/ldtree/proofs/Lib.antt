@@ -2,3 +2,4 @@ pub mod Listing
 pub mod Derived
 pub mod Clashing
 pub mod Scanning
+pub mod NameTables

@@ -3,4 +3,8 @@ pub mod Mentions
 pub mod Dots
 pub mod Widths
 pub mod Numbering
+pub mod Numbered
+pub mod Given
+pub mod NumberTables
+pub mod Tables
 pub mod Listed

@@ -4,6 +4,8 @@
 use Rattle.std.specs.Prelude.{ℕ, ◌+◌, List, [], ◌∷◌, ◌++◌, length, map, Option, Some, None}
 use Rattle.ldtree.specs.declared.input.Input.{Input}
 use Rattle.ldtree.specs.declared.input.InputStatement.{InputStatement}
+pub use Rattle.ldtree.specs.declared.place.InputPlace.{InputPlace}
+pub use Rattle.ldtree.specs.declared.place.InputPlace.TheVariants.{InSection, InDiscard}
 use Rattle.ldtree.specs.declared.section.BodyCommand.{BodyCommand}
 use Rattle.ldtree.specs.declared.section.BodyCommand.TheVariants as body
 use Rattle.ldtree.specs.declared.section.BodyStatement.{BodyStatement}
@@ -46,12 +48,8 @@ sections_in (i ∷ is) = sections_of i.line i.command ++ sections_in is
 abbrev pub output_sections : List Statement → List OutputSectionAt
 output_sections s = sections_in (items s)
 
--- where an input statement stands: in the output section of this number, or in /DISCARD/
-pub data InputPlace : Type 0 where
-  InSection : (number : ℕ) → InputPlace
-  InDiscard : InputPlace
-
--- an input statement, the line of its first token (that of KEEP, where it has one), and where it stands
+-- an input statement, the line of its first token (that of KEEP, where it has one), and where it stands: in the output
+-- section of a number, or in /DISCARD/
 pub record InputStatementAt : Type 0 where
   pub line : ℕ
   pub place : InputPlace

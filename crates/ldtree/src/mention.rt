@@ -24,7 +24,7 @@ impl<T: Drop> From<AllocFailed<T>> for NoRoom {
 }
 
 /// One thing that a script does with a name, or a command that it may have once.
-#[derive(Clone, Copy, PartialEq, Eq, Hash)]
+#[derive(Clone, Copy, PartialEq, Eq, PartialOrd, Ord)]
 pub(crate) enum Mention<'a> {
     /// `ENTRY`
     EntryGiven,

@@ -8,10 +8,11 @@ pub use crate::mention::NoRoom;
 use crate::mention::{Mention, note_statements};
 use crate::statement::Statement;
 use std::alloc::Global;
-use std::collections::HashSet;
+use std::collections::BTreeSet;
 
-/// Whether it may not stand behind those that are in the set; if it may, it is put in as well.
-fn meet<'a>(given: &mut HashSet<Mention<'a>>, mention: Mention<'a>) -> Result<bool, NoRoom>
+/// Whether it may not stand after those that are in the set; if it may, it is put in as well. The set is in order, so
+/// that no choice of names makes it slow.
+fn meet<'a>(given: &mut BTreeSet<Mention<'a>>, mention: Mention<'a>) -> Result<bool, NoRoom>
     ensures { IfOk result (Meets given.old.keys given.new.keys (mention_of mention.entry)) }
 {
     match mention {
@@ -20,11 +21,11 @@ fn meet<'a>(given: &mut HashSet<Mention<'a>>, mention: Mention<'a>) -> Result<bo
     }
 }
 
-/// Whether one of these may not stand behind those before it.
+/// Whether one of these may not stand after those before it.
 fn any_clashes(alloc: Global, mentions: &[Mention]) -> Result<bool, NoRoom>
     ensures { IfOk result (λ b. MatchBool b (HasClashIn (shown mentions.now)) (HasClashIn (shown mentions.now) → ⊥)) }
 {
-    let mut given = HashSet::new(alloc);
+    let mut given = BTreeSet::new(alloc);
     for mention in mentions {
         if meet(&mut given, *mention)? {
             return Ok(true);

@@ -1,7 +1,9 @@
-//! `readobj`: prints what the object reader sees of one object.
+//! `readobj`: prints what the object reader sees of objects.
 //!
-//! It reads an object from standard input to its end, and prints one line for each linked section, then one for each
-//! entry of the symbol table from entry 0 on, then one for each relocation of each linked section, all in table order:
+//! It reads a stream of objects from standard input, each of which is a line `object LEN` or `object LEN TITLE` and LEN
+//! bytes right after it. For each it prints a line `object TITLE`, then one line for each linked section, then one for
+//! each entry of the symbol table from entry 0 on, then one for each relocation of each linked section, all in table
+//! order:
 //!
 //!     section NUMBER KIND FLAGS SIZE ALIGNMENT NAME
 //!     symbol NUMBER BINDING KIND PLACE VALUE SIZE [NAME]
@@ -12,44 +14,69 @@
 //! `COM` or the number of a section. SECTION is the number of the section that a relocation changes, SYMBOL the number
 //! of the entry that it names. A local symbol has no NAME.
 //!
-//! Of bytes that are no object it prints `refused N` with the reader's number, and ends with status 1. It ends with
-//! status 3 where a device failed or there is no memory.
+//! Of bytes that are no object it prints `refused N` with the reader's number instead. It ends with status 0 after the
+//! last object, with status 1 where the stream goes on with no object, and with status 3 where a device failed or memory
+//! was refused.
 #![tactic(auto)]
 
 mod listing;
 mod names;
+mod stream;
 
 use crate::listing::print_object;
+use crate::stream::{Frame, split_frame};
 use elfobj::object::Object;
 use ldbase::meter::Meter;
+use std::alloc::Global;
 use std::io;
 use std::io::{BufWriter, Read, Write};
 use std::process::ExitCode;
 
-/// The bytes are no object.
-const REFUSED: u8 = 1;
-/// A device failed, or there is no memory.
+/// All objects were read.
+const READ: u8 = 0;
+/// The stream goes on with something other than an object.
+const MALFORMED: u8 = 1;
+/// A device failed, or memory was refused.
 const FAILED: u8 = 3;
+
+/// The lines of one object.
+fn show_object<W: Write>(alloc: Global, out: &mut W, frame: &Frame) -> io::Result<()> {
+    out.write_all(b"object ")?;
+    out.write_all(frame.title)?;
+    out.write_all(b"\n")?;
+    let bytes = Vec::from_slice(alloc, frame.bytes)?;
+    let mut meter = Meter::new();
+    match Object::read(alloc, bytes, &mut meter) {
+        Ok(object) => print_object(out, &object),
+        Err((_, refusal)) => writeln!(out, "refused {}", refusal.number()),
+    }
+}
+
+/// The lines of all objects of a stream, and the status to end with.
+fn show_objects<W: Write>(alloc: Global, out: &mut W, stream: &[u8]) -> io::Result<u8> {
+    let mut rest = stream;
+    for _ in 0..u64::MAX {
+        if rest.is_empty() {
+            break;
+        }
+        let Some((frame, others)) = split_frame(rest) else {
+            return Ok(MALFORMED);
+        };
+        show_object(alloc, out, &frame)?;
+        rest = others;
+    }
+    Ok(READ)
+}
 
 /// Reads standard input, prints, and gives the status to end with.
 fn show(rt: &HostRuntime) -> io::Result<u8> {
     let alloc = rt.alloc();
-    let mut bytes = Vec::new(alloc);
-    rt.reader().read_to_end(&mut bytes)?;
+    let mut stream = Vec::new(alloc);
+    rt.reader().read_to_end(&mut stream)?;
     let mut out = BufWriter::new(alloc, io::writer(rt))?;
-    let mut meter = Meter::new();
-    match Object::read(alloc, bytes, &mut meter) {
-        Ok(object) => {
-            print_object(&mut out, &object)?;
-            out.flush()?;
-            Ok(0)
-        }
-        Err((_, refusal)) => {
-            writeln!(out, "refused {}", refusal.number())?;
-            out.flush()?;
-            Ok(REFUSED)
-        }
-    }
+    let status = show_objects(alloc, &mut out, &stream)?;
+    out.flush()?;
+    Ok(status)
 }
 
 fn main(rt: HostRuntime) -> ExitCode {

@@ -1,18 +1,19 @@
 use Rattle.ldtokens.specs.declared.token.Mark.TheVariants.{CloseParenthesis}
-use Rattle.ldscript.specs.Steps.{◌▸◌, each, mark, pattern}
+use Rattle.ldscript.specs.Steps.{◌▸◌, each, mark}
+use Rattle.ldscript.specs.Readings.{word_part}
 use Rattle.ldscript.proofs.Each.{each_so_far_closed, each_so_far_member, each_so_far_stuck}
-use Rattle.ldscript.proofs.Inputs.{pattern_single, patterns_listed}
+use Rattle.ldscript.proofs.Inputs.{word_single, words_listed}
 use Rattle.ldscript.proofs.Reading.{exit, fails_as}
 use Rattle.ldscript.proofs.read_input.words.Goals as goal
 
 pub returns-in-Some : goal.returns-in-Some
-returns-in-Some c = let m = rw c.copy.ensures at c.in-Some.ensures in each_so_far_closed (mark CloseParenthesis) pattern _ _ _ _ c.reading.invariant m.0 m.1
+returns-in-Some c = let m = rw c.copy.ensures at c.in-Some.ensures in each_so_far_closed (mark CloseParenthesis) (word_part c.args.may_exclude) _ _ _ _ c.reading.invariant m.0 m.1
 
 pub returns-in_err-word : goal.returns-in_err-word
-returns-in_err-word c = exit (λ ps. each pattern ps ▸ mark CloseParenthesis) _ (λ x. x.0) (λ x. x.1) _ _ c.from_residual.ensures.1
-    (fails_as pattern (λ ps. each pattern ps ▸ mark CloseParenthesis) _ _ c.in_err-word.field-0.0
-    (λ n. each_so_far_stuck (λ ts. Unit {0}) (mark CloseParenthesis) pattern patterns_listed _ _ _ c.reading.invariant (rw c.copy.ensures at c.in_default.ensures) (λ y more d st. n y more d)) c.in_err-word.ensures)
+returns-in_err-word c = exit (λ ws. each (word_part c.args.may_exclude) ws ▸ mark CloseParenthesis) _ (λ x. x.0) (λ x. x.1) _ _ c.from_residual.ensures.1
+    (fails_as (word_part c.args.may_exclude) (λ ws. each (word_part c.args.may_exclude) ws ▸ mark CloseParenthesis) _ _ c.in_err-word.field-0.0
+    (λ n. each_so_far_stuck (λ ts. Unit {0}) (mark CloseParenthesis) (word_part c.args.may_exclude) (words_listed c.args.may_exclude) _ _ _ c.reading.invariant (rw c.copy.ensures at c.in_default.ensures) (λ y more d st. n y more d)) c.in_err-word.ensures)
 
 pub reading-preserved : goal.reading-preserved
-reading-preserved c = rw c.in_ok-push.ensures (each_so_far_member (λ ts. Unit {0}) (mark CloseParenthesis) pattern patterns_listed _ _ _ _ _ c.reading.invariant c.in_ok-word.ensures.spells
-    (λ y more d st. pattern_single _ _ _ _ _ d c.in_ok-word.ensures.spells) c.in_ok-word.ensures.shorter)
+reading-preserved c = rw c.in_ok-push.ensures (each_so_far_member (λ ts. Unit {0}) (mark CloseParenthesis) (word_part c.args.may_exclude) (words_listed c.args.may_exclude) _ _ _ _ _ c.reading.invariant c.in_ok-word.ensures.spells
+    (λ y more d st. word_single c.args.may_exclude _ _ _ _ _ d c.in_ok-word.ensures.spells) c.in_ok-word.ensures.shorter)

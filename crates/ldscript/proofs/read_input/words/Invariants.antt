@@ -1,6 +1,7 @@
 use Rattle.std.proofs.Common.{length}
 use Rattle.ldtokens.specs.declared.token.Mark.TheVariants.{CloseParenthesis}
-use Rattle.ldscript.specs.Steps.{mark, pattern}
+use Rattle.ldscript.specs.Steps.{mark}
+use Rattle.ldscript.specs.Readings.{word_part}
 use Rattle.ldscript.proofs.Each.{EachSoFar}
 use Rattle.ldscript.proofs.read_input.words.Given as goal
 
@@ -8,4 +9,4 @@ abbrev pub decreases-reading : goal.decreases-reading
 decreases-reading l = length l.rest
 
 abbrev pub invariant-reading : goal.invariant-reading
-invariant-reading l = EachSoFar (mark CloseParenthesis) pattern l.fn.tokens l.words l.rest
+invariant-reading l = EachSoFar (mark CloseParenthesis) (word_part l.fn.may_exclude) l.fn.tokens l.words l.rest

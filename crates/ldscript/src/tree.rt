@@ -1,0 +1,18 @@
+//! The parts of a script's tree: statements, expressions, patterns and names. A crate above names these alone.
+
+pub use ldexpr::dot_forms::DotForm;
+pub use ldexpr::expression::{Expr, RegionQuery, SectionQuery};
+pub use ldexpr::operator::{BinaryOperator, UnaryOperator};
+pub use ldpattern::pattern::{Pattern, matches};
+pub use ldtokens::name::ScriptName;
+pub use ldtree::common::{Assertion, Assignment, Common, DotCommand};
+pub use ldtree::fill::Fill;
+pub use ldtree::formula::Formula;
+pub use ldtree::given::Given;
+pub use ldtree::input::{Input, InputStatement, SectionWord, Sort};
+pub use ldtree::numbering::{CommonAt, InputStatementAt, OutputSectionAt};
+pub use ldtree::place::InputPlace;
+pub use ldtree::section::{BodyCommand, BodyStatement, Load, OutputSection, Width};
+pub use ldtree::sequence::Sequence;
+pub use ldtree::statement::{Command, Item, ItemCommand, Region, Statement};
+pub use ldtree::symbols::add_symbols;

@@ -1,0 +1,10 @@
+//! Where an input statement stands.
+
+/// Where an input statement stands.
+#[derive(Clone, Copy, Debug, PartialEq, Eq)]
+pub enum InputPlace {
+    /// In the output section of this number.
+    InSection(usize),
+    /// In `/DISCARD/`.
+    InDiscard,
+}
