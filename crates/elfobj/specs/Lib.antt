@@ -12,6 +12,7 @@ pub mod RelocationEntries
 pub mod Relocations
 pub mod Sections
 pub mod Tables
+pub mod Runs
 pub mod Places
 pub mod Object
 pub mod Refusal

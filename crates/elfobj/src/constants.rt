@@ -101,6 +101,9 @@ pub const R_X86_64_PC8: u32 = 15;
 /// Type of a relocation: S + A - P in 8 bytes.
 pub const R_X86_64_PC64: u32 = 24;
 
+/// The size of an `Elf64_Rela`, an entry of a relocation section with addends, in bytes.
+pub const RELA_SIZE: usize = 24;
+
 /// The greatest size of a section or of a common block, in bytes.
 pub const MAX_SECTION_SIZE: u64 = 0x8000_0000;
 /// The greatest length of the name of a section or of a symbol that isn't local, in bytes.

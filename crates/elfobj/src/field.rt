@@ -1,7 +1,6 @@
 //! The fields that relocations change: whether they lie in their section, and whether two of them share a byte.
 
 ghost use Rattle.std.specs.Prelude.{◌≡◌, IfOk, true};
-ghost use Rattle.std.specs.List.{list_any};
 ghost use Rattle.std.specs.List.Sorted.{IsNonDecreasingBy};
 ghost use Rattle.elfobj.specs.Relocations.{share_bytes};
 ghost use Rattle.elfobj.specs.Tables.{is_outside};
@@ -12,21 +11,13 @@ use std::alloc::{AllocError, Global};
 
 /// Whether a relocation changes a byte past the end of its section of `size` bytes, or lies in one that has no bytes in
 /// the file.
-fn is_outside(relocation: &Relocation, kind: SectionKind, size: u64) -> bool
+pub fn is_outside(relocation: &Relocation, kind: SectionKind, size: u64) -> bool
     ensures { result ≡ is_outside kind size relocation.now }
 {
     match kind {
         SectionKind::Nobits => true,
         _ => size < relocation.offset || size - relocation.offset < relocation.kind.width(),
     }
-}
-
-/// Whether one of these changes a byte past the end of its section of `size` bytes, or lies in one that has no bytes in
-/// the file.
-pub fn is_any_outside(relocations: &[Relocation], kind: SectionKind, size: u64) -> bool
-    ensures { result ≡ list_any (is_outside kind size) relocations.now }
-{
-    relocations.iter().any(|r| is_outside(r, kind, size))
 }
 
 fn are_ascending(relocations: &[Relocation]) -> bool

@@ -12,6 +12,8 @@ mod place;
 pub mod refusal;
 pub mod relocation;
 mod relocation_entry;
+mod relocation_fault;
+mod relocation_run;
 mod relocation_table;
 pub mod section;
 mod section_header;

@@ -8,5 +8,3 @@ mod head;
 pub mod law;
 pub mod operator;
 pub mod reader;
-#[cfg(test)]
-mod tests;

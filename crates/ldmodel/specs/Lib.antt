@@ -45,3 +45,11 @@ pub mod FaultCode
 pub mod Lent
 pub mod Runs
 pub mod FileLayout
+pub mod Commands
+pub mod Answers
+pub mod ThinProject
+pub mod ThinEdits
+pub mod ThinEditMeaning
+pub mod ThinLink
+pub use Rattle.ldbase.specs.Counts
+pub use Rattle.ldbase.specs.Raised

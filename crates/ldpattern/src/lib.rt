@@ -8,5 +8,3 @@ mod matching;
 mod part;
 pub mod pattern;
 mod set;
-#[cfg(test)]
-mod tests;

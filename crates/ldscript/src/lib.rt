@@ -14,6 +14,4 @@ mod read_section;
 pub mod refusal;
 pub mod script;
 mod steps;
-#[cfg(test)]
-mod tests;
 pub mod tree;

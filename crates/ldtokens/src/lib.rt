@@ -12,7 +12,5 @@ mod modes;
 pub mod name;
 pub mod number;
 pub mod refusal;
-#[cfg(test)]
-mod tests;
 pub mod token;
 pub mod words;

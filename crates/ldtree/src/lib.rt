@@ -17,5 +17,3 @@ pub mod sequence;
 pub mod statement;
 pub mod symbols;
 pub mod tables;
-#[cfg(test)]
-mod tests;

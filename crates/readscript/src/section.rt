@@ -1,0 +1,79 @@
+//! Output sections.
+
+use crate::common::{push_common, push_dot};
+use crate::expression::push_formula;
+use crate::input::push_input;
+use crate::text::push_bytes;
+use ldtree::section::{BodyCommand, BodyStatement, Load, OutputSection, Width};
+use std::alloc::AllocError;
+use std::fmt::Write;
+
+fn width_word(width: Width) -> &'static str {
+    match width {
+        Width::Byte => "byte ",
+        Width::Short => "short ",
+        Width::Long => "long ",
+        Width::Quad => "quad ",
+    }
+}
+
+fn push_body(out: &mut String, statement: &BodyStatement) -> Result<(), AllocError> {
+    let line = statement.line;
+    write!(out, "{line}     ")?;
+    match &statement.command {
+        BodyCommand::Dot(command) => push_dot(out, command)?,
+        BodyCommand::Common(command) => push_common(out, command)?,
+        BodyCommand::Data(width, value) => push_formula(out, width_word(*width), value)?,
+        BodyCommand::Input(input) => push_input(out, input)?,
+    }
+    out.push_str("\n")
+}
+
+fn push_load(out: &mut String, load: &Load) -> Result<(), AllocError> {
+    match load {
+        Load::Unstated => Ok(()),
+        Load::At(address) => push_formula(out, " at ", address),
+        Load::InRegion(region) => {
+            out.push_str(" at> ")?;
+            push_bytes(out, region.as_bytes())
+        }
+    }
+}
+
+fn push_fill(out: &mut String, fill: &[u8]) -> Result<(), AllocError> {
+    out.push_str(" fill")?;
+    for byte in fill {
+        write!(out, " {}", *byte)?;
+    }
+    Ok(())
+}
+
+/// What its head and its tail say.
+fn push_head(out: &mut String, section: &OutputSection) -> Result<(), AllocError> {
+    out.push_str("section ")?;
+    push_bytes(out, section.name.as_bytes())?;
+    if let Some(address) = &section.address {
+        push_formula(out, " address ", address)?;
+    }
+    push_load(out, &section.load)?;
+    if let Some(alignment) = &section.alignment {
+        push_formula(out, " align ", alignment)?;
+    }
+    if let Some(region) = &section.region {
+        out.push_str(" > ")?;
+        push_bytes(out, region.as_bytes())?;
+    }
+    if let Some(fill) = &section.fill {
+        push_fill(out, fill.as_bytes())?;
+    }
+    out.push_str("\n")
+}
+
+/// An output section, a line for its head and one for each statement in it.
+pub fn push_section(out: &mut String, section: &OutputSection) -> Result<(), AllocError> {
+    push_head(out, section)?;
+    for statement in section.body.as_slice() {
+        push_body(out, statement)?;
+    }
+    Ok(())
+}

@@ -1,0 +1,98 @@
+"""The two programs: `session` answers a stream of commands, `link` links files once."""
+import argparse
+import os
+import sys
+
+from . import edits, elf
+from .answers import answers
+from .link import link
+
+REFUSED, DEVICE = 2, 3
+
+
+def arguments(words):
+    """The options and file names of both programs; a bad command line ends with status 2."""
+    parser = argparse.ArgumentParser(prog="model", allow_abbrev=False)
+    programs = parser.add_subparsers(dest="program", required=True)
+    for name in ("session", "link"):
+        program = programs.add_parser(name, allow_abbrev=False)
+        program.add_argument("--gc-sections", action="store_true")
+        program.add_argument("-e")
+        program.add_argument("--orphan-handling", choices=("error", "discard"), default="error")
+        if name == "link":
+            program.add_argument("-T", required=True)
+            program.add_argument("-o", required=True)
+            program.add_argument("--Map")
+            program.add_argument("objects", nargs="*")
+    return parser.parse_args(words)
+
+
+def name(word):
+    """A word of the command line as text of one character a byte."""
+    return elf.text(word.encode("utf-8", "surrogateescape"))
+
+
+def session(options):
+    """Standard input to standard output."""
+    try:
+        return answers(options, sys.stdin.buffer.read(), write)
+    except OSError:
+        return DEVICE
+
+
+def write(data):
+    """All of the bytes to standard output."""
+    left = memoryview(data)
+    while left:
+        left = left[os.write(1, left):]
+
+
+def link_files(given, options):
+    """Reads all files, the script first; sets the script, adds the objects in order, and links once."""
+    try:
+        script, objects = contents(given.T), [(word, contents(word)) for word in given.objects]
+    except OSError:
+        return ended("device", DEVICE)
+    project = edits.Project(options=options)
+    steps = [("script", edits.Script(script))]
+    steps += [(word, edits.Add(name(word), at, data)) for at, (word, data) in enumerate(objects)]
+    for word, edit in steps:
+        project = edits.after(project, edit)
+        if isinstance(project, edits.Refusal):
+            return ended(f"{word}: refused {project.number} {project.inner}", REFUSED)
+    return write_files(given, link(project))
+
+
+def write_files(given, linked):
+    """The image and the map; or the fault lines on standard error, and no file."""
+    if linked.status != 0:
+        sys.stderr.buffer.write(linked.faults)
+        return linked.status
+    try:
+        for file, data in ((given.o, linked.image), (given.Map, linked.map)):
+            if file is not None:
+                with open(file, "wb") as out:
+                    out.write(data)
+    except OSError:
+        return ended("device", DEVICE)
+    return linked.status
+
+
+def contents(file):
+    """The bytes of a file."""
+    with open(file, "rb") as opened:
+        return opened.read()
+
+
+def ended(line, status):
+    """A line on standard error, and the status."""
+    print(line, file=sys.stderr)
+    return status
+
+
+def main(words):
+    """Runs the program that the words name, and gives its exit status."""
+    sys.setrecursionlimit(10_000)
+    given = arguments(words)
+    options = edits.Options(given.gc_sections, None if given.e is None else name(given.e), given.orphan_handling)
+    return session(options) if given.program == "session" else link_files(given, options)
