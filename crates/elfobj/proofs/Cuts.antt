@@ -6,7 +6,7 @@ use Rattle.std.proofs.lemmas.List.{length-take, drop-take, take-take, drop-drop}
 use Rattle.elfobj.specs.Names.{string_at}
 
 -- a part of a part of a list
-cut_cut : (bytes : List ℕ) (off size at n : ℕ) → at + n ≤ size → take n (drop at (slice_range bytes off (off + size))) ≡ slice_range bytes (off + at) (off + at + n)
+pub cut_cut : {X : Type 0} (bytes : List X) (off size at n : ℕ) → at + n ≤ size → take n (drop at (slice_range bytes off (off + size))) ≡ slice_range bytes (off + at) (off + at + n)
 cut_cut bytes off size at n h =
     let e : off + size - off ≡ at + (size - at) = omega arith in
     let f : n ≡ off + at + n - (off + at) = omega arith in

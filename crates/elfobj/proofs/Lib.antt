@@ -9,6 +9,8 @@ pub mod Overlaps
 pub mod Found
 pub mod SymbolTables
 pub mod RelocationTables
+pub mod Runs
+pub mod Ascending
 pub mod RelocationReads
 pub mod SymbolLimits
 pub mod RelocationLimits

@@ -1,27 +1,30 @@
-use Rattle.std.proofs.Common.{◌≡◌, ℕ, zero, suc, ◌+◌, ◌-◌, ◌<◌, ◌≤◌, List, [], ◌∷◌, ◌++◌, Bool, true, false, ◌||◌, ◌⊎◌, get_or, length, map, take, drop, refl, ap, sym, ◌∙◌, subst, arith, inl, inr, ⊎_elim, find, Option, Some, None}
+use Rattle.std.proofs.Common.{◌≡◌, ℕ, zero, suc, ◌+◌, ◌*◌, ◌<◌, ◌≤◌, List, [], ◌∷◌, ◌++◌, Bool, true, false, ◌||◌, ◌⊎◌, get_or, length, map, take, refl, ap, sym, ◌∙◌, subst, arith, inl, inr, ⊎_elim, find, Option, Some, None}
 use Rattle.std.specs.List.{All, list_any}
-use Rattle.std.specs.Option.{IfSome, option_to_list}
-use Rattle.std.proofs.lemmas.Bool.{and_parts, or_parts}
-use Rattle.std.proofs.lemmas.List.{drop-append-le, length-append, length-drop, map-append, map_push, take-append-le, take_all, take_more}
-use Rattle.std.proofs.lemmas.List.Elements.{All-append, All-cons, All-get_or, All-head, All-map, All-nil, All-push, All-tail, All-weaker}
-use Rattle.std.proofs.lemmas.List.Folds.{list_any_more}
-use Rattle.std.proofs.Math.Seq.{drop-append_seam}
+use Rattle.std.specs.Option.{IfSome, option_or, option_to_list}
+use Rattle.std.proofs.lemmas.Bool.{and_parts, cases_lt, or_left, or_parts, or_right}
+use Rattle.std.proofs.lemmas.List.{map-append, map_push, take_all, take_more}
+use Rattle.std.proofs.lemmas.List.Elements.{All-append, All-cons, All-get_or, All-map, All-nil, All-push}
+use Rattle.std.proofs.lemmas.List.Folds.{find-append, list_any-append}
 use Rattle.elfobj.specs.ElfHeader.{e_shnum}
 use Rattle.elfobj.specs.LinkedKinds.{linked_kind}
 use Rattle.elfobj.specs.Linkable.{PassesTests}
-use Rattle.elfobj.specs.Places.{AreRelocated, IsInside, relocations_in}
-use Rattle.elfobj.specs.Reading.{AreAllRead, AreFaults, AreFaultsOf, first_fault}
-use Rattle.elfobj.specs.Refusal.{holds, is_out_of_bounds, relocation_refusals}
-use Rattle.elfobj.specs.Relocations.{changes, relocation_section, relocations_at}
+use Rattle.elfobj.specs.Places.{AreRelocated, relocations_in}
+use Rattle.elfobj.specs.Refusal.{entry_refusals, holds, is_out_of_bounds, relocation_refusals}
+use Rattle.elfobj.specs.RelocationEntries.{relocation_entry_at, relocation_entries_below}
+use Rattle.elfobj.specs.Relocations.{changes, entries_in, relocation_entries, relocation_of, relocation_section, relocations_at, share_bytes}
+use Rattle.elfobj.specs.Runs.{AreTablesOf, IsTableOf, has_refused_entry, is_refused_for, table_entries}
 use Rattle.elfobj.specs.SectionHeaders.{header, headers}
 use Rattle.elfobj.specs.Sections.{LinkedSection, linked_section, section_of, sections_below, sections_of}
 use Rattle.elfobj.specs.Symbols.{symbols_of}
-use Rattle.elfobj.specs.Tables.{has_field_outside, has_overlap, has_shared_bytes, has_strange_symbol, has_strange_type, has_wrong_bounds, has_wrong_relocation_section, has_wrong_type, is_wrong_below, linked_sections}
+use Rattle.elfobj.specs.Tables.{has_field_outside, has_overlap, has_shared_bytes, has_strange_symbol, has_strange_type, has_wrong_bounds, has_wrong_relocation_section, has_wrong_type, is_outside, is_wrong_below, linked_sections}
 use Rattle.elfobj.specs.declared.place.Span.{Span}
 use Rattle.elfobj.specs.declared.refusal.ObjectRefusal.{ObjectRefusal}
-use Rattle.elfobj.specs.declared.refusal.ObjectRefusal.TheVariants.{NoMemory, RelocationSection}
+use Rattle.elfobj.specs.declared.refusal.ObjectRefusal.TheVariants.{FieldOverlap, FieldBounds, NoMemory, RelocationSection, RelocationType}
 use Rattle.elfobj.specs.declared.relocation.Relocation.{Relocation}
-use Rattle.elfobj.specs.declared.relocation_table.Faults.{Faults}
+use Rattle.elfobj.specs.declared.relocation_entry.RelocationEntry.{RelocationEntry}
+use Rattle.elfobj.specs.declared.relocation_fault.EntryFault.{EntryFault}
+use Rattle.elfobj.specs.declared.relocation_fault.EntryFault.TheVariants.{Symbol, Kind, Bounds}
+use Rattle.elfobj.specs.declared.relocation_run.SectionTable.{SectionTable}
 use Rattle.elfobj.specs.declared.section.Section.{Section}
 use Rattle.elfobj.specs.declared.section.SectionKind.{SectionKind}
 use Rattle.elfobj.specs.declared.section_header.SectionHeader.{SectionHeader}
@@ -32,7 +35,7 @@ one_below : (bytes : List ℕ) (n m : ℕ) (h : SectionHeader) (o : Option Secti
 one_below bytes n m h None l = All-nil (λ (s : LinkedSection). s.number.0 < m)
 one_below bytes n m h (Some kind) l = All-cons (λ (s : LinkedSection). s.number.0 < m) _ [] l (All-nil (λ (s : LinkedSection). s.number.0 < m))
 
-all_below : (bytes : List ℕ) (n m : ℕ) → n ≤ m → All (λ (s : LinkedSection). s.number.0 < m) (sections_below bytes n)
+pub all_below : (bytes : List ℕ) (n m : ℕ) → n ≤ m → All (λ (s : LinkedSection). s.number.0 < m) (sections_below bytes n)
 all_below bytes zero m l = All-nil (λ (s : LinkedSection). s.number.0 < m)
 all_below bytes (suc n) m l =
     All-append (λ (s : LinkedSection). s.number.0 < m) _ _ (all_below bytes n m (omega arith)) (one_below bytes n m (header bytes n) (linked_kind (header bytes n)) (omega arith))
@@ -55,68 +58,6 @@ pub table_told : (bytes : List ℕ) (k : ℕ) (o : Option SectionHeader) → Pas
 table_told bytes k None p e = tt
 table_told bytes k (Some t) p e = table_in_file bytes k t p (sym e)
 
--- the relocations of a part, after more are added
-cut_kept : (all rs : List Relocation) (s : Span) → IsInside (length all) s → relocations_in (all ++ rs) s ≡ relocations_in all s
-cut_kept all rs s i =
-    let l = length-drop s.start all in
-    ap (λ xs. take (s.end - s.start) xs) (drop-append-le s.start all rs (omega (arith, i.order, i.end)))
-    ∙ take-append-le (s.end - s.start) (drop s.start all) rs (omega (arith, i.order, i.end))
-
-cuts_kept : (all rs : List Relocation) (ps : List Span) → All (IsInside (length all)) ps → map (relocations_in (all ++ rs)) ps ≡ map (relocations_in all) ps
-cuts_kept all rs [] h = refl
-cuts_kept all rs (p ∷ ps) h =
-    ap (λ x. x ∷ map (relocations_in (all ++ rs)) ps) (cut_kept all rs p (All-head (IsInside (length all)) p ps h))
-    ∙ ap (λ xs. relocations_in all p ∷ xs) (cuts_kept all rs ps (All-tail (IsInside (length all)) p ps h))
-
-last_cut : (all rs : List Relocation) (s : Span) → s.start ≡ length all → s.end ≡ length (all ++ rs) → relocations_in (all ++ rs) s ≡ rs
-last_cut all rs s e f =
-    let l = length-append all rs in
-    ap (λ i. take (s.end - s.start) (drop i (all ++ rs))) e
-    ∙ ap (λ xs. take (s.end - s.start) xs) (drop-append_seam all rs)
-    ∙ take_all (s.end - s.start) rs (omega arith)
-
-relocated_push : (ls : List (List Relocation)) (all rs : List Relocation) (ps : List Span) (s : Span) → AreRelocated ls all ps → s.start ≡ length all → s.end ≡ length (all ++ rs) → AreRelocated (ls ++ rs ∷ []) (all ++ rs) (ps ++ s ∷ [])
-relocated_push ls all rs ps s a e f =
-    let l = length-append all rs in
-    record {
-      lists = map_push (relocations_in (all ++ rs)) ps s
-          ∙ ap (λ xs. xs ++ relocations_in (all ++ rs) s ∷ []) (cuts_kept all rs ps a.within ∙ a.lists)
-          ∙ ap (λ x. ls ++ x ∷ []) (last_cut all rs s e f);
-      within = All-push (IsInside (length (all ++ rs))) ps s
-          (All-weaker (IsInside (length all)) (IsInside (length (all ++ rs))) (λ p i. record { order = i.order; end = omega (arith, i.end) }) ps a.within)
-          (record { order = omega arith; end = omega arith });
-    }
-
-pub read_none : (bytes : List ℕ) (n : ℕ) → AreAllRead bytes n [] [] [] (record { symbol = false; kind = false; bounds = false; overlap = false })
-read_none bytes n = record {
-  lists = record { lists = refl; within = All-nil (IsInside 0) };
-  faults = record { symbol = refl; kind = refl; bounds = refl; overlap = refl };
-}
-
-any_more : (p : Section → Bool) (ss : List Section) (i : ℕ) (d : Section) (f g r : Bool) → i < length ss → f ≡ list_any p (take i ss) → g ≡ p (get_or ss i d) → r ≡ (f || g) → r ≡ list_any p (take (i + 1) ss)
-any_more p ss i d f g r l a b e = e ∙ ap (λ x. x || g) a ∙ ap (λ x. list_any p (take i ss) || x) b ∙ sym (list_any_more p ss i d l)
-
--- one more section
-pub read_more_section : (bytes : List ℕ) (n : ℕ) (ss : List Section) (i : ℕ) (d : Section) (all all' : List Relocation) (ps ps' : List Span) (f f' g : Faults) (s : Span) → i < length ss
-    → AreAllRead bytes n (take i ss) all ps f → all' ≡ all ++ relocations_at bytes (get_or ss i d).number.0 → s.start ≡ length all → s.end ≡ length all' → ps' ≡ ps ++ s ∷ []
-    → AreFaultsOf bytes n (get_or ss i d) g
-    → f'.symbol ≡ (f.symbol || g.symbol) → f'.kind ≡ (f.kind || g.kind) → f'.bounds ≡ (f.bounds || g.bounds) → f'.overlap ≡ (f.overlap || g.overlap)
-    → AreAllRead bytes n (take (i + 1) ss) all' ps' f'
-read_more_section bytes n ss i d all all' ps ps' f f' g s l a e u v q o x y z w = record {
-  lists = rw (take_more ss i d l, map_push (λ (r : Section). relocations_at bytes r.number.0) (take i ss) (get_or ss i d), e, q)
-      (relocated_push (map (λ (r : Section). relocations_at bytes r.number.0) (take i ss)) all (relocations_at bytes (get_or ss i d).number.0) ps s a.lists u (v ∙ ap length e));
-  faults = record {
-    symbol = any_more (has_strange_symbol bytes n) ss i d f.symbol g.symbol f'.symbol l a.faults.symbol o.symbol x;
-    kind = any_more (has_strange_type bytes) ss i d f.kind g.kind f'.kind l a.faults.kind o.kind y;
-    bounds = any_more (has_field_outside bytes) ss i d f.bounds g.bounds f'.bounds l a.faults.bounds o.bounds z;
-    overlap = any_more (has_shared_bytes bytes) ss i d f.overlap g.overlap f'.overlap l a.faults.overlap o.overlap w;
-  };
-}
-
--- all sections
-pub read_whole : (bytes : List ℕ) (n i : ℕ) (ss : List Section) (all : List Relocation) (ps : List Span) (f : Faults) → length ss ≤ i → AreAllRead bytes n (take i ss) all ps f → AreAllRead bytes n ss all ps f
-read_whole bytes n i ss all ps f l a = subst (λ xs. AreAllRead bytes n xs all ps f) (take_all i ss l) a
-
 -- the relocations of each linked section are those of its number
 one_same : (bytes : List ℕ) (n : ℕ) (h : SectionHeader) (o : Option SectionKind)
     → map (λ (s : LinkedSection). s.relocations) (option_to_list (linked_section bytes n h o)) ≡ map (λ (s : Section). relocations_at bytes s.number.0) (map section_of (option_to_list (linked_section bytes n h o)))
@@ -138,20 +79,106 @@ unfolding sections_of
 relocated_all bytes ss all ps e a =
     subst (λ ls. AreRelocated ls all ps) (sym (lists_same bytes (e_shnum bytes))) (subst (λ xs. AreRelocated (map (λ (s : Section). relocations_at bytes s.number.0) xs) all ps) e a)
 
+-- one more table
+pub tables_of_more : (bytes : List ℕ) (ss : List Section) (i : ℕ) (d : Section) (ts ts' : List SectionTable) (t : SectionTable) (o : Option SectionHeader) → i < length ss → t.section ≡ get_or ss i d
+    → o ≡ relocation_section bytes (get_or ss i d).number.0 → table_entries bytes t ≡ entries_in bytes o → t.start + 24 * t.count ≤ length bytes → ts' ≡ ts ++ t ∷ [] → AreTablesOf bytes (take i ss) ts → AreTablesOf bytes (take (i + 1) ss) ts'
+tables_of_more bytes ss i d ts ts' t o l e f g h k a = rw k (record {
+  same = map_push (λ (t : SectionTable). t.section) ts t ∙ ap (λ xs. xs ++ t.section ∷ []) a.same ∙ ap (λ s. take i ss ++ s ∷ []) e ∙ sym (take_more ss i d l);
+  each = All-push (IsTableOf bytes) ts t a.each (record {
+    entries = g ∙ ap (entries_in bytes) f ∙ ap (λ (s : Section). relocation_entries bytes s.number.0) (sym e);
+    within = h;
+  });
+})
+
+pub tables_of_all : (bytes : List ℕ) (ss : List Section) (i : ℕ) (ts : List SectionTable) → length ss ≤ i → AreTablesOf bytes (take i ss) ts → AreTablesOf bytes ss ts
+tables_of_all bytes ss i ts l a = subst (λ xs. AreTablesOf bytes xs ts) (take_all i ss l) a
+
+-- one that passes a test
+pub found_entry : (p : RelocationEntry → Bool) (bytes : List ℕ) (start n k : ℕ) → k < n → p (relocation_entry_at bytes (start + 24 * k)) ≡ true → list_any p (relocation_entries_below bytes start n) ≡ true
+found_entry p bytes start zero k l h = absurd (omega arith)
+found_entry p bytes start (suc n) k l h =
+    list_any-append p (relocation_entries_below bytes start n) (relocation_entry_at bytes (start + 24 * n) ∷ [])
+    ∙ ⊎_elim
+    (λ m. or_left _ _ (found_entry p bytes start n k m h))
+    (λ m. let e : k ≡ n = omega arith in or_right _ _ (or_left _ _ (ap (λ i. p (relocation_entry_at bytes (start + 24 * i))) (sym e) ∙ h)))
+    (cases_lt k n)
+
+pub found_mapped : {X Y : Type 0} (f : X → Y) (p : Y → Bool) (xs : List X) (i : ℕ) (d : X) → i < length xs → p (f (get_or xs i d)) ≡ true → list_any p (map f xs) ≡ true
+found_mapped f p [] i d l h = absurd (omega arith)
+found_mapped f p (x ∷ xs) zero d l h = or_left _ _ h
+found_mapped f p (x ∷ xs) (suc i) d l h = or_right _ _ (found_mapped f p xs i d (omega arith) h)
+
+any_mapped : {X Y : Type 0} (f : X → Y) (p : Y → Bool) (xs : List X) → list_any p (map f xs) ≡ list_any (λ x. p (f x)) xs
+any_mapped f p [] = refl
+any_mapped f p (x ∷ xs) = ap (λ b. p (f x) || b) (any_mapped f p xs)
+
+any_same : {X : Type 0} (p q : X → Bool) (xs : List X) → ((x : X) → p x ≡ q x) → list_any p xs ≡ list_any q xs
+any_same p q [] h = refl
+any_same p q (x ∷ xs) h = ap (λ b. b || list_any p xs) (h x) ∙ ap (λ b. q x || b) (any_same p q xs h)
+
+outside_same : (bytes : List ℕ) (n : ℕ) (s : Section) → has_refused_entry Bounds bytes n s ≡ has_field_outside bytes s
+outside_same bytes n s = sym (any_mapped relocation_of (is_outside s.kind s.size) (relocation_entries bytes s.number.0))
+
+-- the conditions of the refusals that entries give
+pub symbol_holds : (bytes : List ℕ) (n : ℕ) (ss : List Section) (r : Bool) → is_wrong_below bytes (e_shnum bytes) ≡ false → n ≡ length (symbols_of bytes) → ss ≡ linked_sections bytes → r ≡ list_any (has_refused_entry Symbol bytes n) ss
+    → holds bytes RelocationSection ≡ r
+unfolding holds has_wrong_relocation_section
+symbol_holds bytes n ss r w c e h =
+    ap (λ b. b || list_any (has_strange_symbol bytes (length (symbols_of bytes))) (linked_sections bytes)) w
+    ∙ ap (λ m. list_any (has_strange_symbol bytes m) (linked_sections bytes)) (sym c)
+    ∙ ap (list_any (has_strange_symbol bytes n)) (sym e) ∙ sym h
+
+pub kind_holds : (bytes : List ℕ) (n : ℕ) (ss : List Section) (r : Bool) → ss ≡ linked_sections bytes → r ≡ list_any (has_refused_entry Kind bytes n) ss → holds bytes RelocationType ≡ r
+unfolding holds has_wrong_type
+kind_holds bytes n ss r e h = ap (list_any (has_strange_type bytes)) (sym e) ∙ sym h
+
+pub bounds_holds : (bytes : List ℕ) (n : ℕ) (ss : List Section) (r : Bool) → ss ≡ linked_sections bytes → r ≡ list_any (has_refused_entry Bounds bytes n) ss → holds bytes FieldBounds ≡ r
+unfolding holds has_wrong_bounds
+bounds_holds bytes n ss r e h =
+    ap (list_any (has_field_outside bytes)) (sym e) ∙ sym (any_same (has_refused_entry Bounds bytes n) (has_field_outside bytes) ss (outside_same bytes n)) ∙ sym h
+
+pub overlap_holds : (bytes : List ℕ) (ss : List Section) (all : List Relocation) (spans : List Span) (r : Bool) → ss ≡ linked_sections bytes → AreRelocated (map (λ (s : Section). relocations_at bytes s.number.0) ss) all spans
+    → r ≡ list_any share_bytes (map (relocations_in all) spans) → holds bytes FieldOverlap ≡ r
+unfolding holds has_overlap
+overlap_holds bytes ss all spans r e a h =
+    ap (list_any (has_shared_bytes bytes)) (sym e)
+    ∙ sym (any_mapped (λ (s : Section). relocations_at bytes s.number.0) share_bytes ss)
+    ∙ ap (list_any share_bytes) (sym a.lists) ∙ sym h
+
+-- the lowest refusal, by these conditions
+pub first_symbol : (bytes : List ℕ) → holds bytes RelocationSection ≡ true → find (holds bytes) entry_refusals ≡ Some RelocationSection
+first_symbol bytes a = rw a refl
+
+pub first_kind : (bytes : List ℕ) → holds bytes RelocationSection ≡ false → holds bytes RelocationType ≡ true → find (holds bytes) entry_refusals ≡ Some RelocationType
+first_kind bytes a b = rw (a, b) refl
+
+pub first_bounds : (bytes : List ℕ) → holds bytes RelocationSection ≡ false → holds bytes RelocationType ≡ false → holds bytes FieldBounds ≡ true → find (holds bytes) entry_refusals ≡ Some FieldBounds
+first_bounds bytes a b c = rw (a, b, c) refl
+
+pub first_none : (bytes : List ℕ) → holds bytes RelocationSection ≡ false → holds bytes RelocationType ≡ false → holds bytes FieldBounds ≡ false → find (holds bytes) entry_refusals ≡ None
+first_none bytes a b c = rw (a, b, c) refl
+
+entries_first : (bytes : List ℕ) → find (holds bytes) relocation_refusals ≡ option_or (find (holds bytes) entry_refusals) (find (holds bytes) (FieldOverlap ∷ []))
+entries_first bytes = find-append (holds bytes) entry_refusals (FieldOverlap ∷ [])
+
+pub entry_refused : (bytes : List ℕ) (r : ObjectRefusal) → find (holds bytes) entry_refusals ≡ Some r → find (holds bytes) relocation_refusals ≡ Some r
+entry_refused bytes r h = entries_first bytes ∙ ap (λ o. option_or o (find (holds bytes) (FieldOverlap ∷ []))) h
+
+pub overlap_refused : (bytes : List ℕ) → find (holds bytes) entry_refusals ≡ None → holds bytes FieldOverlap ≡ true → find (holds bytes) relocation_refusals ≡ Some FieldOverlap
+overlap_refused bytes h k = entries_first bytes ∙ ap (λ o. option_or o (find (holds bytes) (FieldOverlap ∷ []))) h ∙ rw k refl
+
+pub none_refused : (bytes : List ℕ) → find (holds bytes) entry_refusals ≡ None → holds bytes FieldOverlap ≡ false → find (holds bytes) relocation_refusals ≡ None
+none_refused bytes h k = entries_first bytes ∙ ap (λ o. option_or o (find (holds bytes) (FieldOverlap ∷ []))) h ∙ rw k refl
+
 -- the refusals that relocation sections give
 pub sections_refused : (bytes : List ℕ) → is_wrong_below bytes (e_shnum bytes) ≡ true → find (holds bytes) relocation_refusals ≡ Some RelocationSection
 unfolding holds has_wrong_relocation_section
 sections_refused bytes h = rw h refl
 
-pub faults_told : (bytes : List ℕ) (n : ℕ) (ss : List Section) (f : Faults) → is_wrong_below bytes (e_shnum bytes) ≡ false → n ≡ length (symbols_of bytes) → ss ≡ linked_sections bytes → AreFaults bytes n ss f
-    → find (holds bytes) relocation_refusals ≡ first_fault f
-unfolding holds has_wrong_relocation_section has_wrong_type has_wrong_bounds has_overlap
-faults_told bytes n ss f h c e a =
-    let symbol : list_any (has_strange_symbol bytes (length (symbols_of bytes))) (linked_sections bytes) ≡ f.symbol = ap (λ m. list_any (has_strange_symbol bytes m) (linked_sections bytes)) (sym c) ∙ ap (list_any (has_strange_symbol bytes n)) (sym e) ∙ sym a.symbol in
-    let kind : list_any (has_strange_type bytes) (linked_sections bytes) ≡ f.kind = ap (list_any (has_strange_type bytes)) (sym e) ∙ sym a.kind in
-    let bounds : list_any (has_field_outside bytes) (linked_sections bytes) ≡ f.bounds = ap (list_any (has_field_outside bytes)) (sym e) ∙ sym a.bounds in
-    let overlap : list_any (has_shared_bytes bytes) (linked_sections bytes) ≡ f.overlap = ap (list_any (has_shared_bytes bytes)) (sym e) ∙ sym a.overlap in
-    rw (h, symbol, kind, bounds, overlap) refl
-
 pub err_told : (bytes : List ℕ) (e : ObjectRefusal) → (e ≡ NoMemory) ⊎ ((e ≡ RelocationSection) × (is_wrong_below bytes (e_shnum bytes) ≡ true)) → (e ≡ NoMemory) ⊎ (find (holds bytes) relocation_refusals ≡ Some e)
 err_told bytes e h = ⊎_elim (λ a. inl a) (λ a. inr (sections_refused bytes a.1 ∙ ap (λ x. Some x) (sym a.0))) h
+
+pub sections_same : (bytes : List ℕ) (ss : List Section) (ts ts' : List SectionTable) (all : List Relocation) (spans : List Span) → ts' ≡ ts → AreTablesOf bytes ss ts
+    → AreRelocated (map (λ (s : Section). relocations_at bytes s.number.0) (map (λ (t : SectionTable). t.section) ts')) all spans → AreRelocated (map (λ (s : Section). relocations_at bytes s.number.0) ss) all spans
+sections_same bytes ss ts ts' all spans e a r =
+    subst (λ xs. AreRelocated (map (λ (s : Section). relocations_at bytes s.number.0) xs) all spans) (ap (map (λ (t : SectionTable). t.section)) e ∙ a.same) r

@@ -12,6 +12,8 @@ pub mod RelocationEntries
 pub mod Relocations
 pub mod Sections
 pub mod Tables
+pub mod Runs
+pub mod Numbering
 pub mod Places
 pub mod Object
 pub mod Refusal

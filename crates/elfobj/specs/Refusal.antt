@@ -71,6 +71,10 @@ section_refusals = SectionBounds ∷ SectionProfile ∷ []
 abbrev pub symbol_refusals : List ObjectRefusal
 symbol_refusals = SymbolTable ∷ Symbol ∷ []
 
+-- those that entries of relocation sections give, each by itself
+abbrev pub entry_refusals : List ObjectRefusal
+entry_refusals = RelocationSection ∷ RelocationType ∷ FieldBounds ∷ []
+
 -- those that the relocation sections give
 abbrev pub relocation_refusals : List ObjectRefusal
 relocation_refusals = RelocationSection ∷ RelocationType ∷ FieldBounds ∷ FieldOverlap ∷ []

@@ -3,7 +3,9 @@
 
 pub mod constants;
 mod elf_header;
+pub mod explain;
 mod field;
+pub mod law;
 mod linked;
 mod names;
 mod numbers;
@@ -12,6 +14,8 @@ mod place;
 pub mod refusal;
 pub mod relocation;
 mod relocation_entry;
+mod relocation_fault;
+mod relocation_run;
 mod relocation_table;
 pub mod section;
 mod section_header;

@@ -1,52 +1,31 @@
 //! The relocation sections: their tests, and the relocations that they hold.
 
-ghost use Rattle.std.specs.Prelude.{◌≡◌, ◌≤◌, ◌<◌, ◌+◌, ◌⊎◌, ◌++◌, ◌||◌, IfErr, IfOk, IfSome, OnOk, None, Some, false, true, find, length, map, replicate};
-ghost use Rattle.std.specs.List.{list_any};
+ghost use Rattle.std.specs.Prelude.{◌≡◌, ℕ, ◌≤◌, ◌<◌, ◌+◌, ◌*◌, ◌⊎◌, IfErr, IfOk, IfSome, List, None, Some, false, true, find, length, map, replicate};
+ghost use Rattle.std.specs.List.{All, list_any};
 ghost use Rattle.elfobj.specs.ElfHeader.{e_shnum};
 ghost use Rattle.elfobj.specs.Linkable.{PassesTests};
-ghost use Rattle.elfobj.specs.Places.{AreRelocated};
-ghost use Rattle.elfobj.specs.Reading.{AreAllRead, AreFaultsOf, AreTables, entered, first_fault, is_wrong_after};
-ghost use Rattle.elfobj.specs.Refusal.{holds, relocation_refusals};
-ghost use Rattle.elfobj.specs.Relocations.{entries_in, relocation_of, relocation_section, relocations_at};
+ghost use Rattle.elfobj.specs.Places.{AreRelocated, IsInside, relocations_in};
+ghost use Rattle.elfobj.specs.Reading.{AreTables, entered, is_wrong_after};
+ghost use Rattle.elfobj.specs.Refusal.{entry_refusals, holds, relocation_refusals};
+ghost use Rattle.elfobj.specs.Relocations.{entries_in, relocation_section, relocations_at, share_bytes};
+ghost use Rattle.elfobj.specs.Runs.{AreTablesOf, table_entries};
 ghost use Rattle.elfobj.specs.SectionHeaders.{headers as headers_of};
 ghost use Rattle.elfobj.specs.SectionTable.{HasSectionTable};
 ghost use Rattle.elfobj.specs.Sections.{sections_of};
 ghost use Rattle.elfobj.specs.Symbols.{symbols_of};
-ghost use Rattle.elfobj.specs.Tables.{is_linked, is_strange_type, is_wrong_below, is_wrong_table, linked_sections, names_no_symbol};
+ghost use Rattle.elfobj.specs.Tables.{is_linked, is_wrong_below, is_wrong_table, linked_sections};
 ghost use Rattle.elfobj.specs.declared.refusal.ObjectRefusal.TheVariants.{NoMemory, RelocationSection};
 
-use crate::constants::SHT_REL;
-use crate::field::{is_any_outside, is_any_shared};
+use crate::constants::{RELA_SIZE, SHT_REL};
+use crate::field::is_any_shared;
 use crate::place::Span;
 use crate::refusal::ObjectRefusal;
-use crate::relocation::Relocation;
-use crate::relocation_entry::read_relocation_entry;
+use crate::relocation_fault::{EntryFault, is_any_refused};
+use crate::relocation_run::{Relocations, SectionTable, read_tables};
 use crate::section::Section;
 use crate::section_header::SectionHeader;
 use crate::symbol_table::symbol_table_number;
 use std::alloc::{AllocError, Global};
-
-/// Whether relocations are outside the profile, in each of the ways that are told apart.
-#[derive(Clone, Copy, Debug)]
-pub struct Faults {
-    /// One names a symbol that isn't there.
-    pub symbol: bool,
-    /// One has a type outside the profile.
-    pub kind: bool,
-    /// One lies outside its section.
-    pub bounds: bool,
-    /// Two share a byte.
-    pub overlap: bool,
-}
-
-/// The relocations of the linked sections.
-#[derive(Drop)]
-pub struct Relocations {
-    /// All of them, one section after another.
-    pub all: Vec<Relocation>,
-    /// Where those of each section lie among them.
-    pub spans: Vec<Span>,
-}
 
 fn is_linked(headers: &[SectionHeader], number: usize) -> bool
     ensures { result ≡ is_linked headers.now number }
@@ -64,7 +43,10 @@ fn is_wrong_table(table: &SectionHeader, symtab: Option<usize>) -> bool
         Some(number) => table.sh_link as usize == number,
         None => false,
     };
-    table.sh_type == SHT_REL || table.sh_entsize != 24 || table.sh_size % 24 != 0 || !is_of_symtab
+    table.sh_type == SHT_REL
+        || table.sh_entsize != RELA_SIZE as u64
+        || table.sh_size % RELA_SIZE as u64 != 0
+        || !is_of_symtab
 }
 
 /// Whether a relocation section changes no section, or a linked one in a way outside the profile. `tables` has for each
@@ -134,133 +116,88 @@ fn changing_tables(
     Ok(tables)
 }
 
-/// Appends the relocations of a table, and tells whether one names none of so many symbols, and whether one has a type
-/// outside the profile.
-fn read_table(
-    bytes: &[u8],
-    table: &SectionHeader,
-    symbols: usize,
-    all: &mut Vec<Relocation>,
-) -> Result<(bool, bool), AllocError>
-    requires { table.now.sh_offset + table.now.sh_size ≤ length bytes.now }
-    ensures all { OnOk result (all.new.items ≡ all.old.items ++ map relocation_of (entries_in bytes.now (Some table.now))) }
-    ensures symbol { IfOk result (λ f. f.0 ≡ list_any (names_no_symbol symbols) (entries_in bytes.now (Some table.now))) }
-    ensures kind { IfOk result (λ f. f.1 ≡ list_any is_strange_type (entries_in bytes.now (Some table.now))) }
+/// The entries of a section that this table changes, or none.
+fn section_table(section: &Section, table: Option<SectionHeader>, len: usize) -> SectionTable
+    requires within { IfSome table (λ h. h.sh_offset + h.sh_size ≤ len) }
+    ensures section { result.section ≡ section.now }
+    ensures entries { (bytes : List ℕ) → table_entries bytes result ≡ entries_in bytes table }
+    ensures within { result.start + 24 * result.count ≤ len }
 {
-    let count = (table.sh_size / 24) as usize;
-    let start = table.sh_offset as usize;
-    let mut is_symbol_strange = false;
-    let mut is_type_strange = false;
-    for k in 0..count {
-        let entry = read_relocation_entry(bytes, start + 24 * k);
-        is_symbol_strange = is_symbol_strange || entry.names_no_symbol(symbols);
-        is_type_strange = is_type_strange || entry.is_strange_type();
-        all.push(entry.relocation())?;
-    }
-    Ok((is_symbol_strange, is_type_strange))
-}
-
-/// Appends the relocations of a section, which `table` has, and tells where they lie and what is wrong with them.
-fn read_section(
-    alloc: Global,
-    bytes: &[u8],
-    section: &Section,
-    table: Option<SectionHeader>,
-    symbols: usize,
-    all: &mut Vec<Relocation>,
-) -> Result<(Span, Faults), AllocError>
-    requires table { table ≡ relocation_section bytes.now section.now.number.0 }
-    requires within { IfSome table (λ h. h.sh_offset + h.sh_size ≤ length bytes.now) }
-    ensures all { OnOk result (all.new.items ≡ all.old.items ++ relocations_at bytes.now section.now.number.0) }
-    ensures span { IfOk result (λ r. (r.0.start ≡ length all.old.items) × (r.0.end ≡ length all.new.items)) }
-    ensures faults { IfOk result (λ r. AreFaultsOf bytes.now symbols section.now r.1) }
-{
-    let start = all.len();
-    let (symbol, kind) = match table {
-        Some(table) => read_table(bytes, &table, symbols, all)?,
-        None => (false, false),
-    };
-    let own = &all[start..];
-    let faults = Faults {
-        symbol,
-        kind,
-        bounds: is_any_outside(own, section.kind, section.size),
-        overlap: is_any_shared(alloc, own)?,
-    };
-    Ok((
-        Span {
-            start,
-            end: all.len(),
+    match table {
+        Some(table) => SectionTable {
+            section: *section,
+            start: table.sh_offset as usize,
+            count: table.sh_size as usize / RELA_SIZE,
         },
-        faults,
-    ))
-}
-
-impl Faults {
-    /// The lowest refusal that they stand for.
-    fn refusal(self) -> Option<ObjectRefusal>
-        ensures { result ≡ first_fault self }
-    {
-        if self.symbol {
-            Some(ObjectRefusal::RelocationSection)
-        } else if self.kind {
-            Some(ObjectRefusal::RelocationType)
-        } else if self.bounds {
-            Some(ObjectRefusal::FieldBounds)
-        } else if self.overlap {
-            Some(ObjectRefusal::FieldOverlap)
-        } else {
-            None
-        }
-    }
-
-    fn or(self, other: Faults) -> Faults
-        ensures symbol { result.symbol ≡ (self.symbol || other.symbol) }
-        ensures kind { result.kind ≡ (self.kind || other.kind) }
-        ensures bounds { result.bounds ≡ (self.bounds || other.bounds) }
-        ensures overlap { result.overlap ≡ (self.overlap || other.overlap) }
-    {
-        Faults {
-            symbol: self.symbol || other.symbol,
-            kind: self.kind || other.kind,
-            bounds: self.bounds || other.bounds,
-            overlap: self.overlap || other.overlap,
-        }
+        None => SectionTable {
+            section: *section,
+            start: 0,
+            count: 0,
+        },
     }
 }
 
-/// The relocations of these sections, and what is wrong with them.
-fn read_all(
+/// The entries of each of these sections.
+fn section_tables(
     alloc: Global,
     bytes: &[u8],
     sections: &[Section],
     tables: &[Option<SectionHeader>],
-    symbols: usize,
-) -> Result<(Relocations, Faults), AllocError>
+) -> Result<Vec<SectionTable>, AllocError>
     requires sections { sections.now ≡ linked_sections bytes.now }
     requires tables { AreTables bytes.now tables.now }
     requires tests { PassesTests bytes.now }
-    ensures { IfOk result (λ r. AreAllRead bytes.now symbols sections.now r.0.all.items r.0.spans.items r.1) }
+    ensures { IfOk result (λ v. AreTablesOf bytes.now sections.now v.items) }
 {
-    let mut all = Vec::new(alloc);
-    let mut spans = Vec::with_capacity(alloc, sections.len())?;
-    let mut faults = Faults {
-        symbol: false,
-        kind: false,
-        bounds: false,
-        overlap: false,
-    };
+    let mut own = Vec::with_capacity(alloc, sections.len())?;
     for section in sections {
         let table = tables[section.number.0 as usize];
-        let (span, found) = read_section(alloc, bytes, section, table, symbols, &mut all)?;
-        spans.push(span)?;
-        faults = faults.or(found);
+        own.push(section_table(section, table, bytes.len()))?;
     }
-    Ok((Relocations { all, spans }, faults))
+    Ok(own)
+}
+
+/// The lowest refusal that an entry of these tables gives.
+fn entry_refusal(bytes: &[u8], tables: &[SectionTable], symbols: usize) -> Option<ObjectRefusal>
+    requires right { is_wrong_below bytes.now (e_shnum bytes.now) ≡ false }
+    requires tables { AreTablesOf bytes.now (linked_sections bytes.now) tables.now }
+    requires symbols { symbols ≡ length (symbols_of bytes.now) }
+    ensures { result ≡ find (holds bytes.now) entry_refusals }
+{
+    if is_any_refused(bytes, tables, EntryFault::Symbol, symbols) {
+        return Some(ObjectRefusal::RelocationSection);
+    }
+    if is_any_refused(bytes, tables, EntryFault::Kind, symbols) {
+        return Some(ObjectRefusal::RelocationType);
+    }
+    if is_any_refused(bytes, tables, EntryFault::Bounds, symbols) {
+        return Some(ObjectRefusal::FieldBounds);
+    }
+    None
+}
+
+/// Whether two relocations of one section share a byte. A section with the same table as the one before is passed over.
+fn is_any_overlap(alloc: Global, relocations: &Relocations) -> Result<bool, AllocError>
+    requires { All (IsInside (length relocations.now.all.items)) relocations.now.spans.items }
+    ensures { IfOk result (λ b. b ≡ list_any share_bytes (map (relocations_in relocations.now.all.items) relocations.now.spans.items)) }
+{
+    let all = relocations.all.as_slice();
+    let mut room = Vec::new(alloc);
+    let mut last = Span { start: 0, end: 0 };
+    for span in &relocations.spans {
+        if span.start == last.start && span.end == last.end {
+            continue;
+        }
+        if is_any_shared(&all[span.start..span.end], &mut room)? {
+            return Ok(true);
+        }
+        last = *span;
+    }
+    Ok(false)
 }
 
 /// Reads the relocations of the linked sections of a file whose section headers and symbols have passed their tests, or
-/// tells why it is no object.
+/// tells why it is no object. All entries are tested before any is kept.
 pub fn read_relocations(
     alloc: Global,
     bytes: &[u8],
@@ -277,12 +214,19 @@ pub fn read_relocations(
     ensures relocations { IfOk result (λ r. AreRelocated (map (λ s. s.relocations) (sections_of bytes.now)) r.all.items r.spans.items) }
     ensures refused { IfErr result (λ e. (e ≡ NoMemory) ⊎ (find (holds bytes.now) relocation_refusals ≡ Some e)) }
 {
-    let tables = changing_tables(alloc, bytes, headers)?;
-    let Ok((relocations, faults)) = read_all(alloc, bytes, sections, &tables, symbols) else {
+    let changing = changing_tables(alloc, bytes, headers)?;
+    let Ok(tables) = section_tables(alloc, bytes, sections, &changing) else {
         return Err(ObjectRefusal::NoMemory);
     };
-    match faults.refusal() {
-        Some(refusal) => Err(refusal),
-        None => Ok(relocations),
+    if let Some(refusal) = entry_refusal(bytes, &tables, symbols) {
+        return Err(refusal);
+    }
+    let Ok(relocations) = read_tables(alloc, bytes, &tables) else {
+        return Err(ObjectRefusal::NoMemory);
+    };
+    match is_any_overlap(alloc, &relocations) {
+        Ok(false) => Ok(relocations),
+        Ok(true) => Err(ObjectRefusal::FieldOverlap),
+        Err(_) => Err(ObjectRefusal::NoMemory),
     }
 }

@@ -1,6 +1,6 @@
 //! The buffer that the image is written into.
 
-ghost use Rattle.std.specs.Prelude.{◌≡◌, ◌↔◌, ◌≤◌, ◌<◌, ◌+◌, ℕ, [], IsTrue, OnErr, OnOk, length, slice_index};
+ghost use Rattle.std.specs.Prelude.{◌≡◌, ◌↔◌, ◌≤◌, ◌<◌, ◌+◌, ℕ, [], IsTrue, OnErr, OnOk, length, max, slice_index};
 ghost use Rattle.ldbase.specs.Raised.{raised};
 
 use ldbase::meter::{Count, Meter};
@@ -58,11 +58,12 @@ impl Canvas {
         &self.bytes
     }
 
-    /// Makes room for a length of `n`. A refused call changes nothing, and comes only where the room was
+    /// Makes room for a length of `n`, and no more. A refused call changes nothing, and comes only where the room was
     /// less.
     pub fn reserve(&mut self, n: usize) -> Result<(), NoMemory>
         ensures bytes { self.new.bytes ≡ self.old.bytes }
         ensures room { OnOk result (n ≤ self.new.room) }
+        ensures exact { OnOk result (self.new.room ≡ max self.old.room n) }
         ensures kept { self.old.room ≤ self.new.room }
         ensures refused { OnErr result (self.new ≡ self.old) }
         ensures only_without_room { OnErr result (self.old.room < n) }
@@ -71,7 +72,7 @@ impl Canvas {
         if n <= len {
             return Ok(());
         }
-        self.bytes.reserve(n - len)
+        self.bytes.reserve_exact(n - len)
     }
 
     /// Sets the length to `n`, which the room must hold: keeps the bytes below it and adds zeros. It takes no

@@ -1,12 +1,13 @@
 //! Fields as the psABI's table gives them, at both ends of their ranges and past them; a canvas that grows, shrinks and
-//! grows again; and pieces with fields.
+//! grows again; pieces with fields, and a run.
 
 ghost use Rattle.std.specs.Prelude.{◌≡◌, IfOk, length};
 
 use crate::canvas::Canvas;
-use crate::field::{Field, Overflow};
 use crate::field::evaluate::field;
+use crate::field::{Field, Overflow};
 use crate::patch::{Patch, in_order, write_patched};
+use crate::run::write_run;
 use elfobj::relocation::RelocationKind::{
     self, Abs8, Abs16, Abs32, Abs32Signed, Abs64, Pc8, Pc16, Pc32, Pc64, Plt32,
 };
@@ -143,5 +144,8 @@ fn pieces(rt: HostRuntime) -> Result<(), Fail> {
     write_patched(&mut canvas, 3, &[5, 6, 7, 8], &patches, &mut meter);
     assert_eq!(rt; canvas.bytes(), [0, 1, 2, 0xbb, 6, 7, 0xaa, 0].as_slice());
     assert_eq!(rt; [meter.bytes(), meter.fields()], [8, 0]);
+    write_run(&mut canvas, 1, 5, &[9, 8], &mut meter);
+    assert_eq!(rt; canvas.bytes(), [0, 9, 8, 9, 8, 9, 0xaa, 0].as_slice());
+    assert_eq!(rt; meter.bytes(), 13);
     Ok(())
 }

@@ -1,0 +1,69 @@
+//! The tests of the entries of relocation sections, before any of them is kept.
+
+ghost use Rattle.std.specs.Prelude.{◌≡◌, map};
+ghost use Rattle.std.specs.List.{All, list_any};
+ghost use Rattle.elfobj.specs.Runs.{IsTableOf, has_refused_entry, is_refused_for};
+
+use crate::constants::RELA_SIZE;
+use crate::field::is_outside;
+use crate::relocation_entry::{RelocationEntry, read_relocation_entry};
+use crate::relocation_run::SectionTable;
+use crate::section::Section;
+
+/// A way in which an entry is outside the profile, in the order of the refusals' numbers.
+#[derive(Clone, Copy, Debug, PartialEq, Eq)]
+pub enum EntryFault {
+    /// It names a symbol that isn't there.
+    Symbol,
+    /// Its type is not of the profile.
+    Kind,
+    /// Its field lies outside its section.
+    Bounds,
+}
+
+fn is_refused_for(
+    fault: EntryFault,
+    symbols: usize,
+    section: &Section,
+    entry: &RelocationEntry,
+) -> bool
+    ensures { result ≡ is_refused_for fault symbols section.now entry.now }
+{
+    match fault {
+        EntryFault::Symbol => entry.names_no_symbol(symbols),
+        EntryFault::Kind => entry.is_strange_type(),
+        EntryFault::Bounds => is_outside(&entry.relocation(), section.kind, section.size),
+    }
+}
+
+/// Whether an entry of a table is outside the profile in this way. It stops at the first one.
+fn has_refused_entry(bytes: &[u8], table: &SectionTable, fault: EntryFault, symbols: usize) -> bool
+    requires { IsTableOf bytes.now table.now }
+    ensures { result ≡ has_refused_entry fault bytes.now symbols table.now.section }
+{
+    for k in 0..table.count {
+        let entry = read_relocation_entry(bytes, table.start + RELA_SIZE * k);
+        if is_refused_for(fault, symbols, &table.section, &entry) {
+            return true;
+        }
+    }
+    false
+}
+
+/// Whether an entry of one of these tables is outside the profile in this way. It stops at the first one.
+pub fn is_any_refused(
+    bytes: &[u8],
+    tables: &[SectionTable],
+    fault: EntryFault,
+    symbols: usize,
+) -> bool
+    requires { All (IsTableOf bytes.now) tables.now }
+    ensures { result ≡ list_any (has_refused_entry fault bytes.now symbols) (map (λ t. t.section) tables.now) }
+{
+    for table in tables {
+        if has_refused_entry(bytes, table, fault, symbols) {
+            return true;
+        }
+    }
+    false
+}

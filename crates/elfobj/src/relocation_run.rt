@@ -1,0 +1,174 @@
+//! The relocations of an object, decoded. Tables may overlap in the file: those that lie a whole number of entries apart
+//! share one decoded run, so that no entry is decoded twice at one place of the file, however many tables have it.
+
+ghost use Rattle.std.specs.Prelude.{◌≡◌, ◌≤◌, ◌<◌, ◌+◌, ◌*◌, ◌/◌, ◌^◌, ◌++◌, IfOk, OnOk, length, map};
+ghost use Rattle.std.specs.List.{All};
+ghost use Rattle.elfobj.specs.Places.{AreRelocated};
+ghost use Rattle.elfobj.specs.RelocationEntries.{relocation_entries_below};
+ghost use Rattle.elfobj.specs.Relocations.{relocation_of, relocations_at};
+ghost use Rattle.elfobj.specs.Runs.{AreRuns, IsCovered, IsTableOf, table_entries};
+
+use crate::constants::RELA_SIZE;
+use crate::place::Span;
+use crate::relocation::Relocation;
+use crate::relocation_entry::read_relocation_entry;
+use crate::section::Section;
+use std::alloc::{AllocError, Global};
+
+/// Where the entries that change a linked section lie in the file.
+#[derive(Clone, Copy, Debug)]
+pub struct SectionTable {
+    /// The section.
+    pub section: Section,
+    /// Where its first entry begins.
+    pub start: usize,
+    /// How many there are.
+    pub count: usize,
+}
+
+/// Entries that follow one another in the file, decoded. Entry number k of a class, below 24, begins at 24 * k plus the
+/// class.
+#[derive(Clone, Copy, Debug)]
+pub struct Run {
+    /// The number of the first one.
+    pub low: usize,
+    /// How many there are.
+    pub count: usize,
+    /// Where they begin among all relocations.
+    pub first: usize,
+}
+
+/// The relocations of the linked sections.
+#[derive(Drop)]
+pub struct Relocations {
+    /// All of them, one run after another.
+    pub all: Vec<Relocation>,
+    /// Where those of each section lie among them.
+    pub spans: Vec<Span>,
+}
+
+/// The numbers of the entries of a class from the first to past the last that a table has.
+fn class_range(tables: &[SectionTable], class: usize, len: usize) -> (usize, usize)
+    requires class { class < 24 }
+    requires long { 24 ≤ len }
+    requires within { All (λ t. t.start + 24 * t.count ≤ len) tables.now }
+    ensures order { result.0 ≤ result.1 }
+    ensures end { 24 * result.1 + class ≤ len }
+    ensures covers { All (IsCovered class result.0 result.1) tables.now }
+{
+    let mut low = usize::MAX;
+    let mut end = 0usize;
+    for table in tables {
+        if table.count > 0 && table.start % RELA_SIZE == class {
+            let number = table.start / RELA_SIZE;
+            low = low.min(number);
+            end = end.max(number + table.count);
+        }
+    }
+    (low.min(end), end)
+}
+
+/// How many entries the runs of all classes have.
+fn entry_count(tables: &[SectionTable], len: usize) -> usize
+    requires long { 24 ≤ len }
+    requires within { All (λ t. t.start + 24 * t.count ≤ len) tables.now }
+{
+    let mut count = 0usize;
+    for class in 0..RELA_SIZE {
+        let (low, end) = class_range(tables, class, len);
+        count = count.saturating_add(end - low);
+    }
+    count
+}
+
+/// Appends the relocations of the entries from `start` on.
+fn push_entries(
+    bytes: &[u8],
+    start: usize,
+    count: usize,
+    all: &mut Vec<Relocation>,
+) -> Result<(), AllocError>
+    requires { start + 24 * count ≤ length bytes.now }
+    ensures { OnOk result (all.new.items ≡ all.old.items ++ map relocation_of (relocation_entries_below bytes.now start count)) }
+{
+    for k in 0..count {
+        let entry = read_relocation_entry(bytes, start + RELA_SIZE * k);
+        all.push(entry.relocation())?;
+    }
+    Ok(())
+}
+
+/// The runs of all classes, each as long as its tables need, in one allocation of just that size.
+fn read_runs(
+    alloc: Global,
+    bytes: &[u8],
+    tables: &[SectionTable],
+) -> Result<(Vec<Relocation>, Vec<Run>), AllocError>
+    requires long { 24 ≤ length bytes.now }
+    requires within { All (λ t. t.start + 24 * t.count ≤ length bytes.now) tables.now }
+    ensures { IfOk result (λ r. AreRuns bytes.now tables.now r.0.items 24 r.1.items) }
+{
+    let mut all = Vec::with_capacity(alloc, entry_count(tables, bytes.len()))?;
+    let mut runs = Vec::with_capacity(alloc, RELA_SIZE)?;
+    for class in 0..RELA_SIZE {
+        let (low, end) = class_range(tables, class, bytes.len());
+        let first = all.len();
+        let count = end - low;
+        push_entries(bytes, RELA_SIZE * low + class, count, &mut all)?;
+        runs.push(Run { low, count, first })?;
+    }
+    Ok((all, runs))
+}
+
+/// Where the relocations of a table lie among all, if this is the run of its class.
+fn span_in(run: &Run, table: &SectionTable) -> Span
+    requires low { run.now.low ≤ table.now.start / 24 }
+    requires end { table.now.start / 24 + table.now.count ≤ run.now.low + run.now.count }
+    requires fits { run.now.first + run.now.count < 2 ^ 64 }
+    ensures start { result.start + run.now.low ≡ run.now.first + table.now.start / 24 }
+    ensures end { result.end ≡ result.start + table.now.count }
+{
+    let start = run.first + (table.start / RELA_SIZE - run.low);
+    Span {
+        start,
+        end: start + table.count,
+    }
+}
+
+/// Where the relocations of each table lie among all.
+fn find_spans(
+    alloc: Global,
+    bytes: &[u8],
+    tables: &[SectionTable],
+    all: &[Relocation],
+    runs: &[Run],
+) -> Result<Vec<Span>, AllocError>
+    requires runs { AreRuns bytes.now tables.now all.now 24 runs.now }
+    ensures { IfOk result (λ v. AreRelocated (map (λ t. map relocation_of (table_entries bytes.now t)) tables.now) all.now v.items) }
+{
+    let mut spans = Vec::with_capacity(alloc, tables.len())?;
+    for table in tables {
+        let span = if table.count == 0 {
+            Span { start: 0, end: 0 }
+        } else {
+            span_in(&runs[table.start % RELA_SIZE], table)
+        };
+        spans.push(span)?;
+    }
+    Ok(spans)
+}
+
+/// The relocations of these tables.
+pub fn read_tables(
+    alloc: Global,
+    bytes: &[u8],
+    tables: &[SectionTable],
+) -> Result<Relocations, AllocError>
+    requires long { 24 ≤ length bytes.now }
+    requires tables { All (IsTableOf bytes.now) tables.now }
+    ensures { IfOk result (λ r. AreRelocated (map (λ s. relocations_at bytes.now s.number.0) (map (λ t. t.section) tables.now)) r.all.items r.spans.items) }
+{
+    let (all, runs) = read_runs(alloc, bytes, tables)?;
+    let spans = find_spans(alloc, bytes, tables, &all, &runs)?;
+    Ok(Relocations { all, spans })
+}

@@ -1,0 +1,46 @@
+//! Runs of bytes: gaps and zeros.
+
+ghost use Rattle.std.specs.Prelude.{◌≡◌, ◌≤◌, ◌<◌, ◌+◌, ◌%◌, ℕ, length, slice_index};
+ghost use Rattle.ldbase.specs.Raised.{raised};
+ghost use Rattle.ldbase.specs.declared.meter.Count.TheVariants.{Bytes};
+
+use crate::canvas::Canvas;
+use ldbase::meter::Meter;
+
+/// How many bytes are written at a time: a multiple of each length that a pattern may have.
+const CHUNK: usize = 840;
+
+/// The first bytes of a run of a pattern.
+fn chunk_of(pattern: &[u8]) -> [u8; CHUNK]
+    requires { 0 < length pattern.now }
+    ensures len { length result ≡ 840 }
+    ensures filled { (i : ℕ) → i < 840 → slice_index result i ≡ slice_index pattern.now (i % length pattern.now) }
+{
+    let mut chunk = [0; CHUNK];
+    for i in 0..CHUNK {
+        chunk[i] = pattern[i % pattern.len()];
+    }
+    chunk
+}
+
+/// Writes `n` bytes from `at` on, within the length, which repeat a pattern of 1 to 8 bytes, and changes no others. It
+/// takes no memory, and counts the bytes that it writes.
+pub fn write_run(canvas: &mut Canvas, at: usize, n: usize, pattern: &[u8], meter: &mut Meter)
+    requires within { at + n ≤ length canvas.old.bytes }
+    requires some { 0 < length pattern.now }
+    requires most { length pattern.now ≤ 8 }
+    ensures written { (i : ℕ) → i < n → slice_index canvas.new.bytes (at + i) ≡ slice_index pattern.now (i % length pattern.now) }
+    ensures before { (o : ℕ) → o < at → slice_index canvas.new.bytes o ≡ slice_index canvas.old.bytes o }
+    ensures after { (o : ℕ) → at + n ≤ o → slice_index canvas.new.bytes o ≡ slice_index canvas.old.bytes o }
+    ensures len { length canvas.new.bytes ≡ length canvas.old.bytes }
+    ensures room { canvas.new.room ≡ canvas.old.room }
+    ensures counted { meter.new ≡ raised meter.old Bytes n }
+{
+    let _len = canvas.len();
+    let chunk = chunk_of(pattern);
+    for k in 0..n / CHUNK {
+        canvas.write(at + CHUNK * k, &chunk, meter);
+    }
+    let rest = n % CHUNK;
+    canvas.write(at + (n - rest), &chunk[..rest], meter);
+}

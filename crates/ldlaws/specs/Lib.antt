@@ -1,0 +1,2 @@
+pub mod FirstMatches
+pub mod Renumbering

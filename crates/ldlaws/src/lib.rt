@@ -1,0 +1,6 @@
+//! Laws of the definitions of a link: each function does nothing, and its contract is the law.
+#![tactic(auto)]
+
+pub mod edits;
+pub mod gathering;
+pub mod names;

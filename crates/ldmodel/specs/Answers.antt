@@ -1,0 +1,79 @@
+-- The answers to a stream of commands, command by command. An answer depends on the project at that point alone: how the
+-- project came about has no part in it. This language is the product's own.
+use Rattle.std.specs.Prelude.{◌≡◌, ℕ, ◌⊎◌, List, [], ◌∷◌, ◌++◌, length, flat_map, Ok, Err, codes, decimal}
+use Rattle.ldmodel.specs.Commands.{Command, Edit, Ask, Query, Image, Map, Faults, AreCommands, IsBad, spelling}
+use Rattle.ldmodel.specs.Project.{Project}
+use Rattle.ldmodel.specs.Edits.{Change, Add, Replace, Move, Remove, SetScript, After, Refusal, NoMemory, refusal_number, inner_number}
+use Rattle.ldmodel.specs.Link.{Link, link}
+
+-- a word, two numbers and a line feed
+unfoldable pub answer_line : List ℕ → ℕ → ℕ → List ℕ
+answer_line word a b = word ++ 32 ∷ (decimal a ++ 32 ∷ (decimal b ++ 10 ∷ []))
+
+-- `linked STATUS LENGTH`: the status of a link, and the length of its image
+abbrev pub linked_line : Link → List ℕ
+linked_line l = answer_line (codes "linked") l.status (length l.image)
+
+-- `refused N M`
+abbrev pub refused_line : Refusal → List ℕ
+refused_line r = answer_line (codes "refused") (refusal_number r) (inner_number r)
+
+-- `bytes LENGTH`, and the bytes right after the line feed
+unfoldable pub bytes_answer : List ℕ → List ℕ
+bytes_answer bytes = codes "bytes" ++ 32 ∷ (decimal (length bytes) ++ 10 ∷ bytes)
+
+-- a command with a payload needs memory to take it in; `move` and `remove` may run out of memory only where the edit is
+-- accepted
+abbrev pub MayLackMemory : Project → Change → Type 0
+MayLackMemory p (Add name at bytes) = Unit {0}
+MayLackMemory p (Replace name bytes) = Unit {0}
+MayLackMemory p (SetScript text) = Unit {0}
+MayLackMemory p (Move name to) = (next : Project) × After p (Move name to) (Ok next)
+MayLackMemory p (Remove name) = (next : Project) × After p (Remove name) (Ok next)
+
+-- an accepted edit is answered by the link of the next project; a refused one leaves the project as it was
+pub data EditReply (p : Project) (c : Change) : List ℕ → Project → Type 0 where
+  accepted : (next : Project) → After p c (Ok next) → EditReply p c (linked_line (link next)) next
+  refused : (r : Refusal) → After p c (Err r) → EditReply p c (refused_line r) p
+  out_of_memory : MayLackMemory p c → EditReply p c (refused_line NoMemory) p
+
+-- what a query asks of a link
+abbrev pub asked : Query → Link → List ℕ
+asked Image l = l.image
+asked Map l = l.map
+asked Faults l = l.faults
+
+abbrev pub Reply : Project → Command → List ℕ → Project → Type 0
+Reply p (Edit change) answer next = EditReply p change answer next
+Reply p (Ask query) answer next = (answer ≡ bytes_answer (asked query (link p))) × (next ≡ p)
+
+-- command by command, from one project to the last
+pub data Replies : Project → List Command → List ℕ → Project → Type 0 where
+  none : {p : Project} → Replies p [] [] p
+  next : {p mid last : Project} {c : Command} {cs : List Command} (answer rest : List ℕ)
+      → Reply p c answer mid → Replies mid cs rest last → Replies p (c ∷ cs) (answer ++ rest) last
+
+-- how a session ends: with the status of the link at the end of the stream, or at bytes that no command begins
+pub data Status : Type 0 where
+  Ended : (status : ℕ) → Status
+  Malformed : Status
+
+abbrev pub stream_line : List ℕ
+stream_line = codes "stream" ++ 10 ∷ []
+
+-- the end of the answers, by what is left of the stream after its commands
+pub data Ending : List ℕ → List ℕ → Project → Status → Type 0 where
+  ended : (last : Project) → Ending [] [] last (Ended (link last).status)
+  bad : (tail : List ℕ) (last : Project) → IsBad tail → Ending tail stream_line last Malformed
+
+-- the stream is cut into commands, as many as possible, and each has its answer
+pub record Answers (p : Project) (stream out : List ℕ) (last : Project) (status : Status) : Type 0 where
+  pub commands : List Command
+  pub tail : List ℕ
+  pub answers : List ℕ
+  pub rest : List ℕ
+  pub each : AreCommands commands
+  pub cut : stream ≡ flat_map spelling commands ++ tail
+  pub replies : Replies p commands answers last
+  pub ending : Ending tail rest last status
+  pub all : out ≡ answers ++ rest

@@ -1,0 +1,159 @@
+-- What an edit makes of a project, or why it is refused. An object is read when it is added, so a project holds none
+-- that is refused. A script is the one tree that its text spells, which is a relation, and so is `After`; no edit has
+-- two outcomes.
+use Rattle.std.specs.Prelude.{◌≡◌, ◌≢◌, ◌⊎◌, ℕ, ◌^◌, ◌≤◌, List, [], length, insert, remove, slice_set, slice_index_or, position, count_by, Option, Some, None, Result, Ok, Err, Bool, not, ◌||◌, ◌&&◌, nat_lt, nat_le, if◌then◌else◌, bytes_eq}
+use Rattle.std.specs.List.{list_any, list_all}
+use Rattle.elfobj.specs.Names.{is_graphic}
+use Rattle.elfobj.specs.Object.{object_of}
+use Rattle.elfobj.specs.Refusal.{object_refusal}
+use Rattle.elfobj.specs.RefusalNumber as object
+use Rattle.elfobj.specs.declared.refusal.ObjectRefusal.{ObjectRefusal}
+use Rattle.ldscript.specs.RefusalNumber as script
+use Rattle.ldscript.specs.Script.{IsScript, IsRefusal}
+use Rattle.ldscript.specs.declared.refusal.ScriptRefusal.{ScriptRefusal}
+use Rattle.ldscript.specs.declared.refusal.ScriptRefusal.TheVariants as reader
+use Rattle.ldtree.specs.declared.statement.Statement.{Statement}
+use Rattle.ldmodel.specs.Project.{Project, NamedObject}
+
+-- an edit, apart from where its bytes lie: an object is added before a place, from 0 to the number of objects; the
+-- object of a name becomes another, in its place; it goes to a place of the list without it; it is removed; the script
+-- becomes that of a text
+pub data Change : Type 0 where
+  Add : (name : List ℕ) → (at : ℕ) → (bytes : List ℕ) → Change
+  Replace : (name : List ℕ) → (bytes : List ℕ) → Change
+  Move : (name : List ℕ) → (to : ℕ) → Change
+  Remove : (name : List ℕ) → Change
+  SetScript : (text : List ℕ) → Change
+
+-- the name is in use; no object has it; the position is past the end; the object reader refuses; the script reader
+-- refuses; a limit is passed; out of memory
+pub data Refusal : Type 0 where
+  InUse : Refusal
+  Unknown : Refusal
+  PastEnd : Refusal
+  NotAnObject : (why : ObjectRefusal) → Refusal
+  NotAScript : (why : ScriptRefusal) → Refusal
+  Limit : Refusal
+  NoMemory : Refusal
+
+-- the number under which a refusal is reported
+abbrev pub refusal_number : Refusal → ℕ
+refusal_number InUse = 1
+refusal_number Unknown = 2
+refusal_number PastEnd = 3
+refusal_number (NotAnObject why) = 4
+refusal_number (NotAScript why) = 5
+refusal_number Limit = 6
+refusal_number NoMemory = 7
+
+-- for an object or a script the reader's own number, else 0
+abbrev pub inner_number : Refusal → ℕ
+inner_number (NotAnObject why) = object.refusal_number why
+inner_number (NotAScript why) = script.refusal_number why
+inner_number _ = 0
+
+abbrev pub has_name : List ℕ → NamedObject → Bool
+has_name name o = bytes_eq o.name name
+
+-- where the object of a name stands
+abbrev pub place_of : List NamedObject → List ℕ → Option ℕ
+place_of objects name = position (has_name name) objects
+
+abbrev pub is_in_use : List NamedObject → List ℕ → Bool
+is_in_use objects name = list_any (has_name name) objects
+
+-- no name stands twice
+abbrev pub AreNamesDistinct : List NamedObject → Type 0
+AreNamesDistinct objects = (name : List ℕ) → count_by (has_name name) objects ≤ 1
+
+-- 1 to 255 bytes from `!` to `~`
+unfoldable pub is_object_name : List ℕ → Bool
+is_object_name name = nat_le 1 (length name) && nat_le (length name) 255 && list_all is_graphic name
+
+-- more than 2^26 bytes of an object or a script
+unfoldable pub is_too_long : List ℕ → Bool
+is_too_long bytes = nat_lt (2 ^ 26) (length bytes)
+
+-- 4,096 objects: no more may be added
+unfoldable pub is_full : List NamedObject → Bool
+is_full objects = nat_le 4096 (length objects)
+
+-- the refusals for which neither the object nor the script is looked at, in the order name in use, name unknown,
+-- position past the end, limit
+unfoldable pub early_refusal : Project → Change → Option Refusal
+early_refusal p (Add name at bytes) =
+    if is_in_use p.objects name then Some InUse
+    else (if nat_lt (length p.objects) at then Some PastEnd
+    else (if not (is_object_name name) || is_too_long bytes || is_full p.objects then Some Limit
+    else None))
+early_refusal p (Replace name bytes) =
+    if not (is_in_use p.objects name) then Some Unknown
+    else (if is_too_long bytes then Some Limit
+    else None)
+early_refusal p (Move name to) =
+    if not (is_in_use p.objects name) then Some Unknown
+    else (if nat_le (length p.objects) to then Some PastEnd
+    else None)
+early_refusal p (Remove name) = if not (is_in_use p.objects name) then Some Unknown else None
+early_refusal p (SetScript text) = if is_too_long text then Some Limit else None
+
+abbrev pub named : List ℕ → List ℕ → NamedObject
+named name bytes = record { name = name; object = object_of bytes }
+
+-- the object at a place becomes another
+abbrev pub replaced : List NamedObject → NamedObject → Option ℕ → List NamedObject
+replaced objects o None = objects
+replaced objects o (Some i) = slice_set objects i o
+
+-- the object at a place is taken out
+abbrev pub removed : List NamedObject → Option ℕ → List NamedObject
+removed objects None = objects
+removed objects (Some i) = remove objects i
+
+-- what a look-up past the end gives; no project has it
+abbrev pub unnamed : NamedObject
+unnamed = named [] []
+
+-- the object at a place is taken out, and inserted before another place of the list without it
+abbrev pub moved : List NamedObject → ℕ → Option ℕ → List NamedObject
+moved objects to None = objects
+moved objects to (Some i) = insert (remove objects i) to (slice_index_or objects i unnamed)
+
+abbrev pub with_objects : Project → List NamedObject → Project
+with_objects p objects = record p { objects = objects }
+
+-- the next project, where no early refusal applies
+abbrev pub Accepts : Project → Change → Project → Type 0
+Accepts p (Add name at bytes) q =
+    (object_refusal bytes ≡ None) × (q ≡ with_objects p (insert p.objects at (named name bytes)))
+Accepts p (Replace name bytes) q =
+    (object_refusal bytes ≡ None)
+    × (q ≡ with_objects p (replaced p.objects (named name bytes) (place_of p.objects name)))
+Accepts p (Move name to) q = q ≡ with_objects p (moved p.objects to (place_of p.objects name))
+Accepts p (Remove name) q = q ≡ with_objects p (removed p.objects (place_of p.objects name))
+Accepts p (SetScript text) q = (s : List Statement) × IsScript text s × (q ≡ record p { script = s })
+
+-- bytes that are no object
+abbrev pub RefusesObject : List ℕ → Refusal → Type 0
+RefusesObject bytes r = (why : ObjectRefusal) × (object_refusal bytes ≡ Some why) × (r ≡ NotAnObject why)
+
+-- bytes that are no script; out of memory is no such refusal
+abbrev pub RefusesScript : List ℕ → Refusal → Type 0
+RefusesScript text r = (why : ScriptRefusal) × (why ≢ reader.NoMemory) × IsRefusal text why × (r ≡ NotAScript why)
+
+-- what the readers refuse, where no early refusal applies
+abbrev pub Refuses : Project → Change → Refusal → Type 0
+Refuses p (Add name at bytes) r = RefusesObject bytes r
+Refuses p (Replace name bytes) r = RefusesObject bytes r
+Refuses p (Move name to) r = ⊥
+Refuses p (Remove name) r = ⊥
+Refuses p (SetScript text) r = RefusesScript text r
+
+-- the next project, or the refusal
+abbrev pub After : Project → Change → Result Project Refusal → Type 0
+After p c (Ok q) = (early_refusal p c ≡ None) × Accepts p c q
+After p c (Err r) = (early_refusal p c ≡ Some r) ⊎ ((early_refusal p c ≡ None) × Refuses p c r)
+
+-- what a linker may answer: the refusal, or out of memory where no early refusal applies
+abbrev pub RefusedAs : Project → Change → Refusal → Type 0
+RefusedAs p c r = After p c (Err r) ⊎ ((early_refusal p c ≡ None) × (r ≡ NoMemory))

@@ -1,0 +1,37 @@
+-- Which input sections are left out before the program is looked at (GNU ld manual, "Output Section Discarding",
+-- "Command-line Options", `--orphan-handling`): those that /DISCARD/ takes; and of those that no statement takes the
+-- empty ones, and all where the option says so.
+use Rattle.std.specs.Prelude.{List, filter, Option, Some, None, Bool, true, false, not, ◌||◌, ◌==◌, slice_get, option_and_then}
+use Rattle.ldtree.specs.Numbering.{InputStatementAt, input_statements}
+use Rattle.ldtree.specs.declared.place.InputPlace.{InputPlace}
+use Rattle.ldtree.specs.declared.place.InputPlace.TheVariants.{InSection, InDiscard}
+use Rattle.ldmodel.specs.FirstMatch.{first_match}
+use Rattle.ldmodel.specs.InputSections.{input_sections}
+use Rattle.ldmodel.specs.Project.{Project}
+use Rattle.ldmodel.specs.Sections.{InputSection}
+use Rattle.ldmodel.specs.declared.options.Orphans.{Orphans}
+use Rattle.ldmodel.specs.declared.options.Orphans.TheVariants.{Error, Discard}
+
+-- the input statement that takes an input section
+abbrev pub taken_by : Project → InputSection → Option InputStatementAt
+taken_by p s = option_and_then (slice_get (input_statements p.script)) (first_match p.script s.object s.name)
+
+abbrev pub is_discard : InputPlace → Bool
+is_discard (InSection k) = false
+is_discard InDiscard = true
+
+abbrev pub are_discarded : Orphans → Bool
+are_discarded Error = false
+are_discarded Discard = true
+
+-- whether it is left out, by the statement that takes it
+abbrev pub is_out_under : Project → InputSection → Option InputStatementAt → Bool
+is_out_under p s None = (s.size == 0) || are_discarded p.options.orphans
+is_out_under p s (Some i) = is_discard i.place
+
+unfoldable pub is_out : Project → InputSection → Bool
+is_out p s = is_out_under p s (taken_by p s)
+
+-- the input sections that are not left out, in their order
+abbrev pub candidates : Project → List InputSection
+candidates p = filter (λ s. not (is_out p s)) (input_sections p)

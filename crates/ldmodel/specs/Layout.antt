@@ -1,0 +1,115 @@
+-- What a layout gives: where the parts of the program stand in memory (GNU ld manual, "SECTIONS Command" and "MEMORY
+-- Command"). Addresses and sizes are whole numbers; an address of 2^64 or more is a fault.
+use Rattle.std.specs.Prelude.{ℕ, ◌+◌, List, [], ◌∷◌, ◌++◌, find, Option, Result, Ok, Err, Bool, bytes_eq, if◌then◌else◌}
+use Rattle.std.specs.Option.{option_map}
+use Rattle.ldexpr.specs.Expressions.{Expr}
+use Rattle.ldmodel.specs.Arithmetic.{is_address}
+use Rattle.ldmodel.specs.Fault.{Fault}
+use Rattle.ldmodel.specs.Fault as fault
+use Rattle.ldmodel.specs.Rows.{Piece}
+use Rattle.ldmodel.specs.Value.{Scope, SectionNumbers, RegionNumbers, ValueFault, NotReady, NoValue, value}
+
+-- a symbol that the script gives a value
+pub record ScriptSymbol : Type 0 where
+  pub name : List ℕ
+  pub value : ℕ
+
+-- a region of MEMORY: where it begins, how many bytes it has, and its next free address
+pub record MemoryRegion : Type 0 where
+  pub name : List ℕ
+  pub origin : ℕ
+  pub extent : ℕ
+  pub next : ℕ
+
+-- an input section in its place
+pub record PlacedPiece : Type 0 where
+  pub start : ℕ
+  pub piece : Piece
+
+-- the bytes of a BYTE, SHORT, LONG or QUAD in their place
+pub record PlacedData : Type 0 where
+  pub start : ℕ
+  pub bytes : List ℕ
+
+-- an output section in its place: its addresses in memory are those from `start` on, and the `load_size` first of its
+-- bytes, all or none, are loaded from `load` on. `region` is that of `>region`
+pub record PlacedSection : Type 0 where
+  pub name : List ℕ
+  pub region : Option (List ℕ)
+  pub alignment : ℕ
+  pub start : ℕ
+  pub size : ℕ
+  pub load : ℕ
+  pub load_size : ℕ
+  pub writable : Bool
+  pub executable : Bool
+  pub fill : Option (List ℕ)
+  pub pieces : List PlacedPiece
+  pub data_commands : List PlacedData
+
+-- a layout, as far as it has come: the location counter; its value before each statement of SECTIONS and, right after
+-- an output section's own, before each statement of its body; the number of the next input statement; and what is
+-- complete so far
+pub record Layout : Type 0 where
+  pub dot : ℕ
+  pub dots : List ℕ
+  pub inputs : ℕ
+  pub symbols : List ScriptSymbol
+  pub regions : List MemoryRegion
+  pub sections : List PlacedSection
+
+-- nothing is placed yet, and `.` is 0
+abbrev pub nothing_placed : Layout
+nothing_placed = record { dot = 0; dots = []; inputs = 0; symbols = []; regions = []; sections = [] }
+
+abbrev pub section_named : List PlacedSection → List ℕ → Option PlacedSection
+section_named sections name = find (λ (q : PlacedSection). bytes_eq q.name name) sections
+
+abbrev pub region_named : List MemoryRegion → List ℕ → Option MemoryRegion
+region_named regions name = find (λ (r : MemoryRegion). bytes_eq r.name name) regions
+
+abbrev pub symbol_named : List ScriptSymbol → List ℕ → Option ScriptSymbol
+symbol_named symbols name = find (λ (x : ScriptSymbol). bytes_eq x.name name) symbols
+
+-- the value that the script gives a symbol
+abbrev pub script_value : Layout → List ℕ → Option ℕ
+script_value s name = option_map (λ (x : ScriptSymbol). x.value) (symbol_named s.symbols name)
+
+abbrev pub section_numbers : Layout → List ℕ → Option SectionNumbers
+section_numbers s name =
+    option_map (λ (q : PlacedSection). record { start = q.start; load = q.load; size = q.size })
+        (section_named s.sections name)
+
+abbrev pub region_numbers : Layout → List ℕ → Option RegionNumbers
+region_numbers s name =
+    option_map (λ (r : MemoryRegion). record { origin = r.origin; extent = r.extent })
+        (region_named s.regions name)
+
+-- an expression of the layout may name what is complete where it stands
+abbrev pub scope_of : Layout → Scope
+scope_of s = record { symbol = script_value s; section = section_numbers s; region = region_numbers s }
+
+-- a fault of an expression, with its line
+abbrev pub fault_at : ℕ → ValueFault → Fault
+fault_at line (NotReady name) = fault.NotReady line name
+fault_at line NoValue = fault.NoValue line
+
+abbrev pub value_at : ℕ → Result ℕ ValueFault → Result ℕ Fault
+value_at line (Ok x) = Ok x
+value_at line (Err f) = Err (fault_at line f)
+
+-- the number of an expression on a line
+unfoldable pub number : Layout → ℕ → Expr → Result ℕ Fault
+number s line e = value_at line (value (scope_of s) s.dot e)
+
+-- a whole number that is to be an address, or an end
+abbrev pub address : ℕ → ℕ → Result ℕ Fault
+address line x = if is_address x then Ok x else Err (fault.PastAddressSpace line)
+
+-- `.` before a statement is kept
+abbrev pub noted : Layout → Layout
+noted s = record s { dots = s.dots ++ s.dot ∷ [] }
+
+-- a symbol is given a value
+abbrev pub with_symbol : Layout → List ℕ → ℕ → Layout
+with_symbol s name x = record s { symbols = s.symbols ++ record { name = name; value = x } ∷ [] }

@@ -1,0 +1,80 @@
+-- The link of a project: a function of the project alone. It goes in phases: names, gathering, layout, relocation,
+-- assertions. The faults are those of the first phase that has any; without one there are the image and the map.
+use Rattle.std.specs.Prelude.{ℕ, ◌^◌, List, [], ◌∷◌, ◌++◌, map, option_to_list, Result, Ok, Err, nat_lt, if◌then◌else◌}
+use Rattle.ldmodel.specs.Assertions.{assertion_faults}
+use Rattle.ldmodel.specs.Fault.{Fault, UndefinedEntry, Orphan, ImageTooLong}
+use Rattle.ldmodel.specs.Fault as fault
+use Rattle.ldmodel.specs.FaultText.{fault_text}
+use Rattle.ldmodel.specs.Image.{image}
+use Rattle.ldmodel.specs.Layout.{Layout}
+use Rattle.ldmodel.specs.Live.{orphans}
+use Rattle.ldmodel.specs.MapText.{map_text}
+use Rattle.ldmodel.specs.NameFaults.{DuplicateDefinition, duplicates, undefined_entry}
+use Rattle.ldmodel.specs.Names.{provided}
+use Rattle.ldmodel.specs.Overlaps.{overlaps}
+use Rattle.ldmodel.specs.Placement.{placement}
+use Rattle.ldmodel.specs.Project.{Project}
+use Rattle.ldmodel.specs.Relocations.{relocation_faults}
+use Rattle.ldmodel.specs.Rows.{rows}
+use Rattle.ldmodel.specs.SectionHeaders.{image_length}
+use Rattle.ldmodel.specs.Sections.{InputSection}
+
+-- status 0 with the image and the map; or status 1 with fault lines
+pub record Link : Type 0 where
+  pub status : ℕ
+  pub image : List ℕ
+  pub map : List ℕ
+  pub faults : List ℕ
+
+abbrev pub duplicate_fault : DuplicateDefinition → Fault
+duplicate_fault d = fault.DuplicateDefinition d.name d.object d.first
+
+-- names that are defined twice, then an entry symbol that nothing defines
+unfoldable pub name_faults : Project → List Fault
+name_faults p = map duplicate_fault (duplicates p) ++ map UndefinedEntry (option_to_list (undefined_entry p))
+
+-- live input sections that no input statement takes
+unfoldable pub gathering_faults : Project → List Fault
+gathering_faults p = map (λ (x : InputSection). Orphan x.object x.name) (orphans p)
+
+-- the longest image
+abbrev pub max_image_length : ℕ
+max_image_length = 2 ^ 28
+
+-- a layout whose image is not too long
+abbrev pub of_length : ℕ → Layout → Result Layout (List Fault)
+of_length length s = if nat_lt max_image_length length then Err (ImageTooLong length ∷ []) else Ok s
+
+-- a layout in which no output sections meet
+abbrev pub without_overlaps : Project → Layout → List Fault → Result Layout (List Fault)
+without_overlaps p s [] = of_length (image_length p s) s
+without_overlaps p s (f ∷ fs) = Err (f ∷ fs)
+
+abbrev pub laid_out : Project → Result Layout Fault → Result Layout (List Fault)
+laid_out p (Err f) = Err (f ∷ [])
+laid_out p (Ok s) = without_overlaps p s (overlaps s.sections)
+
+-- the layout, or its faults: the first of the placement; else the output sections that meet; else the length
+unfoldable pub layout : Project → Result Layout (List Fault)
+layout p = laid_out p (placement p.script (rows p) (provided p))
+
+abbrev pub faulty : List Fault → Link
+faulty faults = record { status = 1; image = []; map = []; faults = fault_text faults }
+
+abbrev pub good : Project → Layout → Link
+good p s = record { status = 0; image = image p s; map = map_text p s; faults = [] }
+
+-- what comes next, unless a phase has faults
+abbrev pub unless : List Fault → Link → Link
+unless [] next = next
+unless (f ∷ fs) next = faulty (f ∷ fs)
+
+abbrev pub relocated : Project → Layout → Link
+relocated p s = unless (relocation_faults p s) (unless (assertion_faults p s) (good p s))
+
+abbrev pub placed : Project → Result Layout (List Fault) → Link
+placed p (Err faults) = faulty faults
+placed p (Ok s) = relocated p s
+
+unfoldable pub link : Project → Link
+link p = unless (name_faults p) (unless (gathering_faults p) (placed p (layout p)))

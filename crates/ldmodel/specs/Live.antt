@@ -1,0 +1,74 @@
+-- Which input sections the program needs (GNU ld manual, "Command-line Options", `--gc-sections`; "Input Section and
+-- Garbage Collection"). Without garbage collection all that are not left out. With it, the section of the entry symbol,
+-- those that a statement under KEEP takes, and each one that a relocation of a needed one refers to.
+use Rattle.std.specs.Prelude.{ℕ, List, filter, Option, Some, None, Bool, false, ◌||◌, if◌then◌else◌, slice_get, option_and_then, is_none}
+use Rattle.std.specs.List.{list_any}
+use Rattle.std.specs.Option.{option_map_or}
+use Rattle.elfobj.specs.Symbols.{NamedSymbol}
+use Rattle.elfobj.specs.declared.relocation.Relocation.{Relocation}
+use Rattle.elfobj.specs.declared.symbol.SymbolPlace.{SymbolPlace}
+use Rattle.elfobj.specs.declared.symbol.SymbolPlace.TheVariants as place
+use Rattle.ldtree.specs.Numbering.{InputStatementAt}
+use Rattle.ldmodel.specs.Gathering.{taken_by, candidates}
+use Rattle.ldmodel.specs.Names.{Entry, Decision, Strong, Common, Weak, decision, entry_symbol, is_local}
+use Rattle.ldmodel.specs.Project.{NamedObject, Project}
+use Rattle.ldmodel.specs.Reach.{reached}
+use Rattle.ldmodel.specs.Sections.{InputSection, SectionId, is_same}
+use Rattle.ldmodel.specs.declared.sections.Part.TheVariants.{InTable, InCommon}
+
+-- a symbol of object number i, by its number
+abbrev pub symbol_at : Project → ℕ → ℕ → Option NamedSymbol
+symbol_at p i k = option_and_then (λ (o : NamedObject). slice_get o.object.symbols k) (slice_get p.objects i)
+
+-- the section that a symbol of object number i is defined in
+abbrev pub section_at : ℕ → SymbolPlace → Option SectionId
+section_at i (place.Section k) = Some (record { object = i; part = InTable k })
+section_at i _ = None
+
+abbrev pub section_of_entry : Project → Entry → Option SectionId
+section_of_entry p e =
+    option_and_then (λ (s : NamedSymbol). section_at e.object s.symbol.place) (symbol_at p e.object e.symbol)
+
+-- the section that a name is defined in; a number, as the script's, is in none
+abbrev pub section_of_decision : Project → Decision → Option SectionId
+section_of_decision p (Strong e) = section_of_entry p e
+section_of_decision p (Weak e) = section_of_entry p e
+section_of_decision p (Common owner size alignment) =
+    Some (record { object = owner.object; part = InCommon (record { 0 = owner.symbol }) })
+section_of_decision p _ = None
+
+-- the section that a symbol of object number i refers to: a local one its own, another that of its name, also where
+-- the object itself defines that
+abbrev pub section_of_symbol : Project → ℕ → NamedSymbol → Option SectionId
+section_of_symbol p i s =
+    if is_local s.symbol.binding then section_at i s.symbol.place else section_of_decision p (decision p s.name)
+
+-- the section of the target of a relocation of object number i, whatever the relocation does
+unfoldable pub target_section : Project → ℕ → Relocation → Option SectionId
+target_section p i r = option_and_then (section_of_symbol p i) (symbol_at p i r.symbol.0)
+
+-- the section of the entry symbol
+unfoldable pub entry_section : Project → Option SectionId
+entry_section p = option_and_then (λ name. section_of_decision p (decision p name)) (entry_symbol p)
+
+abbrev pub is_section : Option SectionId → InputSection → Bool
+is_section id s = option_map_or (is_same s.id) id false
+
+abbrev pub is_kept : Option InputStatementAt → Bool
+is_kept i = option_map_or (λ (i : InputStatementAt). i.input.keep) i false
+
+-- where garbage collection starts
+abbrev pub is_root : Project → InputSection → Bool
+is_root p s = is_section (entry_section p) s || is_kept (taken_by p s)
+
+-- a relocation of one has its target in the other
+abbrev pub refers_to : Project → InputSection → InputSection → Bool
+refers_to p a b = list_any (λ r. is_section (target_section p a.id.object r) b) a.relocations
+
+-- the live sections, in their order; on the way to one stands none that is left out
+unfoldable pub live : Project → List InputSection
+live p = if p.options.gc then reached (is_root p) (refers_to p) (candidates p) else candidates p
+
+-- the live sections that no statement takes: a fault each
+unfoldable pub orphans : Project → List InputSection
+orphans p = filter (λ s. is_none (taken_by p s)) (live p)

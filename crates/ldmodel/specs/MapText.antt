@@ -1,0 +1,41 @@
+-- The map: where everything stands, for people and tools (this project's own format). The entry point; the output
+-- sections in the order of the script, after each the input sections in it; and the symbols in byte order of their
+-- names.
+use Rattle.std.specs.Prelude.{ℕ, List, [], ◌∷◌, ◌++◌, flat_map, replicate, codes, if◌then◌else◌}
+use Rattle.ldmodel.specs.Layout.{Layout, PlacedPiece, PlacedSection}
+use Rattle.ldmodel.specs.Lines.{line_of, hex}
+use Rattle.ldmodel.specs.OutputSymbols.{OutputSymbol, output_symbols, owner}
+use Rattle.ldmodel.specs.Project.{Project}
+use Rattle.ldmodel.specs.SymbolValues.{SymbolValue, Number, NotDefined, NotInOutput, entry_point, number_or_0}
+
+-- `entry ADDRESS`
+abbrev pub entry_line : Project → Layout → List ℕ
+entry_line p s = line_of (codes "entry" ∷ hex (number_or_0 (entry_point p s)) ∷ [])
+
+-- `rwx`, with a hyphen for what a section may not be: it may always be read
+abbrev pub flag_letters : PlacedSection → List ℕ
+flag_letters q =
+    codes "r" ++ (if q.writable then codes "w" else codes "-") ++ (if q.executable then codes "x" else codes "-")
+
+-- `piece ADDRESS SIZE OBJECT SECTION`
+abbrev pub piece_line : PlacedPiece → List ℕ
+piece_line x = line_of (codes "piece" ∷ hex x.start ∷ hex x.piece.size ∷ x.piece.object ∷ x.piece.name ∷ [])
+
+-- `section NAME START LOAD SIZE FLAGS`, and its input sections
+abbrev pub section_lines : PlacedSection → List ℕ
+section_lines q =
+    line_of (codes "section" ∷ q.name ∷ hex q.start ∷ hex q.load ∷ hex q.size ∷ flag_letters q ∷ [])
+    ++ flat_map piece_line q.pieces
+
+-- 16 hyphens where the symbol's section is not in the output
+abbrev pub value_word : SymbolValue → List ℕ
+value_word (Number x) = hex x
+value_word NotDefined = replicate 16 45
+value_word NotInOutput = replicate 16 45
+
+-- `symbol VALUE NAME OWNER`
+abbrev pub symbol_line : Project → OutputSymbol → List ℕ
+symbol_line p x = line_of (codes "symbol" ∷ value_word x.value ∷ x.name ∷ owner p x.decision ∷ [])
+
+unfoldable pub map_text : Project → Layout → List ℕ
+map_text p s = entry_line p s ++ flat_map section_lines s.sections ++ flat_map (symbol_line p) (output_symbols p s)

@@ -1,0 +1,61 @@
+-- The faults that names give. Each strong definition of a name after the first is one; where the script assigns the
+-- name, that assignment is the first. An entry symbol that nothing defines is one.
+use Rattle.std.specs.Prelude.{ℕ, List, [], ◌∷◌, map, filter, Option, Some, None, Bool, false, not, ◌&&◌, ◌||◌, if◌then◌else◌, slice_get}
+use Rattle.std.specs.Option.{option_map_or}
+use Rattle.ldmodel.specs.ScriptNames.{is_assigned}
+use Rattle.ldmodel.specs.InputSections.{is_same_entry}
+use Rattle.ldmodel.specs.Names.{Decision, Undefined, Declaration, decision, declarations, entries, entry_symbol, is_strong}
+use Rattle.ldmodel.specs.Project.{NamedObject, Project}
+
+-- what defines a name: the script, or the object of this name
+pub data Definer : Type 0 where
+  ByScript : Definer
+  ByObject : (name : List ℕ) → Definer
+
+-- a name, the name of an object that defines it once more, and what defines it first
+pub record DuplicateDefinition : Type 0 where
+  pub name : List ℕ
+  pub object : List ℕ
+  pub first : Definer
+
+-- the name of object number i
+abbrev pub object_name : Project → ℕ → List ℕ
+object_name p i = option_map_or (λ (o : NamedObject). o.name) (slice_get p.objects i) []
+
+-- the strong definitions of a name
+abbrev pub strong_definitions : Project → List ℕ → List Declaration
+strong_definitions p name = filter is_strong (entries p.objects name)
+
+abbrev pub is_first_of : List Declaration → Declaration → Bool
+is_first_of [] d = false
+is_first_of (x ∷ xs) d = is_same_entry x.entry d.entry
+
+abbrev pub first_of : Project → List Declaration → Definer
+first_of p [] = ByScript
+first_of p (x ∷ xs) = ByObject (object_name p x.entry.object)
+
+-- a strong definition that isn't the first one of its name
+abbrev pub is_duplicate : Project → Declaration → Bool
+is_duplicate p d = is_strong d && (is_assigned p.script d.name || not (is_first_of (strong_definitions p d.name) d))
+
+abbrev pub first_definer : Project → List ℕ → Definer
+first_definer p name = if is_assigned p.script name then ByScript else first_of p (strong_definitions p name)
+
+abbrev pub duplicate : Project → Declaration → DuplicateDefinition
+duplicate p d = record { name = d.name; object = object_name p d.entry.object; first = first_definer p d.name }
+
+-- in object order, then symbol order
+unfoldable pub duplicates : Project → List DuplicateDefinition
+duplicates p = map (duplicate p) (filter (is_duplicate p) (declarations p.objects))
+
+abbrev pub if_undefined : List ℕ → Decision → Option (List ℕ)
+if_undefined name Undefined = Some name
+if_undefined name _ = None
+
+abbrev pub undefined_among : Project → Option (List ℕ) → Option (List ℕ)
+undefined_among p None = None
+undefined_among p (Some name) = if_undefined name (decision p name)
+
+-- the entry symbol, if it is undefined
+unfoldable pub undefined_entry : Project → Option (List ℕ)
+undefined_entry p = undefined_among p (entry_symbol p)

@@ -1,0 +1,164 @@
+-- What a name stands for, by all that declare it (gABI, "Symbol Table"; GNU ld manual, "Assigning Values to Symbols",
+-- "PROVIDE"). Of several definitions a global one goes before a common one, and that before a weak one; two global
+-- definitions of a name are a fault.
+use Rattle.std.specs.Prelude.{ℕ, ◌+◌, List, [], ◌∷◌, ◌++◌, length, map, filter, flat_map, Option, Bool, true, false, not, ◌&&◌, nat_lt, max, if◌then◌else◌, bytes_eq}
+use Rattle.std.specs.List.{list_any, enumerate_from}
+use Rattle.std.specs.Option.{option_or}
+use Rattle.elfobj.specs.Symbols.{NamedSymbol}
+use Rattle.elfobj.specs.declared.symbol.Binding.{Binding}
+use Rattle.elfobj.specs.declared.symbol.Binding.TheVariants.{Local, Global}
+use Rattle.elfobj.specs.declared.symbol.Binding.TheVariants as binding
+use Rattle.elfobj.specs.declared.symbol.Symbol.{Symbol}
+use Rattle.elfobj.specs.declared.symbol.SymbolPlace.{SymbolPlace}
+use Rattle.elfobj.specs.declared.symbol.SymbolPlace.TheVariants as place
+use Rattle.ldmodel.specs.Project.{NamedObject, Project}
+use Rattle.ldtree.specs.Numbering.{entry_of}
+use Rattle.ldmodel.specs.ScriptNames.{assigned_names, provided_names, is_assigned, is_provided}
+
+-- an entry of an object's symbol table: the place of the object in the project, from 0, and the number of the symbol
+pub record Entry : Type 0 where
+  pub object : ℕ
+  pub symbol : ℕ
+
+-- a global definition that isn't common; the script's assignment; a common block, with the entry that owns it, its size
+-- and its alignment; the first weak definition; the script's PROVIDE; nothing; two or more strong definitions
+pub data Decision : Type 0 where
+  Strong : (entry : Entry) → Decision
+  Script : Decision
+  Common : (owner : Entry) → (size alignment : ℕ) → Decision
+  Weak : (entry : Entry) → Decision
+  Provided : Decision
+  Undefined : Decision
+  Duplicate : Decision
+
+-- a symbol that isn't local, and where its entry stands
+pub record Declaration : Type 0 where
+  pub entry : Entry
+  pub name : List ℕ
+  pub symbol : Symbol
+
+abbrev pub is_local : Binding → Bool
+is_local Local = true
+is_local _ = false
+
+abbrev pub declaration : ℕ → ℕ × NamedSymbol → Declaration
+declaration object s = record { entry = record { object = object; symbol = s.0 }; name = s.1.name; symbol = s.1.symbol }
+
+-- the entries of a symbol table, that of the object of a number
+abbrev pub all_entries : ℕ × List NamedSymbol → List Declaration
+all_entries table = map (declaration table.0) (enumerate_from 0 table.1)
+
+-- those that aren't local, in the order of the table
+abbrev pub declarations_in : ℕ × List NamedSymbol → List Declaration
+declarations_in table = filter (λ (d : Declaration). not (is_local d.symbol.binding)) (all_entries table)
+
+-- those of all tables, in the order of the tables
+unfoldable pub declarations_of : List (ℕ × List NamedSymbol) → List Declaration
+declarations_of tables = flat_map declarations_in tables
+
+abbrev pub symbol_tables : List NamedObject → List (List NamedSymbol)
+symbol_tables objects = map (λ (o : NamedObject). o.object.symbols) objects
+
+-- all declarations, in object order and then symbol order
+abbrev pub declarations : List NamedObject → List Declaration
+declarations objects = declarations_of (enumerate_from 0 (symbol_tables objects))
+
+abbrev pub is_of_name : List ℕ → Declaration → Bool
+is_of_name name d = bytes_eq name d.name
+
+-- the declarations of a name
+abbrev pub entries : List NamedObject → List ℕ → List Declaration
+entries objects name = filter (is_of_name name) (declarations objects)
+
+-- defined in a section or as a number
+abbrev pub is_placed : SymbolPlace → Bool
+is_placed place.Absolute = true
+is_placed (place.Section k) = true
+is_placed place.Undefined = false
+is_placed place.Common = false
+
+abbrev pub is_global : Binding → Bool
+is_global Global = true
+is_global _ = false
+
+abbrev pub is_weak_binding : Binding → Bool
+is_weak_binding binding.Weak = true
+is_weak_binding _ = false
+
+abbrev pub is_common_place : SymbolPlace → Bool
+is_common_place place.Common = true
+is_common_place _ = false
+
+abbrev pub is_undefined_place : SymbolPlace → Bool
+is_undefined_place place.Undefined = true
+is_undefined_place _ = false
+
+-- a global definition that isn't common
+abbrev pub is_strong : Declaration → Bool
+is_strong d = is_global d.symbol.binding && is_placed d.symbol.place
+
+abbrev pub is_weak : Declaration → Bool
+is_weak d = is_weak_binding d.symbol.binding && is_placed d.symbol.place
+
+abbrev pub is_common : Declaration → Bool
+is_common d = is_common_place d.symbol.place
+
+abbrev pub is_undefined : Declaration → Bool
+is_undefined d = is_undefined_place d.symbol.place
+
+abbrev pub greatest : (Declaration → ℕ) → List Declaration → ℕ
+greatest of [] = 0
+greatest of (d ∷ ds) = max (of d) (greatest of ds)
+
+-- for a common symbol st_value is its alignment
+abbrev pub common_size : Declaration → ℕ
+common_size d = d.symbol.size
+
+abbrev pub common_alignment : Declaration → ℕ
+common_alignment d = d.symbol.value
+
+-- a case for the entry of the first of these, or else another
+abbrev pub for_first : List Declaration → (Entry → Decision) → Decision → Decision
+for_first [] here otherwise = otherwise
+for_first (d ∷ ds) here otherwise = here d.entry
+
+-- the first case that holds, where the script assigns the name, or provides it, and these declare it
+unfoldable pub decided : (is_assigned is_provided : Bool) → List Declaration → Decision
+decided is_assigned is_provided ds =
+    let commons : List Declaration = filter is_common ds in
+    if nat_lt 1 (length (filter is_strong ds) + (if is_assigned then 1 else 0)) then Duplicate else
+    for_first (filter is_strong ds) Strong (
+    if is_assigned then Script else
+    for_first commons (λ owner. Common owner (greatest common_size commons) (greatest common_alignment commons)) (
+    for_first (filter is_weak ds) Weak (
+    if is_provided && list_any is_undefined ds then Provided else
+    Undefined)))
+
+-- what a name stands for
+unfoldable pub decision : Project → List ℕ → Decision
+decision p name = decided (is_assigned p.script name) (is_provided p.script name) (entries p.objects name)
+
+abbrev pub is_provided_case : Decision → Bool
+is_provided_case Provided = true
+is_provided_case _ = false
+
+-- the names of the script's PROVIDEs that are in force, in the order of the text
+unfoldable pub provided : Project → List (List ℕ)
+provided p = filter (λ name. is_provided_case (decision p name)) (provided_names p.script)
+
+-- the entry symbol (GNU ld manual, "Setting the Entry Point"): that of the option, else that of ENTRY; without one the
+-- entry point is 0
+unfoldable pub entry_symbol : Project → Option (List ℕ)
+entry_symbol p = option_or p.options.entry (entry_of p.script)
+
+-- a list without what stands in it a second time
+abbrev pub distinct : List (List ℕ) → List (List ℕ)
+distinct [] = []
+distinct (x ∷ xs) = x ∷ filter (λ y. not (bytes_eq x y)) (distinct xs)
+
+abbrev pub names_in_objects : List NamedObject → List (List ℕ)
+names_in_objects objects = map (λ (d : Declaration). d.name) (declarations objects)
+
+-- the names that objects declare or that the script assigns or provides, each once
+unfoldable pub declared_names : Project → List (List ℕ)
+declared_names p = distinct (names_in_objects p.objects ++ assigned_names p.script ++ provided_names p.script)

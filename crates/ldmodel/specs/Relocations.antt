@@ -1,0 +1,95 @@
+-- Relocations of the link (gABI, "Relocation"; x86-64 psABI, "Relocation Types"): each site, its field or its fault.
+use Rattle.std.specs.Prelude.{ℕ, ◌+◌, List, [], ◌++◌, ◌∷◌, map, filter, flat_map, Option, Some, None, Result, Ok, Err}
+use Rattle.std.specs.Prelude.{Bool, true, false, slice_get}
+use Rattle.std.specs.List.{filter_map}
+use Rattle.std.specs.Option.{option_map_or}
+use Rattle.std.specs.Result.{result_err}
+use Rattle.elfobj.specs.Sections.{LinkedSection}
+use Rattle.elfobj.specs.Symbols.{NamedSymbol}
+use Rattle.elfobj.specs.declared.relocation.Relocation.{Relocation}
+use Rattle.elfobj.specs.declared.relocation.RelocationKind.{RelocationKind}
+use Rattle.elfobj.specs.declared.relocation.RelocationKind.TheVariants as kind
+use Rattle.ldfields.specs.Fields.{field_of}
+use Rattle.ldfields.specs.declared.field.Overflow.{Overflow}
+use Rattle.ldfields.specs.declared.patch.Patch.{Patch}
+use Rattle.ldmodel.specs.Fault.{Fault, UndefinedSymbol, TargetNotInOutput, EntryNotInOutput, FieldOverflow}
+use Rattle.ldmodel.specs.Layout.{Layout, PlacedPiece}
+use Rattle.ldmodel.specs.Project.{NamedObject, Project}
+use Rattle.ldmodel.specs.SymbolValues.{SymbolValue, Number, NotDefined, NotInOutput, placed_part, entry_point}
+use Rattle.ldmodel.specs.Targets.{referenced_value}
+use Rattle.ldmodel.specs.declared.sections.Part.TheVariants.{InTable}
+
+-- a relocation of an input section in the output: its object, its section, where that starts, and the entry
+pub record Site : Type 0 where
+  pub object : NamedObject
+  pub section : LinkedSection
+  pub start : ℕ
+  pub relocation : Relocation
+
+-- NONE is not evaluated
+abbrev pub is_evaluated : RelocationKind → Bool
+is_evaluated kind.None = false
+is_evaluated _ = true
+
+-- the sites of a section that starts at an address, in the order of its table
+abbrev pub sites_at : NamedObject → LinkedSection → ℕ → List Site
+sites_at o x start =
+    map (λ r. record { object = o; section = x; start = start; relocation = r })
+        (filter (λ (r : Relocation). is_evaluated r.kind) x.relocations)
+
+-- those of a section, none where it is not in the output
+abbrev pub sites_of_section : Layout → NamedObject → LinkedSection → List Site
+sites_of_section s o x =
+    option_map_or (λ (y : PlacedPiece). sites_at o x y.start) (placed_part s o.name (InTable x.number)) []
+
+-- all sites by their place: object by object, section by section, in the order of the tables
+unfoldable pub sites : Project → Layout → List Site
+sites p s = flat_map (λ (o : NamedObject). flat_map (sites_of_section s o) o.object.sections) p.objects
+
+-- the symbol that a site names
+abbrev pub site_symbol : Site → Option NamedSymbol
+site_symbol t = slice_get t.object.object.symbols t.relocation.symbol.0
+
+-- S
+abbrev pub site_value : Project → Layout → Site → SymbolValue
+site_value p s t = option_map_or (referenced_value p s t.object) (site_symbol t) NotDefined
+
+-- P: the address of the field
+abbrev pub site_place : Site → ℕ
+site_place t = t.start + t.relocation.offset
+
+abbrev pub site_name : Site → List ℕ
+site_name t = option_map_or (λ (x : NamedSymbol). x.name) (site_symbol t) []
+
+-- a field, or the fault of a value out of range
+abbrev pub field_or_overflow : Site → Result (List ℕ) Overflow → Result (List ℕ) Fault
+field_or_overflow t (Ok field) = Ok field
+field_or_overflow t (Err e) =
+    Err (FieldOverflow t.object.name t.section.name t.relocation.offset t.relocation.kind e.value)
+
+abbrev pub field_with : Site → SymbolValue → Result (List ℕ) Fault
+field_with t (Number x) = field_or_overflow t (field_of t.relocation x (site_place t))
+field_with t NotDefined = Err (UndefinedSymbol t.object.name t.section.name t.relocation.offset (site_name t))
+field_with t NotInOutput =
+    Err (TargetNotInOutput t.object.name t.section.name t.relocation.offset t.relocation.symbol.0)
+
+-- the bytes of a site's field, or its fault
+unfoldable pub site_field : Project → Layout → Site → Result (List ℕ) Fault
+site_field p s t = field_with t (site_value p s t)
+
+abbrev pub entry_fault : SymbolValue → List Fault
+entry_fault NotInOutput = EntryNotInOutput ∷ []
+entry_fault _ = []
+
+-- the faults of relocation: first that of the entry symbol, then those of the sites in their order
+unfoldable pub relocation_faults : Project → Layout → List Fault
+relocation_faults p s = entry_fault (entry_point p s) ++ filter_map (λ t. result_err (site_field p s t)) (sites p s)
+
+-- a field in its place in its section
+abbrev pub patch_of : Site → Result (List ℕ) Fault → Option Patch
+patch_of t (Ok field) = Some (record { offset = t.relocation.offset; field = field })
+patch_of t (Err f) = None
+
+-- the fields of a section that starts at an address
+abbrev pub fields_of : Project → Layout → NamedObject → LinkedSection → ℕ → List Patch
+fields_of p s o x start = filter_map (λ t. patch_of t (site_field p s t)) (sites_at o x start)

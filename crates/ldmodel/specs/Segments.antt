@@ -1,0 +1,123 @@
+-- Segments: what of the program is loaded as one, and where it stands in the file (gABI, "Program Header": the
+-- addresses and the file offset of a loaded segment are congruent modulo the page size; x86-64 psABI: pages of 4,096
+-- bytes). Which sections share a segment is this project's choice. Output sections of nonzero size stand in the order
+-- of the script.
+use Rattle.std.specs.Prelude.{ℕ, ◌+◌, ◌-◌, ◌*◌, ◌%◌, List, [], ◌∷◌, length, map, filter, find, flat_map, fold, Bool}
+use Rattle.std.specs.Prelude.{not, ◌&&◌, ◌==◌, nat_lt, nat_le, bytes_eq, if◌then◌else◌}
+use Rattle.std.specs.Option.{option_map_or}
+use Rattle.std.specs.Bool.{beq}
+use Rattle.ldmodel.specs.Layout.{PlacedSection}
+use Rattle.ldmodel.specs.SectionHead.{difference_of}
+
+-- the size of a page
+abbrev pub page_size : ℕ
+page_size = 4096
+
+abbrev pub end_of : PlacedSection → ℕ
+end_of q = q.start + q.size
+
+abbrev pub has_file_bytes : PlacedSection → Bool
+has_file_bytes q = not (q.load_size == 0)
+
+-- a section stands in the segment of the one before it: their flags are equal, and so are their distances from start to
+-- load address; it begins at the other's end or less than a page past it; and it isn't so that it alone has file bytes
+abbrev pub shares_segment : PlacedSection → PlacedSection → Bool
+shares_segment p q =
+    beq p.writable q.writable && beq p.executable q.executable
+    && (difference_of p == difference_of q)
+    && nat_le (end_of p) q.start
+    && nat_lt q.start (end_of p + page_size)
+    && not (has_file_bytes q && not (has_file_bytes p))
+
+-- the sections of a segment: the first, and the others
+pub record Group : Type 0 where
+  pub first : PlacedSection
+  pub others : List PlacedSection
+
+abbrev pub sections_in : Group → List PlacedSection
+sections_in g = g.first ∷ g.others
+
+-- a section before the groups of those after it
+abbrev pub with_front : PlacedSection → List Group → List Group
+with_front q [] = record { first = q; others = [] } ∷ []
+with_front q (g ∷ gs) =
+    if shares_segment q g.first then record { first = q; others = sections_in g } ∷ gs
+    else (record { first = q; others = [] } ∷ g ∷ gs)
+
+-- neighbours that share a segment stand in one group
+unfoldable pub groups : List PlacedSection → List Group
+groups [] = []
+groups (q ∷ qs) = with_front q (groups qs)
+
+-- a group, and where it begins in the file
+pub record Segment : Type 0 where
+  pub offset : ℕ
+  pub group : Group
+
+-- p_vaddr and p_paddr: the addresses of the first section
+abbrev pub start_of : Segment → ℕ
+start_of g = g.group.first.start
+
+abbrev pub load_of : Segment → ℕ
+load_of g = g.group.first.load
+
+-- the end of a section, counted from the segment's start
+abbrev pub reach : Group → PlacedSection → ℕ
+reach g q = end_of q - g.first.start
+
+-- p_filesz: up to the end of the last section with file bytes, 0 without one
+abbrev pub file_size : Group → ℕ
+file_size g = fold (λ n (q : PlacedSection). if has_file_bytes q then reach g q else n) 0 (sections_in g)
+
+-- p_memsz: up to the end of the last section
+abbrev pub memory_size : Group → ℕ
+memory_size g = fold (λ n (q : PlacedSection). reach g q) 0 (sections_in g)
+
+-- the least number not below an end that is congruent to an address modulo the page size
+abbrev pub congruent : ℕ → ℕ → ℕ
+congruent end at = end + (at % page_size + (page_size - end % page_size)) % page_size
+
+-- a segment that begins at the first place past an end
+abbrev pub begun : ℕ → Group → Segment
+begun end g = record { offset = congruent end g.first.start; group = g }
+
+-- the end of the last file bytes so far
+abbrev pub file_end : ℕ → Segment → ℕ
+file_end end g = if file_size g.group == 0 then end else g.offset + file_size g.group
+
+-- segments one after the other, the first past an end
+abbrev pub begun_from : ℕ → List Group → List Segment
+begun_from end [] = []
+begun_from end (g ∷ gs) = begun end g ∷ begun_from (file_end end (begun end g)) gs
+
+-- where the headers end: the ELF header's 64 bytes, and 56 for each program header
+abbrev pub headers_end : ℕ → ℕ
+headers_end count = 64 + 56 * count
+
+abbrev pub nonempty : List PlacedSection → List PlacedSection
+nonempty sections = filter (λ (q : PlacedSection). not (q.size == 0)) sections
+
+unfoldable pub segments : List PlacedSection → List Segment
+segments sections = let gs : List Group = groups (nonempty sections) in begun_from (headers_end (length gs)) gs
+
+-- where the loaded part of the file ends: at the end of the last file bytes, or of the headers
+abbrev pub loaded_end : List Segment → ℕ
+loaded_end gs = fold file_end (headers_end (length gs)) gs
+
+-- an output section, and where it begins in the file
+pub record SectionInFile : Type 0 where
+  pub offset : ℕ
+  pub section : PlacedSection
+
+abbrev pub in_segment : Segment → PlacedSection → SectionInFile
+in_segment g q = record { offset = g.offset + (q.start - start_of g); section = q }
+
+-- the output sections of nonzero size in the file
+abbrev pub in_file : List Segment → List SectionInFile
+in_file gs = flat_map (λ (g : Segment). map (in_segment g) (sections_in g.group)) gs
+
+-- where an output section begins in the file; 0 where its size is 0
+abbrev pub file_offset : List Segment → PlacedSection → ℕ
+file_offset gs q =
+    option_map_or (λ (x : SectionInFile). x.offset)
+        (find (λ (x : SectionInFile). bytes_eq x.section.name q.name) (in_file gs)) 0

@@ -1,0 +1,104 @@
+-- What two links have in common: the input sections that stayed where they were, with their bytes in the same place of
+-- the image, and the relocations in them whose targets have another value. An incremental link need not write the
+-- former again, but for the fields of the latter.
+use Rattle.std.specs.Prelude.{Option, Some, None, ℕ, ◌+◌, ◌-◌, List, map, filter, flat_map, Bool, ◌&&◌, not, bytes_eq}
+use Rattle.std.specs.Prelude.{if◌then◌else◌, [], ◌==◌}
+use Rattle.std.specs.List.{list_any}
+use Rattle.std.specs.Option.{option_map_or}
+use Rattle.elfobj.specs.Sections.{LinkedSection}
+use Rattle.ldmodel.specs.Image.{object_named, section_numbered}
+use Rattle.ldmodel.specs.Layout.{Layout, PlacedPiece, PlacedSection}
+use Rattle.ldmodel.specs.Project.{NamedObject, Project}
+use Rattle.ldmodel.specs.Relocations.{Site, sites_at, site_value}
+use Rattle.ldmodel.specs.Sections.{is_same_part}
+use Rattle.ldmodel.specs.Segments.{Segment, segments, file_offset, has_file_bytes}
+use Rattle.ldmodel.specs.SymbolValues.{number_or_0}
+use Rattle.ldmodel.specs.declared.sections.Part.{Part}
+use Rattle.ldmodel.specs.declared.sections.Part.TheVariants.{InTable, InCommon}
+
+-- bytes of a file
+pub record FileRange : Type 0 where
+  pub offset : ℕ
+  pub length : ℕ
+
+-- an input section in the output: its object's name and bytes, which part of the object it is, its address and size,
+-- and its bytes in the image
+pub record LinkedPiece : Type 0 where
+  pub object : List ℕ
+  pub text : List ℕ
+  pub part : Part
+  pub start : ℕ
+  pub size : ℕ
+  pub range : FileRange
+
+-- no bytes, where the output section has none in the file
+abbrev pub range_in : List Segment → PlacedSection → PlacedPiece → FileRange
+range_in gs q x =
+    if has_file_bytes q && not (x.piece.size == 0)
+    then record { offset = file_offset gs q + (x.start - q.start); length = x.piece.size }
+    else record { offset = 0; length = 0 }
+
+abbrev pub text_of : Project → List ℕ → List ℕ
+text_of p object = option_map_or (λ (o : NamedObject). o.object.text) (object_named p object) []
+
+abbrev pub linked_piece : Project → List Segment → PlacedSection → PlacedPiece → LinkedPiece
+linked_piece p gs q x = record {
+  object = x.piece.object;
+  text = text_of p x.piece.object;
+  part = x.piece.part;
+  start = x.start;
+  size = x.piece.size;
+  range = range_in gs q x;
+}
+
+-- the input sections in the output, in their order
+unfoldable pub linked_pieces : Project → Layout → List LinkedPiece
+linked_pieces p s = flat_map (λ (q : PlacedSection). map (linked_piece p (segments s.sections) q) q.pieces) s.sections
+
+abbrev pub same_range : FileRange → FileRange → Bool
+same_range a b = (a.offset == b.offset) && (a.length == b.length)
+
+abbrev pub same_piece : LinkedPiece → LinkedPiece → Bool
+same_piece x y =
+    bytes_eq x.object y.object && bytes_eq x.text y.text && is_same_part x.part y.part && (x.start == y.start)
+    && (x.size == y.size) && same_range x.range y.range
+
+-- a project and its layout, where its link has no fault
+pub record GoodLink : Type 0 where
+  pub project : Project
+  pub layout : Layout
+
+abbrev pub pieces_in : GoodLink → List LinkedPiece
+pieces_in l = linked_pieces l.project l.layout
+
+-- an input section of the new link that the old one has too
+abbrev pub has_stayed : GoodLink → LinkedPiece → Bool
+has_stayed old x = list_any (same_piece x) (pieces_in old)
+
+unfoldable pub stayed : GoodLink → GoodLink → List LinkedPiece
+stayed old new = filter (has_stayed old) (pieces_in new)
+
+abbrev pub sites_in_section : NamedObject → LinkedPiece → Option LinkedSection → List Site
+sites_in_section o x None = []
+sites_in_section o x (Some y) = sites_at o y x.start
+
+-- the sites of an input section; a common block has none
+abbrev pub sites_in_part : Project → LinkedPiece → Part → List Site
+sites_in_part p x (InTable k) =
+    option_map_or (λ (o : NamedObject). sites_in_section o x (section_numbered o k)) (object_named p x.object) []
+sites_in_part p x (InCommon k) = []
+
+abbrev pub sites_in : Project → LinkedPiece → List Site
+sites_in p x = sites_in_part p x x.part
+
+-- the value of a site's symbol in a link; a link without faults has one for each site
+abbrev pub value_in : GoodLink → Site → ℕ
+value_in l t = number_or_0 (site_value l.project l.layout t)
+
+-- the site's symbol has another value
+abbrev pub is_moved : GoodLink → GoodLink → Site → Bool
+is_moved old new t = not (value_in old t == value_in new t)
+
+-- the sites in input sections that stayed whose symbol has another value
+unfoldable pub retargeted : GoodLink → GoodLink → List Site
+retargeted old new = filter (is_moved old new) (flat_map (sites_in new.project) (stayed old new))

@@ -1,0 +1,45 @@
+-- What a relocation names (gABI, "Relocation", and "Symbol Table": a local symbol is seen in its own object alone; a
+-- symbol that isn't local stands for what its name stands for in the whole link, also where its own object defines it;
+-- an undefined weak one has the value 0).
+use Rattle.std.specs.Prelude.{ℕ, List, Bool, if◌then◌else◌}
+use Rattle.std.specs.Option.{option_map_or}
+use Rattle.elfobj.specs.Symbols.{NamedSymbol}
+use Rattle.elfobj.specs.declared.section.SectionIndex.{SectionIndex}
+use Rattle.elfobj.specs.declared.symbol.SymbolPlace.{SymbolPlace}
+use Rattle.elfobj.specs.declared.symbol.SymbolPlace.TheVariants as place
+use Rattle.ldmodel.specs.Layout.{Layout, PlacedPiece}
+use Rattle.ldmodel.specs.Names.{is_local, is_weak_binding}
+use Rattle.ldmodel.specs.Project.{NamedObject, Project}
+use Rattle.ldmodel.specs.SymbolValues.{SymbolValue, NotDefined, name_value, own_value, number_or_0, placed_part}
+use Rattle.ldmodel.specs.SymbolValues as symbol
+use Rattle.ldmodel.specs.declared.sections.Part.TheVariants.{InTable}
+
+-- 0 for an undefined name that a symbol names weakly
+abbrev pub or_weak : Bool → SymbolValue → SymbolValue
+or_weak weak NotDefined = if weak then symbol.Number 0 else NotDefined
+or_weak weak v = v
+
+-- S: the value of a symbol that a relocation of an object names
+unfoldable pub referenced_value : Project → Layout → NamedObject → NamedSymbol → SymbolValue
+referenced_value p s o x =
+    if is_local x.symbol.binding then own_value s o.name x.symbol.place x.symbol.value
+    else or_weak (is_weak_binding x.symbol.binding) (name_value p s x.name)
+
+-- what the value of a symbol turns on in the link: a name; where a section of an object starts; or nothing
+pub data Target : Type 0 where
+  Name : (name : List ℕ) → Target
+  Section : (object : List ℕ) → (section : SectionIndex) → Target
+  Fixed : Target
+
+abbrev pub local_target : List ℕ → SymbolPlace → Target
+local_target object (place.Section k) = Section object k
+local_target object _ = Fixed
+
+abbrev pub target_of : NamedObject → NamedSymbol → Target
+target_of o x = if is_local x.symbol.binding then local_target o.name x.symbol.place else Name x.name
+
+-- the number of a target: the value of a name, where an undefined one counts as 0, or the address of a section
+unfoldable pub target_number : Project → Layout → Target → ℕ
+target_number p s (Name name) = number_or_0 (name_value p s name)
+target_number p s (Section object k) = option_map_or (λ (x : PlacedPiece). x.start) (placed_part s object (InTable k)) 0
+target_number p s Fixed = 0

@@ -1,0 +1,42 @@
+//! Linkers: what holds a project and its link.
+
+ghost use Rattle.std.specs.Prelude.{◌≡◌, IfOk, IfErr, OnOk, OnErr, Ok};
+ghost use Rattle.ldbase.specs.Counts.{Counts};
+ghost use Rattle.ldmodel.specs.ThinProject.{Project};
+ghost use Rattle.ldmodel.specs.ThinEdits.{Change, After, RefusedAs};
+ghost use Rattle.ldmodel.specs.ThinEditMeaning.{change_of};
+ghost use Rattle.ldmodel.specs.ThinLink.{link, linked_of};
+
+use crate::edit::{Edit, EditRefusal, Linked};
+use ldbase::meter::Meter;
+
+/// What holds a project, changes it by edits and knows its link.
+pub trait Linker {
+    /// The project that the linker stands for.
+    ghost project: { Self → Project };
+
+    /// What an accepted edit may count: the project before it, the edit, the project after it, and the counts of the
+    /// meter before and after.
+    ghost bound: { Project → Change → Project → Counts → Counts → Type 0 };
+
+    /// Makes an edit, and links the next project.
+    ///
+    /// # Errors
+    ///
+    /// A refused edit changes nothing. Refusal 7 says that there was no memory, and never stands in place of 1, 2, 3
+    /// or 6.
+    fn apply(&mut self, edit: Edit<'_>, meter: &mut Meter) -> Result<Linked, EditRefusal>
+        ensures accepted { IfOk result (λ l. After (project self.old) (change_of edit.entry) (Ok (project self.new))) }
+        ensures linked { IfOk result (λ l. l ≡ linked_of (link (project self.new))) }
+        ensures counted { OnOk result (bound (project self.old) (change_of edit.entry) (project self.new) meter.old meter.new) }
+        ensures refused { IfErr result (λ r. RefusedAs (project self.old) (change_of edit.entry) r) }
+        ensures unchanged { OnErr result (project self.new ≡ project self.old) };
+
+    /// The image of the link; empty where it has faults.
+    fn image(&self) -> &[u8]
+        ensures { result.now ≡ (link (project self.now)).image };
+
+    /// 0 where the link has no faults, else 1.
+    fn status(&self) -> u8
+        ensures { result ≡ (link (project self.now)).status };
+}

@@ -1,0 +1,44 @@
+//! What layers hand one another of the names of symbols.
+
+/// The number under which an object is kept, from when it is added until it is removed.
+#[derive(Clone, Copy, Debug, PartialEq, Eq)]
+pub struct ObjectKey(pub usize);
+
+/// The number under which a name is kept while an object declares it.
+#[derive(Clone, Copy, Debug, PartialEq, Eq)]
+pub struct NameKey(pub usize);
+
+/// An entry of the symbol table of an object.
+#[derive(Clone, Copy, Debug, PartialEq, Eq)]
+pub struct Entry {
+    /// The key of the object.
+    pub key: usize,
+    /// The number of the entry in the symbol table, from 0.
+    pub symbol: u32,
+}
+
+/// What a name stands for.
+#[derive(Clone, Copy, Debug, PartialEq, Eq)]
+pub enum Case {
+    /// A global definition of an object that isn't common.
+    Strong(Entry),
+    /// An assignment in the script.
+    Script,
+    /// A common block.
+    Common {
+        /// The first common entry of the name; its object owns the block.
+        owner: Entry,
+        /// The greatest `st_size` of the common entries, in bytes: at most 2^31.
+        size: u64,
+        /// The greatest `st_value` of the common entries: a power of two.
+        align: u64,
+    },
+    /// The first weak definition.
+    Weak(Entry),
+    /// A PROVIDE in the script.
+    Provided,
+    /// Nothing.
+    Undefined,
+    /// Two or more strong definitions, the script's assignment among them.
+    Duplicate,
+}

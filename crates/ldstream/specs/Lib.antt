@@ -1,0 +1,4 @@
+pub mod Commands
+pub mod Answers
+pub mod Ran
+pub mod Stepped

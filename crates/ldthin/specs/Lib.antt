@@ -1,0 +1,12 @@
+pub mod Tree
+pub mod LinkedScript
+pub mod LinkedPart
+pub mod LinkedForm
+pub mod NamedObject
+pub mod NotYet
+pub mod Gathering
+pub mod Placement
+pub mod Segments
+pub mod Image
+pub mod Relocating
+pub mod OneSection

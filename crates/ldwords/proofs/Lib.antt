@@ -1,0 +1,6 @@
+mod Building
+mod Flag
+mod FaultOf
+mod Good
+mod GoodWalk
+mod Stated

@@ -1,0 +1,23 @@
+//! What the words of a command line ask for.
+
+use ldmodel::options::Options;
+
+/// A call of one of the two programs.
+#[derive(Debug, Drop)]
+pub enum Call {
+    /// `ldi session`: link again after each edit that standard input gives.
+    Session(Options),
+    /// `ldi link`: link once.
+    Link {
+        /// The file of the linker script.
+        script: String,
+        /// The file that the image is written to.
+        image: String,
+        /// The file that the map is written to, if any.
+        map: Option<String>,
+        /// The options of the link.
+        options: Options,
+        /// The files of the objects, in their order.
+        objects: Vec<String>,
+    },
+}

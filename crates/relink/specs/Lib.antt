@@ -1,0 +1,3 @@
+pub mod Applied
+pub mod Holds
+pub mod Unbounded

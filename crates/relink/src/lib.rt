@@ -1,0 +1,13 @@
+//! Linkers: `Plain` links from scratch after every edit.
+#![tactic(auto)]
+
+mod gather;
+mod image_writer;
+mod link;
+mod linked_part;
+mod linked_script;
+mod named;
+mod not_yet;
+mod place;
+pub mod plain;
+mod relocate;
