@@ -1,13 +1,13 @@
 -- The names of objects stay pairwise different.
-use Rattle.std.proofs.Common.{◌≡◌, ℕ, ◌+◌, ◌<◌, ◌≤◌, List, [], ◌∷◌, length, get_or, refl, ap, sym, ◌∙◌, subst, arith, Bool, true, false, not, ◌||◌, cond, set, Option, Some, None, Ok}
-use Rattle.std.specs.Prelude.{bytes_eq, nat_lt, nat_le}
+use Rattle.std.proofs.Common.{◌≡◌, ℕ, ◌+◌, ◌<◌, ◌≤◌, List, [], ◌∷◌, length, get_or, refl, ap, sym, ◌∙◌, subst, arith, Bool, true, false, cond, set, Option, Some, None, Ok}
+use Rattle.std.specs.Prelude.{bytes_eq}
 use Rattle.std.specs.List.{count_by, insert, remove, list_any}
 use Rattle.std.proofs.lemmas.Slice.Eq.{bytes_eq-Decides}
 use Rattle.std.proofs.lemmas.Bool.{or_parts}
 use Rattle.std.proofs.lemmas.List.Quantifiers.{position-Some}
 use Rattle.std.proofs.lemmas.List.Sums.{sum_by-cons, sum_by-insert, sum_by-remove, sum_by-set}
 use Rattle.ldmodel.specs.Project.{Project, NamedObject}
-use Rattle.ldmodel.specs.Edits.{Change, Add, Replace, Move, Remove, SetScript, Refusal, InUse, PastEnd, Limit, has_name, place_of, is_in_use, AreNamesDistinct, is_object_name, is_too_long, is_full, early_refusal, named, unnamed, replaced, moved, removed, with_objects, Accepts, After}
+use Rattle.ldmodel.specs.Edits.{Change, Add, Replace, Move, Remove, SetScript, Refusal, InUse, has_name, place_of, is_in_use, AreNamesDistinct, early_refusal, named, unnamed, replaced, moved, removed, After}
 
 -- 1 where the test passes
 abbrev one_if : Bool → ℕ

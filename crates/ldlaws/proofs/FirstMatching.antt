@@ -1,7 +1,7 @@
 -- The first input statement that takes a section.
-use Rattle.std.proofs.Common.{◌≡◌, ◌+◌, ◌↔◌, ◌⊎◌, ℕ, Bool, true, false, cond, not, ◌&&◌, List, [], ◌∷◌, ◌++◌, length, refl, ap, sym, ◌∙◌, subst, inl, inr, ⊎_elim, arith, Option, Some, None, MatchOption}
-use Rattle.std.specs.List.{Contains, Any, list_any, position, position_from}
-use Rattle.std.proofs.lemmas.Bool.{and_parts, and_from, cases_Bool, true≢false, false_from_ne_true}
+use Rattle.std.proofs.Common.{◌≡◌, ◌+◌, ◌↔◌, ℕ, Bool, true, false, cond, not, List, [], ◌∷◌, ◌++◌, length, refl, ap, sym, ◌∙◌, subst, ⊎_elim, arith, Option, Some, None, MatchOption}
+use Rattle.std.specs.List.{Contains, list_any, position, position_from}
+use Rattle.std.proofs.lemmas.Bool.{and_parts, and_from, true≢false, false_from_ne_true}
 use Rattle.std.proofs.lemmas.Iterator.Adapters.{position_from-zero}
 use Rattle.ldpattern.specs.Matching.{Matches, is_match}
 use Rattle.ldpattern.specs.Parts as pattern
@@ -11,7 +11,7 @@ use Rattle.ldtree.specs.declared.input.SectionWord.{SectionWord}
 use Rattle.ldtree.specs.declared.statement.Statement.{Statement}
 use Rattle.ldmodel.specs.FirstMatch.{first_match, is_any_match, word_takes, takes}
 use Rattle.ldlaws.specs.FirstMatches.{WordTakes, Takes, IsFirstMatch, IsUnmatched}
-use Rattle.ldlaws.proofs.Members.{Passes, none_in_nil, first_or_later, here, later, in_any, any_in}
+use Rattle.ldlaws.proofs.Members.{Passes, none_in_nil, first_or_later, in_any, any_in}
 
 -- the first member of which P holds, where those before it have the numbers from i on
 record IsFirst {X : Type 0} (P : X → Type 0) (xs : List X) (i n : ℕ) : Type 0 where

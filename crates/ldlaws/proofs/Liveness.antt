@@ -1,5 +1,5 @@
 -- Live sections.
-use Rattle.std.proofs.Common.{◌≡◌, ◌↔◌, Bool, true, false, List, [], ◌∷◌, filter, cond, refl, ap, sym, ◌∙◌, subst}
+use Rattle.std.proofs.Common.{◌≡◌, ◌↔◌, Bool, true, false, List, [], ◌∷◌, filter, cond, refl, ap, sym, subst}
 use Rattle.std.specs.List.{Contains}
 use Rattle.ldmodel.specs.Gathering.{candidates}
 use Rattle.ldmodel.specs.Live.{is_root, live, refers_to}

@@ -1,9 +1,13 @@
 -- A decision doesn't depend on the numbers of objects.
-use Rattle.std.proofs.Common.{◌≡◌, ◌+◌, ℕ, suc, Bool, true, false, cond, ◌&&◌, ◌||◌, List, [], ◌∷◌, length, map, filter, refl, ap, sym, ◌∙◌, nat_lt}
+use Rattle.std.proofs.Common.{◌≡◌, ◌+◌, ℕ, suc, Bool, true, false, cond, not, ◌&&◌, ◌||◌, List, [], ◌∷◌, ◌++◌, length, map, filter, refl, ap, sym, ◌∙◌, nat_lt}
 use Rattle.std.specs.Prelude.{max}
-use Rattle.std.specs.List.{list_any}
-use Rattle.ldmodel.specs.Names.{Entry, Declaration, Decision, Strong, Script, Common, Weak, Provided, Undefined, Duplicate, is_strong, is_common, is_weak, is_undefined, greatest, common_size, common_alignment, for_first, decided}
-use Rattle.ldlaws.specs.Renumbering.{renumbered, renumbered_decision}
+use Rattle.std.specs.List.{list_any, enumerate_from}
+use Rattle.std.proofs.lemmas.List.{map-append}
+use Rattle.elfobj.specs.Symbols.{NamedSymbol}
+use Rattle.ldmodel.specs.Names.{Declaration, Decision, Strong, Script, Common, Weak, Provided, Undefined, Duplicate, is_strong, is_common, is_weak, is_undefined, greatest, common_size, common_alignment, for_first, decided, is_local, declaration, all_entries, declarations_in, declarations_of, entries, is_of_name, decision}
+use Rattle.ldmodel.specs.Project.{Project, NamedObject}
+use Rattle.ldmodel.specs.ScriptNames.{is_assigned, is_provided}
+use Rattle.ldlaws.specs.Renumbering.{renumbered, renumbered_decision, renumbered_table, AreTablesOf}
 
 -- the cases, by what the kinds of declarations are
 abbrev case_of : (several assigned provided : Bool) → (strong common weak : List Declaration) → Decision
@@ -69,3 +73,34 @@ module _ (number : ℕ → ℕ) where
       ∙ ap (λ b. case_of (nat_lt 1 (length (filter is_strong ds) + cond assigned 1 0)) assigned (provided && b) (all (filter is_strong ds)) (all (filter is_common ds)) (all (filter is_weak ds))) undefined
       ∙ case_all (nat_lt 1 (length (filter is_strong ds) + cond assigned 1 0)) assigned (provided && list_any is_undefined ds) (filter is_strong ds) (filter is_common ds) (filter is_weak ds)
       ∙ ap (renumbered_decision number) (sym (as_cases assigned provided ds))
+
+  entry_renumbered : (key : ℕ) (symbols : List (ℕ × NamedSymbol)) → map (declaration (number key)) symbols ≡ all (map (declaration key) symbols)
+  entry_renumbered key [] = refl
+  entry_renumbered key (s ∷ ss) = ap (λ ds. declaration (number key) s ∷ ds) (entry_renumbered key ss)
+
+  table_renumbered : (table : ℕ × List NamedSymbol) → declarations_in (renumbered_table number table) ≡ all (declarations_in table)
+  table_renumbered table =
+      let visible : Declaration → Bool = λ d. not (is_local d.symbol.binding) in
+      ap (filter visible) (entry_renumbered table.0 (enumerate_from 0 table.1)) ∙ filter_all visible (λ d. refl) (all_entries table)
+
+  tables_renumbered : (tables : List (ℕ × List NamedSymbol)) → declarations_of (map (renumbered_table number) tables) ≡ all (declarations_of tables)
+  unfolding declarations_of
+  tables_renumbered [] = refl
+  tables_renumbered (t ∷ ts) =
+      ap (λ ds. ds ++ declarations_of (map (renumbered_table number) ts)) (table_renumbered t)
+      ∙ ap (λ ds. all (declarations_in t) ++ ds) (tables_renumbered ts)
+      ∙ sym (map-append (renumbered number) (declarations_in t) (declarations_of ts))
+
+  entries_renumbered : (objects : List NamedObject) (name : List ℕ) (tables : List (ℕ × List NamedSymbol)) → AreTablesOf number objects tables
+      → entries objects name ≡ all (filter (is_of_name name) (declarations_of tables))
+  entries_renumbered objects name tables h =
+      ap (λ ts. filter (is_of_name name) (declarations_of ts)) (sym h)
+      ∙ ap (filter (is_of_name name)) (tables_renumbered tables)
+      ∙ filter_all (is_of_name name) (λ d. refl) (declarations_of tables)
+
+  pub decision_all : (p : Project) (name : List ℕ) (tables : List (ℕ × List NamedSymbol)) → AreTablesOf number p.objects tables
+      → decision p name ≡ renumbered_decision number (decided (is_assigned p.script name) (is_provided p.script name) (filter (is_of_name name) (declarations_of tables)))
+  unfolding decision
+  decision_all p name tables h =
+      ap (decided (is_assigned p.script name) (is_provided p.script name)) (entries_renumbered p.objects name tables h)
+      ∙ decided_all (is_assigned p.script name) (is_provided p.script name) (filter (is_of_name name) (declarations_of tables))

@@ -1,6 +1,6 @@
 -- What a name stands for, by all that declare it (gABI, "Symbol Table"; GNU ld manual, "Assigning Values to Symbols",
--- "The PROVIDE command"). Of several definitions a global one goes before a common one, and that before a weak one; two
--- global definitions of a name are a fault.
+-- "PROVIDE"). Of several definitions a global one goes before a common one, and that before a weak one; two global
+-- definitions of a name are a fault.
 use Rattle.std.specs.Prelude.{ℕ, ◌+◌, List, [], ◌∷◌, ◌++◌, length, map, filter, flat_map, Option, Bool, true, false, not, ◌&&◌, nat_lt, max, if◌then◌else◌, bytes_eq}
 use Rattle.std.specs.List.{list_any, enumerate_from}
 use Rattle.std.specs.Option.{option_or}
@@ -44,17 +44,24 @@ is_local _ = false
 abbrev pub declaration : ℕ → ℕ × NamedSymbol → Declaration
 declaration object s = record { entry = record { object = object; symbol = s.0 }; name = s.1.name; symbol = s.1.symbol }
 
--- the entries of an object's symbol table
-abbrev pub all_entries : ℕ × NamedObject → List Declaration
-all_entries o = map (declaration o.0) (enumerate_from 0 o.1.object.symbols)
+-- the entries of a symbol table, that of the object of a number
+abbrev pub all_entries : ℕ × List NamedSymbol → List Declaration
+all_entries table = map (declaration table.0) (enumerate_from 0 table.1)
 
 -- those that aren't local, in the order of the table
-abbrev pub declarations_in : ℕ × NamedObject → List Declaration
-declarations_in o = filter (λ (d : Declaration). not (is_local d.symbol.binding)) (all_entries o)
+abbrev pub declarations_in : ℕ × List NamedSymbol → List Declaration
+declarations_in table = filter (λ (d : Declaration). not (is_local d.symbol.binding)) (all_entries table)
+
+-- those of all tables, in the order of the tables
+unfoldable pub declarations_of : List (ℕ × List NamedSymbol) → List Declaration
+declarations_of tables = flat_map declarations_in tables
+
+abbrev pub symbol_tables : List NamedObject → List (List NamedSymbol)
+symbol_tables objects = map (λ (o : NamedObject). o.object.symbols) objects
 
 -- all declarations, in object order and then symbol order
-unfoldable pub declarations : List NamedObject → List Declaration
-declarations objects = flat_map declarations_in (enumerate_from 0 objects)
+abbrev pub declarations : List NamedObject → List Declaration
+declarations objects = declarations_of (enumerate_from 0 (symbol_tables objects))
 
 abbrev pub is_of_name : List ℕ → Declaration → Bool
 is_of_name name d = bytes_eq name d.name
@@ -139,7 +146,8 @@ is_provided_case _ = false
 unfoldable pub provided : Project → List (List ℕ)
 provided p = filter (λ name. is_provided_case (decision p name)) (provided_names p.script)
 
--- the entry symbol: that of the option, else that of ENTRY; without one the entry point is 0
+-- the entry symbol (GNU ld manual, "Setting the Entry Point"): that of the option, else that of ENTRY; without one the
+-- entry point is 0
 unfoldable pub entry_symbol : Project → Option (List ℕ)
 entry_symbol p = option_or p.options.entry (entry_of p.script)
 

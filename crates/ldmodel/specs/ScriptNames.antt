@@ -1,5 +1,5 @@
--- The names that a script gives values to (GNU ld manual, "Assigning Values to Symbols", "The PROVIDE command"). No
--- name is given a value twice in one script.
+-- The names that a script gives values to (GNU ld manual, "Assigning Values to Symbols", "PROVIDE"). No name is given a
+-- value twice in one script.
 use Rattle.std.specs.Prelude.{ℕ, List, map, Option, Some, None, Bool, true, false}
 use Rattle.ldtree.specs.Given.{given_by}
 use Rattle.ldtree.specs.Numbering.{AssignmentAt, assignments, provides}

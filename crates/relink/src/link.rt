@@ -19,6 +19,7 @@ use crate::linked_script::LinkedScript;
 use crate::named::NamedObject;
 use crate::place::{place, segments};
 use crate::relocate::relocate;
+use elfobj::section::LinkedIndex;
 use ldfields::canvas::Canvas;
 use ldfields::patch::{Patch, in_order};
 use ldmodel::edit::Linked;
@@ -94,10 +95,10 @@ fn only_member(objects: &[NamedObject]) -> Option<Member<'_>>
     let section = *object.sections().first()?;
     Some(Member {
         object: named.name(),
-        name: object.section_name(0),
+        name: object.section_name(LinkedIndex(0)),
         section,
-        bytes: object.section_bytes(0),
-        relocations: object.relocations(0),
+        bytes: object.section_bytes(LinkedIndex(0)),
+        relocations: object.relocations(LinkedIndex(0)),
         symbols: object.symbols(),
     })
 }

@@ -5,7 +5,7 @@ ghost use Rattle.ldthin.specs.Tree.{matches, Exact};
 ghost use Rattle.ldthin.specs.LinkedScript.{form_tree};
 
 use ldmodel::memory::NoMemory;
-use ldtokens::name::ScriptName;
+use ldscript::tree::ScriptName;
 use std::alloc::Global;
 use std::marker::Model;
 
