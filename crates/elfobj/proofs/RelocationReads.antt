@@ -35,7 +35,7 @@ one_below : (bytes : List ℕ) (n m : ℕ) (h : SectionHeader) (o : Option Secti
 one_below bytes n m h None l = All-nil (λ (s : LinkedSection). s.number.0 < m)
 one_below bytes n m h (Some kind) l = All-cons (λ (s : LinkedSection). s.number.0 < m) _ [] l (All-nil (λ (s : LinkedSection). s.number.0 < m))
 
-all_below : (bytes : List ℕ) (n m : ℕ) → n ≤ m → All (λ (s : LinkedSection). s.number.0 < m) (sections_below bytes n)
+pub all_below : (bytes : List ℕ) (n m : ℕ) → n ≤ m → All (λ (s : LinkedSection). s.number.0 < m) (sections_below bytes n)
 all_below bytes zero m l = All-nil (λ (s : LinkedSection). s.number.0 < m)
 all_below bytes (suc n) m l =
     All-append (λ (s : LinkedSection). s.number.0 < m) _ _ (all_below bytes n m (omega arith)) (one_below bytes n m (header bytes n) (linked_kind (header bytes n)) (omega arith))

@@ -40,6 +40,11 @@ pub mod Assertions
 pub mod Link
 pub mod Stayed
 pub mod WorkBound
+pub mod Mentioned
+pub mod FaultCode
+pub mod Lent
+pub mod Runs
+pub mod FileLayout
 pub mod Commands
 pub mod Answers
 pub mod ThinProject

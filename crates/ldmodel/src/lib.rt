@@ -3,12 +3,16 @@
 #![tactic(auto)]
 
 pub mod edit;
+pub mod fault;
+pub mod laid;
 pub mod law;
 pub mod linker;
 pub mod names;
 pub mod options;
 pub mod rows;
+pub mod script_symbol;
 pub mod sections;
+pub mod segment;
+pub mod target;
 
-pub use ldbase::memory;
-pub use ldbase::meter;
+pub use ldbase::{memory, meter};

@@ -1,0 +1,87 @@
+-- What a placement lends and the segments that are made of it, as the code hands them on, and the layout that they
+-- stand for.
+use Rattle.std.specs.Prelude.{◌≡◌, ℕ, List, [], map, flat_map, Some, slice_get}
+use Rattle.std.specs.List.{enumerate_from, last_or, AllZip}
+use Rattle.std.specs.Option.{option_map_or}
+use Rattle.byteorder.specs.Endian.{little_bytes}
+use Rattle.ldtree.specs.Numbering.{CommonAt, common_commands}
+use Rattle.ldtree.specs.Widths.{byte_count}
+use Rattle.ldtree.specs.declared.common.Common.{Common}
+use Rattle.ldtree.specs.declared.common.Common.TheVariants as common
+use Rattle.ldtree.specs.declared.statement.Statement.{Statement}
+use Rattle.ldmodel.specs.Layout.{Layout, MemoryRegion, PlacedPiece, PlacedSection, PlacedData, ScriptSymbol}
+use Rattle.ldmodel.specs.Segments.{Segment, start_of, load_of, file_size, memory_size}
+use Rattle.ldmodel.specs.declared.laid.Laid.{Laid}
+use Rattle.ldmodel.specs.declared.laid.Placed.{Placed}
+use Rattle.ldmodel.specs.declared.laid.PlacedData as code_data
+use Rattle.ldmodel.specs.declared.laid.PlacedRegion.{PlacedRegion}
+use Rattle.ldmodel.specs.declared.script_symbol.ScriptSymbol as code_symbol
+use Rattle.ldmodel.specs.declared.segment.Segment as code
+
+-- the numbers of an output section
+abbrev pub placed_of : PlacedSection → Placed
+placed_of q = record {
+  start = q.start;
+  size = q.size;
+  load = q.load;
+  load_size = q.load_size;
+  alignment = q.alignment;
+  writable = q.writable;
+  executable = q.executable;
+}
+
+abbrev pub starts_of : PlacedSection → List ℕ
+starts_of q = map (λ (x : PlacedPiece). x.start) q.pieces
+
+-- a data command, with the number of its output section
+pub record NumberedData : Type 0 where
+  pub section : ℕ
+  pub start : ℕ
+  pub bytes : List ℕ
+
+abbrev pub numbered : ℕ × PlacedSection → List NumberedData
+numbered q = map (λ (d : PlacedData). record { section = q.0; start = d.start; bytes = d.bytes }) q.1.data_commands
+
+abbrev pub data_of : code_data.PlacedData → NumberedData
+data_of d = record { section = d.section.0; start = d.start; bytes = little_bytes (byte_count d.width) d.value }
+
+abbrev pub given_name : Common → List ℕ
+given_name (common.Assign a) = a.name
+given_name (common.Provide a) = a.name
+given_name (common.Assert a) = []
+
+-- the name that a command gives a value to
+abbrev pub name_given_by : List Statement → ℕ → List ℕ
+name_given_by script k =
+    option_map_or (λ (c : CommonAt). given_name c.command) (slice_get (common_commands script) k) []
+
+abbrev pub symbol_of : List Statement → code_symbol.ScriptSymbol → ScriptSymbol
+symbol_of script x = record { name = name_given_by script x.command.0; value = x.value }
+
+abbrev pub region_of : MemoryRegion → PlacedRegion
+region_of r = record { origin = r.origin; extent = r.extent }
+
+-- what is lent is the layout of a script
+pub record IsLaid (script : List Statement) (s : Layout) (laid : Laid) : Type 0 where
+  pub sections : laid.sections.now ≡ map placed_of s.sections
+  pub starts : laid.starts.now ≡ flat_map starts_of s.sections
+  pub data_commands : map data_of laid.data_commands.now ≡ flat_map numbered (enumerate_from 0 s.sections)
+  pub dots : laid.dots.now ≡ s.dots
+  pub symbols : map (symbol_of script) laid.symbols.now ≡ s.symbols
+  pub regions : laid.regions.now ≡ map region_of s.regions
+
+-- a segment of the code
+pub record IsSegment (sections : List PlacedSection) (g : Segment) (x : code.Segment) : Type 0 where
+  pub offset : x.offset ≡ g.offset
+  pub start : x.start ≡ start_of g
+  pub load : x.load ≡ load_of g
+  pub in_file : x.file_size ≡ file_size g.group
+  pub in_memory : x.memory_size ≡ memory_size g.group
+  pub writable : x.writable ≡ g.group.first.writable
+  pub executable : x.executable ≡ g.group.first.executable
+  pub first : slice_get sections x.first.0 ≡ Some g.group.first
+  pub last : slice_get sections x.last.0 ≡ last_or (Some g.group.first) g.group.others
+
+-- the segments of a link
+abbrev pub AreSegments : List PlacedSection → List Segment → List code.Segment → Type 0
+AreSegments sections gs xs = AllZip (IsSegment sections) gs xs

@@ -1,0 +1,71 @@
+-- The names that the expressions of a script mention, in the order of the text: symbols, output sections and regions.
+use Rattle.std.specs.Prelude.{ℕ, List, [], ◌∷◌, ◌++◌, flat_map, Option, Some, None}
+use Rattle.ldexpr.specs.Expressions.{Expr, Number, Dot, Name, Unary, Binary, Choice, OfRegion, OfSection, AlignDot}
+use Rattle.ldexpr.specs.Expressions.{Align}
+use Rattle.ldtree.specs.declared.common.Common.{Common}
+use Rattle.ldtree.specs.declared.common.Common.TheVariants as common
+use Rattle.ldtree.specs.declared.common.DotCommand.{DotCommand}
+use Rattle.ldtree.specs.declared.common.DotCommand.TheVariants.{Set, Add}
+use Rattle.ldtree.specs.declared.section.BodyCommand.{BodyCommand}
+use Rattle.ldtree.specs.declared.section.BodyCommand.TheVariants as body
+use Rattle.ldtree.specs.declared.section.BodyStatement.{BodyStatement}
+use Rattle.ldtree.specs.declared.section.OutputSection.{OutputSection}
+use Rattle.ldtree.specs.declared.statement.Command.{Command}
+use Rattle.ldtree.specs.declared.statement.Command.TheVariants as top
+use Rattle.ldtree.specs.declared.statement.Item.{Item}
+use Rattle.ldtree.specs.declared.statement.ItemCommand.{ItemCommand}
+use Rattle.ldtree.specs.declared.statement.ItemCommand.TheVariants as item
+use Rattle.ldtree.specs.declared.statement.Region.{Region}
+use Rattle.ldtree.specs.declared.statement.Statement.{Statement}
+use Rattle.ldmodel.specs.SectionHead.{given_load}
+
+abbrev pub in_expression : Expr → List (List ℕ)
+in_expression (Number n) = []
+in_expression Dot = []
+in_expression (Name n) = n ∷ []
+in_expression (Unary o a) = in_expression a
+in_expression (Binary o a b) = in_expression a ++ in_expression b
+in_expression (Choice t a b) = in_expression t ++ in_expression a ++ in_expression b
+in_expression (OfRegion q n) = n ∷ []
+in_expression (OfSection q n) = n ∷ []
+in_expression (AlignDot a) = in_expression a
+in_expression (Align a b) = in_expression a ++ in_expression b
+
+abbrev pub in_optional : Option Expr → List (List ℕ)
+in_optional None = []
+in_optional (Some e) = in_expression e
+
+abbrev pub in_common : Common → List (List ℕ)
+in_common (common.Assign a) = in_expression a.value
+in_common (common.Provide a) = in_expression a.value
+in_common (common.Assert a) = in_expression a.condition
+
+abbrev pub in_dot_command : DotCommand → List (List ℕ)
+in_dot_command (Set e) = in_expression e
+in_dot_command (Add e) = in_expression e
+
+abbrev pub in_body_command : BodyCommand → List (List ℕ)
+in_body_command (body.Dot c) = in_dot_command c
+in_body_command (body.Common c) = in_common c
+in_body_command (body.Data w e) = in_expression e
+in_body_command (body.Input i) = []
+
+abbrev pub in_section : OutputSection → List (List ℕ)
+in_section o =
+    in_optional o.address ++ in_optional (given_load o.load) ++ in_optional o.alignment
+    ++ flat_map (λ (s : BodyStatement). in_body_command s.command) o.body
+
+abbrev pub in_item : ItemCommand → List (List ℕ)
+in_item (item.Dot c) = in_dot_command c
+in_item (item.Common c) = in_common c
+in_item (item.Section o) = in_section o
+in_item (item.Discard inputs) = []
+
+abbrev pub in_command : Command → List (List ℕ)
+in_command (top.Entry n) = []
+in_command (top.Memory regions) = flat_map (λ (r : Region). in_expression r.origin ++ in_expression r.extent) regions
+in_command (top.Sections items) = flat_map (λ (i : Item). in_item i.command) items
+in_command (top.Common c) = in_common c
+
+unfoldable pub mentioned_names : List Statement → List (List ℕ)
+mentioned_names script = flat_map (λ (s : Statement). in_command s.command) script

@@ -1,0 +1,115 @@
+//! The faults of a link, as layers hand them on: small values without names, which stand for those of the definitions
+//! (`specs/FaultCode.antt`). A name is found by the number or key that a fault has in its place.
+
+use crate::laid::{OutputIndex, RegionIndex};
+use crate::names::{Entry, ObjectKey};
+use crate::sections::SectionKey;
+use elfobj::section::SectionIndex;
+
+/// The number of a name that the script's expressions mention: its place among all that they mention, in the order of
+/// the text, from 0.
+#[derive(Clone, Copy, Debug, PartialEq, Eq)]
+pub struct MentionIndex(pub u32);
+
+/// The number of an `ASSERT`: its place among those of the script, from 0.
+#[derive(Clone, Copy, Debug, PartialEq, Eq)]
+pub struct AssertionIndex(pub u32);
+
+/// What defines a name first.
+#[derive(Clone, Copy, Debug, PartialEq, Eq)]
+pub enum Definer {
+    /// An assignment in the script.
+    Script,
+    /// A global definition in this object.
+    Object(ObjectKey),
+}
+
+/// Where a relocation stands.
+#[derive(Clone, Copy, Debug, PartialEq, Eq)]
+pub struct SiteKey {
+    /// The object.
+    pub object: ObjectKey,
+    /// The section that the relocation changes.
+    pub section: SectionIndex,
+    /// The number of its entry among the relocations of the section, in the order of the table, from 0.
+    pub entry: u32,
+}
+
+/// What is wrong with a link. Lines are those of the script, from 1.
+#[derive(Clone, Copy, Debug, PartialEq, Eq)]
+pub enum Fault {
+    /// `F1 NAME OBJECT FIRST`: an object defines a name once more.
+    DuplicateDefinition {
+        /// The definition that is not the first.
+        entry: Entry,
+        /// What defines the name first.
+        first: Definer,
+    },
+    /// `F2 NAME`: nothing defines the entry symbol.
+    UndefinedEntry,
+    /// `F3 OBJECT SECTION`: no input statement takes this input section.
+    Orphan(SectionKey),
+    /// `F4 LINE NAME`: an expression names a symbol or an output section that is not complete there.
+    NotReady {
+        /// The line of the statement.
+        line: u32,
+        /// The name.
+        name: MentionIndex,
+    },
+    /// `F5 LINE`: a division by 0, or an `ALIGN` to what is no power of two.
+    NoValue {
+        /// The line of the statement.
+        line: u32,
+    },
+    /// `F6 LINE`: `.` goes back inside an output section.
+    MovedBack {
+        /// The line of the statement.
+        line: u32,
+    },
+    /// `F7 SECTION REGION`: an output section does not lie in its memory region.
+    RegionFull {
+        /// The output section.
+        section: OutputIndex,
+        /// The region.
+        region: RegionIndex,
+    },
+    /// `F8 LINE`: an address, an end or `.` is 2^64 or more.
+    PastAddressSpace {
+        /// The line of the statement.
+        line: u32,
+    },
+    /// `F9 SECTION EARLIER`: two output sections share an address.
+    AddressesMeet {
+        /// The later one.
+        section: OutputIndex,
+        /// The first one that it meets.
+        earlier: OutputIndex,
+    },
+    /// `F10 SECTION EARLIER`: two output sections share a load address.
+    LoadAddressesMeet {
+        /// The later one.
+        section: OutputIndex,
+        /// The first one that it meets.
+        earlier: OutputIndex,
+    },
+    /// `F11 LENGTH`: the image would have over 2^28 bytes.
+    ImageTooLong {
+        /// How many; padding can carry it past 2^64.
+        length: u128,
+    },
+    /// `F12 OBJECT SECTION OFFSET NAME`: nothing defines the name that a relocation names.
+    UndefinedSymbol(SiteKey),
+    /// `F13 OBJECT SECTION OFFSET INDEX`: the section of the symbol that a relocation names is not in the output.
+    TargetNotInOutput(SiteKey),
+    /// `F13 entry`: the section of the entry symbol is not in the output.
+    EntryNotInOutput,
+    /// `F14 OBJECT SECTION OFFSET TYPE VALUE`: the value of a relocation is out of the range of its kind.
+    FieldOverflow {
+        /// The relocation.
+        site: SiteKey,
+        /// Its value, modulo 2^64.
+        value: u64,
+    },
+    /// `F15 LINE MESSAGE`: the condition of an `ASSERT` does not hold.
+    AssertionFailed(AssertionIndex),
+}

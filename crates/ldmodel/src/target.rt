@@ -1,0 +1,16 @@
+//! What the value of a relocation's symbol turns on.
+
+use crate::names::{NameKey, ObjectKey};
+use elfobj::section::SectionIndex;
+
+/// What in a link the value of a symbol that a relocation names turns on. While its number stays the same, so do the
+/// fields of all relocations against it.
+#[derive(Clone, Copy, Debug, PartialEq, Eq)]
+pub enum Target {
+    /// A name: its number is its value, 0 where nothing defines it.
+    Name(NameKey),
+    /// A section of an object, for a local symbol in it: its number is where the section starts.
+    Section(ObjectKey, SectionIndex),
+    /// Nothing: a local absolute symbol, or symbol number 0.
+    Fixed,
+}
