@@ -1,14 +1,14 @@
 -- The projects of the examples.
-use Rattle.std.specs.Prelude.{ℕ, Bool, true, false, List, [], ◌∷◌, ◌++◌, Option, Some, None, codes}
+use Rattle.std.specs.Prelude.{ℕ, true, List, [], ◌∷◌, codes}
 use Rattle.elfobj.specs.Symbols.{NamedSymbol}
-use Rattle.elfobj.specs.declared.symbol.Binding.TheVariants.{Global, Weak}
+use Rattle.elfobj.specs.declared.symbol.Binding.TheVariants.{Global}
 use Rattle.ldtree.specs.declared.input.Input.{Input}
 use Rattle.ldtree.specs.declared.input.SectionWord.{SectionWord}
 use Rattle.ldtree.specs.declared.statement.Command.TheVariants.{Entry}
 use Rattle.ldtree.specs.declared.statement.Statement.{Statement}
-use Rattle.ldmodel.specs.Options.{LinkOptions, default_options}
+use Rattle.ldmodel.specs.Options.{default_options}
 use Rattle.ldmodel.specs.Project.{NamedObject, Project}
-use Rattle.ldlaws.specs.Examples.{object, section, reference, defined, undefined, common, any, exactly, word, from_any, output, discard, command, sections, provide}
+use Rattle.ldlaws.specs.Examples.{object, section, reference, defined, undefined, common, exactly, word, from_any, output, discard, command, sections, provide}
 
 abbrev pub project : List NamedObject → List Statement → Project
 project objects script = record { objects = objects; script = script; options = default_options }

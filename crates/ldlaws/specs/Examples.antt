@@ -1,5 +1,5 @@
 -- Small projects, to show what the definitions say of them: parts of objects and of scripts, as the readers give them.
-use Rattle.std.specs.Prelude.{ℕ, Bool, false, List, [], ◌∷◌, map, None, codes, pos}
+use Rattle.std.specs.Prelude.{ℕ, false, List, [], ◌∷◌, map, None, pos}
 use Rattle.elfobj.specs.Sections.{LinkedSection}
 use Rattle.elfobj.specs.Symbols.{NamedSymbol, null_symbol}
 use Rattle.elfobj.specs.declared.relocation.Relocation.{Relocation}
