@@ -2,5 +2,6 @@
 #![tactic(auto)]
 
 pub mod edits;
+pub mod examples;
 pub mod gathering;
 pub mod names;
