@@ -3,4 +3,6 @@
 
 pub mod edits;
 pub mod gathering;
+pub mod layout;
 pub mod names;
+pub mod segments;
