@@ -4,4 +4,6 @@
 pub mod edits;
 pub mod examples;
 pub mod gathering;
+pub mod layout;
 pub mod names;
+pub mod segments;
