@@ -4,4 +4,5 @@
 pub mod edits;
 pub mod examples;
 pub mod gathering;
+pub mod links;
 pub mod names;
