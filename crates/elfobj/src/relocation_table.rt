@@ -164,6 +164,9 @@ fn entry_refusal(bytes: &[u8], tables: &[SectionTable], symbols: usize) -> Optio
     requires symbols { symbols ≡ length (symbols_of bytes.now) }
     ensures { result ≡ find (holds bytes.now) entry_refusals }
 {
+    if !is_any_refused(bytes, tables, EntryFault::Any, symbols) {
+        return None;
+    }
     if is_any_refused(bytes, tables, EntryFault::Symbol, symbols) {
         return Some(ObjectRefusal::RelocationSection);
     }

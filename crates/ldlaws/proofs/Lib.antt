@@ -6,3 +6,7 @@ pub mod FirstMatching
 pub mod Renumbered
 pub mod DistinctNames
 pub mod Outcomes
+pub mod Running
+pub mod Placements
+pub mod Grouped
+pub mod Segmented

@@ -46,14 +46,18 @@ both_but_b =
     let excluding : SectionWord = record { pattern = exactly (codes ".a"); excluded = exactly (codes "b.o") ∷ [] } in
     from_any (excluding ∷ word (exactly (codes ".b")) ∷ [])
 
+-- an object that defines a global name in its one section
+abbrev pub defines : (object section name : List ℕ) → NamedObject
+defines o s name = object o (section 1 s 1 [] ∷ []) (defined Global 1 name ∷ [])
+
 -- `a.o` defines `_start` and refers to `f` and to another name; `b.o` defines `f`, `c.o` defines `g`; with garbage
 -- collection from `_start` on
 abbrev pub collected : List ℕ → List Input → Project
 collected name inputs =
     let text : LinkedSection = section 1 (codes ".text") 1 (reference 2 ∷ []) in
     let a : NamedObject = object (codes "a.o") (text ∷ []) (defined Global 1 (codes "_start") ∷ undefined name ∷ []) in
-    let b : NamedObject = object (codes "b.o") (section 1 (codes ".text.f") 1 [] ∷ []) (defined Global 1 (codes "f") ∷ []) in
-    let c : NamedObject = object (codes "c.o") (section 1 (codes ".text.g") 1 [] ∷ []) (defined Global 1 (codes "g") ∷ []) in
+    let b : NamedObject = defines (codes "b.o") (codes ".text.f") (codes "f") in
+    let c : NamedObject = defines (codes "c.o") (codes ".text.g") (codes "g") in
     record {
       objects = a ∷ b ∷ c ∷ [];
       script = command (Entry (codes "_start")) ∷ sections (output (codes ".text") inputs ∷ []) ∷ [];
@@ -90,7 +94,8 @@ abbrev pub calls_f : NamedObject
 calls_f =
     let call : Relocation = record { offset = 1; symbol = record { 0 = 1 }; kind = Plt32; addend = negsuc 3 } in
     let bytes : List ℕ = 0xE8 ∷ 0 ∷ 0 ∷ 0 ∷ 0 ∷ [] in
-    let text : LinkedSection = record (section 1 (codes ".text") 1 (call ∷ [])) { flags = 6; size = 5; bytes = bytes } in
+    let one : LinkedSection = section 1 (codes ".text") 1 (call ∷ []) in
+    let text : LinkedSection = record one { flags = 6; size = 5; bytes = bytes } in
     object (codes "a.o") (text ∷ []) (undefined (codes "f") ∷ [])
 
 abbrev pub returns : NamedObject

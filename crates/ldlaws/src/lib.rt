@@ -4,5 +4,7 @@
 pub mod edits;
 pub mod examples;
 pub mod gathering;
+pub mod layout;
 pub mod links;
 pub mod names;
+pub mod segments;

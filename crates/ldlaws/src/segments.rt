@@ -1,0 +1,14 @@
+//! Laws of segments.
+
+ghost use Rattle.std.specs.Prelude.{◌≡◌, List};
+ghost use Rattle.ldmodel.specs.FileLayout.{IsFileLayout};
+ghost use Rattle.ldmodel.specs.Layout.{PlacedSection};
+ghost use Rattle.ldmodel.specs.Segments.{Segment, segments};
+
+/// The segments of output sections are their one file layout: two neighbours of nonzero size share a segment exactly
+/// where the test holds, and each segment begins at the least place past the file bytes before it that is congruent to
+/// its address modulo the page size.
+pub fn segments_by_neighbours()
+    ensures is { (sections : List PlacedSection) → IsFileLayout sections (segments sections) }
+    ensures one { (sections : List PlacedSection) (gs : List Segment) → IsFileLayout sections gs → gs ≡ segments sections }
+{}
