@@ -15,5 +15,4 @@ pub mod sections;
 pub mod segment;
 pub mod target;
 
-pub use ldbase::memory;
-pub use ldbase::meter;
+pub use ldbase::{memory, meter};
