@@ -10,6 +10,7 @@ pub mod Found
 pub mod SymbolTables
 pub mod RelocationTables
 pub mod Runs
+pub mod Ascending
 pub mod RelocationReads
 pub mod SymbolLimits
 pub mod RelocationLimits

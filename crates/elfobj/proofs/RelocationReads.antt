@@ -1,8 +1,8 @@
-use Rattle.std.proofs.Common.{◌≡◌, ℕ, zero, suc, ◌+◌, ◌*◌, ◌<◌, ◌≤◌, List, [], ◌∷◌, ◌++◌, Bool, true, false, ◌||◌, ◌⊎◌, get_or, length, map, take, refl, ap, sym, ◌∙◌, subst, arith, inl, inr, ⊎_elim, find, Option, Some, None}
+use Rattle.std.proofs.Common.{◌≡◌, ℕ, zero, suc, ◌+◌, ◌-◌, ◌*◌, ◌<◌, ◌≤◌, List, [], ◌∷◌, ◌++◌, Bool, true, false, ◌||◌, ◌⊎◌, get_or, length, map, take, refl, ap, sym, ◌∙◌, subst, arith, inl, inr, ⊎_elim, find, Option, Some, None}
 use Rattle.std.specs.List.{All, list_any}
 use Rattle.std.specs.Option.{IfSome, option_or, option_to_list}
-use Rattle.std.proofs.lemmas.Bool.{and_parts, cases_lt, or_left, or_parts, or_right}
-use Rattle.std.proofs.lemmas.List.{map-append, map_push, take_all, take_more}
+use Rattle.std.proofs.lemmas.Bool.{and_parts, both_ways, cases_lt, false_from_ne_true, or_from, or_left, or_parts, or_right}
+use Rattle.std.proofs.lemmas.List.{get_or-take, length-take-le, map-append, map_push, take_all, take_more}
 use Rattle.std.proofs.lemmas.List.Elements.{All-append, All-cons, All-get_or, All-map, All-nil, All-push}
 use Rattle.std.proofs.lemmas.List.Folds.{find-append, list_any-append}
 use Rattle.elfobj.specs.ElfHeader.{e_shnum}
@@ -12,18 +12,18 @@ use Rattle.elfobj.specs.Places.{AreRelocated, relocations_in}
 use Rattle.elfobj.specs.Refusal.{entry_refusals, holds, is_out_of_bounds, relocation_refusals}
 use Rattle.elfobj.specs.RelocationEntries.{relocation_entry_at, relocation_entries_below}
 use Rattle.elfobj.specs.Relocations.{changes, entries_in, relocation_entries, relocation_of, relocation_section, relocations_at, share_bytes}
-use Rattle.elfobj.specs.Runs.{AreTablesOf, IsTableOf, has_refused_entry, is_refused_for, table_entries}
+use Rattle.elfobj.specs.Runs.{AreAlike, AreTablesOf, IsTableOf, has_refused_entry, is_refused_for, table_entries}
 use Rattle.elfobj.specs.SectionHeaders.{header, headers}
 use Rattle.elfobj.specs.Sections.{LinkedSection, linked_section, section_of, sections_below, sections_of}
 use Rattle.elfobj.specs.Symbols.{symbols_of}
-use Rattle.elfobj.specs.Tables.{has_field_outside, has_overlap, has_shared_bytes, has_strange_symbol, has_strange_type, has_wrong_bounds, has_wrong_relocation_section, has_wrong_type, is_outside, is_wrong_below, linked_sections}
+use Rattle.elfobj.specs.Tables.{has_field_outside, has_overlap, has_shared_bytes, has_strange_symbol, has_strange_type, has_wrong_bounds, has_wrong_relocation_section, has_wrong_type, is_outside, is_strange_type, is_wrong_below, linked_sections, names_no_symbol}
 use Rattle.elfobj.specs.declared.place.Span.{Span}
 use Rattle.elfobj.specs.declared.refusal.ObjectRefusal.{ObjectRefusal}
 use Rattle.elfobj.specs.declared.refusal.ObjectRefusal.TheVariants.{FieldOverlap, FieldBounds, NoMemory, RelocationSection, RelocationType}
 use Rattle.elfobj.specs.declared.relocation.Relocation.{Relocation}
 use Rattle.elfobj.specs.declared.relocation_entry.RelocationEntry.{RelocationEntry}
 use Rattle.elfobj.specs.declared.relocation_fault.EntryFault.{EntryFault}
-use Rattle.elfobj.specs.declared.relocation_fault.EntryFault.TheVariants.{Symbol, Kind, Bounds}
+use Rattle.elfobj.specs.declared.relocation_fault.EntryFault.TheVariants.{Any, Symbol, Kind, Bounds}
 use Rattle.elfobj.specs.declared.relocation_run.SectionTable.{SectionTable}
 use Rattle.elfobj.specs.declared.section.Section.{Section}
 use Rattle.elfobj.specs.declared.section.SectionKind.{SectionKind}
@@ -35,7 +35,7 @@ one_below : (bytes : List ℕ) (n m : ℕ) (h : SectionHeader) (o : Option Secti
 one_below bytes n m h None l = All-nil (λ (s : LinkedSection). s.number.0 < m)
 one_below bytes n m h (Some kind) l = All-cons (λ (s : LinkedSection). s.number.0 < m) _ [] l (All-nil (λ (s : LinkedSection). s.number.0 < m))
 
-all_below : (bytes : List ℕ) (n m : ℕ) → n ≤ m → All (λ (s : LinkedSection). s.number.0 < m) (sections_below bytes n)
+pub all_below : (bytes : List ℕ) (n m : ℕ) → n ≤ m → All (λ (s : LinkedSection). s.number.0 < m) (sections_below bytes n)
 all_below bytes zero m l = All-nil (λ (s : LinkedSection). s.number.0 < m)
 all_below bytes (suc n) m l =
     All-append (λ (s : LinkedSection). s.number.0 < m) _ _ (all_below bytes n m (omega arith)) (one_below bytes n m (header bytes n) (linked_kind (header bytes n)) (omega arith))
@@ -182,3 +182,59 @@ pub sections_same : (bytes : List ℕ) (ss : List Section) (ts ts' : List Sectio
     → AreRelocated (map (λ (s : Section). relocations_at bytes s.number.0) (map (λ (t : SectionTable). t.section) ts')) all spans → AreRelocated (map (λ (s : Section). relocations_at bytes s.number.0) ss) all spans
 sections_same bytes ss ts ts' all spans e a r =
     subst (λ xs. AreRelocated (map (λ (s : Section). relocations_at bytes s.number.0) xs) all spans) (ap (map (λ (t : SectionTable). t.section)) e ∙ a.same) r
+
+-- a table like the one before gives nothing new
+same_for : (fault : EntryFault) (n : ℕ) (s t : Section) (e : RelocationEntry) → s.kind ≡ t.kind → s.size ≡ t.size → is_refused_for fault n s e ≡ is_refused_for fault n t e
+same_for Any n s t e k z = ap (λ m. names_no_symbol n e || is_strange_type e || is_outside m s.size (relocation_of e)) k ∙ ap (λ m. names_no_symbol n e || is_strange_type e || is_outside t.kind m (relocation_of e)) z
+same_for Symbol n s t e k z = refl
+same_for Kind n s t e k z = refl
+same_for Bounds n s t e k z = ap (λ m. is_outside m s.size (relocation_of e)) k ∙ ap (λ m. is_outside t.kind m (relocation_of e)) z
+
+alike_same : (fault : EntryFault) (bytes : List ℕ) (n : ℕ) (t u : SectionTable) → IsTableOf bytes t → IsTableOf bytes u → AreAlike t u → has_refused_entry fault bytes n t.section ≡ has_refused_entry fault bytes n u.section
+alike_same fault bytes n t u a b l =
+    ap (list_any (is_refused_for fault n t.section)) (sym a.entries ∙ ap (λ k. relocation_entries_below bytes k t.count) l.start ∙ ap (λ k. relocation_entries_below bytes u.start k) l.count ∙ b.entries)
+    ∙ any_same (is_refused_for fault n t.section) (is_refused_for fault n u.section) (relocation_entries bytes u.section.number.0) (λ e. same_for fault n t.section u.section e l.kind l.size)
+
+none_before : {X Y : Type 0} (f : X → Y) (p : Y → Bool) (xs : List X) (i k : ℕ) (d : X) → k < i → i ≤ length xs → list_any p (map f (take i xs)) ≡ false → p (f (get_or xs k d)) ≡ false
+none_before f p xs i k d l m h =
+    false_from_ne_true _ (λ e. both_ways _ h (found_mapped f p (take i xs) k d (omega (arith, length-take-le i xs m)) (ap (λ x. p (f x)) (get_or-take i xs k d l) ∙ e)))
+
+pub refused_more : (fault : EntryFault) (bytes : List ℕ) (n : ℕ) (ts : List SectionTable) (i : ℕ) (d : SectionTable) → i < length ts → has_refused_entry fault bytes n (get_or ts i d).section ≡ false
+    → list_any (has_refused_entry fault bytes n) (map (λ (t : SectionTable). t.section) (take i ts)) ≡ false → list_any (has_refused_entry fault bytes n) (map (λ (t : SectionTable). t.section) (take (i + 1) ts)) ≡ false
+refused_more fault bytes n ts i d l e h =
+    ap (λ xs. list_any (has_refused_entry fault bytes n) (map (λ (t : SectionTable). t.section) xs)) (take_more ts i d l)
+    ∙ ap (list_any (has_refused_entry fault bytes n)) (map_push (λ (t : SectionTable). t.section) (take i ts) (get_or ts i d))
+    ∙ list_any-append (has_refused_entry fault bytes n) (map (λ (t : SectionTable). t.section) (take i ts)) ((get_or ts i d).section ∷ [])
+    ∙ or_from _ _ h (or_from _ _ e refl)
+
+pub refused_more_same : (fault : EntryFault) (bytes : List ℕ) (n : ℕ) (ts : List SectionTable) (i : ℕ) (d : SectionTable) → i < length ts → 0 < i → All (IsTableOf bytes) ts → AreAlike (get_or ts i d) (get_or ts (i - 1) d)
+    → list_any (has_refused_entry fault bytes n) (map (λ (t : SectionTable). t.section) (take i ts)) ≡ false → list_any (has_refused_entry fault bytes n) (map (λ (t : SectionTable). t.section) (take (i + 1) ts)) ≡ false
+refused_more_same fault bytes n ts i d l z a e h =
+    let before = none_before (λ (t : SectionTable). t.section) (has_refused_entry fault bytes n) ts i (i - 1) d (omega arith) (omega arith) h in
+    refused_more fault bytes n ts i d l (alike_same fault bytes n (get_or ts i d) (get_or ts (i - 1) d) (a i d l) (a (i - 1) d (omega arith)) e ∙ before) h
+
+-- no entry is refused in any way
+any_none : (n : ℕ) (s : Section) (es : List RelocationEntry) → list_any (is_refused_for Any n s) es ≡ false
+    → (list_any (is_refused_for Symbol n s) es ≡ false) × (list_any (is_refused_for Kind n s) es ≡ false) × (list_any (is_refused_for Bounds n s) es ≡ false)
+any_none n s [] h = (refl, refl, refl)
+any_none n s (e ∷ es) h =
+    let p = or_parts _ _ h in
+    let r = any_none n s es p.1 in
+    let q = or_parts _ _ p.0 in
+    let o = or_parts _ _ q.0 in
+    (or_from _ _ o.0 r.0, or_from _ _ o.1 r.1, or_from _ _ q.1 r.2)
+
+all_none : (bytes : List ℕ) (n : ℕ) (ss : List Section) → list_any (has_refused_entry Any bytes n) ss ≡ false
+    → (list_any (has_refused_entry Symbol bytes n) ss ≡ false) × (list_any (has_refused_entry Kind bytes n) ss ≡ false) × (list_any (has_refused_entry Bounds bytes n) ss ≡ false)
+all_none bytes n [] h = (refl, refl, refl)
+all_none bytes n (s ∷ ss) h =
+    let p = or_parts _ _ h in
+    let r = all_none bytes n ss p.1 in
+    let q = any_none n s (relocation_entries bytes s.number.0) p.0 in
+    (or_from _ _ q.0 r.0, or_from _ _ q.1 r.1, or_from _ _ q.2 r.2)
+
+pub any_passes : (bytes : List ℕ) (n : ℕ) (ss : List Section) (r : Bool) → is_wrong_below bytes (e_shnum bytes) ≡ false → n ≡ length (symbols_of bytes) → ss ≡ linked_sections bytes → r ≡ list_any (has_refused_entry Any bytes n) ss → r ≡ false
+    → find (holds bytes) entry_refusals ≡ None
+any_passes bytes n ss r w c e h f =
+    let a = all_none bytes n ss (sym h ∙ f) in
+    first_none bytes (symbol_holds bytes n ss _ w c e (sym a.0)) (kind_holds bytes n ss _ e (sym a.1)) (bounds_holds bytes n ss _ e (sym a.2))

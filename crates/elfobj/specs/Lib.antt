@@ -13,6 +13,7 @@ pub mod Relocations
 pub mod Sections
 pub mod Tables
 pub mod Runs
+pub mod Numbering
 pub mod Places
 pub mod Object
 pub mod Refusal

@@ -1,6 +1,6 @@
 -- Tables of relocations as places in the file, and runs of decoded entries. Entry number k of class c, below 24, takes
 -- the 24 bytes of the file from 24 * k + c on, so that tables of one class that overlap in the file have entries in common.
-use Rattle.std.specs.Prelude.{◌≡◌, ℕ, ◌+◌, ◌*◌, ◌/◌, ◌%◌, ◌<◌, ◌≤◌, List, Bool, get_or, length, map}
+use Rattle.std.specs.Prelude.{◌≡◌, ℕ, ◌+◌, ◌*◌, ◌/◌, ◌%◌, ◌<◌, ◌≤◌, List, Bool, ◌||◌, get_or, length, map}
 use Rattle.std.specs.List.{All, list_any, slice_range}
 use Rattle.elfobj.specs.RelocationEntries.{relocation_entries_below}
 use Rattle.elfobj.specs.Relocations.{relocation_entries, relocation_of}
@@ -8,7 +8,7 @@ use Rattle.elfobj.specs.Tables.{is_outside, is_strange_type, names_no_symbol}
 use Rattle.elfobj.specs.declared.relocation.Relocation.{Relocation}
 use Rattle.elfobj.specs.declared.relocation_entry.RelocationEntry.{RelocationEntry}
 use Rattle.elfobj.specs.declared.relocation_fault.EntryFault.{EntryFault}
-use Rattle.elfobj.specs.declared.relocation_fault.EntryFault.TheVariants.{Symbol, Kind, Bounds}
+use Rattle.elfobj.specs.declared.relocation_fault.EntryFault.TheVariants.{Any, Symbol, Kind, Bounds}
 use Rattle.elfobj.specs.declared.relocation_run.Run.{Run}
 use Rattle.elfobj.specs.declared.relocation_run.SectionTable.{SectionTable}
 use Rattle.elfobj.specs.declared.section.Section.{Section}
@@ -26,8 +26,16 @@ pub record AreTablesOf (bytes : List ℕ) (sections : List Section) (tables : Li
   pub same : map (λ t. t.section) tables ≡ sections
   pub each : All (IsTableOf bytes) tables
 
+-- two tables at one place, of sections of one kind and size
+pub record AreAlike (t u : SectionTable) : Type 0 where
+  pub start : t.start ≡ u.start
+  pub count : t.count ≡ u.count
+  pub kind : t.section.kind ≡ u.section.kind
+  pub size : t.section.size ≡ u.section.size
+
 -- whether an entry of a section is outside the profile, in one of the ways; n is the number of symbols
 abbrev pub is_refused_for : EntryFault → ℕ → Section → RelocationEntry → Bool
+is_refused_for Any n s e = names_no_symbol n e || is_strange_type e || is_outside s.kind s.size (relocation_of e)
 is_refused_for Symbol n s e = names_no_symbol n e
 is_refused_for Kind n s e = is_strange_type e
 is_refused_for Bounds n s e = is_outside s.kind s.size (relocation_of e)

@@ -8,10 +8,32 @@ pub const ELFDATA2LSB: u8 = 1;
 pub const EV_CURRENT: u8 = 1;
 /// A relocatable object, in `e_type`.
 pub const ET_REL: u16 = 1;
+/// An executable file, in `e_type`.
+pub const ET_EXEC: u16 = 2;
 /// AMD x86-64, in `e_machine`.
 pub const EM_X86_64: u16 = 62;
 /// The greatest number of section headers that needs no extended numbering.
 pub const MAX_SECTION_HEADERS: u16 = 65279;
+
+/// The size of an `Elf64_Ehdr`, the ELF header, in bytes; `e_ehsize`.
+pub const EHDR_SIZE: u16 = 64;
+/// The size of an `Elf64_Phdr`, a program header, in bytes; `e_phentsize`.
+pub const PHDR_SIZE: u16 = 56;
+/// The size of an `Elf64_Shdr`, a section header, in bytes; `e_shentsize`.
+pub const SHDR_SIZE: u16 = 64;
+/// The size of an `Elf64_Sym`, an entry of a symbol table, in bytes; its `sh_entsize`.
+pub const SYM_SIZE: usize = 24;
+/// The size of an `Elf64_Rela`, an entry of a relocation section with addends, in bytes; its `sh_entsize`.
+pub const RELA_SIZE: usize = 24;
+
+/// A loadable segment, in `p_type`.
+pub const PT_LOAD: u32 = 1;
+/// The segment may be executed, in `p_flags`.
+pub const PF_X: u32 = 1;
+/// The segment may be written, in `p_flags`.
+pub const PF_W: u32 = 2;
+/// The segment may be read, in `p_flags`.
+pub const PF_R: u32 = 4;
 
 /// An unused header.
 pub const SHT_NULL: u32 = 0;
@@ -100,9 +122,6 @@ pub const R_X86_64_8: u32 = 14;
 pub const R_X86_64_PC8: u32 = 15;
 /// Type of a relocation: S + A - P in 8 bytes.
 pub const R_X86_64_PC64: u32 = 24;
-
-/// The size of an `Elf64_Rela`, an entry of a relocation section with addends, in bytes.
-pub const RELA_SIZE: usize = 24;
 
 /// The greatest size of a section or of a common block, in bytes.
 pub const MAX_SECTION_SIZE: u64 = 0x8000_0000;

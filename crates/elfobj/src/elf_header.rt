@@ -7,7 +7,8 @@ ghost use Rattle.elfobj.specs.SectionTable.{IsTableWithin, IsCountRight, HasSect
 ghost use Rattle.elfobj.specs.declared.refusal.ObjectRefusal.TheVariants.{Short, NotElf, Machine, SectionTable, SectionCount};
 
 use crate::constants::{
-    ELFCLASS64, ELFDATA2LSB, EM_X86_64, ET_REL, EV_CURRENT, MAX_SECTION_HEADERS,
+    EHDR_SIZE, ELFCLASS64, ELFDATA2LSB, EM_X86_64, ET_REL, EV_CURRENT, MAX_SECTION_HEADERS,
+    SHDR_SIZE,
 };
 use crate::numbers::{read_u16, read_u32, read_u64};
 use crate::refusal::ObjectRefusal;
@@ -41,7 +42,7 @@ fn is_short(bytes: &[u8]) -> bool
     ensures value { result ≡ holds bytes.now Short }
     ensures long { result ≡ false → 64 ≤ length bytes.now }
 {
-    bytes.len() < 64
+    bytes.len() < usize::from(EHDR_SIZE)
 }
 
 #[tactic(auto, unfolding(crate::specs::Refusal::holds))]
@@ -68,10 +69,10 @@ fn is_table_outside(bytes: &[u8]) -> bool
     ensures value { result ≡ holds bytes.now SectionTable }
     ensures within { result ≡ false → IsTableWithin bytes.now }
 {
-    if read_u16(bytes, 58) != 64 {
+    if read_u16(bytes, 58) != SHDR_SIZE {
         return true;
     }
-    let size = 64 * u64::from(section_count(bytes));
+    let size = u64::from(SHDR_SIZE) * u64::from(section_count(bytes));
     let room = bytes.len() as u64;
     room < size || room - size < section_table_offset(bytes)
 }

@@ -1,13 +1,13 @@
 //! The fields that relocations change: whether they lie in their section, and whether two of them share a byte.
 
-ghost use Rattle.std.specs.Prelude.{◌≡◌, IfOk, true};
-ghost use Rattle.std.specs.List.Sorted.{IsNonDecreasingBy};
+ghost use Rattle.std.specs.Prelude.{◌≡◌, IfOk, OnOk, true};
+ghost use Rattle.std.specs.List.Sorted.{IsNonDecreasingBy, IsPermutation};
 ghost use Rattle.elfobj.specs.Relocations.{share_bytes};
 ghost use Rattle.elfobj.specs.Tables.{is_outside};
 
 use crate::relocation::Relocation;
 use crate::section::SectionKind;
-use std::alloc::{AllocError, Global};
+use std::alloc::AllocError;
 
 /// Whether a relocation changes a byte past the end of its section of `size` bytes, or lies in one that has no bytes in
 /// the file.
@@ -53,15 +53,33 @@ fn do_neighbours_meet(relocations: &[Relocation]) -> bool
     false
 }
 
-/// Whether two of these share a byte. One pass where their offsets are ascending, as assemblers write them; else they
-/// are sorted first.
-pub fn is_any_shared(alloc: Global, relocations: &[Relocation]) -> Result<bool, AllocError>
+/// Makes `room` these relocations in the order of their offsets. They are copied where they have it, as assemblers write
+/// them, and else sorted.
+pub fn put_in_order(
+    relocations: &[Relocation],
+    room: &mut Vec<Relocation>,
+) -> Result<(), AllocError>
+    ensures same { OnOk result (IsPermutation relocations.now room.new.items) }
+    ensures order { OnOk result (IsNonDecreasingBy (λ r. r.offset) room.new.items) }
+{
+    room.clear();
+    room.extend_from_slice(relocations)?;
+    if !are_ascending(relocations) {
+        room.sort_unstable_by_key(|r| r.offset);
+    }
+    Ok(())
+}
+
+/// Whether two of these share a byte. One pass where their offsets are ascending; else they are sorted in `room` first.
+pub fn is_any_shared(
+    relocations: &[Relocation],
+    room: &mut Vec<Relocation>,
+) -> Result<bool, AllocError>
     ensures { IfOk result (λ b. b ≡ share_bytes relocations.now) }
 {
     if are_ascending(relocations) {
         return Ok(do_neighbours_meet(relocations));
     }
-    let mut sorted = Vec::from_slice(alloc, relocations)?;
-    sorted.sort_unstable_by_key(|r| r.offset);
-    Ok(do_neighbours_meet(&sorted))
+    put_in_order(relocations, room)?;
+    Ok(do_neighbours_meet(room))
 }

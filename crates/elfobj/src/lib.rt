@@ -3,7 +3,9 @@
 
 pub mod constants;
 mod elf_header;
+pub mod explain;
 mod field;
+pub mod law;
 mod linked;
 mod names;
 mod numbers;

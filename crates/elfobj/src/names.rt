@@ -12,7 +12,8 @@ use crate::place::Span;
 use crate::section_header::SectionHeader;
 use std::alloc::{AllocError, Global};
 
-fn is_graphic(b: u8) -> bool
+/// Whether a byte may stand in a name: one from `!` to `~`.
+pub fn is_graphic(b: u8) -> bool
     ensures { result ≡ is_graphic b }
 {
     matches!(b, b'!'..=b'~')

@@ -1,19 +1,21 @@
 //! An object: its bytes, and what was read of them.
 
-ghost use Rattle.std.specs.Prelude.{◌≡◌, ◌<◌, ◌^◌, ◌⊎◌, IfErr, IfOk, None, Some, find, length, map};
-ghost use Rattle.std.specs.List.{All, slice_get};
+ghost use Rattle.std.specs.Prelude.{◌≡◌, ◌≢◌, ◌<◌, ◌^◌, ◌⊎◌, IfErr, IfNone, IfOk, IfSome, None, OnOk, Some, find, length, map, unwrap_or, []};
+ghost use Rattle.std.specs.List.{All, AllPairs, slice_get};
+ghost use Rattle.std.specs.List.Sorted.{IsNonDecreasingBy, IsPermutation};
 ghost use Rattle.ldbase.specs.Raised.{raised};
 ghost use Rattle.ldbase.specs.declared.meter.Count.TheVariants.{Objects};
 ghost use Rattle.elfobj.specs.declared.refusal.ObjectRefusal.TheVariants.{NoMemory};
 
+use crate::field::put_in_order;
 use crate::place::{Place, Span};
 use crate::refusal::ObjectRefusal;
 use crate::relocation::{Relocation, SymbolIndex};
-use crate::section::Section;
+use crate::section::{LinkedIndex, Section, SectionIndex, find_number};
 use crate::section_table::{Parts, read_parts};
 use crate::symbol::Symbol;
 use ldbase::meter::{Count, Meter};
-use std::alloc::Global;
+use std::alloc::{AllocError, Global};
 use std::marker::Model;
 
 /// A relocatable ELF-64 object for x86-64, which only `Object::read` makes. It owns the bytes that it was
@@ -42,6 +44,7 @@ impl Model for Object {
 
 impl Object {
     ghost use Rattle.elfobj.specs.ElfHeader.{e_shnum};
+    ghost use Rattle.elfobj.specs.Numbering.{IsNumberedAt};
     ghost use Rattle.elfobj.specs.Object.{object_of};
     ghost use Rattle.elfobj.specs.Profile.{HasRelocationsOfProfile, IsSectionBelow, IsSectionOfProfile, IsSymbolOfProfile};
     ghost use Rattle.elfobj.specs.Refusal.{header_refusals, holds, object_refusal};
@@ -84,7 +87,7 @@ impl Object {
     }
 
     /// The bytes that it was read from.
-    pub fn text(&self) -> &[u8]
+    pub fn data(&self) -> &[u8]
         ensures value { result.now ≡ self.now.text }
         ensures accepted { object_refusal self.now.text ≡ None }
         ensures read { self.now ≡ object_of self.now.text }
@@ -92,30 +95,38 @@ impl Object {
         self.bytes.as_slice()
     }
 
-    /// Its linked sections, in the order of their headers.
+    /// Its linked sections, in the order of their headers, whose numbers thus ascend.
     pub fn sections(&self) -> &[Section]
         ensures value { result.now ≡ map section_of self.now.sections }
         ensures limits { All IsSectionOfProfile self.now.sections }
+        ensures ascending { AllPairs (λ s t. s.number.0 < t.number.0) result.now }
     {
         &self.sections
     }
 
-    /// The name of the section at this place of `sections`, 1 to 65,535 bytes from `!` to `~`.
-    pub fn section_name(&self, i: usize) -> &[u8]
-        requires { i < length self.now.sections }
-        ensures { slice_get (map (λ s. s.name) self.now.sections) i ≡ Some result.now }
+    /// The place in `sections` of the section with this header number, if it is a linked one.
+    pub fn section_at(&self, number: SectionIndex) -> Option<LinkedIndex>
+        ensures found { IfSome result (λ i. IsNumberedAt (map section_of self.now.sections) number i.0) }
+        ensures absent { IfNone result (All (λ s. s.number.0 ≢ number.0) (map section_of self.now.sections)) }
     {
-        let place = self.places[i];
+        find_number(self.sections(), number)
+    }
+
+    /// The name of a section, 1 to 65,535 bytes from `!` to `~`.
+    pub fn section_name(&self, section: LinkedIndex) -> &[u8]
+        requires { section.0 < length self.now.sections }
+        ensures { slice_get (map (λ s. s.name) self.now.sections) section.0 ≡ Some result.now }
+    {
+        let place = self.places[section.0];
         &self.bytes[place.name_start..place.name_end]
     }
 
-    /// The bytes of the section at this place of `sections`: as many as its size, but none for one that has
-    /// no bytes in the file.
-    pub fn section_bytes(&self, i: usize) -> &[u8]
-        requires { i < length self.now.sections }
-        ensures { slice_get (map (λ s. s.bytes) self.now.sections) i ≡ Some result.now }
+    /// The bytes of a section: as many as its size, but none for one that has no bytes in the file.
+    pub fn section_bytes(&self, section: LinkedIndex) -> &[u8]
+        requires { section.0 < length self.now.sections }
+        ensures { slice_get (map (λ s. s.bytes) self.now.sections) section.0 ≡ Some result.now }
     {
-        let place = self.places[i];
+        let place = self.places[section.0];
         &self.bytes[place.start..place.end]
     }
 
@@ -139,14 +150,31 @@ impl Object {
         &self.bytes[name.start..name.end]
     }
 
-    /// The relocations of the section at this place of `sections`, in the order of their table. Each names one of
-    /// `symbols` and lies in its section, and no two share a byte; a section without bytes has none.
-    pub fn relocations(&self, i: usize) -> &[Relocation]
-        requires { i < length self.now.sections }
-        ensures value { slice_get (map (λ s. s.relocations) self.now.sections) i ≡ Some result.now }
+    /// The relocations of a section, in the order of their table. Each names one of `symbols` and lies in its section, and
+    /// no two share a byte; a section without bytes has none.
+    pub fn relocations(&self, section: LinkedIndex) -> &[Relocation]
+        requires { section.0 < length self.now.sections }
+        ensures value { slice_get (map (λ s. s.relocations) self.now.sections) section.0 ≡ Some result.now }
         ensures limits { All (HasRelocationsOfProfile (length self.now.symbols)) self.now.sections }
     {
-        let span = self.spans[i];
+        let span = self.spans[section.0];
         &self.relocations[span.start..span.end]
+    }
+
+    /// Makes `room` the relocations of this section in the order of their offsets. They are sorted where the table has
+    /// another order; where it has this one, as assemblers write it, they are copied.
+    ///
+    /// No second order is kept: tables may overlap in the file, so that the orders of all could take far more memory than
+    /// the object. An error says that there was no memory for the copy.
+    pub fn relocations_by_offset(
+        &self,
+        section: LinkedIndex,
+        room: &mut Vec<Relocation>,
+    ) -> Result<(), AllocError>
+        requires { section.0 < length self.now.sections }
+        ensures same { OnOk result (IsPermutation (unwrap_or (slice_get (map (λ s. s.relocations) self.now.sections) section.0) []) room.new.items) }
+        ensures order { OnOk result (IsNonDecreasingBy (λ r. r.offset) room.new.items) }
+    {
+        put_in_order(self.relocations(section), room)
     }
 }

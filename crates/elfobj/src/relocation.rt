@@ -37,7 +37,7 @@ pub enum RelocationKind {
 }
 
 impl RelocationKind {
-    ghost use Rattle.std.specs.Prelude.{◌≡◌};
+    ghost use Rattle.std.specs.Prelude.{◌≡◌, ℕ, Some};
     ghost use Rattle.elfobj.specs.Relocations.{relocation_kind, width};
 
     /// The kind of this `ELF64_R_TYPE`, if it is one of the profile.
@@ -58,6 +58,27 @@ impl RelocationKind {
             R_X86_64_PC8 => Some(RelocationKind::Pc8),
             R_X86_64_PC64 => Some(RelocationKind::Pc64),
             _ => None,
+        }
+    }
+
+    /// Its `ELF64_R_TYPE`: the only number that `of_type` reads as this kind.
+    #[tactic(auto, unfolding(crate::specs::Relocations::relocation_kind))]
+    pub fn number(self) -> u32
+        ensures read { relocation_kind result ≡ Some self }
+        ensures only { (t : ℕ) → relocation_kind t ≡ Some self → t ≡ result }
+    {
+        match self {
+            RelocationKind::None => R_X86_64_NONE,
+            RelocationKind::Abs64 => R_X86_64_64,
+            RelocationKind::Pc32 => R_X86_64_PC32,
+            RelocationKind::Plt32 => R_X86_64_PLT32,
+            RelocationKind::Abs32 => R_X86_64_32,
+            RelocationKind::Abs32Signed => R_X86_64_32S,
+            RelocationKind::Abs16 => R_X86_64_16,
+            RelocationKind::Pc16 => R_X86_64_PC16,
+            RelocationKind::Abs8 => R_X86_64_8,
+            RelocationKind::Pc8 => R_X86_64_PC8,
+            RelocationKind::Pc64 => R_X86_64_PC64,
         }
     }
 

@@ -16,8 +16,9 @@ ghost use Rattle.elfobj.specs.Symbols.{symbols_of};
 ghost use Rattle.elfobj.specs.Tables.{is_linked, is_wrong_below, is_wrong_table, linked_sections};
 ghost use Rattle.elfobj.specs.declared.refusal.ObjectRefusal.TheVariants.{NoMemory, RelocationSection};
 
-use crate::constants::SHT_REL;
+use crate::constants::{RELA_SIZE, SHT_REL};
 use crate::field::is_any_shared;
+use crate::place::Span;
 use crate::refusal::ObjectRefusal;
 use crate::relocation_fault::{EntryFault, is_any_refused};
 use crate::relocation_run::{Relocations, SectionTable, read_tables};
@@ -42,7 +43,10 @@ fn is_wrong_table(table: &SectionHeader, symtab: Option<usize>) -> bool
         Some(number) => table.sh_link as usize == number,
         None => false,
     };
-    table.sh_type == SHT_REL || table.sh_entsize != 24 || table.sh_size % 24 != 0 || !is_of_symtab
+    table.sh_type == SHT_REL
+        || table.sh_entsize != RELA_SIZE as u64
+        || table.sh_size % RELA_SIZE as u64 != 0
+        || !is_of_symtab
 }
 
 /// Whether a relocation section changes no section, or a linked one in a way outside the profile. `tables` has for each
@@ -123,7 +127,7 @@ fn section_table(section: &Section, table: Option<SectionHeader>, len: usize) ->
         Some(table) => SectionTable {
             section: *section,
             start: table.sh_offset as usize,
-            count: (table.sh_size / 24) as usize,
+            count: table.sh_size as usize / RELA_SIZE,
         },
         None => SectionTable {
             section: *section,
@@ -160,6 +164,9 @@ fn entry_refusal(bytes: &[u8], tables: &[SectionTable], symbols: usize) -> Optio
     requires symbols { symbols ≡ length (symbols_of bytes.now) }
     ensures { result ≡ find (holds bytes.now) entry_refusals }
 {
+    if !is_any_refused(bytes, tables, EntryFault::Any, symbols) {
+        return None;
+    }
     if is_any_refused(bytes, tables, EntryFault::Symbol, symbols) {
         return Some(ObjectRefusal::RelocationSection);
     }
@@ -172,16 +179,22 @@ fn entry_refusal(bytes: &[u8], tables: &[SectionTable], symbols: usize) -> Optio
     None
 }
 
-/// Whether two relocations of one section share a byte.
+/// Whether two relocations of one section share a byte. A section with the same table as the one before is passed over.
 fn is_any_overlap(alloc: Global, relocations: &Relocations) -> Result<bool, AllocError>
     requires { All (IsInside (length relocations.now.all.items)) relocations.now.spans.items }
     ensures { IfOk result (λ b. b ≡ list_any share_bytes (map (relocations_in relocations.now.all.items) relocations.now.spans.items)) }
 {
     let all = relocations.all.as_slice();
+    let mut room = Vec::new(alloc);
+    let mut last = Span { start: 0, end: 0 };
     for span in &relocations.spans {
-        if is_any_shared(alloc, &all[span.start..span.end])? {
+        if span.start == last.start && span.end == last.end {
+            continue;
+        }
+        if is_any_shared(&all[span.start..span.end], &mut room)? {
             return Ok(true);
         }
+        last = *span;
     }
     Ok(false)
 }

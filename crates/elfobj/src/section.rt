@@ -1,5 +1,9 @@
 //! Sections as callers see them.
 
+ghost use Rattle.std.specs.Prelude.{◌≢◌, ◌<◌, IfNone, IfSome};
+ghost use Rattle.std.specs.List.{All, AllPairs};
+ghost use Rattle.elfobj.specs.Numbering.{IsNumberedAt};
+
 use crate::constants::{
     SHT_FINI_ARRAY, SHT_INIT_ARRAY, SHT_NOBITS, SHT_NOTE, SHT_PREINIT_ARRAY, SHT_PROGBITS,
     SHT_X86_64_UNWIND,
@@ -8,6 +12,10 @@ use crate::constants::{
 /// The number of a section header in its table, from 0.
 #[derive(Clone, Copy, Debug, PartialEq, Eq)]
 pub struct SectionIndex(pub u16);
+
+/// The place of a linked section among the linked sections of its object, from 0.
+#[derive(Clone, Copy, Debug, PartialEq, Eq)]
+pub struct LinkedIndex(pub usize);
 
 /// What a linked section holds, by its `sh_type`.
 #[derive(Clone, Copy, Debug, PartialEq, Eq)]
@@ -63,4 +71,16 @@ pub struct Section {
     pub size: u64,
     /// `sh_addralign`: 0 or a power of two.
     pub alignment: u64,
+}
+
+/// The place of the section with this number, by binary search.
+pub fn find_number(sections: &[Section], number: SectionIndex) -> Option<LinkedIndex>
+    requires { AllPairs (λ s t. s.number.0 < t.number.0) sections.now }
+    ensures found { IfSome result (λ i. IsNumberedAt sections.now number i.0) }
+    ensures absent { IfNone result (All (λ s. s.number.0 ≢ number.0) sections.now) }
+{
+    match sections.binary_search_by_key(&number.0, |s| s.number.0) {
+        Ok(i) => Some(LinkedIndex(i)),
+        Err(_) => None,
+    }
 }

@@ -6,7 +6,8 @@ ghost use Rattle.elfobj.specs.SectionHeaders.{header_at, headers};
 ghost use Rattle.elfobj.specs.SectionTable.{HasSectionTable};
 
 use crate::constants::{
-    MAX_SECTION_SIZE, PROFILE_FLAGS, SHF_ALLOC, SHT_NOBITS, SHT_NULL, SHT_REL, SHT_RELA, SHT_SYMTAB,
+    MAX_SECTION_SIZE, PROFILE_FLAGS, SHDR_SIZE, SHF_ALLOC, SHT_NOBITS, SHT_NULL, SHT_REL, SHT_RELA,
+    SHT_SYMTAB,
 };
 use crate::elf_header::{section_count, section_table_offset};
 use crate::names::NameTable;
@@ -40,7 +41,7 @@ pub struct SectionHeader {
 }
 
 /// Header number 0, which counts as unused whatever it says.
-const NULL_HEADER: SectionHeader = SectionHeader {
+pub const NULL_HEADER: SectionHeader = SectionHeader {
     sh_name: 0,
     sh_type: SHT_NULL,
     sh_flags: 0,
@@ -66,7 +67,8 @@ impl SectionHeader {
         self.sh_type != SHT_NULL
     }
 
-    fn is_alloc(&self) -> bool
+    /// Whether its section takes memory when the program runs.
+    pub fn is_alloc(&self) -> bool
         ensures { result ≡ is_alloc self.now }
     {
         self.sh_flags & SHF_ALLOC != 0
@@ -131,7 +133,8 @@ impl SectionHeader {
     }
 }
 
-fn read_header(bytes: &[u8], at: usize) -> SectionHeader
+/// The header in the 64 bytes from `at` on.
+pub fn read_header(bytes: &[u8], at: usize) -> SectionHeader
     requires { at + 64 ≤ length bytes.now }
     ensures { result ≡ header_at bytes.now at }
 {
@@ -159,7 +162,7 @@ pub fn read_headers(alloc: Global, bytes: &[u8]) -> Result<Vec<SectionHeader>, A
     let mut headers = Vec::with_capacity(alloc, count)?;
     headers.push(NULL_HEADER)?;
     for k in 1..count {
-        headers.push(read_header(bytes, start + 64 * k))?;
+        headers.push(read_header(bytes, start + usize::from(SHDR_SIZE) * k))?;
     }
     Ok(headers)
 }

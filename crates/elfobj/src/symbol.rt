@@ -1,5 +1,9 @@
 //! Symbols as callers see them (gABI, "Symbol Table").
 
+use crate::constants::{
+    STB_GLOBAL, STB_LOCAL, STB_WEAK, STT_COMMON, STT_FILE, STT_FUNC, STT_NOTYPE, STT_OBJECT,
+    STT_SECTION,
+};
 use crate::section::SectionIndex;
 
 /// How far a symbol is visible, `ELF64_ST_BIND` of `st_info`.
@@ -11,6 +15,24 @@ pub enum Binding {
     Global,
     /// `STB_WEAK`: in all objects; a definition gives way to a strong one.
     Weak,
+}
+
+impl Binding {
+    ghost use Rattle.std.specs.Prelude.{◌≡◌, ◌≤◌, ℕ};
+    ghost use Rattle.elfobj.specs.Symbols.{binding_of};
+
+    /// Its `ELF64_ST_BIND`: the only number up to 2 that is read as this binding.
+    pub fn number(self) -> u8
+        ensures read { binding_of result ≡ self }
+        ensures most { result ≤ 2 }
+        ensures only { (n : ℕ) → n ≤ 2 → binding_of n ≡ self → n ≡ result }
+    {
+        match self {
+            Binding::Local => STB_LOCAL,
+            Binding::Global => STB_GLOBAL,
+            Binding::Weak => STB_WEAK,
+        }
+    }
 }
 
 /// What a symbol stands for, `ELF64_ST_TYPE` of `st_info`.
@@ -28,6 +50,27 @@ pub enum SymbolKind {
     File,
     /// `STT_COMMON`. A type only: what makes a symbol a common block is `SHN_COMMON`, whatever its type.
     Common,
+}
+
+impl SymbolKind {
+    ghost use Rattle.std.specs.Prelude.{◌≡◌, ◌≤◌, ℕ};
+    ghost use Rattle.elfobj.specs.Symbols.{symbol_kind_of};
+
+    /// Its `ELF64_ST_TYPE`: the only number up to 5 that is read as this kind.
+    pub fn number(self) -> u8
+        ensures read { symbol_kind_of result ≡ self }
+        ensures most { result ≤ 5 }
+        ensures only { (n : ℕ) → n ≤ 5 → symbol_kind_of n ≡ self → n ≡ result }
+    {
+        match self {
+            SymbolKind::NoType => STT_NOTYPE,
+            SymbolKind::Object => STT_OBJECT,
+            SymbolKind::Function => STT_FUNC,
+            SymbolKind::Section => STT_SECTION,
+            SymbolKind::File => STT_FILE,
+            SymbolKind::Common => STT_COMMON,
+        }
+    }
 }
 
 /// Where a symbol is defined, by `st_shndx`.

@@ -34,13 +34,15 @@ impl SymbolEntry {
     ghost use Rattle.elfobj.specs.TableOf.{table_of};
     ghost use Rattle.elfobj.specs.Tables.{is_local, is_nowhere, is_wrong_local, is_wrong_non_local, is_wrong_common, is_wrong_symbol};
 
-    fn bind(&self) -> u8
+    /// `ELF64_ST_BIND` of `st_info`.
+    pub fn bind(&self) -> u8
         ensures { result ≡ st_bind self.now }
     {
         self.st_info >> 4
     }
 
-    fn kind_number(&self) -> u8
+    /// `ELF64_ST_TYPE` of `st_info`.
+    pub fn kind_number(&self) -> u8
         ensures { result ≡ st_type self.now }
     {
         self.st_info & 0xf

@@ -12,7 +12,7 @@ ghost use Rattle.elfobj.specs.TableOf.{table_of};
 ghost use Rattle.elfobj.specs.Tables.{has_misplaced_entry, has_wrong_header, is_local, is_string_table, is_wrong_non_local, is_wrong_symbol};
 ghost use Rattle.elfobj.specs.declared.refusal.ObjectRefusal.TheVariants.{NoMemory};
 
-use crate::constants::SHT_STRTAB;
+use crate::constants::{SHT_STRTAB, SYM_SIZE};
 use crate::names::NameTable;
 use crate::place::Span;
 use crate::refusal::ObjectRefusal;
@@ -73,12 +73,12 @@ fn is_string_table(headers: &[SectionHeader], number: usize) -> bool
 fn has_wrong_header(headers: &[SectionHeader], table: &SectionHeader) -> bool
     ensures { result ≡ has_wrong_header headers.now table.now }
 {
-    table.sh_entsize != 24
+    table.sh_entsize != SYM_SIZE as u64
         || table.sh_size == 0
-        || table.sh_size % 24 != 0
+        || table.sh_size % SYM_SIZE as u64 != 0
         || !is_string_table(headers, table.sh_link as usize)
         || table.sh_info == 0
-        || table.sh_size / 24 < u64::from(table.sh_info)
+        || table.sh_size as usize / SYM_SIZE < table.sh_info as usize
 }
 
 fn read_entries(
@@ -89,11 +89,11 @@ fn read_entries(
     requires { table.now.sh_offset + table.now.sh_size ≤ length bytes.now }
     ensures { IfOk result (λ v. v.items ≡ entries_of bytes.now table.now) }
 {
-    let count = (table.sh_size / 24) as usize;
+    let count = table.sh_size as usize / SYM_SIZE;
     let start = table.sh_offset as usize;
     let mut entries = Vec::with_capacity(alloc, count)?;
     for k in 0..count {
-        entries.push(read_symbol_entry(bytes, start + 24 * k))?;
+        entries.push(read_symbol_entry(bytes, start + SYM_SIZE * k))?;
     }
     Ok(entries)
 }

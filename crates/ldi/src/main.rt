@@ -1,35 +1,33 @@
 //! `ldi`: a static linker that links again after every edit.
 //!
 //! `ldi session` reads commands from standard input and answers them on standard output. It ends with
-//! the status of the link (0 or 1), with 2 after bytes that no command begins, with 3 where a device
-//! failed, and with 4 without memory to begin.
+//! the status of the link (0 or 1), with 2 after bytes that no command begins or where the words of the
+//! command line are refused, with 3 where a device failed or the system gives no seed for hash tables,
+//! and with 4 without memory to begin.
 #![tactic(auto)]
 
 ghost use Rattle.std.specs.Prelude.{◌≡◌};
 ghost use Rattle.ldi.specs.Exit.{exit_status};
 
-use crate::linker::options::Options;
-use crate::linker::plain::Plain;
-use crate::stream::devices::{Input, Output};
-use crate::stream::fault::RunFault;
-use crate::stream::{Status, run};
-use std::io::{BufReader, BufWriter};
+use ldmodel::options::Options;
+use ldstream::Status;
+use ldstream::fault::RunFault;
+use ldwords::call::Call;
+use ldwords::{USAGE, words};
+use std::hash::RandomState;
 use std::process::ExitCode;
 use std::{env, io};
 
-mod gather;
-mod image_writer;
-mod linked_part;
-mod linked_script;
-mod linker;
-mod place;
-mod relocate;
-mod stream;
+mod session;
+#[cfg(test)]
+mod testing;
 #[cfg(test)]
 mod tests;
 
 /// The words of the command line are refused.
 const REFUSED: u8 = 2;
+/// The system gives no seed.
+const DEVICE: u8 = 3;
 /// There is no memory to begin.
 const NO_MEMORY: u8 = 4;
 
@@ -44,40 +42,53 @@ fn exit_status(outcome: Result<Status, RunFault>) -> u8
     }
 }
 
-/// Whether the one word of the command line is `session`.
-fn is_session(rt: &HostRuntime) -> io::Result<bool> {
-    let mut words = env::args(rt)?;
-    let _program = words.next();
-    let Some(word) = words.next() else {
-        return Ok(false);
-    };
-    Ok(word.as_str() == "session" && words.next().is_none())
+/// The words of the command line, with the program's name first.
+fn arguments(rt: &HostRuntime) -> io::Result<Vec<String>> {
+    Ok(env::args(rt)?.collect(rt.alloc())?)
 }
 
 /// Answers the commands of standard input on standard output, and gives the status to end with.
-fn session(rt: &HostRuntime) -> u8 {
-    let alloc = rt.alloc();
-    let Ok(reader) = BufReader::new(alloc, rt.reader()) else {
-        return NO_MEMORY;
+fn answer_commands(rt: &HostRuntime, options: Options) -> u8 {
+    let Ok(seed) = RandomState::new(rt) else {
+        return DEVICE;
     };
-    let Ok(writer) = BufWriter::new(alloc, io::writer(rt)) else {
-        return NO_MEMORY;
-    };
-    let Ok(mut linker) = Plain::new(alloc, Options {}) else {
-        return NO_MEMORY;
-    };
-    let mut source = Input::new(reader);
-    let mut sink = Output::new(writer);
-    exit_status(run(alloc, &mut source, &mut sink, &mut linker))
+    match session::session(rt.alloc(), seed, rt.reader(), io::writer(rt), options) {
+        Ok(ended) => exit_status(ended.outcome),
+        Err(_) => NO_MEMORY,
+    }
+}
+
+/// Says why the call is not made, and gives the status to end with.
+fn refuse(rt: &HostRuntime, reason: &str) -> u8 {
+    let _ = eprintln!(rt; "{reason}");
+    REFUSED
+}
+
+/// Makes the call of the command line, and gives the status to end with.
+fn run_words(rt: &HostRuntime, args: &[String]) -> u8 {
+    match words(rt.alloc(), args) {
+        Ok(Call::Session(options)) => {
+            if options.is_default() {
+                answer_commands(rt, options)
+            } else {
+                refuse(rt, "ldi: this version links without options only")
+            }
+        }
+        Ok(Call::Link { .. }) => refuse(rt, "ldi: this version has no `link`"),
+        Err(fault) => fault.report(rt),
+    }
 }
 
 fn main(rt: HostRuntime) -> ExitCode {
-    match is_session(&rt) {
-        Ok(true) => ExitCode::from(session(&rt)),
-        Ok(false) => {
-            let _ = eprintln!(rt; "usage: ldi session");
-            ExitCode::from(REFUSED)
+    let status = match arguments(&rt) {
+        Ok(args) => run_words(&rt, args.as_slice()),
+        Err(error) => {
+            if error.kind() == io::ErrorKind::OutOfMemory {
+                NO_MEMORY
+            } else {
+                refuse(&rt, USAGE)
+            }
         }
-        Err(_) => ExitCode::from(NO_MEMORY),
-    }
+    };
+    ExitCode::from(status)
 }

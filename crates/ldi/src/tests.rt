@@ -1,17 +1,15 @@
-//! Whole streams, with the answers that they must have.
+//! Whole streams through `session`, with the answers that they must have: each with one byte a call, with seven and with
+//! all, and with a reader or a writer that fails at its kth call.
 
-use crate::linker::options::Options;
-use crate::linker::plain::Plain;
-use crate::stream::devices::{Input, Output};
-use crate::stream::fault::RunFault;
-use crate::stream::testing::{Recorder, Scripted};
-use crate::stream::{Status, run};
+use crate::session;
+use crate::testing::{Recorder, Scripted};
+use ldmodel::options::Options;
+use ldstream::Status;
+use ldstream::fault::RunFault;
 use std::alloc::{AllocError, Global};
+use std::hash::RandomState;
 use std::process::Abort;
 use std::test::Fail;
-
-mod relocating;
-mod scripts;
 
 /// An object with the four bytes `90 90 90 C3` in `.text`.
 const OBJECT_A: [u8; 280] = [
@@ -64,8 +62,71 @@ const ADD: &[u8] = b"add a.o 0 280\n";
 
 const IMAGE: &[u8] = b"image\n";
 
+const ADD_B: &[u8] = b"add c.o 0 480\n";
+
+/// A change of one byte.
+type Change = (usize, u8);
+
+/// An object whose `.text` is `E8 00 00 00 00`, with a PLT32 at 1 to the global symbol `w`, which is not defined, and the
+/// addend -4. Its section headers begin at 160; the bytes of header number 0 may hold anything.
+const OBJECT_B: [u8; 480] = [
+    0x7f, 0x45, 0x4c, 0x46, 0x02, 0x01, 0x01, 0x00, 0x00, 0x00, 0x00, 0x00, 0x00, 0x00, 0x00, 0x00,
+    0x01, 0x00, 0x3e, 0x00, 0x01, 0x00, 0x00, 0x00, 0x00, 0x00, 0x00, 0x00, 0x00, 0x00, 0x00, 0x00,
+    0x00, 0x00, 0x00, 0x00, 0x00, 0x00, 0x00, 0x00, 0xa0, 0x00, 0x00, 0x00, 0x00, 0x00, 0x00, 0x00,
+    0x00, 0x00, 0x00, 0x00, 0x40, 0x00, 0x00, 0x00, 0x00, 0x00, 0x40, 0x00, 0x05, 0x00, 0x03, 0x00,
+    0xe8, 0x00, 0x00, 0x00, 0x00, 0x00, 0x00, 0x00, 0x00, 0x2e, 0x74, 0x65, 0x78, 0x74, 0x00, 0x77,
+    0x00, 0x00, 0x00, 0x00, 0x00, 0x00, 0x00, 0x00, 0x00, 0x00, 0x00, 0x00, 0x00, 0x00, 0x00, 0x00,
+    0x00, 0x00, 0x00, 0x00, 0x00, 0x00, 0x00, 0x00, 0x00, 0x00, 0x00, 0x00, 0x00, 0x00, 0x00, 0x00,
+    0x07, 0x00, 0x00, 0x00, 0x10, 0x00, 0x00, 0x00, 0x00, 0x00, 0x00, 0x00, 0x00, 0x00, 0x00, 0x00,
+    0x00, 0x00, 0x00, 0x00, 0x00, 0x00, 0x00, 0x00, 0x01, 0x00, 0x00, 0x00, 0x00, 0x00, 0x00, 0x00,
+    0x04, 0x00, 0x00, 0x00, 0x01, 0x00, 0x00, 0x00, 0xfc, 0xff, 0xff, 0xff, 0xff, 0xff, 0xff, 0xff,
+    0x00, 0x00, 0x00, 0x00, 0x00, 0x00, 0x00, 0x00, 0x00, 0x00, 0x00, 0x00, 0x00, 0x00, 0x00, 0x00,
+    0x00, 0x00, 0x00, 0x00, 0x00, 0x00, 0x00, 0x00, 0x00, 0x00, 0x00, 0x00, 0x00, 0x00, 0x00, 0x00,
+    0x00, 0x00, 0x00, 0x00, 0x00, 0x00, 0x00, 0x00, 0x00, 0x00, 0x00, 0x00, 0x00, 0x00, 0x00, 0x00,
+    0x00, 0x00, 0x00, 0x00, 0x00, 0x00, 0x00, 0x00, 0x00, 0x00, 0x00, 0x00, 0x00, 0x00, 0x00, 0x00,
+    0x01, 0x00, 0x00, 0x00, 0x01, 0x00, 0x00, 0x00, 0x06, 0x00, 0x00, 0x00, 0x00, 0x00, 0x00, 0x00,
+    0x00, 0x00, 0x00, 0x00, 0x00, 0x00, 0x00, 0x00, 0x40, 0x00, 0x00, 0x00, 0x00, 0x00, 0x00, 0x00,
+    0x05, 0x00, 0x00, 0x00, 0x00, 0x00, 0x00, 0x00, 0x00, 0x00, 0x00, 0x00, 0x00, 0x00, 0x00, 0x00,
+    0x01, 0x00, 0x00, 0x00, 0x00, 0x00, 0x00, 0x00, 0x00, 0x00, 0x00, 0x00, 0x00, 0x00, 0x00, 0x00,
+    0x00, 0x00, 0x00, 0x00, 0x02, 0x00, 0x00, 0x00, 0x00, 0x00, 0x00, 0x00, 0x00, 0x00, 0x00, 0x00,
+    0x00, 0x00, 0x00, 0x00, 0x00, 0x00, 0x00, 0x00, 0x58, 0x00, 0x00, 0x00, 0x00, 0x00, 0x00, 0x00,
+    0x30, 0x00, 0x00, 0x00, 0x00, 0x00, 0x00, 0x00, 0x03, 0x00, 0x00, 0x00, 0x01, 0x00, 0x00, 0x00,
+    0x08, 0x00, 0x00, 0x00, 0x00, 0x00, 0x00, 0x00, 0x18, 0x00, 0x00, 0x00, 0x00, 0x00, 0x00, 0x00,
+    0x00, 0x00, 0x00, 0x00, 0x03, 0x00, 0x00, 0x00, 0x00, 0x00, 0x00, 0x00, 0x00, 0x00, 0x00, 0x00,
+    0x00, 0x00, 0x00, 0x00, 0x00, 0x00, 0x00, 0x00, 0x48, 0x00, 0x00, 0x00, 0x00, 0x00, 0x00, 0x00,
+    0x09, 0x00, 0x00, 0x00, 0x00, 0x00, 0x00, 0x00, 0x00, 0x00, 0x00, 0x00, 0x00, 0x00, 0x00, 0x00,
+    0x01, 0x00, 0x00, 0x00, 0x00, 0x00, 0x00, 0x00, 0x00, 0x00, 0x00, 0x00, 0x00, 0x00, 0x00, 0x00,
+    0x00, 0x00, 0x00, 0x00, 0x04, 0x00, 0x00, 0x00, 0x00, 0x00, 0x00, 0x00, 0x00, 0x00, 0x00, 0x00,
+    0x00, 0x00, 0x00, 0x00, 0x00, 0x00, 0x00, 0x00, 0x88, 0x00, 0x00, 0x00, 0x00, 0x00, 0x00, 0x00,
+    0x18, 0x00, 0x00, 0x00, 0x00, 0x00, 0x00, 0x00, 0x02, 0x00, 0x00, 0x00, 0x01, 0x00, 0x00, 0x00,
+    0x08, 0x00, 0x00, 0x00, 0x00, 0x00, 0x00, 0x00, 0x18, 0x00, 0x00, 0x00, 0x00, 0x00, 0x00, 0x00,
+];
+
+/// The symbol is a local one at 0 of `.text`.
+const LOCAL: [Change; 3] = [(116, 0x00), (118, 0x01), (332, 0x02)];
+
+/// The symbol is a local absolute one of the value 0x80000000, and the addend 0.
+const ABSOLUTE: [Change; 13] = [
+    (116, 0x00),
+    (118, 0xf1),
+    (119, 0xff),
+    (123, 0x80),
+    (332, 0x02),
+    (152, 0x00),
+    (153, 0x00),
+    (154, 0x00),
+    (155, 0x00),
+    (156, 0x00),
+    (157, 0x00),
+    (158, 0x00),
+    (159, 0x00),
+];
+
 /// A stream and the answers to it, both in parts, and how the run ends.
 type Row<'a> = (&'a [&'a [u8]], &'a [&'a [u8]], Status);
+
+/// How a session ends, and the answers.
+type Run = (Result<Status, RunFault>, Vec<u8>);
 
 fn joined(alloc: Global, parts: &[&[u8]]) -> Result<Vec<u8>, AllocError> {
     let mut bytes = Vec::new(alloc);
@@ -75,69 +136,57 @@ fn joined(alloc: Global, parts: &[&[u8]]) -> Result<Vec<u8>, AllocError> {
     Ok(bytes)
 }
 
-/// Runs a stream through the plain linker, with so many bytes a call, and keeps the answers.
-fn run_with(
-    alloc: Global,
-    reader: Scripted<'_>,
-    recorder: &mut Recorder,
-) -> Result<Result<Status, RunFault>, AllocError> {
-    let mut source = Input::new(reader);
-    let mut sink = Output::new(recorder);
-    let mut linker = Plain::new(alloc, Options {})?;
-    Ok(run(alloc, &mut source, &mut sink, &mut linker))
-}
-
-/// The answers to a stream, and how the run ends.
+/// Answers a stream from a reader that gives `step` bytes a call, into a writer that takes as many, and that fail at
+/// these calls.
 fn answers(
     alloc: Global,
+    seed: RandomState,
     stream: &[u8],
     step: usize,
-) -> Result<(Result<Status, RunFault>, Vec<u8>), AllocError> {
-    let mut recorder = Recorder::new(alloc, step, 0);
-    let outcome = run_with(alloc, Scripted::new(stream, step, 0), &mut recorder)?;
-    Ok((outcome, recorder.written))
+    read_fails_at: u64,
+    write_fails_at: u64,
+) -> Result<Run, AllocError> {
+    let reader = Scripted::new(stream, step, read_fails_at);
+    let recorder = Recorder::new(alloc, step, write_fails_at);
+    let ended = session::session(alloc, seed, reader, recorder, Options::default())?;
+    Ok((ended.outcome, ended.writer.written))
 }
 
-/// A stream with one byte a call, with a few, and with as many as are asked for.
 fn check_stream(
     rt: &impl Abort,
     alloc: Global,
+    seed: RandomState,
     stream: &[u8],
     want: &[u8],
     status: Status,
 ) -> Result<(), AllocError> {
     for step in [1usize, 7, usize::MAX] {
-        let (outcome, written) = answers(alloc, stream, step)?;
+        let (outcome, written) = answers(alloc, seed, stream, step, 0, 0)?;
         assert_eq!(rt; outcome, Ok(status));
         assert_eq!(rt; written.as_slice(), want);
     }
     Ok(())
 }
 
-fn check_rows(rt: &impl Abort, alloc: Global, rows: &[Row<'_>]) -> Result<(), Fail> {
+fn check_rows(
+    rt: &impl Abort,
+    alloc: Global,
+    seed: RandomState,
+    rows: &[Row<'_>],
+) -> Result<(), Fail> {
     for (stream, want, status) in rows {
         let stream = joined(alloc, stream)?;
         let want = joined(alloc, want)?;
-        check_stream(rt, alloc, &stream, &want, *status)?;
+        check_stream(rt, alloc, seed, &stream, &want, *status)?;
     }
     Ok(())
 }
 
 #[test]
-fn answers_the_smallest_streams(rt: HostRuntime) -> Result<(), Fail> {
-    let rows: [Row<'_>; 5] = [
+fn answers_streams(rt: HostRuntime) -> Result<(), Fail> {
+    let rows: [Row<'_>; 9] = [
         (&[], &[], Status::Done(0)),
         (&[IMAGE], &[b"bytes 64\n", &EMPTY_IMAGE], Status::Done(0)),
-        (
-            &[SCRIPT, ADD, &OBJECT_A, IMAGE],
-            &[
-                b"linked 0 64\nlinked 0 4100\nbytes 4100\n",
-                &HEADERS,
-                &GAP,
-                b"\x90\x90\x90\xc3",
-            ],
-            Status::Done(0),
-        ),
         (
             &[ADD, &OBJECT_A, IMAGE],
             &[b"linked 1 0\nbytes 0\n"],
@@ -148,40 +197,6 @@ fn answers_the_smallest_streams(rt: HostRuntime) -> Result<(), Fail> {
             &[b"linked 0 64\nlinked 1 0\nlinked 0 4100\n"],
             Status::Done(0),
         ),
-    ];
-    check_rows(&rt, rt.alloc(), &rows)
-}
-
-#[test]
-fn links_at_each_start(rt: HostRuntime) -> Result<(), Fail> {
-    let table: [(&[u8], &[u8], u8); 8] = [
-        (b"0x401000", b"linked 0 4100\n", 0),
-        (b"0x401001", b"linked 0 4101\n", 0),
-        (b"0x4010C8", b"linked 0 204\n", 0),
-        (b"0xFFFFFFFFFFFFFFFB", b"linked 0 4095\n", 0),
-        (b"0xFFFFFFFFFFFFFFFC", b"linked 1 0\n", 1),
-        (b"4K", b"linked 0 4100\n", 0),
-        (b"0x77", b"linked 0 4219\n", 0),
-        (b"0x78", b"linked 0 124\n", 0),
-    ];
-    let alloc = rt.alloc();
-    for (start, linked, status) in table {
-        let script = joined(
-            alloc,
-            &[b"SECTIONS { . = ", start, b"; .text : { *(.text) } }"],
-        )?;
-        let line = format!(in alloc; "script {}\n", script.len())?;
-        let stream = joined(alloc, &[line.as_bytes(), &script, ADD, &OBJECT_A])?;
-        let want = joined(alloc, &[b"linked 0 64\n", linked])?;
-        check_stream(&rt, alloc, &stream, &want, Status::Done(status))?;
-    }
-    Ok(())
-}
-
-#[test]
-fn refuses_edits_and_keeps_the_image(rt: HostRuntime) -> Result<(), Fail> {
-    let long = [b'n'; 256];
-    let rows: [Row<'_>; 3] = [
         (
             &[
                 SCRIPT,
@@ -204,27 +219,10 @@ fn refuses_edits_and_keeps_the_image(rt: HostRuntime) -> Result<(), Fail> {
             Status::Done(0),
         ),
         (
-            &[
-                b"add ",
-                &long,
-                b" 0 0\nadd a\tb 0 0\nadd a 1 0\nadd a 0 0\n",
-            ],
-            &[b"refused 6 0\nrefused 6 0\nrefused 3 0\nrefused 4 1\n"],
-            Status::Done(0),
-        ),
-        (
             &[b"add a 18446744073709551615 0\nscript 31\nSECTIONS{.=0;.-a:{*(x)}}       IMAGE\n"],
             &[b"refused 3 0\nrefused 5 2\nstream\n"],
             Status::Malformed,
         ),
-    ];
-    check_rows(&rt, rt.alloc(), &rows)
-}
-
-#[test]
-fn ends_at_a_bad_tail(rt: HostRuntime) -> Result<(), Fail> {
-    let rows: [Row<'_>; 4] = [
-        (&[b"add a.o 0\n"], &[b"stream\n"], Status::Malformed),
         (&[b"script 5\nSECT"], &[b"stream\n"], Status::Malformed),
         (&[b"image"], &[b"stream\n"], Status::Malformed),
         (
@@ -233,29 +231,186 @@ fn ends_at_a_bad_tail(rt: HostRuntime) -> Result<(), Fail> {
             Status::Malformed,
         ),
     ];
-    check_rows(&rt, rt.alloc(), &rows)
+    check_rows(&rt, rt.alloc(), RandomState::new(&rt)?, &rows)
 }
 
 #[test]
-fn refuses_each_cut_of_an_object(rt: HostRuntime) -> Result<(), Fail> {
+fn refuses_names_outside_the_limits(rt: HostRuntime) -> Result<(), Fail> {
+    let long = [b'n'; 256];
+    let rows: [Row<'_>; 1] = [(
+        &[
+            b"add ",
+            &long,
+            b" 0 0\nadd a\tb 0 0\nadd a 1 0\nadd a 0 0\n",
+        ],
+        &[b"refused 6 0\nrefused 6 0\nrefused 3 0\nrefused 4 1\n"],
+        Status::Done(0),
+    )];
+    check_rows(&rt, rt.alloc(), RandomState::new(&rt)?, &rows)
+}
+
+/// The command line of a stream is read as it is spelled: the answer, or that no command begins it.
+#[test]
+fn reads_lines_as_spelled(rt: HostRuntime) -> Result<(), Fail> {
+    let bad: &[u8] = b"stream\n";
+    let lines: [(&[u8], &[u8]); 23] = [
+        (b"add a.o 1 0\n", b"refused 3 0\n"),
+        (b"add a 18446744073709551615 0\n", b"refused 3 0\n"),
+        (b"add \xff\r\t 1 0\n", b"refused 3 0\n"),
+        (b"script 0\n", b"linked 0 64\n"),
+        (b"add a.o 01 0\n", bad),
+        (b"add a.o 0 00\n", bad),
+        (b"add  a.o 0 0\n", bad),
+        (b"add  0 0\n", bad),
+        (b"add a.o 0 0 \n", bad),
+        (b"add a.o 0\n", bad),
+        (b"add a\no 0 0\n", bad),
+        (b"add a.o 0 67108865\n", bad),
+        (b"add a 18446744073709551616 0\n", bad),
+        (b"add a.o -0 0\n", bad),
+        (b"ADD a.o 0 0\n", bad),
+        (b"script\n", bad),
+        (b"script \n", bad),
+        (b"script +5\n", bad),
+        (b"script 67108865\n", bad),
+        (b"script 0 0\n", bad),
+        (b"image \n", bad),
+        (b"IMAGE\n", bad),
+        (b"\n", bad),
+    ];
     let alloc = rt.alloc();
-    for n in 0..280usize {
-        let line = format!(in alloc; "add a.o 0 {n}\n")?;
-        let stream = joined(alloc, &[line.as_bytes(), &OBJECT_A[..n]])?;
-        let (outcome, written) = answers(alloc, &stream, usize::MAX)?;
-        let want: &[u8] = if n < 64 {
-            b"refused 4 1\n"
-        } else {
-            b"refused 4 4\n"
-        };
-        assert_eq!(rt; outcome, Ok(Status::Done(0)));
-        assert_eq!(rt; written.as_slice(), want, "at {n}");
+    let seed = RandomState::new(&rt)?;
+    for (line, want) in lines {
+        let (_outcome, written) = answers(alloc, seed, line, usize::MAX, 0, 0)?;
+        assert_eq!(rt; written.as_slice(), want);
+    }
+    // lines of 512 and of 513 bytes
+    for (count, want) in [(504usize, b"refused 6 0\n".as_slice()), (505, bad)] {
+        let mut line = joined(alloc, &[b"add "])?;
+        line.resize(count + 4, b'n')?;
+        line.extend_from_slice(b" 0 0\n")?;
+        let (_outcome, written) = answers(alloc, seed, &line, usize::MAX, 0, 0)?;
+        assert_eq!(rt; written.as_slice(), want);
     }
     Ok(())
 }
 
-/// Whether the answers are whole, or the fault is told and a beginning of them is written.
-fn is_told(
+#[test]
+fn links_at_each_start(rt: HostRuntime) -> Result<(), Fail> {
+    let table: [(&[u8], &[u8], u8); 8] = [
+        (b"0x401000", b"linked 0 4100\n", 0),
+        (b"0x401001", b"linked 0 4101\n", 0),
+        (b"0x4010C8", b"linked 0 204\n", 0),
+        (b"0xFFFFFFFFFFFFFFFB", b"linked 0 4095\n", 0),
+        (b"0xFFFFFFFFFFFFFFFC", b"linked 1 0\n", 1),
+        (b"4K", b"linked 0 4100\n", 0),
+        (b"0x77", b"linked 0 4219\n", 0),
+        (b"0x78", b"linked 0 124\n", 0),
+    ];
+    let alloc = rt.alloc();
+    let seed = RandomState::new(&rt)?;
+    for (start, linked, status) in table {
+        let script = joined(
+            alloc,
+            &[b"SECTIONS { . = ", start, b"; .text : { *(.text) } }"],
+        )?;
+        let line = format!(in alloc; "script {}\n", script.len())?;
+        let stream = joined(alloc, &[line.as_bytes(), &script, ADD, &OBJECT_A])?;
+        let want = joined(alloc, &[b"linked 0 64\n", linked])?;
+        check_stream(&rt, alloc, seed, &stream, &want, Status::Done(status))?;
+    }
+    Ok(())
+}
+
+/// The answers to the script, object B with these changes, and `image`.
+fn answers_to(
+    alloc: Global,
+    seed: RandomState,
+    changes: &[Change],
+    more: &[Change],
+) -> Result<Vec<u8>, Fail> {
+    let mut object = joined(alloc, &[&OBJECT_B])?;
+    for (at, value) in changes.iter().chain(more.iter()) {
+        if let Some(byte) = object.get_mut(*at) {
+            *byte = *value;
+        }
+    }
+    let stream = joined(alloc, &[SCRIPT, ADD_B, &object, IMAGE])?;
+    let (_outcome, written) = answers(alloc, seed, &stream, usize::MAX, 0, 0)?;
+    Ok(written)
+}
+
+#[test]
+fn relocates_against_local_symbols(rt: HostRuntime) -> Result<(), Fail> {
+    let good: &[u8] = b"linked 0 64\nlinked 0 4101\nbytes 4101\n";
+    let faulty: &[u8] = b"linked 0 64\nlinked 1 0\nbytes 0\n";
+    let rows: [(&[Change], &[Change], &[u8], &[u8]); 15] = [
+        (&LOCAL, &[], good, b"\xe8\xfb\xff\xff\xff"),
+        // a value of 2 is added
+        (&LOCAL, &[(120, 0x02)], good, b"\xe8\xfd\xff\xff\xff"),
+        // type 32: S + A
+        (&LOCAL, &[(144, 0x0a)], good, b"\xe8\xfc\x0f\x40\x00"),
+        // symbol number 0 counts as 0
+        (&LOCAL, &[(148, 0x00)], good, b"\xe8\xfb\xef\xbf\xff"),
+        // NONE is not evaluated
+        (&LOCAL, &[(144, 0x00)], good, b"\xe8\x00\x00\x00\x00"),
+        // an absolute symbol of 0x80000000 fits type 32
+        (&ABSOLUTE, &[(144, 0x0a)], good, b"\xe8\x00\x00\x00\x80"),
+        // a second entry, in the bytes of header number 0, for a field before the first one: type 8, addend 0x12
+        (
+            &LOCAL,
+            &[(448, 0x30), (168, 0x0e), (176, 0x12)],
+            good,
+            b"\x12\xfb\xff\xff\xff",
+        ),
+        // type 8: 0x400FFC is out of range
+        (&LOCAL, &[(144, 0x0e)], faulty, b""),
+        // type 32S: 0x80000000 is out of range
+        (&ABSOLUTE, &[(144, 0x0b)], faulty, b""),
+        // the symbol is in a section that isn't linked
+        (&LOCAL, &[(118, 0x03)], faulty, b""),
+        // of two entries the second one is out of range
+        (
+            &LOCAL,
+            &[(448, 0x30), (168, 0x0e), (177, 0x01)],
+            faulty,
+            b"",
+        ),
+        // a global symbol
+        (&[], &[], b"linked 0 64\nrefused 4 15\nbytes 64\n", b""),
+        // a weak symbol
+        (
+            &[(116, 0x20)],
+            &[],
+            b"linked 0 64\nrefused 4 15\nbytes 64\n",
+            b"",
+        ),
+        // what the profile refuses goes first
+        (
+            &[(144, 0x09)],
+            &[],
+            b"linked 0 64\nrefused 4 11\nbytes 64\n",
+            b"",
+        ),
+        // two fields share a byte
+        (
+            &[(448, 0x30), (160, 0x04), (168, 0x0e)],
+            &[],
+            b"linked 0 64\nrefused 4 13\nbytes 64\n",
+            b"",
+        ),
+    ];
+    let seed = RandomState::new(&rt)?;
+    for (changes, more, first, last) in rows {
+        let written = answers_to(rt.alloc(), seed, changes, more)?;
+        assert!(rt; written.starts_with(first));
+        assert!(rt; written.ends_with(last));
+    }
+    Ok(())
+}
+
+/// Whether the answers are whole, or the fault is reported and a beginning of them is written.
+fn is_reported(
     outcome: Result<Status, RunFault>,
     fault: RunFault,
     written: &[u8],
@@ -269,33 +424,38 @@ fn is_told(
 }
 
 #[test]
-fn tells_failed_devices(rt: HostRuntime) -> Result<(), Fail> {
+fn reports_failed_devices(rt: HostRuntime) -> Result<(), Fail> {
     let alloc = rt.alloc();
+    let seed = RandomState::new(&rt)?;
     let stream = joined(alloc, &[SCRIPT, ADD, &OBJECT_A, IMAGE])?;
-    let (_, want) = answers(alloc, &stream, usize::MAX)?;
+    let want = joined(
+        alloc,
+        &[
+            b"linked 0 64\nlinked 0 4100\nbytes 4100\n",
+            &HEADERS,
+            &GAP,
+            b"\x90\x90\x90\xc3",
+        ],
+    )?;
     let mut read_faults = 0u64;
     let mut write_faults = 0u64;
-    for at in 1..200u64 {
-        let mut recorder = Recorder::new(alloc, usize::MAX, 0);
-        let reader = Scripted::new(&stream, usize::MAX, at);
-        let outcome = run_with(alloc, reader, &mut recorder)?;
+    for at in 1..100u64 {
+        let (outcome, written) = answers(alloc, seed, &stream, 100, at, 0)?;
         assert!(rt;
-            is_told(outcome, RunFault::Read, &recorder.written, &want),
+            is_reported(outcome, RunFault::Read, &written, &want),
             "read {at}"
         );
         read_faults = read_faults.saturating_add(u64::from(outcome.is_err()));
-        let mut recorder = Recorder::new(alloc, 100, at);
-        let reader = Scripted::new(&stream, usize::MAX, 0);
-        let outcome = run_with(alloc, reader, &mut recorder)?;
+        let (outcome, written) = answers(alloc, seed, &stream, 100, 0, at)?;
         assert!(rt;
-            is_told(outcome, RunFault::Write, &recorder.written, &want),
+            is_reported(outcome, RunFault::Write, &written, &want),
             "write {at}"
         );
         write_faults = write_faults.saturating_add(u64::from(outcome.is_err()));
     }
-    // Lines of 10, 14 and 6 bytes are read by the byte, two payloads at once, and the end.
-    assert_eq!(rt; read_faults, 33);
-    // Two answers of 5 parts and a flush, and one of 3 parts, 41 writes of an image, and a flush.
-    assert_eq!(rt; write_faults, 57);
+    // 357 bytes are read in four calls, and the end in a fifth.
+    assert_eq!(rt; read_faults, 5);
+    // Two answers of a write and a flush, and one of 42 writes and a flush.
+    assert_eq!(rt; write_faults, 47);
     Ok(())
 }

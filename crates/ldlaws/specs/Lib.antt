@@ -1,2 +1,4 @@
 pub mod FirstMatches
 pub mod Renumbering
+pub mod Examples
+pub mod ExampleProjects

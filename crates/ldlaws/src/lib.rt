@@ -2,6 +2,7 @@
 #![tactic(auto)]
 
 pub mod edits;
+pub mod examples;
 pub mod gathering;
 pub mod layout;
 pub mod names;

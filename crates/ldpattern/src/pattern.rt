@@ -62,6 +62,7 @@ fn read_parts(alloc: Global, word: &[u8]) -> Result<Option<Vec<CodePart>>, Alloc
             None => return Ok(None),
         }
     }
+    parts.shrink_to_fit();
     Ok(Some(parts))
 }
 

@@ -19,13 +19,6 @@ use ldtokens::words::is_free_name;
 use ldtree::formula::Formula;
 use std::alloc::Global;
 
-/// Whether a word begins with `.-`, as no name does.
-fn begins_with_dot_minus(word: &[u8]) -> bool
-    ensures { result ≡ ((slice_index word.now 0 == 46) && (slice_index word.now 1 == 45)) }
-{
-    byte_at(word, 0) == b'.' && byte_at(word, 1) == b'-'
-}
-
 /// Whether a word has bytes of names alone.
 fn has_name_bytes(word: &[u8]) -> bool
     ensures { result ≡ list_all is_name_byte word.now }
@@ -41,7 +34,7 @@ fn is_spelled_as_name(word: &[u8]) -> bool
     if !is_name_start(byte_at(word, 0)) {
         return false;
     }
-    if begins_with_dot_minus(word) {
+    if byte_at(word, 0) == b'.' && byte_at(word, 1) == b'-' {
         return false;
     }
     has_name_bytes(word)

@@ -5,10 +5,10 @@ ghost use Rattle.std.specs.Io.KnownBytes.{Appends};
 ghost use Rattle.ldstream.specs.Answers.{linked_line, refused_line, answer_line, bytes_answer, stream_line};
 ghost use Rattle.ldstream.specs.Stepped.{CountsFailure, Writes};
 
-use ldmodel::edit::{EditRefusal, Linked};
 use crate::devices::Sink;
 use crate::fault::WriteFault;
 use itoa::Buffer;
+use ldmodel::edit::{EditRefusal, Linked};
 
 /// Writes all the bytes, or a beginning of them.
 fn write_all<W: Sink>(sink: &mut W, bytes: &[u8]) -> Result<(), WriteFault>

@@ -4,10 +4,10 @@ ghost use Rattle.std.specs.Prelude.{◌≡◌, ◌<◌, ◌≤◌, ◌^◌, ◌�
 ghost use Rattle.ldstream.specs.Commands.{Head, HasNo, HasWords, IsHead, IsWord, SplitsWord, head_line, object_words};
 ghost use Rattle.ldstream.specs.Stepped.{head_in, LiesIn};
 
-use ldmodel::edit::MAX_PAYLOAD;
 use crate::line::MAX_LINE;
 use bstr::ByteSlice;
 use itoa::Buffer;
+use ldmodel::edit::MAX_PAYLOAD;
 
 /// Where the name stands in the line of `add`.
 pub const NAME_START: usize = 4;

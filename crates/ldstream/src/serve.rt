@@ -6,8 +6,6 @@ ghost use Rattle.ldmodel.specs.ThinEditMeaning.{change_of};
 ghost use Rattle.ldstream.specs.Ran.{FaultsCounted, Flushed, world};
 ghost use Rattle.ldstream.specs.Stepped.{CountsFailure, Writes, Started, Stepped, EditStepped, aimed};
 
-use ldmodel::linker::Linker;
-use ldmodel::edit::{Edit, EditRefusal};
 use crate::Status;
 use crate::answer::{write_bytes, write_linked, write_malformed, write_refused};
 use crate::devices::{Sink, Source};
@@ -15,6 +13,8 @@ use crate::fault::{ReadFault, RunFault, WriteFault};
 use crate::head::{HeadInLine, NAME_START, read_head};
 use crate::line::{LineEnd, MAX_LINE, read_line};
 use crate::payload::{Payload, read_payload};
+use ldmodel::edit::{Edit, EditRefusal};
+use ldmodel::linker::Linker;
 use ldmodel::meter::Meter;
 use std::alloc::Global;
 

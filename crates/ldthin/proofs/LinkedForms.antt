@@ -1,26 +1,27 @@
 -- The scripts that are linked are those of the form.
 use Rattle.std.proofs.Common.{◌≡◌, ◌&&◌, ◌∙◌, ℕ, List, [], ◌∷◌, Option, Some, None, option_map, Bool, true, false, not, is_none, cond, refl, sym, ap, subst}
-use Rattle.ldexpr.specs.Expressions as language
-use Rattle.ldexpr.specs.Expressions.{Expr}
-use Rattle.ldpattern.specs.Parts.{Part, AnyRun, AnyByte, Byte, OneOf}
-use Rattle.ldpattern.specs.Matching.{exact_name}
-use Rattle.ldtree.specs.declared.common.DotCommand.TheVariants.{Set, Add}
-use Rattle.ldtree.specs.declared.input.Sort.{Sort}
-use Rattle.ldtree.specs.declared.input.Input.{Input}
-use Rattle.ldtree.specs.declared.section.BodyCommand.{BodyCommand}
-use Rattle.ldtree.specs.declared.section.BodyCommand.TheVariants as body
-use Rattle.ldtree.specs.declared.section.BodyStatement.{BodyStatement}
-use Rattle.ldtree.specs.declared.section.Load.{Load}
-use Rattle.ldtree.specs.declared.section.Load.TheVariants.{Unstated, At, InRegion}
-use Rattle.ldtree.specs.declared.section.OutputSection.{OutputSection}
-use Rattle.ldtree.specs.declared.statement.ItemCommand.{ItemCommand}
-use Rattle.ldtree.specs.declared.statement.ItemCommand.TheVariants as item
-use Rattle.ldtree.specs.declared.statement.Item.{Item}
-use Rattle.ldtree.specs.declared.statement.Command.{Command}
-use Rattle.ldtree.specs.declared.statement.Command.TheVariants as top
-use Rattle.ldtree.specs.declared.statement.Statement.{Statement}
+use Rattle.ldscript.specs.Expressions as language
+use Rattle.ldscript.specs.Expressions.{Expr}
+use Rattle.ldscript.specs.Parts.{Part, AnyRun, AnyByte, Byte, OneOf}
+use Rattle.ldscript.specs.Matching.{exact_name}
+use Rattle.ldscript.specs.declared.tree.DotCommand.TheVariants.{Set, Add}
+use Rattle.ldscript.specs.declared.tree.Sort.{Sort}
+use Rattle.ldscript.specs.declared.tree.Input.{Input}
+use Rattle.ldscript.specs.declared.tree.SectionWord.{SectionWord}
+use Rattle.ldscript.specs.declared.tree.BodyCommand.{BodyCommand}
+use Rattle.ldscript.specs.declared.tree.BodyCommand.TheVariants as body
+use Rattle.ldscript.specs.declared.tree.BodyStatement.{BodyStatement}
+use Rattle.ldscript.specs.declared.tree.Load.{Load}
+use Rattle.ldscript.specs.declared.tree.Load.TheVariants.{Unstated, At, InRegion}
+use Rattle.ldscript.specs.declared.tree.OutputSection.{OutputSection}
+use Rattle.ldscript.specs.declared.tree.ItemCommand.{ItemCommand}
+use Rattle.ldscript.specs.declared.tree.ItemCommand.TheVariants as item
+use Rattle.ldscript.specs.declared.tree.Item.{Item}
+use Rattle.ldscript.specs.declared.tree.Command.{Command}
+use Rattle.ldscript.specs.declared.tree.Command.TheVariants as top
+use Rattle.ldscript.specs.declared.tree.Statement.{Statement}
 use Rattle.ldthin.specs.Tree.{Tree}
-use Rattle.ldthin.specs.LinkedScript.{TakerData, FormData, form_tree, is_any, is_simple_input, one_name, word_of_input, word_of_command, word_of_body, is_unstated, is_bare, taker_of_section, taker_of, number_of, start_of, form_with, form_of_items, form_of_command, linked_part}
+use Rattle.ldthin.specs.LinkedScript.{TakerData, FormData, form_tree, is_any, is_simple_input, name_of, one_name, word_of_input, word_of_command, word_of_body, is_unstated, is_bare, taker_of_section, taker_of, number_of, start_of, form_with, form_of_items, form_of_command, linked_part}
 use Rattle.ldthin.specs.LinkedForm.{Lines, form_input, form_body, form_section, form_items, form_script, IsLinkedAs, empty, form}
 
 -- what the tests and choices of the definition leave known
@@ -57,13 +58,24 @@ unstated_there Unstated e = refl
 unstated_there (At x) e = cc
 unstated_there (InRegion r) e = cc
 
-one_pattern : (ps : List (List Part)) (w : List ℕ) → one_name ps ≡ Some w → (p : List Part) × (ps ≡ p ∷ []) × (exact_name p ≡ Some w)
+name_there : (p : List Part) (excluded : List (List Part)) (w : List ℕ) → name_of p excluded ≡ Some w → (excluded ≡ []) × (exact_name p ≡ Some w)
+name_there p [] w e = (refl, e)
+name_there p (x ∷ xs) w e = cc
+
+-- a word of this pattern that leaves no file out
+abbrev plain_word : List Part → SectionWord
+plain_word p = record { pattern = p; excluded = [] }
+
+one_pattern : (ws : List SectionWord) (w : List ℕ) → one_name ws ≡ Some w
+    → (p : List Part) × (ws ≡ plain_word p ∷ []) × (exact_name p ≡ Some w)
 one_pattern [] w e = cc
-one_pattern (p ∷ []) w e = (p, refl, e)
-one_pattern (p ∷ q ∷ ps) w e = cc
+one_pattern (x ∷ []) w e =
+    let c = name_there x.pattern x.excluded w e in
+    (x.pattern, ap (λ (v : List (List Part)). record { pattern = x.pattern; excluded = v } ∷ []) c.0, c.1)
+one_pattern (x ∷ y ∷ ws) w e = cc
 
 -- each part of the form has the shape that it has there
-input_of : (keep : Bool) (file p : List Part) (sort : Option Sort) (sections : List (List Part)) → keep ≡ false → file ≡ AnyRun ∷ [] → sort ≡ None → sections ≡ p ∷ []
+input_of : (keep : Bool) (file p : List Part) (sort : Option Sort) (sections : List SectionWord) → keep ≡ false → file ≡ AnyRun ∷ [] → sort ≡ None → sections ≡ plain_word p ∷ []
     → record { keep = keep; file = file; sort = sort; sections = sections } ≡ form_input p
 input_of keep file p sort sections k f o s = rw (k, f, o, s) refl
 
@@ -129,7 +141,8 @@ number_is (language.Name m) n e = cc
 number_is (language.Unary o a) n e = cc
 number_is (language.Binary o a b) n e = cc
 number_is (language.Choice t a b) n e = cc
-number_is (language.Of f m) n e = cc
+number_is (language.OfRegion q m) n e = cc
+number_is (language.OfSection q m) n e = cc
 number_is (language.AlignDot a) n e = cc
 number_is (language.Align a b) n e = cc
 

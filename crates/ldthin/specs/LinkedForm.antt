@@ -1,18 +1,18 @@
 -- The scripts that this version links, tree by tree.
 use Rattle.std.specs.Prelude.{◌≡◌, ℕ, List, [], ◌∷◌, false, Some, None}
-use Rattle.ldexpr.specs.Expressions.{Number}
-use Rattle.ldpattern.specs.Parts.{Part, AnyRun}
-use Rattle.ldpattern.specs.Matching.{exact_name}
-use Rattle.ldtree.specs.declared.common.DotCommand.TheVariants.{Set}
-use Rattle.ldtree.specs.declared.input.Input.{Input}
-use Rattle.ldtree.specs.declared.section.BodyCommand.TheVariants as body
-use Rattle.ldtree.specs.declared.section.BodyStatement.{BodyStatement}
-use Rattle.ldtree.specs.declared.section.Load.TheVariants.{Unstated}
-use Rattle.ldtree.specs.declared.section.OutputSection.{OutputSection}
-use Rattle.ldtree.specs.declared.statement.Item.{Item}
-use Rattle.ldtree.specs.declared.statement.ItemCommand.TheVariants as item
-use Rattle.ldtree.specs.declared.statement.Command.TheVariants.{Sections}
-use Rattle.ldtree.specs.declared.statement.Statement.{Statement}
+use Rattle.ldscript.specs.Expressions.{Number}
+use Rattle.ldscript.specs.Parts.{Part, AnyRun}
+use Rattle.ldscript.specs.Matching.{exact_name}
+use Rattle.ldscript.specs.declared.tree.DotCommand.TheVariants.{Set}
+use Rattle.ldscript.specs.declared.tree.Input.{Input}
+use Rattle.ldscript.specs.declared.tree.BodyCommand.TheVariants as body
+use Rattle.ldscript.specs.declared.tree.BodyStatement.{BodyStatement}
+use Rattle.ldscript.specs.declared.tree.Load.TheVariants.{Unstated}
+use Rattle.ldscript.specs.declared.tree.OutputSection.{OutputSection}
+use Rattle.ldscript.specs.declared.tree.Item.{Item}
+use Rattle.ldscript.specs.declared.tree.ItemCommand.TheVariants as item
+use Rattle.ldscript.specs.declared.tree.Command.TheVariants.{Sections}
+use Rattle.ldscript.specs.declared.tree.Statement.{Statement}
 use Rattle.ldthin.specs.Tree.{Tree}
 use Rattle.ldthin.specs.LinkedScript.{form_tree}
 
@@ -25,7 +25,8 @@ pub record Lines : Type 0 where
 
 -- * ( WORD )
 abbrev pub form_input : List Part → Input
-form_input word = record { keep = false; file = AnyRun ∷ []; sort = None; sections = word ∷ [] }
+form_input word =
+    record { keep = false; file = AnyRun ∷ []; sort = None; sections = record { pattern = word; excluded = [] } ∷ [] }
 
 abbrev pub form_body : ℕ → List Part → BodyStatement
 form_body line word = record { line = line; command = body.Input (form_input word) }

@@ -2,28 +2,30 @@
 --
 --   SECTIONS { . = NUMBER ; NAME : { * ( WORD ) } }
 --
--- in which the section has nothing beside its name and the one statement, and WORD is a name without pattern signs.
+-- in which the section has nothing beside its name and the one statement, and WORD is a name without pattern signs and
+-- without files that it leaves out.
 use Rattle.std.specs.Prelude.{ℕ, List, [], ◌∷◌, Bool, true, false, not, ◌&&◌, is_none, if◌then◌else◌, Option, Some, None}
 use Rattle.std.specs.Option.{option_map}
-use Rattle.ldexpr.specs.Expressions as language
-use Rattle.ldexpr.specs.Expressions.{Expr}
-use Rattle.ldpattern.specs.Parts as patterns
-use Rattle.ldpattern.specs.Parts.{AnyRun}
-use Rattle.ldpattern.specs.Matching.{exact_name}
-use Rattle.ldtree.specs.declared.common.DotCommand.TheVariants.{Set}
-use Rattle.ldtree.specs.declared.input.Input.{Input}
-use Rattle.ldtree.specs.declared.section.BodyCommand.{BodyCommand}
-use Rattle.ldtree.specs.declared.section.BodyCommand.TheVariants as body
-use Rattle.ldtree.specs.declared.section.BodyStatement.{BodyStatement}
-use Rattle.ldtree.specs.declared.section.Load.{Load}
-use Rattle.ldtree.specs.declared.section.Load.TheVariants.{Unstated}
-use Rattle.ldtree.specs.declared.section.OutputSection.{OutputSection}
-use Rattle.ldtree.specs.declared.statement.ItemCommand.{ItemCommand}
-use Rattle.ldtree.specs.declared.statement.ItemCommand.TheVariants as item
-use Rattle.ldtree.specs.declared.statement.Item.{Item}
-use Rattle.ldtree.specs.declared.statement.Command.{Command}
-use Rattle.ldtree.specs.declared.statement.Command.TheVariants.{Sections}
-use Rattle.ldtree.specs.declared.statement.Statement.{Statement}
+use Rattle.ldscript.specs.Expressions as language
+use Rattle.ldscript.specs.Expressions.{Expr}
+use Rattle.ldscript.specs.Parts as patterns
+use Rattle.ldscript.specs.Parts.{AnyRun}
+use Rattle.ldscript.specs.Matching.{exact_name}
+use Rattle.ldscript.specs.declared.tree.DotCommand.TheVariants.{Set}
+use Rattle.ldscript.specs.declared.tree.Input.{Input}
+use Rattle.ldscript.specs.declared.tree.SectionWord.{SectionWord}
+use Rattle.ldscript.specs.declared.tree.BodyCommand.{BodyCommand}
+use Rattle.ldscript.specs.declared.tree.BodyCommand.TheVariants as body
+use Rattle.ldscript.specs.declared.tree.BodyStatement.{BodyStatement}
+use Rattle.ldscript.specs.declared.tree.Load.{Load}
+use Rattle.ldscript.specs.declared.tree.Load.TheVariants.{Unstated}
+use Rattle.ldscript.specs.declared.tree.OutputSection.{OutputSection}
+use Rattle.ldscript.specs.declared.tree.ItemCommand.{ItemCommand}
+use Rattle.ldscript.specs.declared.tree.ItemCommand.TheVariants as item
+use Rattle.ldscript.specs.declared.tree.Item.{Item}
+use Rattle.ldscript.specs.declared.tree.Command.{Command}
+use Rattle.ldscript.specs.declared.tree.Command.TheVariants.{Sections}
+use Rattle.ldscript.specs.declared.tree.Statement.{Statement}
 use Rattle.ldthin.specs.Tree as tree
 use Rattle.ldthin.specs.Tree.{Tree, SetDot, Section, Any, Exact}
 
@@ -59,9 +61,17 @@ is_any _ = false
 abbrev pub is_simple_input : Input → Bool
 is_simple_input i = not i.keep && is_any i.file && is_none i.sort
 
--- one pattern, and that without pattern signs
-abbrev pub one_name : List (List patterns.Part) → Option (List ℕ)
-one_name (p ∷ []) = exact_name p
+-- a name without pattern signs, where no file is left out
+abbrev pub name_of : List patterns.Part → List (List patterns.Part) → Option (List ℕ)
+name_of pattern [] = exact_name pattern
+name_of pattern _ = None
+
+abbrev pub name_of_word : SectionWord → Option (List ℕ)
+name_of_word w = name_of w.pattern w.excluded
+
+-- one such word
+abbrev pub one_name : List SectionWord → Option (List ℕ)
+one_name (w ∷ []) = name_of_word w
 one_name _ = None
 
 -- `* ( WORD )`

@@ -1,7 +1,7 @@
 //! What holds of the definitions themselves.
 
 ghost use Rattle.std.specs.Prelude.{◌≡◌, ◌↔◌, List, Some};
-ghost use Rattle.ldtree.specs.declared.statement.Statement.{Statement};
+ghost use Rattle.ldscript.specs.declared.tree.Statement.{Statement};
 ghost use Rattle.ldthin.specs.Tree.{Tree};
 ghost use Rattle.ldthin.specs.LinkedScript.{linked_part};
 ghost use Rattle.ldthin.specs.LinkedForm.{IsLinkedAs};

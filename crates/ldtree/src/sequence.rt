@@ -38,10 +38,14 @@ impl<T> Sequence<T> {
 }
 
 impl<T: Drop> Sequence<T> {
-    /// One more at the end, or an error for want of memory.
+    /// One more at the end, or an error where memory ran out. Most lists of a tree have one element, so the first takes
+    /// the room of one.
     pub fn push(&mut self, element: T) -> Result<(), AllocError>
         ensures { OnOk result (self.new ≡ self.old ++ element ∷ []) }
     {
+        if self.elements.is_empty() {
+            self.elements.reserve_exact(1)?;
+        }
         self.elements.push(element)?;
         Ok(())
     }

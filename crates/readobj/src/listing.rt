@@ -4,7 +4,7 @@ use crate::names;
 use elfobj::constants::{SHF_ALLOC, SHF_EXECINSTR, SHF_MERGE, SHF_STRINGS, SHF_WRITE};
 use elfobj::object::Object;
 use elfobj::relocation::{Relocation, SymbolIndex};
-use elfobj::section::Section;
+use elfobj::section::{LinkedIndex, Section};
 use elfobj::symbol::{Symbol, SymbolPlace};
 use std::io;
 use std::io::Write;
@@ -81,7 +81,7 @@ fn print_relocation<W: Write>(
 /// The lines of its linked sections.
 fn print_sections<W: Write>(out: &mut W, object: &Object) -> io::Result<()> {
     for (i, section) in object.sections().iter().enumerate() {
-        print_section(out, section, object.section_name(i))?;
+        print_section(out, section, object.section_name(LinkedIndex(i)))?;
     }
     Ok(())
 }
@@ -98,7 +98,7 @@ fn print_symbols<W: Write>(out: &mut W, object: &Object) -> io::Result<()> {
 /// The lines of the relocations of its linked sections.
 fn print_relocations<W: Write>(out: &mut W, object: &Object) -> io::Result<()> {
     for (i, section) in object.sections().iter().enumerate() {
-        for relocation in object.relocations(i) {
+        for relocation in object.relocations(LinkedIndex(i)) {
             print_relocation(out, section.number.0, relocation)?;
         }
     }

@@ -14,7 +14,8 @@
 //! `COM` or the number of a section. SECTION is the number of the section that a relocation changes, SYMBOL the number
 //! of the entry that it names. A local symbol has no NAME.
 //!
-//! Of bytes that are no object it prints `refused N` with the reader's number instead. It ends with status 0 after the
+//! Of bytes that are no object it prints `refused N` with the reader's number instead, and a line with two spaces and the
+//! place and the reason, for people. It ends with status 0 after the
 //! last object, with status 1 where the stream goes on with no object, and with status 3 where a device failed or memory
 //! was refused.
 #![tactic(auto)]
@@ -25,7 +26,9 @@ mod stream;
 
 use crate::listing::print_object;
 use crate::stream::{Frame, split_frame};
+use elfobj::explain::explain;
 use elfobj::object::Object;
+use elfobj::refusal::ObjectRefusal;
 use ldbase::meter::Meter;
 use std::alloc::Global;
 use std::io;
@@ -39,6 +42,20 @@ const MALFORMED: u8 = 1;
 /// A device failed, or memory was refused.
 const FAILED: u8 = 3;
 
+/// The number of a refusal, and where and why it came.
+fn print_refusal<W: Write>(
+    alloc: Global,
+    out: &mut W,
+    bytes: &[u8],
+    refusal: ObjectRefusal,
+) -> io::Result<()> {
+    writeln!(out, "refused {}", refusal.number())?;
+    match explain(alloc, bytes, refusal)? {
+        Some(explanation) => writeln!(out, "  {explanation}"),
+        None => Ok(()),
+    }
+}
+
 /// The lines of one object.
 fn show_object<W: Write>(alloc: Global, out: &mut W, frame: &Frame) -> io::Result<()> {
     out.write_all(b"object ")?;
@@ -48,7 +65,7 @@ fn show_object<W: Write>(alloc: Global, out: &mut W, frame: &Frame) -> io::Resul
     let mut meter = Meter::new();
     match Object::read(alloc, bytes, &mut meter) {
         Ok(object) => print_object(out, &object),
-        Err((_, refusal)) => writeln!(out, "refused {}", refusal.number()),
+        Err((bytes, refusal)) => print_refusal(alloc, out, &bytes, refusal),
     }
 }
 

@@ -2,7 +2,7 @@
 
 use crate::expression::push_formula;
 use crate::text::push_bytes;
-use ldtree::common::{Assignment, Common, DotCommand};
+use ldscript::tree::{Assignment, Common, DotCommand};
 use std::alloc::AllocError;
 
 fn push_assignment(out: &mut String, assignment: &Assignment) -> Result<(), AllocError> {

@@ -1,10 +1,9 @@
 //! Expressions, with parentheses round each operation.
 
 use crate::text::push_bytes;
-use ldexpr::expression::{Expr, Property};
-use ldexpr::operator::{BinaryOperator, UnaryOperator};
-use ldtokens::name::ScriptName;
-use ldtree::formula::Formula;
+use ldscript::tree::{
+    BinaryOperator, Expr, Formula, RegionQuery, ScriptName, SectionQuery, UnaryOperator,
+};
 use std::alloc::AllocError;
 use std::fmt::Write;
 
@@ -38,20 +37,24 @@ fn binary_sign(operator: BinaryOperator) -> &'static str {
     }
 }
 
-fn property_word(property: Property) -> &'static str {
-    match property {
-        Property::Origin => "ORIGIN",
-        Property::Length => "LENGTH",
-        Property::Address => "ADDR",
-        Property::LoadAddress => "LOADADDR",
-        Property::Size => "SIZEOF",
+fn region_word(query: RegionQuery) -> &'static str {
+    match query {
+        RegionQuery::Origin => "ORIGIN(",
+        RegionQuery::Length => "LENGTH(",
+    }
+}
+
+fn section_word(query: SectionQuery) -> &'static str {
+    match query {
+        SectionQuery::Address => "ADDR(",
+        SectionQuery::LoadAddress => "LOADADDR(",
+        SectionQuery::Size => "SIZEOF(",
     }
 }
 
 /// A query of a region or of a section.
-fn push_query(out: &mut String, property: Property, name: &ScriptName) -> Result<(), AllocError> {
-    out.push_str(property_word(property))?;
-    out.push_str("(")?;
+fn push_query(out: &mut String, word: &str, name: &ScriptName) -> Result<(), AllocError> {
+    out.push_str(word)?;
     push_bytes(out, name.as_bytes())?;
     out.push_str(")")
 }
@@ -61,7 +64,8 @@ fn push_operand(out: &mut String, tree: &Expr) -> Result<(), AllocError> {
     match tree {
         Expr::Number(value) => write!(out, "{value}"),
         Expr::Name(name) => push_bytes(out, name.as_bytes()),
-        Expr::Of(property, name) => push_query(out, *property, name),
+        Expr::OfRegion(query, name) => push_query(out, region_word(*query), name),
+        Expr::OfSection(query, name) => push_query(out, section_word(*query), name),
         _ => out.push_str("."),
     }
 }

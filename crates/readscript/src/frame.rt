@@ -4,6 +4,8 @@
 pub enum Frame<'a> {
     /// The tree of a script.
     Script(&'a [u8]),
+    /// The numbers of a script's statements.
+    Numbers(&'a [u8]),
     /// The tokens of a text.
     Tokens(&'a [u8]),
     /// Whether a pattern, the first, matches a name.
@@ -44,6 +46,10 @@ fn frame_of<'a>(line: &[u8], bytes: &'a [u8]) -> Option<(Frame<'a>, &'a [u8])> {
     if word == b"script".as_slice() {
         let (text, rest) = counted(lengths, bytes)?;
         return Some((Frame::Script(text), rest));
+    }
+    if word == b"numbers".as_slice() {
+        let (text, rest) = counted(lengths, bytes)?;
+        return Some((Frame::Numbers(text), rest));
     }
     if word == b"tokens".as_slice() {
         let (text, rest) = counted(lengths, bytes)?;

@@ -1,8 +1,30 @@
 //! Input statements.
 
 use crate::pattern::{push_pattern, push_patterns};
-use ldtree::input::{Input, Sort};
+use ldscript::tree::{Input, SectionWord, Sort};
 use std::alloc::AllocError;
+
+/// A word, with the files that it leaves out.
+fn push_word(out: &mut String, word: &SectionWord) -> Result<(), AllocError> {
+    let excluded = word.excluded.as_slice();
+    if !excluded.is_empty() {
+        out.push_str("exclude(")?;
+        push_patterns(out, excluded)?;
+        out.push_str(") ")?;
+    }
+    push_pattern(out, &word.pattern)
+}
+
+/// Words with a space between them.
+fn push_words(out: &mut String, words: &[SectionWord]) -> Result<(), AllocError> {
+    let mut separator = "";
+    for word in words {
+        out.push_str(separator)?;
+        push_word(out, word)?;
+        separator = " ";
+    }
+    Ok(())
+}
 
 /// What is taken of which files.
 pub fn push_input(out: &mut String, input: &Input) -> Result<(), AllocError> {
@@ -15,6 +37,6 @@ pub fn push_input(out: &mut String, input: &Input) -> Result<(), AllocError> {
         Some(Sort::ByName) => out.push_str("(by name: ")?,
         Some(Sort::ByAlignment) => out.push_str("(by alignment: ")?,
     }
-    push_patterns(out, input.sections.as_slice())?;
+    push_words(out, input.sections.as_slice())?;
     out.push_str(")")
 }

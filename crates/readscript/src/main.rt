@@ -4,6 +4,7 @@
 //! skipped. All lengths are decimal.
 //!
 //!     script LENGTH           a script
+//!     numbers LENGTH          a script, for the numbers of its statements
 //!     tokens LENGTH           a text, to be cut into tokens
 //!     match WORD NAME         a pattern of so many bytes, and right after it a name of so many bytes
 //!
@@ -27,8 +28,13 @@
 //! `NAME = EXPR`, `provide NAME = EXPR` and `assert EXPR "MESSAGE"`, the last three at the top too. A sort is
 //! `by name: ` or `by alignment: `. In an EXPR each operation has its parentheses, and numbers are decimal. A PATTERN
 //! is `*` alone, which every name matches; or the one name that matches it, with `\` before each byte that would not be
-//! plain in a pattern; or `~`, which stands for any other pattern. A refused text has `refused N` in place of a tree,
-//! with the reader's number.
+//! plain in a pattern; or `~`, which stands for any other pattern. Where an `EXCLUDE_FILE` belongs to a PATTERN,
+//! `exclude(PATTERN PATTERN) ` stands before it. A refused text has `refused N` in place of a tree, with the reader's
+//! number.
+//!
+//! For `numbers` it prints the same of the text, the name of `ENTRY`, and then by their numbers, each with its line,
+//! the memory regions, the output sections, the input statements with their places, and the assignments, `PROVIDE`s
+//! and `ASSERT`s; after each name what the script's tables say of it.
 //!
 //! For `tokens` it prints the same of the text, the number of its tokens, and if these are 40 at most, the tokens of
 //! each line of the text with their kinds. For a `match` it prints the word and the name in quotes, and whether the
@@ -45,6 +51,7 @@ mod common;
 mod expression;
 mod frame;
 mod input;
+mod numbers;
 mod pattern;
 mod script;
 mod section;
@@ -53,6 +60,7 @@ mod text;
 mod tokens;
 
 use crate::frame::{Frame, Next, next_frame};
+use crate::numbers::push_numbers;
 use crate::pattern::push_match;
 use crate::script::push_script;
 use crate::tokens::push_tokens;
@@ -71,6 +79,7 @@ fn answer(alloc: Global, frame: Frame<'_>) -> Result<String, AllocError> {
     let mut out = String::new(alloc);
     match frame {
         Frame::Script(text) => push_script(alloc, &mut out, text)?,
+        Frame::Numbers(text) => push_numbers(alloc, &mut out, text)?,
         Frame::Tokens(text) => push_tokens(alloc, &mut out, text)?,
         Frame::Match(word, name) => push_match(alloc, &mut out, word, name)?,
     }

@@ -4,7 +4,7 @@ use crate::common::{push_common, push_dot};
 use crate::expression::push_formula;
 use crate::input::push_input;
 use crate::text::push_bytes;
-use ldtree::section::{BodyCommand, BodyStatement, Load, OutputSection, Width};
+use ldscript::tree::{BodyCommand, BodyStatement, Load, OutputSection, Width};
 use std::alloc::AllocError;
 use std::fmt::Write;
 

@@ -5,8 +5,7 @@ use crate::expression::push_formula;
 use crate::input::push_input;
 use crate::section::push_section;
 use crate::text::push_bytes;
-use ldtree::input::InputStatement;
-use ldtree::statement::{Command, Item, ItemCommand, Region, Statement};
+use ldscript::tree::{Command, InputStatement, Item, ItemCommand, Region, Statement};
 use std::alloc::AllocError;
 use std::fmt::Write;
 

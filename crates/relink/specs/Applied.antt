@@ -9,7 +9,7 @@ use Rattle.elfobj.specs.declared.refusal.ObjectRefusal.TheVariants as object
 use Rattle.ldscript.specs.RefusalNumber as number
 use Rattle.ldscript.specs.declared.refusal.ScriptRefusal.{ScriptRefusal}
 use Rattle.ldscript.specs.declared.refusal.ScriptRefusal.TheVariants as script
-use Rattle.ldtree.specs.declared.statement.Statement.{Statement}
+use Rattle.ldscript.specs.declared.tree.Statement.{Statement}
 use Rattle.ldthin.specs.Tree.{Tree}
 use Rattle.ldthin.specs.LinkedScript.{linked_part}
 use Rattle.ldmodel.specs.ThinEdits.{Change, After, RefusedAs, refusal, no_memory, not_yet, script_not_yet}

@@ -1,5 +1,5 @@
 -- What the plain linker may count: as much as it likes, since it links from scratch at each edit.
-use Rattle.ldbase.specs.Counts.{Counts}
+use Rattle.ldmodel.specs.Counts.{Counts}
 use Rattle.ldmodel.specs.ThinProject.{Project}
 use Rattle.ldmodel.specs.ThinEdits.{Change}
 

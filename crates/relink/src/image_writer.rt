@@ -11,12 +11,12 @@ ghost use Rattle.ldfields.specs.Patches.{AreInOrder};
 
 use crate::place::{EHSIZE, PAGE, PHENTSIZE};
 use elfobj::constants::EM_X86_64;
-use ldmodel::meter::Meter;
 use ldfields::canvas::Canvas;
 use ldfields::patch::{Patch, write_patched};
+use ldmodel::memory::NoMemory;
+use ldmodel::meter::Meter;
 use ldthin::member::Member;
 use ldthin::placed::Segment;
-use ldmodel::memory::NoMemory;
 use std::alloc::Global;
 
 /// Identification of a little-endian 64-bit file of version 1.

@@ -16,17 +16,18 @@ ghost use Rattle.ldthin.specs.NamedObject.{NamedObject};
 use crate::gather::gather;
 use crate::image_writer::image;
 use crate::linked_script::LinkedScript;
-use ldmodel::edit::Linked;
 use crate::named::NamedObject;
 use crate::place::{place, segments};
 use crate::relocate::relocate;
-use ldmodel::meter::Meter;
+use elfobj::section::LinkedIndex;
 use ldfields::canvas::Canvas;
 use ldfields::patch::{Patch, in_order};
+use ldmodel::edit::Linked;
+use ldmodel::memory::NoMemory;
+use ldmodel::meter::Meter;
 use ldthin::member::{Gathered, Member};
 use ldthin::placed::Placed;
 use ldthin::relocate::RelocateFault;
-use ldmodel::memory::NoMemory;
 use std::alloc::{AllocError, Global};
 use std::marker::Model;
 
@@ -94,10 +95,10 @@ fn only_member(objects: &[NamedObject]) -> Option<Member<'_>>
     let section = *object.sections().first()?;
     Some(Member {
         object: named.name(),
-        name: object.section_name(0),
+        name: object.section_name(LinkedIndex(0)),
         section,
-        bytes: object.section_bytes(0),
-        relocations: object.relocations(0),
+        bytes: object.section_bytes(LinkedIndex(0)),
+        relocations: object.relocations(LinkedIndex(0)),
         symbols: object.symbols(),
     })
 }

@@ -1,19 +1,17 @@
 //! Which scripts this version links, by their trees.
 
 ghost use Rattle.std.specs.Prelude.{◌≡◌, IfOk, option_copied};
-ghost use Rattle.ldexpr.specs.Expressions.{expr_of};
-ghost use Rattle.ldthin.specs.LinkedScript.{form_of_command, form_of_items, form_tree, is_any, is_bare, is_simple_input, is_unstated, linked_part, number_of, one_name, start_of, taker_of, taker_of_section, word_of_body, word_of_command, word_of_input};
+ghost use Rattle.ldscript.specs.Expressions.{expr_of};
+ghost use Rattle.ldthin.specs.LinkedScript.{form_of_command, form_of_items, form_tree, is_any, is_bare, is_simple_input, is_unstated, linked_part, name_of_word, number_of, one_name, start_of, taker_of, taker_of_section, word_of_body, word_of_command, word_of_input};
 ghost use Rattle.ldthin.specs.LinkedPart.{form_data, taker_data};
 
 use crate::linked_script::{Form, LinkedScript};
-use ldexpr::expression::Expr;
-use ldpattern::pattern::Pattern;
-use ldthin::form::{LentForm, Taker};
-use ldtree::common::DotCommand;
-use ldtree::input::Input;
-use ldtree::section::{BodyCommand, BodyStatement, Load, OutputSection};
-use ldtree::statement::{Command, Item, ItemCommand, Statement};
 use ldmodel::memory::NoMemory;
+use ldscript::tree::{
+    BodyCommand, BodyStatement, Command, DotCommand, Expr, Input, Item, ItemCommand, Load,
+    OutputSection, Pattern, SectionWord, Statement,
+};
+use ldthin::form::{LentForm, Taker};
 use std::alloc::Global;
 
 /// Whether a pattern is `*` alone.
@@ -30,12 +28,22 @@ fn is_simple_input(input: &Input) -> bool
     !input.keep && is_any(&input.file) && input.sort.is_none()
 }
 
-/// The one name that the one pattern matches.
-fn one_name(patterns: &[Pattern]) -> Option<&[u8]>
-    ensures { option_copied result ≡ one_name patterns.now }
+/// The one name that a word takes, if it leaves out no file.
+fn name_of_word(word: &SectionWord) -> Option<&[u8]>
+    ensures { option_copied result ≡ name_of_word word.now }
 {
-    match patterns {
-        [pattern] => pattern.exact_name(),
+    match word.excluded.as_slice() {
+        [] => word.pattern.exact_name(),
+        _ => None,
+    }
+}
+
+/// The same of the one word.
+fn one_name(words: &[SectionWord]) -> Option<&[u8]>
+    ensures { option_copied result ≡ one_name words.now }
+{
+    match words {
+        [word] => name_of_word(word),
         _ => None,
     }
 }
@@ -165,7 +173,7 @@ fn with_form(alloc: Global, lent: LentForm<'_>) -> Result<LinkedScript, NoMemory
     Ok(LinkedScript::of(form))
 }
 
-/// What this version links of a script, or `None` where it doesn't link the script yet. Fails only for want of memory.
+/// What this version links of a script, or `None` where it doesn't link the script yet. Fails only out of memory.
 pub fn linked_part(
     alloc: Global,
     statements: &[Statement],

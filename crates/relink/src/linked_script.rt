@@ -4,8 +4,8 @@ ghost use Rattle.std.specs.Prelude.{◌≡◌, [], IfOk, MatchOption};
 ghost use Rattle.ldthin.specs.Tree.{matches, Exact};
 ghost use Rattle.ldthin.specs.LinkedScript.{form_tree};
 
-use ldtokens::name::ScriptName;
 use ldmodel::memory::NoMemory;
+use ldscript::tree::ScriptName;
 use std::alloc::Global;
 use std::marker::Model;
 

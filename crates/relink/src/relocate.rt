@@ -7,9 +7,9 @@ ghost use Rattle.ldthin.specs.OneSection.{one_value, one_target, one_field, span
 
 use elfobj::relocation::{Relocation, RelocationKind, SymbolIndex};
 use elfobj::symbol::SymbolPlace;
-use ldmodel::meter::Meter;
 use ldfields::field::evaluate::field;
 use ldfields::patch::Patch;
+use ldmodel::meter::Meter;
 use ldthin::member::Member;
 use ldthin::placed::Placed;
 use ldthin::relocate::RelocateFault;

@@ -1,4 +1,4 @@
-use Rattle.std.proofs.Common.{◌∙◌, ap, get_or, sym, rules}
+use Rattle.std.proofs.Common.{◌≡◌, ◌∙◌, [], ap, false, get_or, refl, sym, rules}
 use Rattle.elfobj.specs.Places.{relocations_in}
 use Rattle.elfobj.specs.Relocations.{share_bytes}
 use Rattle.elfobj.specs.declared.place.Span.{Span}
@@ -7,6 +7,13 @@ use Rattle.elfobj.proofs.relocation_table.is_any_overlap.Goals as goal
 
 abbrev no_span : Span
 no_span = record { start = 0; end = 0 }
+
+none_share : share_bytes [] ≡ false
+unfolding share_bytes
+none_share = refl
+
+pub loop-span-init : goal.loop-span-init
+loop-span-init c = record { apart = refl; last = none_share }
 
 pub returns-then-branch : goal.returns-then-branch
 returns-then-branch c =

@@ -18,7 +18,7 @@ returns-in-None-clause-read c =
     read_none _ _ _ c.loop-at.invariant.read (sym c.in-None.ensures.value) (omega (arith, c.loop-at-test.true, length-drop c.loop-at.at c.args.word.now))
 
 pub returns-clause-read : goal.returns-clause-read
-returns-clause-read c = read_all _ _ _ c.loop-at.invariant.read (drop_all c.loop-at.at c.args.word.now c.loop-at-test.false)
+returns-clause-read c = rw c.shrink_to_fit.ensures.items (read_all _ _ _ c.loop-at.invariant.read (drop_all c.loop-at.at c.args.word.now c.loop-at-test.false))
 
 pub behind-requires : goal.behind-requires
 behind-requires c = room_behind c.loop-at.at (length c.args.word.now - c.loop-at.at) c.in-Some.spelled.part c.in-Some.ensures.within.2 (omega (arith, c.loop-at-test.true))

@@ -1,0 +1,36 @@
+-- What the writer of a session has got.
+use Rattle.std.proofs.Common.{◌≡◌, ◌∙◌, ℕ, List, [], ◌++◌, Option, None, Some, IfSome, IfOk, Result, Ok, Err, refl, sym, ap, subst, append-nil}
+use Rattle.std.specs.Io.KnownBytes.{Appends, append_known}
+use Rattle.ldmodel.specs.ThinProject.{Project}
+use Rattle.ldmodel.specs.Options.{LinkOptions}
+use Rattle.ldmodel.specs.ThinProject.{empty_project}
+use Rattle.ldstream.specs.Answers.{Answers}
+use Rattle.ldstream.specs.Ran.{Ran, Flushed, world}
+use Rattle.ldstream.specs.declared.Status.{Status}
+use Rattle.ldstream.specs.declared.fault.RunFault.{RunFault}
+use Rattle.ldi.specs.Session.{Leaves}
+
+nothing_held : (known : Option (List ℕ)) → append_known known [] ≡ known
+nothing_held None = refl
+nothing_held (Some xs) = ap Some (append-nil xs)
+
+-- what `run` says of the sink, after which nothing is held back
+abbrev pub SinkAnswered : LinkOptions → Option (List ℕ) → Option (List ℕ) → Option (List ℕ) → Project → Result Status RunFault → Type 0
+SinkAnswered options stream before written last outcome = IfOk outcome (λ status. IfSome stream (λ bytes. (out : List ℕ) × Appends before written out × Answers (empty_project options) bytes out last status))
+
+-- and of the writer
+abbrev pub WriterAnswered : LinkOptions → Option (List ℕ) → Option (List ℕ) → Option (List ℕ) → Result Status RunFault → Type 0
+WriterAnswered options stream before after outcome = IfOk outcome (λ status. IfSome stream (λ bytes. (out : List ℕ) × (last : Project) × Appends before after out × Answers (empty_project options) bytes out last status))
+
+pub answered : (options : LinkOptions) (stream before written after : Option (List ℕ)) (held : List ℕ) (last : Project) (outcome : Result Status RunFault)
+    → SinkAnswered options stream before written last outcome → Flushed [] held outcome → written ≡ append_known after held → WriterAnswered options stream before after outcome
+answered options None before written after held last (Ok status) h f e = tt
+answered options (Some bytes) before written after held last (Ok status) h f e =
+    let sent : written ≡ after = e ∙ ap (append_known after) (f refl) ∙ nothing_held after in
+    (h.0, last, subst (λ (w : Option (List ℕ)). Appends before w h.0) sent h.1, h.2)
+answered options stream before written after held last (Err fault) h f e = tt
+
+pub left : (options : LinkOptions) (stream before rest written after : Option (List ℕ)) (held : List ℕ) (last : Project) (outcome : Result Status RunFault)
+    → Ran (world stream before (empty_project options)) (world rest written last) outcome → Flushed [] held outcome → written ≡ append_known after held → Leaves options stream before after outcome
+left options stream before rest written after held last outcome r f e =
+    record { rest = rest; held = held; last = last; ran = subst (λ (w : Option (List ℕ)). Ran (world stream before (empty_project options)) (world rest w last) outcome) e r; sent = f }

@@ -1,0 +1,55 @@
+//! A session: commands are read, edits linked from scratch, and each command answered.
+
+ghost use Rattle.std.specs.Prelude.{List, ℕ, IfOk, IfSome};
+ghost use Rattle.std.specs.Io.KnownBytes.{Appends};
+ghost use Rattle.ldmodel.specs.ThinProject.{Project, empty_project};
+ghost use Rattle.ldstream.specs.Answers.{Answers};
+ghost use Rattle.ldi.specs.Session.{Leaves};
+
+use ldmodel::memory::NoMemory;
+use ldmodel::options::Options;
+use ldstream::devices::{AnswerWriter, CommandReader};
+use ldstream::fault::RunFault;
+use ldstream::{Status, run};
+use relink::plain::Plain;
+use std::alloc::Global;
+use std::hash::RandomState;
+use std::io::{Read, Write};
+
+/// What a session leaves.
+#[derive(Drop)]
+pub struct Ended<W: Drop> {
+    /// How it ended.
+    pub outcome: Result<Status, RunFault>,
+    /// The writer that the answers were written to.
+    pub writer: W,
+}
+
+/// Answers the commands of `reader` in `writer`, from the empty project with these options on. `seed` is for hash
+/// tables; no answer depends on it.
+///
+/// # Errors
+///
+/// Where there is no memory to begin. Nothing is read or written then.
+pub fn session<R: Read + Drop, W: Write + Drop>(
+    alloc: Global,
+    seed: RandomState,
+    reader: R,
+    writer: W,
+    options: Options,
+) -> Result<Ended<W>, NoMemory>
+    // The answers are those of the definition, from the empty project with these options.
+    ensures answers { IfOk result (λ ended. IfOk ended.outcome (λ status. IfSome (R.remaining reader) (λ stream. (out : List ℕ)
+        × (last : Project)
+        × Appends (W.contents writer) (W.contents ended.writer) out
+        × Answers (empty_project options) stream out last status))) }
+    // What stands after each outcome.
+    ensures ran { IfOk result (λ ended. Leaves options (R.remaining reader) (W.contents writer) (W.contents ended.writer) ended.outcome) }
+{
+    let mut source = CommandReader::new(alloc, reader)?;
+    let mut sink = AnswerWriter::new(alloc, writer)?;
+    let mut linker = Plain::new(alloc, seed, options)?;
+    let outcome = run(alloc, &mut source, &mut sink, &mut linker);
+    let writer = sink.into_writer();
+    Ok(Ended { outcome, writer })
+}
