@@ -16,10 +16,10 @@ use Rattle.elfobj.specs.LinkedKinds.{linked_kind}
 use Rattle.elfobj.specs.Numbering.{IsNumberedAt}
 use Rattle.elfobj.specs.SectionHeaders.{header}
 use Rattle.elfobj.specs.Sections.{LinkedSection, linked_section, section_of, sections_below, sections_of}
-use Rattle.elfobj.specs.declared.section.Section.{Section}
-use Rattle.elfobj.specs.declared.section.SectionIndex.{SectionIndex}
-use Rattle.elfobj.specs.declared.section.SectionKind.{SectionKind}
-use Rattle.elfobj.specs.declared.section.SectionKind.TheVariants.{Progbits}
+use Rattle.elfdefs.specs.declared.section.Section.{Section}
+use Rattle.elfdefs.specs.declared.section.SectionIndex.{SectionIndex}
+use Rattle.elfdefs.specs.declared.section.SectionKind.{SectionKind}
+use Rattle.elfdefs.specs.declared.section.SectionKind.TheVariants.{Progbits}
 use Rattle.elfobj.specs.declared.section_header.SectionHeader.{SectionHeader}
 use Rattle.elfobj.proofs.RelocationReads.{all_below}
 

@@ -17,10 +17,10 @@ use Rattle.elfobj.specs.Refusal.{holds, is_looked_at, is_out_of_bounds, is_outsi
 use Rattle.elfobj.specs.SectionHeaders.{header}
 use Rattle.elfobj.specs.LinkedKinds.{is_alloc, linked_kind}
 use Rattle.elfobj.specs.Sections.{linked_as, linked_section, sections_below, sections_of, name_of, contents}
-use Rattle.elfobj.specs.declared.refusal.ObjectRefusal.{ObjectRefusal}
-use Rattle.elfobj.specs.declared.refusal.ObjectRefusal.TheVariants.{Short, NotElf, Machine, SectionTable, SectionCount, SectionBounds, SectionProfile, SymbolTable, Symbol, RelocationSection, RelocationType, FieldBounds, FieldOverlap}
-use Rattle.elfobj.specs.declared.section.SectionKind.{SectionKind}
-use Rattle.elfobj.specs.declared.section.SectionKind.TheVariants.{Progbits, Nobits, Note, InitArray, FiniArray, PreinitArray, Unwind}
+use Rattle.elfdefs.specs.declared.refusal.ObjectRefusal.{ObjectRefusal}
+use Rattle.elfdefs.specs.declared.refusal.ObjectRefusal.TheVariants.{Short, NotElf, Machine, SectionTable, SectionCount, SectionBounds, SectionProfile, SymbolTable, Symbol, RelocationSection, RelocationType, FieldBounds, FieldOverlap}
+use Rattle.elfdefs.specs.declared.section.SectionKind.{SectionKind}
+use Rattle.elfdefs.specs.declared.section.SectionKind.TheVariants.{Progbits, Nobits, Note, InitArray, FiniArray, PreinitArray, Unwind}
 use Rattle.elfobj.specs.declared.section_header.SectionHeader.{SectionHeader}
 use Rattle.elfobj.proofs.Passing.{none_at}
 use Rattle.elfobj.proofs.Steps.{linkable, linked_parts, kind_not_null}

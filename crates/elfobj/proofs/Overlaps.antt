@@ -6,8 +6,9 @@ use Rattle.std.proofs.lemmas.List.{take_more, take-append-drop, take_all, get_or
 use Rattle.std.proofs.lemmas.List.Folds.{list_any-append, list_any_more}
 use Rattle.std.proofs.lemmas.List.Sorted.{sum_by-IsPermutation, IsPermutation-sym}
 use Rattle.std.proofs.lemmas.List.Sums.{sum_by-cons}
-use Rattle.elfobj.specs.Relocations.{field_end, meets, share_bytes, width}
-use Rattle.elfobj.specs.declared.relocation.Relocation.{Relocation}
+use Rattle.elfobj.specs.Relocations.{field_end, meets, share_bytes}
+use Rattle.elfobj.specs.RelocationKinds.{width}
+use Rattle.elfdefs.specs.declared.relocation.Relocation.{Relocation}
 
 -- of two fields
 above_no_less : (m n : ℕ) → n ≤ m → nat_lt m n ≡ false

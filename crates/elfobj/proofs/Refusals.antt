@@ -9,8 +9,8 @@ use Rattle.elfobj.specs.SectionHeaders.{file_bytes, header, headers}
 use Rattle.elfobj.specs.Sections.{name_table}
 use Rattle.elfobj.specs.Linkable.{PassesTests}
 use Rattle.elfobj.specs.Refusal.{holds, is_outside_profile_by, header_refusals, section_refusals, symbol_refusals, relocation_refusals, object_refusal}
-use Rattle.elfobj.specs.declared.refusal.ObjectRefusal.{ObjectRefusal}
-use Rattle.elfobj.specs.declared.refusal.ObjectRefusal.TheVariants.{NoMemory, SectionBounds, SectionProfile}
+use Rattle.elfdefs.specs.declared.refusal.ObjectRefusal.{ObjectRefusal}
+use Rattle.elfdefs.specs.declared.refusal.ObjectRefusal.TheVariants.{NoMemory, SectionBounds, SectionProfile}
 use Rattle.elfobj.specs.declared.section_header.SectionHeader.{SectionHeader}
 
 -- the ELF header is refused

@@ -18,15 +18,15 @@ use Rattle.elfobj.specs.Sections.{LinkedSection, linked_section, section_of, sec
 use Rattle.elfobj.specs.Symbols.{symbols_of}
 use Rattle.elfobj.specs.Tables.{has_field_outside, has_overlap, has_shared_bytes, has_strange_symbol, has_strange_type, has_wrong_bounds, has_wrong_relocation_section, has_wrong_type, is_outside, is_strange_type, is_wrong_below, linked_sections, names_no_symbol}
 use Rattle.elfobj.specs.declared.place.Span.{Span}
-use Rattle.elfobj.specs.declared.refusal.ObjectRefusal.{ObjectRefusal}
-use Rattle.elfobj.specs.declared.refusal.ObjectRefusal.TheVariants.{FieldOverlap, FieldBounds, NoMemory, RelocationSection, RelocationType}
-use Rattle.elfobj.specs.declared.relocation.Relocation.{Relocation}
+use Rattle.elfdefs.specs.declared.refusal.ObjectRefusal.{ObjectRefusal}
+use Rattle.elfdefs.specs.declared.refusal.ObjectRefusal.TheVariants.{FieldOverlap, FieldBounds, NoMemory, RelocationSection, RelocationType}
+use Rattle.elfdefs.specs.declared.relocation.Relocation.{Relocation}
 use Rattle.elfobj.specs.declared.relocation_entry.RelocationEntry.{RelocationEntry}
 use Rattle.elfobj.specs.declared.relocation_fault.EntryFault.{EntryFault}
 use Rattle.elfobj.specs.declared.relocation_fault.EntryFault.TheVariants.{Any, Symbol, Kind, Bounds}
 use Rattle.elfobj.specs.declared.relocation_run.SectionTable.{SectionTable}
-use Rattle.elfobj.specs.declared.section.Section.{Section}
-use Rattle.elfobj.specs.declared.section.SectionKind.{SectionKind}
+use Rattle.elfdefs.specs.declared.section.Section.{Section}
+use Rattle.elfdefs.specs.declared.section.SectionKind.{SectionKind}
 use Rattle.elfobj.specs.declared.section_header.SectionHeader.{SectionHeader}
 use Rattle.elfobj.proofs.Found.{found_is, found_not, relocations_in_file}
 

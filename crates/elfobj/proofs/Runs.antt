@@ -10,12 +10,12 @@ use Rattle.elfobj.specs.RelocationEntries.{relocation_entry_at, relocation_entri
 use Rattle.elfobj.specs.Relocations.{relocation_of, relocations_at}
 use Rattle.elfobj.specs.Runs.{AreRuns, IsCovered, IsRun, IsTableOf, table_entries}
 use Rattle.elfobj.specs.declared.place.Span.{Span}
-use Rattle.elfobj.specs.declared.relocation.Relocation.{Relocation}
+use Rattle.elfdefs.specs.declared.relocation.Relocation.{Relocation}
 use Rattle.elfobj.specs.declared.relocation_entry.RelocationEntry.{RelocationEntry}
 use Rattle.elfobj.specs.declared.relocation_run.Run.{Run}
 use Rattle.elfobj.specs.declared.relocation_run.SectionTable.{SectionTable}
-use Rattle.elfobj.specs.declared.section.Section.{Section}
-use Rattle.elfobj.specs.declared.section.SectionKind.TheVariants.{Progbits}
+use Rattle.elfdefs.specs.declared.section.Section.{Section}
+use Rattle.elfdefs.specs.declared.section.SectionKind.TheVariants.{Progbits}
 use Rattle.elfobj.proofs.Cuts.{cut_cut}
 
 -- entries one after another

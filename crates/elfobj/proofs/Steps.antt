@@ -10,12 +10,13 @@ use Rattle.elfobj.specs.Names.{is_name}
 use Rattle.elfobj.specs.Places.{AreRead, IsFileWithin, IsWithin, name_in, bytes_in}
 use Rattle.elfobj.specs.Refusal.{holds, is_looked_at, is_out_of_bounds, is_outside_profile}
 use Rattle.elfobj.specs.SectionHeaders.{header}
-use Rattle.elfobj.specs.LinkedKinds.{kind_of, is_alloc, linked_kind}
+use Rattle.elfobj.specs.SectionKinds.{kind_of}
+use Rattle.elfobj.specs.LinkedKinds.{is_alloc, linked_kind}
 use Rattle.elfobj.specs.Sections.{LinkedSection, section_of, linked_as, sections_below, name_of}
 use Rattle.elfobj.specs.declared.place.Place.{Place}
-use Rattle.elfobj.specs.declared.section.Section.{Section}
-use Rattle.elfobj.specs.declared.section.SectionKind.{SectionKind}
-use Rattle.elfobj.specs.declared.section.SectionKind.TheVariants.{Progbits, Nobits, Note, InitArray, FiniArray, PreinitArray, Unwind}
+use Rattle.elfdefs.specs.declared.section.Section.{Section}
+use Rattle.elfdefs.specs.declared.section.SectionKind.{SectionKind}
+use Rattle.elfdefs.specs.declared.section.SectionKind.TheVariants.{Progbits, Nobits, Note, InitArray, FiniArray, PreinitArray, Unwind}
 use Rattle.elfobj.specs.declared.section_header.SectionHeader.{SectionHeader}
 use Rattle.elfobj.proofs.Passing.{none_at}
 

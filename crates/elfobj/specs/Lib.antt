@@ -1,4 +1,8 @@
-pub mod Numbers
+pub use Rattle.elfdefs.specs.Numbers
+pub use Rattle.elfdefs.specs.SectionKinds
+pub use Rattle.elfdefs.specs.SymbolKinds
+pub use Rattle.elfdefs.specs.RelocationKinds
+pub use Rattle.elfdefs.specs.RefusalNumber
 pub mod ElfHeader
 pub mod SectionTable
 pub mod SectionHeaders
@@ -20,4 +24,3 @@ pub mod Refusal
 pub mod Reading
 pub mod Linkable
 pub mod Profile
-pub mod RefusalNumber

@@ -10,12 +10,12 @@ use Rattle.elfobj.specs.Sections.{sections_of, LinkedSection, section_of, name_o
 use Rattle.elfobj.specs.Symbols.{symbols_of}
 use Rattle.elfobj.specs.declared.place.Place.{Place}
 use Rattle.elfobj.specs.declared.place.Span.{Span}
-use Rattle.elfobj.specs.declared.relocation.Relocation.{Relocation}
-use Rattle.elfobj.specs.declared.refusal.ObjectRefusal.TheVariants.{SectionBounds, SectionProfile}
-use Rattle.elfobj.specs.declared.section.Section.{Section}
-use Rattle.elfobj.specs.declared.section.SectionKind.{SectionKind}
+use Rattle.elfdefs.specs.declared.relocation.Relocation.{Relocation}
+use Rattle.elfdefs.specs.declared.refusal.ObjectRefusal.TheVariants.{SectionBounds, SectionProfile}
+use Rattle.elfdefs.specs.declared.section.Section.{Section}
+use Rattle.elfdefs.specs.declared.section.SectionKind.{SectionKind}
 use Rattle.elfobj.specs.declared.section_header.SectionHeader.{SectionHeader}
-use Rattle.elfobj.specs.declared.symbol.Symbol.{Symbol}
+use Rattle.elfdefs.specs.declared.symbol.Symbol.{Symbol}
 
 -- no test of the section headers alone refuses
 pub record PassesTests (bytes : List ℕ) : Type 0 where

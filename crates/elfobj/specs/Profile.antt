@@ -7,16 +7,16 @@ use Rattle.elfobj.specs.Names.{is_name}
 use Rattle.elfobj.specs.Relocations.{field_end, meets}
 use Rattle.elfobj.specs.Sections.{LinkedSection}
 use Rattle.elfobj.specs.Symbols.{NamedSymbol}
-use Rattle.elfobj.specs.declared.constants.TheConstants.{PROFILE_FLAGS, SHF_ALLOC}
-use Rattle.elfobj.specs.declared.relocation.Relocation.{Relocation}
-use Rattle.elfobj.specs.declared.section.SectionKind.{SectionKind}
-use Rattle.elfobj.specs.declared.section.SectionKind.TheVariants.{Nobits}
-use Rattle.elfobj.specs.declared.symbol.Binding.{Binding}
-use Rattle.elfobj.specs.declared.symbol.Binding.TheVariants.{Local, Global}
-use Rattle.elfobj.specs.declared.symbol.Symbol.{Symbol}
-use Rattle.elfobj.specs.declared.symbol.SymbolPlace.{SymbolPlace}
-use Rattle.elfobj.specs.declared.symbol.SymbolPlace.{SymbolPlace}
-use Rattle.elfobj.specs.declared.symbol.SymbolPlace.TheVariants.{Common, Section}
+use Rattle.elfdefs.specs.declared.constants.TheConstants.{PROFILE_FLAGS, SHF_ALLOC}
+use Rattle.elfdefs.specs.declared.relocation.Relocation.{Relocation}
+use Rattle.elfdefs.specs.declared.section.SectionKind.{SectionKind}
+use Rattle.elfdefs.specs.declared.section.SectionKind.TheVariants.{Nobits}
+use Rattle.elfdefs.specs.declared.symbol.Binding.{Binding}
+use Rattle.elfdefs.specs.declared.symbol.Binding.TheVariants.{Local, Global}
+use Rattle.elfdefs.specs.declared.symbol.Symbol.{Symbol}
+use Rattle.elfdefs.specs.declared.symbol.SymbolPlace.{SymbolPlace}
+use Rattle.elfdefs.specs.declared.symbol.SymbolPlace.{SymbolPlace}
+use Rattle.elfdefs.specs.declared.symbol.SymbolPlace.TheVariants.{Common, Section}
 
 -- how many bytes of the file a section of so many bytes has
 abbrev pub size_in_file : SectionKind → ℕ → ℕ

@@ -7,13 +7,14 @@ use Rattle.std.specs.Option.{option_map_or}
 use Rattle.elfobj.specs.ElfHeader.{e_ident, e_type, e_machine, e_version, e_shoff, e_shentsize, e_shnum, e_shstrndx}
 use Rattle.elfobj.specs.SectionHeaders.{header, headers}
 use Rattle.elfobj.specs.Names.{string_at, is_name}
-use Rattle.elfobj.specs.LinkedKinds.{kind_of, is_alloc}
+use Rattle.elfobj.specs.SectionKinds.{kind_of}
+use Rattle.elfobj.specs.LinkedKinds.{is_alloc}
 use Rattle.elfobj.specs.Sections.{name_table}
 use Rattle.elfobj.specs.Tables.{has_wrong_symbol_table, has_wrong_symbol, has_wrong_relocation_section, has_wrong_type, has_wrong_bounds, has_overlap}
 use Rattle.elfobj.specs.declared.section_header.SectionHeader.{SectionHeader}
-use Rattle.elfobj.specs.declared.constants.TheConstants.{ELFCLASS64, ELFDATA2LSB, EV_CURRENT, ET_REL, EM_X86_64, MAX_SECTION_HEADERS, SHT_NULL, SHT_STRTAB, SHT_NOBITS, PROFILE_FLAGS, MAX_SECTION_SIZE}
-use Rattle.elfobj.specs.declared.refusal.ObjectRefusal.{ObjectRefusal}
-use Rattle.elfobj.specs.declared.refusal.ObjectRefusal.TheVariants.{Short, NotElf, Machine, SectionTable, SectionCount, SectionBounds, SectionProfile, SymbolTable, Symbol, RelocationSection, RelocationType, FieldBounds, FieldOverlap, NoMemory}
+use Rattle.elfdefs.specs.declared.constants.TheConstants.{ELFCLASS64, ELFDATA2LSB, EV_CURRENT, ET_REL, EM_X86_64, MAX_SECTION_HEADERS, SHT_NULL, SHT_STRTAB, SHT_NOBITS, PROFILE_FLAGS, MAX_SECTION_SIZE}
+use Rattle.elfdefs.specs.declared.refusal.ObjectRefusal.{ObjectRefusal}
+use Rattle.elfdefs.specs.declared.refusal.ObjectRefusal.TheVariants.{Short, NotElf, Machine, SectionTable, SectionCount, SectionBounds, SectionProfile, SymbolTable, Symbol, RelocationSection, RelocationType, FieldBounds, FieldOverlap, NoMemory}
 
 -- headers of type NULL are not looked at
 abbrev pub is_looked_at : SectionHeader → Bool

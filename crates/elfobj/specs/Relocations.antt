@@ -1,30 +1,14 @@
 -- Relocations of a section (x86-64 psABI, "Relocation Types").
-use Rattle.std.specs.Prelude.{ℕ, ◌+◌, ◌/◌, List, [], ◌∷◌, map, find, Option, Some, None, Bool, false, ◌&&◌, ◌||◌, ◌==◌, if◌then◌else◌, nat_lt, min, max, unwrap_or}
+use Rattle.std.specs.Prelude.{ℕ, ◌+◌, ◌/◌, List, [], ◌∷◌, map, find, Option, Some, None, Bool, false, ◌&&◌, ◌||◌, ◌==◌, nat_lt, min, max, unwrap_or}
 use Rattle.std.specs.List.{list_any}
+use Rattle.elfdefs.specs.RelocationKinds.{relocation_kind, width}
 use Rattle.elfobj.specs.SectionHeaders.{headers}
 use Rattle.elfobj.specs.RelocationEntries.{relocation_entries_below, r_sym, r_type}
-use Rattle.elfobj.specs.declared.constants.TheConstants.{SHT_RELA, SHT_REL, R_X86_64_NONE, R_X86_64_64, R_X86_64_PC32, R_X86_64_PLT32, R_X86_64_32, R_X86_64_32S, R_X86_64_16, R_X86_64_PC16, R_X86_64_8, R_X86_64_PC8, R_X86_64_PC64}
-use Rattle.elfobj.specs.declared.relocation.Relocation.{Relocation}
-use Rattle.elfobj.specs.declared.relocation.RelocationKind.{RelocationKind}
-use Rattle.elfobj.specs.declared.relocation.RelocationKind.TheVariants as kind
+use Rattle.elfdefs.specs.declared.constants.TheConstants.{SHT_RELA, SHT_REL}
+use Rattle.elfdefs.specs.declared.relocation.Relocation.{Relocation}
+use Rattle.elfdefs.specs.declared.relocation.RelocationKind.TheVariants as kind
 use Rattle.elfobj.specs.declared.relocation_entry.RelocationEntry.{RelocationEntry}
 use Rattle.elfobj.specs.declared.section_header.SectionHeader.{SectionHeader}
-
--- the types of the profile
-unfoldable pub relocation_kind : ℕ → Option RelocationKind
-relocation_kind t =
-    if t == R_X86_64_NONE then Some kind.None
-    else (if t == R_X86_64_64 then Some kind.Abs64
-    else (if t == R_X86_64_PC32 then Some kind.Pc32
-    else (if t == R_X86_64_PLT32 then Some kind.Plt32
-    else (if t == R_X86_64_32 then Some kind.Abs32
-    else (if t == R_X86_64_32S then Some kind.Abs32Signed
-    else (if t == R_X86_64_16 then Some kind.Abs16
-    else (if t == R_X86_64_PC16 then Some kind.Pc16
-    else (if t == R_X86_64_8 then Some kind.Abs8
-    else (if t == R_X86_64_PC8 then Some kind.Pc8
-    else (if t == R_X86_64_PC64 then Some kind.Pc64
-    else None))))))))))
 
 -- an entry of a type outside the profile, which is refused, counts as NONE
 unfoldable pub relocation_of : RelocationEntry → Relocation
@@ -57,20 +41,6 @@ relocation_entries bytes k = entries_in bytes (relocation_section bytes k)
 
 abbrev pub relocations_at : List ℕ → ℕ → List Relocation
 relocations_at bytes k = map relocation_of (relocation_entries bytes k)
-
--- how many bytes a relocation changes
-abbrev pub width : RelocationKind → ℕ
-width kind.None = 0
-width kind.Abs64 = 8
-width kind.Pc32 = 4
-width kind.Plt32 = 4
-width kind.Abs32 = 4
-width kind.Abs32Signed = 4
-width kind.Abs16 = 2
-width kind.Pc16 = 2
-width kind.Abs8 = 1
-width kind.Pc8 = 1
-width kind.Pc64 = 8
 
 -- where the bytes that a relocation changes end in its section
 abbrev pub field_end : Relocation → ℕ

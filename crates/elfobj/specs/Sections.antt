@@ -6,11 +6,11 @@ use Rattle.elfobj.specs.LinkedKinds.{linked_kind}
 use Rattle.elfobj.specs.Names.{string_at}
 use Rattle.elfobj.specs.Relocations.{relocations_at}
 use Rattle.elfobj.specs.declared.section_header.SectionHeader.{SectionHeader}
-use Rattle.elfobj.specs.declared.section.SectionIndex.{SectionIndex}
-use Rattle.elfobj.specs.declared.section.Section.{Section}
-use Rattle.elfobj.specs.declared.section.SectionKind.{SectionKind}
-use Rattle.elfobj.specs.declared.section.SectionKind.TheVariants.{Nobits}
-use Rattle.elfobj.specs.declared.relocation.Relocation.{Relocation}
+use Rattle.elfdefs.specs.declared.section.SectionIndex.{SectionIndex}
+use Rattle.elfdefs.specs.declared.section.Section.{Section}
+use Rattle.elfdefs.specs.declared.section.SectionKind.{SectionKind}
+use Rattle.elfdefs.specs.declared.section.SectionKind.TheVariants.{Nobits}
+use Rattle.elfdefs.specs.declared.relocation.Relocation.{Relocation}
 
 -- a linked section, with its own bytes (none for NOBITS) and its relocations in table order
 pub record LinkedSection : Type 0 where

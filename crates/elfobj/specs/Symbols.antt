@@ -1,17 +1,16 @@
 -- The symbols of an object (gABI, "Symbol Table").
 use Rattle.std.specs.Prelude.{ℕ, ◌/◌, List, [], ◌∷◌, map, position, find, Option, Some, None, Bool, ◌==◌, if◌then◌else◌, unwrap_or}
+use Rattle.elfdefs.specs.SymbolKinds.{binding_of, symbol_kind_of}
 use Rattle.elfobj.specs.Names.{string_at}
 use Rattle.elfobj.specs.SectionHeaders.{header, headers, file_bytes}
 use Rattle.elfobj.specs.SymbolEntries.{symbol_entries_below, st_bind, st_type}
-use Rattle.elfobj.specs.declared.constants.TheConstants.{SHT_SYMTAB, STB_LOCAL, STB_GLOBAL, STT_NOTYPE, STT_OBJECT, STT_FUNC, STT_SECTION, STT_FILE, SHN_UNDEF, SHN_ABS, SHN_COMMON}
+use Rattle.elfdefs.specs.declared.constants.TheConstants.{SHT_SYMTAB, STB_LOCAL, SHN_UNDEF, SHN_ABS, SHN_COMMON}
 use Rattle.elfobj.specs.declared.section_header.SectionHeader.{SectionHeader}
-use Rattle.elfobj.specs.declared.symbol.Binding.{Binding}
-use Rattle.elfobj.specs.declared.symbol.Binding.TheVariants as binding
-use Rattle.elfobj.specs.declared.symbol.Symbol.{Symbol}
-use Rattle.elfobj.specs.declared.symbol.SymbolKind.{SymbolKind}
-use Rattle.elfobj.specs.declared.symbol.SymbolKind.TheVariants as kind
-use Rattle.elfobj.specs.declared.symbol.SymbolPlace.{SymbolPlace}
-use Rattle.elfobj.specs.declared.symbol.SymbolPlace.TheVariants as place
+use Rattle.elfdefs.specs.declared.symbol.Binding.TheVariants as binding
+use Rattle.elfdefs.specs.declared.symbol.Symbol.{Symbol}
+use Rattle.elfdefs.specs.declared.symbol.SymbolKind.TheVariants as kind
+use Rattle.elfdefs.specs.declared.symbol.SymbolPlace.{SymbolPlace}
+use Rattle.elfdefs.specs.declared.symbol.SymbolPlace.TheVariants as place
 use Rattle.elfobj.specs.declared.symbol_entry.SymbolEntry.{SymbolEntry}
 
 -- a symbol, with its name where it isn't local
@@ -36,18 +35,6 @@ entries_of bytes table = symbol_entries_below bytes table.sh_offset (table.sh_si
 -- the string table of a symbol table
 abbrev pub strings_of : List ℕ → SectionHeader → List ℕ
 strings_of bytes table = file_bytes bytes (header bytes table.sh_link)
-
-abbrev pub binding_of : ℕ → Binding
-binding_of n = if n == STB_LOCAL then binding.Local else (if n == STB_GLOBAL then binding.Global else binding.Weak)
-
-abbrev pub symbol_kind_of : ℕ → SymbolKind
-symbol_kind_of n =
-    if n == STT_NOTYPE then kind.NoType
-    else (if n == STT_OBJECT then kind.Object
-    else (if n == STT_FUNC then kind.Function
-    else (if n == STT_SECTION then kind.Section
-    else (if n == STT_FILE then kind.File
-    else kind.Common))))
 
 abbrev pub symbol_place_of : ℕ → SymbolPlace
 symbol_place_of n =

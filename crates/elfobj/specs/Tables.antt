@@ -11,14 +11,15 @@ use Rattle.elfobj.specs.Names.{string_at, is_name}
 use Rattle.elfobj.specs.SymbolEntries.{st_bind, st_type}
 use Rattle.elfobj.specs.Symbols.{is_symbol_table, symbol_table_number, symbol_table, entries_of, strings_of, symbols_of}
 use Rattle.elfobj.specs.RelocationEntries.{r_sym, r_type}
-use Rattle.elfobj.specs.Relocations.{relocation_kind, is_relocation_section, changes, relocation_entries, relocations_at, share_bytes, field_end}
+use Rattle.elfobj.specs.RelocationKinds.{relocation_kind}
+use Rattle.elfobj.specs.Relocations.{is_relocation_section, changes, relocation_entries, relocations_at, share_bytes, field_end}
 use Rattle.elfobj.specs.Sections.{section_of, sections_of}
-use Rattle.elfobj.specs.declared.constants.TheConstants.{SHT_STRTAB, SHT_REL, STB_LOCAL, STB_GLOBAL, STB_WEAK, STT_SECTION, STT_FILE, STT_COMMON, SHN_UNDEF, SHN_ABS, SHN_COMMON, MAX_SECTION_SIZE}
-use Rattle.elfobj.specs.declared.relocation.Relocation.{Relocation}
+use Rattle.elfdefs.specs.declared.constants.TheConstants.{SHT_STRTAB, SHT_REL, STB_LOCAL, STB_GLOBAL, STB_WEAK, STT_SECTION, STT_FILE, STT_COMMON, SHN_UNDEF, SHN_ABS, SHN_COMMON, MAX_SECTION_SIZE}
+use Rattle.elfdefs.specs.declared.relocation.Relocation.{Relocation}
 use Rattle.elfobj.specs.declared.relocation_entry.RelocationEntry.{RelocationEntry}
-use Rattle.elfobj.specs.declared.section.Section.{Section}
-use Rattle.elfobj.specs.declared.section.SectionKind.{SectionKind}
-use Rattle.elfobj.specs.declared.section.SectionKind.TheVariants.{Nobits}
+use Rattle.elfdefs.specs.declared.section.Section.{Section}
+use Rattle.elfdefs.specs.declared.section.SectionKind.{SectionKind}
+use Rattle.elfdefs.specs.declared.section.SectionKind.TheVariants.{Nobits}
 use Rattle.elfobj.specs.declared.section_header.SectionHeader.{SectionHeader}
 use Rattle.elfobj.specs.declared.symbol_entry.SymbolEntry.{SymbolEntry}
 

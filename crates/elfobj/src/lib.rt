@@ -1,13 +1,10 @@
 //! The object reader: relocatable ELF-64 objects for x86-64.
 #![tactic(auto)]
 
-pub mod constants;
 pub mod elf_header;
 pub mod field;
-pub mod law;
 mod linked;
 pub mod names;
-pub mod numbers;
 pub mod object;
 mod place;
 pub mod refusal;

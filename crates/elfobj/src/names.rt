@@ -7,9 +7,9 @@ ghost use Rattle.elfobj.specs.NameLengths.{first_length, length_before, name_len
 ghost use Rattle.elfobj.specs.Names.{is_graphic};
 ghost use Rattle.elfobj.specs.SectionHeaders.{file_bytes};
 
-use crate::constants::MAX_NAME_LENGTH;
 use crate::place::Span;
 use crate::section_header::SectionHeader;
+use elfdefs::constants::MAX_NAME_LENGTH;
 use std::alloc::{AllocError, Global};
 
 /// Whether a byte may stand in a name: one from `!` to `~`.

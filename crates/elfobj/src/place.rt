@@ -13,7 +13,7 @@ use crate::section::SectionKind;
 use crate::section_header::SectionHeader;
 
 /// Where the name and the bytes of a section begin and end, as offsets in the file.
-#[derive(Clone, Copy, Debug)]
+#[derive(Clone, Copy)]
 pub struct Place {
     /// Where its name begins.
     pub name_start: usize,
@@ -26,7 +26,7 @@ pub struct Place {
 }
 
 /// Where a stretch of a file or of a list begins and ends.
-#[derive(Clone, Copy, Debug)]
+#[derive(Clone, Copy)]
 pub struct Span {
     /// Where it begins.
     pub start: usize,

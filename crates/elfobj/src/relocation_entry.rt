@@ -3,11 +3,11 @@
 ghost use Rattle.std.specs.Prelude.{◌≡◌, ◌≤◌, ◌+◌, length};
 ghost use Rattle.elfobj.specs.RelocationEntries.{relocation_entry_at};
 
-use crate::numbers::{read_i64, read_u64};
 use crate::relocation::{Relocation, RelocationKind, SymbolIndex};
+use elfdefs::numbers::{read_i64, read_u64};
 
 /// An entry.
-#[derive(Clone, Copy, Debug)]
+#[derive(Clone, Copy)]
 pub struct RelocationEntry {
     /// Where its field begins in the section that it changes.
     pub r_offset: u64,

@@ -4,14 +4,14 @@ ghost use Rattle.std.specs.Prelude.{◌≡◌, map, true};
 ghost use Rattle.std.specs.List.{All, list_any};
 ghost use Rattle.elfobj.specs.Runs.{AreAlike, IsTableOf, has_refused_entry, is_refused_for};
 
-use crate::constants::RELA_SIZE;
 use crate::field::is_outside;
 use crate::relocation_entry::{RelocationEntry, read_relocation_entry};
 use crate::relocation_run::SectionTable;
 use crate::section::Section;
+use elfdefs::constants::RELA_SIZE;
 
 /// A way in which an entry is outside the profile, in the order of the refusals' numbers.
-#[derive(Clone, Copy, Debug, PartialEq, Eq)]
+#[derive(Clone, Copy)]
 pub enum EntryFault {
     /// One of those below.
     Any,

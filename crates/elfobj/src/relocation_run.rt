@@ -8,15 +8,15 @@ ghost use Rattle.elfobj.specs.RelocationEntries.{relocation_entries_below};
 ghost use Rattle.elfobj.specs.Relocations.{relocation_of, relocations_at};
 ghost use Rattle.elfobj.specs.Runs.{AreRuns, IsCovered, IsTableOf, table_entries};
 
-use crate::constants::RELA_SIZE;
 use crate::place::Span;
 use crate::relocation::Relocation;
 use crate::relocation_entry::read_relocation_entry;
 use crate::section::Section;
+use elfdefs::constants::RELA_SIZE;
 use std::alloc::{AllocError, Global};
 
 /// Where the entries that change a linked section lie in the file.
-#[derive(Clone, Copy, Debug)]
+#[derive(Clone, Copy)]
 pub struct SectionTable {
     /// The section.
     pub section: Section,
@@ -28,7 +28,7 @@ pub struct SectionTable {
 
 /// Entries that follow one another in the file, decoded. Entry number k of a class, below 24, begins at 24 * k plus the
 /// class.
-#[derive(Clone, Copy, Debug)]
+#[derive(Clone, Copy)]
 pub struct Run {
     /// The number of the first one.
     pub low: usize,

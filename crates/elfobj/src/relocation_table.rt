@@ -14,9 +14,8 @@ ghost use Rattle.elfobj.specs.SectionTable.{HasSectionTable};
 ghost use Rattle.elfobj.specs.Sections.{sections_of};
 ghost use Rattle.elfobj.specs.Symbols.{symbols_of};
 ghost use Rattle.elfobj.specs.Tables.{is_linked, is_wrong_below, is_wrong_table, linked_sections};
-ghost use Rattle.elfobj.specs.declared.refusal.ObjectRefusal.TheVariants.{NoMemory, RelocationSection};
+ghost use Rattle.elfdefs.specs.declared.refusal.ObjectRefusal.TheVariants.{NoMemory, RelocationSection};
 
-use crate::constants::{RELA_SIZE, SHT_REL};
 use crate::field::is_any_shared;
 use crate::place::Span;
 use crate::refusal::ObjectRefusal;
@@ -25,6 +24,7 @@ use crate::relocation_run::{Relocations, SectionTable, read_tables};
 use crate::section::Section;
 use crate::section_header::SectionHeader;
 use crate::symbol_table::symbol_table_number;
+use elfdefs::constants::{RELA_SIZE, SHT_REL};
 use std::alloc::{AllocError, Global};
 
 fn is_linked(headers: &[SectionHeader], number: usize) -> bool

@@ -5,18 +5,18 @@ ghost use Rattle.std.specs.Prelude.{◌≡◌, ◌≤◌, ◌+◌, IfOk, length}
 ghost use Rattle.elfobj.specs.SectionHeaders.{header_at, headers};
 ghost use Rattle.elfobj.specs.SectionTable.{HasSectionTable};
 
-use crate::constants::{
+use crate::elf_header::{section_count, section_table_offset};
+use crate::names::NameTable;
+use crate::section::SectionKind;
+use elfdefs::constants::{
     MAX_SECTION_SIZE, PROFILE_FLAGS, SHDR_SIZE, SHF_ALLOC, SHT_NOBITS, SHT_NULL, SHT_REL, SHT_RELA,
     SHT_SYMTAB,
 };
-use crate::elf_header::{section_count, section_table_offset};
-use crate::names::NameTable;
-use crate::numbers::{read_u32, read_u64};
-use crate::section::SectionKind;
+use elfdefs::numbers::{read_u32, read_u64};
 use std::alloc::{AllocError, Global};
 
 /// The fields of a section header that the reader looks at.
-#[derive(Clone, Copy, Debug)]
+#[derive(Clone, Copy)]
 pub struct SectionHeader {
     /// Where its name begins in the name table.
     pub sh_name: u32,

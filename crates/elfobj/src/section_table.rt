@@ -8,9 +8,8 @@ ghost use Rattle.elfobj.specs.Refusal.{holds, is_out_of_bounds, is_outside_profi
 ghost use Rattle.elfobj.specs.SectionHeaders.{header, headers as headers_of};
 ghost use Rattle.elfobj.specs.SectionTable.{HasSectionTable};
 ghost use Rattle.elfobj.specs.TableOf.{table_of};
-ghost use Rattle.elfobj.specs.declared.refusal.ObjectRefusal.TheVariants.{NoMemory, SectionBounds};
+ghost use Rattle.elfdefs.specs.declared.refusal.ObjectRefusal.TheVariants.{NoMemory, SectionBounds};
 
-use crate::constants::SHT_STRTAB;
 use crate::elf_header::{header_refusal, name_table_number};
 use crate::linked::{Linked, linked_sections};
 use crate::names::NameTable;
@@ -19,6 +18,7 @@ use crate::relocation_run::Relocations;
 use crate::relocation_table::read_relocations;
 use crate::section_header::{SectionHeader, read_headers};
 use crate::symbol_table::{Symbols, read_symbols};
+use elfdefs::constants::SHT_STRTAB;
 use std::alloc::Global;
 
 /// The header of the table that the sections' names stand in.

@@ -4,17 +4,17 @@
 ghost use Rattle.std.specs.Prelude.{◌≡◌, ◌≤◌, ◌+◌, length};
 ghost use Rattle.elfobj.specs.SymbolEntries.{symbol_entry_at};
 
-use crate::constants::{
+use crate::names::NameTable;
+use crate::section::SectionIndex;
+use crate::symbol::{Binding, Symbol, SymbolKind, SymbolPlace};
+use elfdefs::constants::{
     MAX_SECTION_SIZE, SHN_ABS, SHN_COMMON, SHN_UNDEF, STB_GLOBAL, STB_LOCAL, STB_WEAK, STT_COMMON,
     STT_FILE, STT_FUNC, STT_NOTYPE, STT_OBJECT, STT_SECTION,
 };
-use crate::names::NameTable;
-use crate::numbers::{read_u16, read_u32, read_u64};
-use crate::section::SectionIndex;
-use crate::symbol::{Binding, Symbol, SymbolKind, SymbolPlace};
+use elfdefs::numbers::{read_u16, read_u32, read_u64};
 
 /// The fields of an entry that the reader looks at.
-#[derive(Clone, Copy, Debug)]
+#[derive(Clone, Copy)]
 pub struct SymbolEntry {
     /// Where its name begins in the string table.
     pub st_name: u32,
@@ -30,7 +30,8 @@ pub struct SymbolEntry {
 
 impl SymbolEntry {
     ghost use Rattle.elfobj.specs.SymbolEntries.{st_bind, st_type};
-    ghost use Rattle.elfobj.specs.Symbols.{binding_of, symbol_kind_of, symbol_place_of, symbol_of};
+    ghost use Rattle.elfobj.specs.SymbolKinds.{binding_of, symbol_kind_of};
+    ghost use Rattle.elfobj.specs.Symbols.{symbol_place_of, symbol_of};
     ghost use Rattle.elfobj.specs.TableOf.{table_of};
     ghost use Rattle.elfobj.specs.Tables.{is_local, is_nowhere, is_wrong_local, is_wrong_non_local, is_wrong_common, is_wrong_symbol};
 

@@ -10,15 +10,15 @@ ghost use Rattle.elfobj.specs.Linkable.{PassesTests};
 ghost use Rattle.elfobj.specs.Symbols.{entries_of, is_symbol_table, symbol_name, symbols_from, symbols_of};
 ghost use Rattle.elfobj.specs.TableOf.{table_of};
 ghost use Rattle.elfobj.specs.Tables.{has_misplaced_entry, has_wrong_header, is_local, is_string_table, is_wrong_non_local, is_wrong_symbol};
-ghost use Rattle.elfobj.specs.declared.refusal.ObjectRefusal.TheVariants.{NoMemory};
+ghost use Rattle.elfdefs.specs.declared.refusal.ObjectRefusal.TheVariants.{NoMemory};
 
-use crate::constants::{SHT_STRTAB, SYM_SIZE};
 use crate::names::NameTable;
 use crate::place::Span;
 use crate::refusal::ObjectRefusal;
 use crate::section_header::SectionHeader;
 use crate::symbol::{Binding, Symbol, SymbolKind, SymbolPlace};
 use crate::symbol_entry::{SymbolEntry, read_symbol_entry};
+use elfdefs::constants::{SHT_STRTAB, SYM_SIZE};
 use std::alloc::{AllocError, Global};
 
 /// The symbols in table order, and where the name of each lies in the file.

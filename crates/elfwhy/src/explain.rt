@@ -3,7 +3,7 @@
 
 ghost use Rattle.std.specs.Prelude.{◌≡◌, IfSome, length};
 
-use elfobj::constants::{
+use elfdefs::constants::{
     EHDR_SIZE, ELFCLASS64, ELFDATA2LSB, EM_X86_64, ET_REL, EV_CURRENT, MAX_NAME_LENGTH,
     MAX_SECTION_HEADERS, MAX_SECTION_SIZE, PROFILE_FLAGS, RELA_SIZE, SHDR_SIZE, SHN_ABS,
     SHN_COMMON, SHN_UNDEF, SHT_NOBITS, SHT_NULL, SHT_REL, SHT_STRTAB, STB_GLOBAL, STB_WEAK,
@@ -12,7 +12,7 @@ use elfobj::constants::{
 use elfobj::elf_header::{name_table_number, section_count, section_table_offset};
 use elfobj::field::{is_any_shared, is_outside};
 use elfobj::names::is_graphic;
-use elfobj::numbers::{read_u16, read_u32};
+use elfdefs::numbers::{read_u16, read_u32};
 use elfobj::refusal::ObjectRefusal;
 use elfobj::relocation_entry::{RelocationEntry, read_relocation_entry};
 use elfobj::section::{Section, SectionIndex, SectionKind};

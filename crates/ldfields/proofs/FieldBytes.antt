@@ -5,7 +5,7 @@ use Rattle.elfobj.specs.declared.relocation.Relocation.{Relocation}
 use Rattle.elfobj.specs.declared.relocation.RelocationKind.{RelocationKind}
 use Rattle.elfobj.specs.declared.relocation.RelocationKind.TheVariants.{None, Abs64, Pc32, Plt32, Abs32, Abs32Signed, Abs16, Pc16, Abs8, Pc8, Pc64}
 use Rattle.ldfields.specs.declared.field.Overflow.{Overflow}
-use Rattle.elfobj.specs.Relocations.{width}
+use Rattle.elfobj.specs.RelocationKinds.{width}
 use Rattle.ldfields.specs.Fields.{value, fits, field_with, field_of}
 
 pub width_at_most : (kind : RelocationKind) → width kind ≤ 8

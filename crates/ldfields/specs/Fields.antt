@@ -6,7 +6,7 @@ use Rattle.byteorder.specs.Endian.{little_bytes}
 use Rattle.elfobj.specs.declared.relocation.Relocation.{Relocation}
 use Rattle.elfobj.specs.declared.relocation.RelocationKind.{RelocationKind}
 use Rattle.elfobj.specs.declared.relocation.RelocationKind.TheVariants.{None, Abs64, Pc32, Plt32, Abs32, Abs32Signed, Abs16, Pc16, Abs8, Pc8, Pc64}
-use Rattle.elfobj.specs.Relocations.{width}
+use Rattle.elfobj.specs.RelocationKinds.{width}
 use Rattle.ldfields.specs.declared.field.Overflow.{Overflow}
 
 -- the number below 2^64 that differs from an integer by a multiple of 2^64

@@ -6,7 +6,7 @@ use Rattle.std.specs.Prelude.{ℕ, List, [], ◌++◌, map, flat_map, Option, So
 use Rattle.std.specs.List.{enumerate_from, filter_map}
 use Rattle.elfobj.specs.Sections.{LinkedSection}
 use Rattle.elfobj.specs.Symbols.{NamedSymbol}
-use Rattle.elfobj.specs.declared.constants.TheConstants.{SHF_ALLOC, SHF_WRITE}
+use Rattle.elfdefs.specs.declared.constants.TheConstants.{SHF_ALLOC, SHF_WRITE}
 use Rattle.elfobj.specs.declared.section.SectionKind.TheVariants.{Nobits}
 use Rattle.ldmodel.specs.Names.{Entry, Decision, Common, decision}
 use Rattle.ldmodel.specs.Project.{NamedObject, Project}

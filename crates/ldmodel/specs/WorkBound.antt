@@ -1,7 +1,7 @@
 -- How much an incremental link may do, by count: of relocations evaluated and of image bytes written. The counts of
 -- objects, names and input sections stand with the session.
 use Rattle.std.specs.Prelude.{ℕ, ◌+◌, ◌≤◌, List, filter, flat_map, length, sum_by, not}
-use Rattle.elfobj.specs.Relocations.{width}
+use Rattle.elfobj.specs.RelocationKinds.{width}
 use Rattle.ldmodel.specs.Relocations.{Site}
 use Rattle.ldmodel.specs.SectionHeaders.{image_length}
 use Rattle.ldmodel.specs.Stayed.{GoodLink, LinkedPiece, pieces_in, has_stayed, stayed, retargeted, sites_in}

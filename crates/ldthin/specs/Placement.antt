@@ -3,7 +3,7 @@
 use Rattle.std.specs.Prelude.{ℕ, ◌+◌, ◌-◌, ◌^◌, max, List, [], ◌∷◌, ◌++◌, length, slice_index_or, Result, Ok, Err, Bool, true, false, not, ◌&&◌, ◌||◌, ◌==◌, nat_lt, if◌then◌else◌, bit_and}
 use Rattle.std.specs.List.{list_any}
 use Rattle.std.specs.Int.{next_multiple_of}
-use Rattle.elfobj.specs.declared.constants.TheConstants.{SHF_WRITE, SHF_EXECINSTR}
+use Rattle.elfdefs.specs.declared.constants.TheConstants.{SHF_WRITE, SHF_EXECINSTR}
 use Rattle.elfobj.specs.declared.section.SectionKind.{SectionKind}
 use Rattle.elfobj.specs.declared.section.SectionKind.TheVariants.{Nobits}
 use Rattle.ldthin.specs.Tree.{Tree, Statement, SetDot, Section, Number}

@@ -12,7 +12,8 @@ use Rattle.elfobj.specs.declared.symbol.SymbolPlace.TheVariants as place
 use Rattle.ldfields.specs.declared.patch.Patch.{Patch}
 use Rattle.std.proofs.lemmas.List.{get_or-map, length-map}
 use Rattle.elfobj.specs.Profile as elf
-use Rattle.elfobj.specs.Relocations.{field_end, width}
+use Rattle.elfobj.specs.Relocations.{field_end}
+use Rattle.elfobj.specs.RelocationKinds.{width}
 use Rattle.elfobj.specs.Relocations as elf_fields
 use Rattle.elfobj.specs.declared.relocation.RelocationKind.{RelocationKind}
 use Rattle.std.proofs.lemmas.List.Elements.{All-filter, All-cons}

@@ -10,7 +10,7 @@ ghost use Rattle.ldthin.specs.OneSection.{row_of, patched_row, one_segment, segm
 ghost use Rattle.ldfields.specs.Patches.{AreInOrder};
 
 use crate::place::{EHSIZE, PAGE, PHENTSIZE};
-use elfobj::constants::EM_X86_64;
+use elfdefs::constants::EM_X86_64;
 use ldfields::canvas::Canvas;
 use ldfields::patch::{Patch, write_patched};
 use ldmodel::memory::NoMemory;

@@ -10,7 +10,7 @@ ghost use Rattle.ldthin.specs.Segments.{segments, headers_end};
 ghost use Rattle.ldthin.specs.OneSection.{member_of, row_of, rows_with, PlacedAs, IsWhole, IsFilledBy, EndsBelow, laid, segment_of};
 
 use crate::linked_script::LinkedScript;
-use elfobj::constants::{SHF_EXECINSTR, SHF_WRITE};
+use elfdefs::constants::{SHF_EXECINSTR, SHF_WRITE};
 use elfobj::section::SectionKind;
 use ldthin::member::Member;
 use ldthin::placed::{PlaceFault, Placed, Segment};

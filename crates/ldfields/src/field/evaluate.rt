@@ -3,7 +3,7 @@
 ghost use Rattle.std.specs.Prelude.{◌≡◌, ◌≢◌, ◌≤◌, ◌&&◌, IfOk, int_le, length};
 ghost use Rattle.byteorder.specs.Endian.{little_bytes};
 ghost use Rattle.ldbase.specs.Raised.{raised};
-ghost use Rattle.elfobj.specs.Relocations.{width};
+ghost use Rattle.elfobj.specs.RelocationKinds.{width};
 ghost use Rattle.ldfields.specs.Fields.{value, fits, field_of};
 
 use super::{Field, Overflow};

@@ -1,6 +1,6 @@
 use Rattle.std.proofs.Common.{sym, arith, pos}
-use Rattle.elfobj.specs.declared.relocation.Relocation.{Relocation}
-use Rattle.elfobj.specs.declared.relocation.RelocationKind.TheVariants as kind
+use Rattle.elfdefs.specs.declared.relocation.Relocation.{Relocation}
+use Rattle.elfdefs.specs.declared.relocation.RelocationKind.TheVariants as kind
 use Rattle.elfobj.proofs.Overlaps.{all_apart, apart_more, apart_none, apart_thin, found_meeting}
 use Rattle.elfobj.proofs.field.do_neighbours_meet.Goals as goal
 use Rattle.elfobj.proofs.field.do_neighbours_meet.Goals.{then-size-gt0+else-relocation-offset, else-size-gt0}

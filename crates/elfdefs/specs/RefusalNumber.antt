@@ -1,7 +1,7 @@
 -- The numbers under which refusals are told.
 use Rattle.std.specs.Prelude.{ℕ}
-use Rattle.elfobj.specs.declared.refusal.ObjectRefusal.{ObjectRefusal}
-use Rattle.elfobj.specs.declared.refusal.ObjectRefusal.TheVariants.{Short, NotElf, Machine, SectionTable, SectionCount, SectionBounds, SectionProfile, SymbolTable, Symbol, RelocationSection, RelocationType, FieldBounds, FieldOverlap, NoMemory}
+use Rattle.elfdefs.specs.declared.refusal.ObjectRefusal.{ObjectRefusal}
+use Rattle.elfdefs.specs.declared.refusal.ObjectRefusal.TheVariants.{Short, NotElf, Machine, SectionTable, SectionCount, SectionBounds, SectionProfile, SymbolTable, Symbol, RelocationSection, RelocationType, FieldBounds, FieldOverlap, NoMemory}
 
 abbrev pub refusal_number : ObjectRefusal → ℕ
 refusal_number Short = 1

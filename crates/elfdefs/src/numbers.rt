@@ -1,7 +1,7 @@
 //! Numbers in an ELF file: the lowest byte first (gABI, "Data Encoding", `ELFDATA2LSB`).
 
 ghost use Rattle.std.specs.Prelude.{◌≡◌, ◌≤◌, ◌+◌, length};
-ghost use Rattle.elfobj.specs.Numbers.{u16_at, u32_at, u64_at, i64_at};
+ghost use Rattle.elfdefs.specs.Numbers.{u16_at, u32_at, u64_at, i64_at};
 
 use byteorder::{ByteOrder, LittleEndian};
 

@@ -1,0 +1,5 @@
+pub mod Numbers
+pub mod SectionKinds
+pub mod SymbolKinds
+pub mod RelocationKinds
+pub mod RefusalNumber
