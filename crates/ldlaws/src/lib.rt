@@ -7,3 +7,4 @@ pub mod gathering;
 pub mod layout;
 pub mod names;
 pub mod segments;
+pub mod targets;
