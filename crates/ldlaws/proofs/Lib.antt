@@ -11,3 +11,4 @@ pub mod Placements
 pub mod Grouped
 pub mod Segmented
 pub mod Targeted
+pub mod Gapped

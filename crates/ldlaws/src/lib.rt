@@ -4,6 +4,7 @@
 pub mod edits;
 pub mod examples;
 pub mod gathering;
+pub mod image;
 pub mod layout;
 pub mod names;
 pub mod segments;
