@@ -1,4 +1,5 @@
--- What a gap of an output section is: a longest run of addresses in it that no input section and no data command covers.
+-- What a gap of an output section is: a longest run of addresses in it that no input section and no data command
+-- covers.
 use Rattle.std.specs.Prelude.{◌≡◌, ℕ, ◌≤◌, None, ◌⊎◌}
 use Rattle.std.specs.List.{Contains}
 use Rattle.ldmodel.specs.Image.{covering_piece, covering_data, ends_in}
@@ -9,8 +10,8 @@ pub record IsBare (q : PlacedSection) (at : ℕ) : Type 0 where
   pub piece : covering_piece q at ≡ None
   pub data_command : covering_data q at ≡ None
 
--- the gap that an address lies in begins here: all from here to there is bare, and the section starts here, or something
--- that is not empty ends here
+-- the gap that an address lies in begins here: all from here to there is bare, and the section starts here, or
+-- something that is not empty ends here
 pub record IsGapStart (q : PlacedSection) (at from : ℕ) : Type 0 where
   pub inside : q.start ≤ from
   pub before : from ≤ at
