@@ -1,6 +1,12 @@
 -- The projects of the examples.
-use Rattle.std.specs.Prelude.{ℕ, true, List, [], ◌∷◌, codes}
+use Rattle.std.specs.Prelude.{ℕ, true, List, [], ◌∷◌, codes, negsuc}
+use Rattle.elfobj.specs.Sections.{LinkedSection}
 use Rattle.elfobj.specs.Symbols.{NamedSymbol}
+use Rattle.elfobj.specs.declared.relocation.Relocation.{Relocation}
+use Rattle.elfobj.specs.declared.relocation.RelocationKind.TheVariants.{Plt32}
+use Rattle.ldexpr.specs.Expressions.{Number}
+use Rattle.ldtree.specs.declared.common.DotCommand.TheVariants.{Set}
+use Rattle.ldtree.specs.declared.statement.ItemCommand.TheVariants as item
 use Rattle.elfobj.specs.declared.symbol.Binding.TheVariants.{Global}
 use Rattle.ldtree.specs.declared.input.Input.{Input}
 use Rattle.ldtree.specs.declared.input.SectionWord.{SectionWord}
@@ -8,7 +14,7 @@ use Rattle.ldtree.specs.declared.statement.Command.TheVariants.{Entry}
 use Rattle.ldtree.specs.declared.statement.Statement.{Statement}
 use Rattle.ldmodel.specs.Options.{default_options}
 use Rattle.ldmodel.specs.Project.{NamedObject, Project}
-use Rattle.ldlaws.specs.Examples.{object, section, reference, defined, undefined, common, exactly, word, from_any, output, discard, command, sections, provide}
+use Rattle.ldlaws.specs.Examples.{object, section, reference, defined, undefined, common, exactly, word, from_any, item_at, output, discard, command, sections, provide}
 
 abbrev pub project : List NamedObject → List Statement → Project
 project objects script = record { objects = objects; script = script; options = default_options }
@@ -19,7 +25,9 @@ a_and_b name = object name (section 1 (codes ".a") 1 [] ∷ section 2 (codes ".b
 
 -- `a.o` and `b.o`, each with sections `.a` and `.b`, under a script of one output section with these input statements
 abbrev pub of_two : List Input → Project
-of_two inputs = project (a_and_b (codes "a.o") ∷ a_and_b (codes "b.o") ∷ []) (sections (output (codes ".out") inputs ∷ []) ∷ [])
+of_two inputs =
+    let objects : List NamedObject = a_and_b (codes "a.o") ∷ a_and_b (codes "b.o") ∷ [] in
+    project objects (sections (output (codes ".out") inputs ∷ []) ∷ [])
 
 -- `*(.a .b)`
 abbrev pub both : Input
@@ -38,13 +46,18 @@ both_but_b =
     let excluding : SectionWord = record { pattern = exactly (codes ".a"); excluded = exactly (codes "b.o") ∷ [] } in
     from_any (excluding ∷ word (exactly (codes ".b")) ∷ [])
 
+-- an object that defines a global name in its one section
+abbrev pub defines : (object section name : List ℕ) → NamedObject
+defines o s name = object o (section 1 s 1 [] ∷ []) (defined Global 1 name ∷ [])
+
 -- `a.o` defines `_start` and refers to `f` and to another name; `b.o` defines `f`, `c.o` defines `g`; with garbage
 -- collection from `_start` on
 abbrev pub collected : List ℕ → List Input → Project
 collected name inputs =
-    let a = object (codes "a.o") (section 1 (codes ".text") 1 (reference 2 ∷ []) ∷ []) (defined Global 1 (codes "_start") ∷ undefined name ∷ []) in
-    let b = object (codes "b.o") (section 1 (codes ".text.f") 1 [] ∷ []) (defined Global 1 (codes "f") ∷ []) in
-    let c = object (codes "c.o") (section 1 (codes ".text.g") 1 [] ∷ []) (defined Global 1 (codes "g") ∷ []) in
+    let text : LinkedSection = section 1 (codes ".text") 1 (reference 2 ∷ []) in
+    let a : NamedObject = object (codes "a.o") (text ∷ []) (defined Global 1 (codes "_start") ∷ undefined name ∷ []) in
+    let b : NamedObject = defines (codes "b.o") (codes ".text.f") (codes "f") in
+    let c : NamedObject = defines (codes "c.o") (codes ".text.g") (codes "g") in
     record {
       objects = a ∷ b ∷ c ∷ [];
       script = command (Entry (codes "_start")) ∷ sections (output (codes ".text") inputs ∷ []) ∷ [];
@@ -56,7 +69,9 @@ abbrev pub discarded : List ℕ → List Input → Project
 discarded name inputs =
     let keep : Input = record (from_any (word (exactly (codes ".text.f")) ∷ [])) { keep = true } in
     record (collected name inputs) {
-      script = command (Entry (codes "_start")) ∷ sections (discard (keep ∷ []) ∷ output (codes ".text") inputs ∷ []) ∷ [];
+      script =
+        command (Entry (codes "_start"))
+        ∷ sections (discard (keep ∷ []) ∷ output (codes ".text") inputs ∷ []) ∷ [];
     }
 
 -- `a.o` and `b.o`, each with one symbol and no section
@@ -73,3 +88,33 @@ uses_end = object (codes "a.o") [] (undefined (codes "end") ∷ [])
 
 abbrev pub has_end : NamedObject
 has_end = object (codes "b.o") [] (common 4 4 (codes "end") ∷ [])
+
+-- `a.o` calls `f`, and `b.o` returns from it, at a multiple of 8
+abbrev pub calls_f : NamedObject
+calls_f =
+    let call : Relocation = record { offset = 1; symbol = record { 0 = 1 }; kind = Plt32; addend = negsuc 3 } in
+    let bytes : List ℕ = 0xE8 ∷ 0 ∷ 0 ∷ 0 ∷ 0 ∷ [] in
+    let one : LinkedSection = section 1 (codes ".text") 1 (call ∷ []) in
+    let text : LinkedSection = record one { flags = 6; size = 5; bytes = bytes } in
+    object (codes "a.o") (text ∷ []) (undefined (codes "f") ∷ [])
+
+abbrev pub returns : NamedObject
+returns =
+    let text : LinkedSection = record (section 1 (codes ".text") 8 []) { flags = 6; bytes = 0xC3 ∷ [] } in
+    object (codes "b.o") (text ∷ []) (defined Global 1 (codes "f") ∷ [])
+
+-- `SECTIONS { . = START; NAME : { *(WORD) } }`
+abbrev pub one_section : ℕ → (name input : List ℕ) → List Statement
+one_section start name input =
+    let inputs : List Input = from_any (word (exactly input) ∷ []) ∷ [] in
+    sections (item_at (item.Dot (Set (Number start))) ∷ output name inputs ∷ []) ∷ []
+
+-- `a.o` and `b.o` under `SECTIONS { . = 0x4010C8; .text : { *(.text) } }`
+abbrev pub call_and_return : Project
+call_and_return = project (calls_f ∷ returns ∷ []) (one_section 0x4010C8 (codes ".text") (codes ".text"))
+
+-- two common entries of `buf`, under `SECTIONS { . = 0x404004; .bss : { *(COMMON) } }`
+abbrev pub commons_in_bss : Project
+commons_in_bss =
+    let objects : List NamedObject = (of_symbols (common 4 8 (codes "buf")) (common 16 4 (codes "buf"))).objects in
+    project objects (one_section 0x404004 (codes ".bss") (codes "COMMON"))

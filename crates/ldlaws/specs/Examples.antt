@@ -21,6 +21,7 @@ use Rattle.ldtree.specs.declared.section.Load.TheVariants.{Unstated}
 use Rattle.ldtree.specs.declared.statement.Command.{Command}
 use Rattle.ldtree.specs.declared.statement.Command.TheVariants as top
 use Rattle.ldtree.specs.declared.statement.Item.{Item}
+use Rattle.ldtree.specs.declared.statement.ItemCommand.{ItemCommand}
 use Rattle.ldtree.specs.declared.statement.ItemCommand.TheVariants as item
 use Rattle.ldtree.specs.declared.statement.Statement.{Statement}
 use Rattle.ldmodel.specs.Project.{NamedObject}
@@ -82,6 +83,9 @@ from_any words = record { keep = false; file = any; sort = None; sections = word
 
 abbrev pub statement : Input → BodyStatement
 statement i = record { line = 1; command = body.Input i }
+
+abbrev pub item_at : ItemCommand → Item
+item_at c = record { line = 1; command = c }
 
 -- `NAME : { .. }`
 abbrev pub output : List ℕ → List Input → Item

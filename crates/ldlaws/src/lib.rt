@@ -5,5 +5,6 @@ pub mod edits;
 pub mod examples;
 pub mod gathering;
 pub mod layout;
+pub mod links;
 pub mod names;
 pub mod segments;
