@@ -92,7 +92,7 @@ overflow_at p t value =
 abbrev pub assertion_of : Option AssertionAt → Fault
 assertion_of a =
     fault.AssertionFailed (option_map_or (λ (x : AssertionAt). x.line) a 0)
-        (option_map_or (λ (x : AssertionAt). x.assertion.message) a [])
+    (option_map_or (λ (x : AssertionAt). x.assertion.message) a [])
 
 unfoldable pub fault_of : Project → (number : ℕ → ℕ) → code.Fault → Fault
 fault_of p number (variant.DuplicateDefinition e first) =

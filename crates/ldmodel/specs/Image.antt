@@ -27,7 +27,7 @@ unfoldable pub headers : Project → Layout → List ℕ
 headers p s =
     let gs : List Segment = segments s.sections in
     elf_header (number_or_0 (entry_point p s)) (length gs)
-        ((header_part p s).offset) (header_count s) (header_names_number s)
+    ((header_part p s).offset) (header_count s) (header_names_number s)
     ++ program_headers gs
 
 abbrev pub object_named : Project → List ℕ → Option NamedObject
@@ -94,7 +94,7 @@ output_byte p s q at = byte_among p s q at (covering_piece q at) (covering_data 
 abbrev pub section_at : Layout → ℕ → Option SectionInFile
 section_at s o =
     find (λ (x : SectionInFile). has_file_bytes x.section && covers x.offset x.section.size o)
-        (in_file (segments s.sections))
+    (in_file (segments s.sections))
 
 -- the part of the tail that lies there
 abbrev pub tail_at : Project → Layout → ℕ → Option FilePart

@@ -78,12 +78,12 @@ script_value s name = option_map (λ (x : ScriptSymbol). x.value) (symbol_named 
 abbrev pub section_numbers : Layout → List ℕ → Option SectionNumbers
 section_numbers s name =
     option_map (λ (q : PlacedSection). record { start = q.start; load = q.load; size = q.size })
-        (section_named s.sections name)
+    (section_named s.sections name)
 
 abbrev pub region_numbers : Layout → List ℕ → Option RegionNumbers
 region_numbers s name =
     option_map (λ (r : MemoryRegion). record { origin = r.origin; extent = r.extent })
-        (region_named s.regions name)
+    (region_named s.regions name)
 
 -- an expression of the layout may name what is complete where it stands
 abbrev pub scope_of : Layout → Scope

@@ -35,7 +35,7 @@ is_evaluated _ = true
 abbrev pub sites_at : NamedObject → LinkedSection → ℕ → List Site
 sites_at o x start =
     map (λ r. record { object = o; section = x; start = start; relocation = r })
-        (filter (λ (r : Relocation). is_evaluated r.kind) x.relocations)
+    (filter (λ (r : Relocation). is_evaluated r.kind) x.relocations)
 
 -- those of a section, none where it is not in the output
 abbrev pub sites_of_section : Layout → NamedObject → LinkedSection → List Site

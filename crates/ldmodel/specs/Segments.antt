@@ -120,4 +120,4 @@ in_file gs = flat_map (λ (g : Segment). map (in_segment g) (sections_in g.group
 abbrev pub file_offset : List Segment → PlacedSection → ℕ
 file_offset gs q =
     option_map_or (λ (x : SectionInFile). x.offset)
-        (find (λ (x : SectionInFile). bytes_eq x.section.name q.name) (in_file gs)) 0
+    (find (λ (x : SectionInFile). bytes_eq x.section.name q.name) (in_file gs)) 0

@@ -56,7 +56,7 @@ symbol_of_entry p e = option_map (λ (x : NamedSymbol). x.symbol) (symbol_at p e
 abbrev pub entry_value : Project → Layout → Entry → SymbolValue
 entry_value p s e =
     option_map_or (λ (x : Symbol). own_value s (object_name p e.object) x.place x.value)
-        (symbol_of_entry p e) NotDefined
+    (symbol_of_entry p e) NotDefined
 
 -- the number of the symbol of an entry
 abbrev pub symbol_index : Entry → SymbolIndex

@@ -80,7 +80,7 @@ st_size p _ = 0
 abbrev pub header_of_part : Layout → List ℕ → Part → ℕ
 header_of_part s object part =
     option_map_or (λ n. n + 1)
-        (position (λ (q : PlacedSection). list_any (is_part object part) q.pieces) s.sections) SHN_ABS
+    (position (λ (q : PlacedSection). list_any (is_part object part) q.pieces) s.sections) SHN_ABS
 
 abbrev pub header_of_place : Layout → List ℕ → SymbolPlace → ℕ
 header_of_place s object (place.Section k) = header_of_part s object (InTable k)
