@@ -2,24 +2,23 @@
 #![tactic(auto)]
 
 pub mod constants;
-mod elf_header;
-pub mod explain;
-mod field;
+pub mod elf_header;
+pub mod field;
 pub mod law;
 mod linked;
-mod names;
-mod numbers;
+pub mod names;
+pub mod numbers;
 pub mod object;
 mod place;
 pub mod refusal;
 pub mod relocation;
-mod relocation_entry;
+pub mod relocation_entry;
 mod relocation_fault;
 mod relocation_run;
 mod relocation_table;
 pub mod section;
-mod section_header;
+pub mod section_header;
 mod section_table;
 pub mod symbol;
-mod symbol_entry;
+pub mod symbol_entry;
 mod symbol_table;

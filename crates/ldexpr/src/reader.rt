@@ -80,7 +80,7 @@ fn arguments<'a>(alloc: Global, tokens: Cursor<'a>) -> Result<(Expr, Cursor<'a>)
     Ok((tree, rest))
 }
 
-/// A primary expression behind any number of `! - ~`.
+/// A primary expression after any number of `! - ~`.
 #[cycle(reader)]
 fn unary<'a>(alloc: Global, tokens: Cursor<'a>) -> Result<(Expr, Cursor<'a>), ParseFault>
     ensures { Reads (Within 0) tokens.entry (λ x. expr_of x.0) (λ x. x.1) result }

@@ -17,7 +17,7 @@ pub fn is_set_byte(b: u8) -> bool
     is_plain(b) || matches!(b, b'*' | b'?')
 }
 
-/// Whether it may stand behind `\`: one of `!` to `~`
+/// Whether it may stand after `\`: one of `!` to `~`
 pub fn is_graphic(b: u8) -> bool
     ensures { result ≡ is_graphic b }
 {

@@ -31,7 +31,7 @@ fn set_run(bytes: &[u8]) -> usize
     bytes.iter().take_while(|b| is_set_byte(**b)).count()
 }
 
-/// The byte behind a `\`.
+/// The byte after a `\`.
 #[tactic(auto, unfolding(crate::specs::Front::escape_front))]
 fn escape_front(word: &[u8]) -> Option<Spelled>
     requires { 0 < length word.now }
@@ -46,7 +46,7 @@ fn escape_front(word: &[u8]) -> Option<Spelled>
     }
 }
 
-/// The set behind a `[`.
+/// The set after a `[`.
 #[tactic(auto, unfolding(crate::specs::Front::set_front))]
 fn set_front(word: &[u8]) -> Option<Spelled>
     requires { 0 < length word.now }

@@ -14,7 +14,7 @@ pub enum Tried {
     Whole,
     /// So many parts took one byte each, and a `*` follows.
     Star(usize),
-    /// No match from here: a part is not met, the name ends too early, or it goes on behind the last part.
+    /// No match from here: a part is not met, the name ends too early, or it goes on after the last part.
     Missed,
 }
 
@@ -42,7 +42,7 @@ fn try_front(word: &[u8], parts: &[CodePart], name: &[u8]) -> Tried
     }
 }
 
-/// The parts behind one of them.
+/// The parts after one of them.
 fn parts_behind(parts: &[CodePart], at: usize) -> &[CodePart]
     requires { at < length parts.now }
     ensures { result.now ≡ drop (at + 1) parts.now }

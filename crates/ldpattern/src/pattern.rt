@@ -96,7 +96,7 @@ impl Pattern {
     }
 
     /// Reads the pattern that a word spells: `None` if it spells none, as one with a `]` outside a set, or with a
-    /// set that is empty, has no end, or has a `[` or a `\` in it. Fails only for want of memory.
+    /// set that is empty, has no end, or has a `[` or a `\` in it. Fails only where memory ran out.
     pub fn read(alloc: Global, word: &[u8]) -> Result<Option<Pattern>, AllocError>
         ensures { IfOk result (λ r. MatchOption r ((ps : List Part) → Spells ps word.now → ⊥) (λ p. IsPatternOf word.now p)) }
     {
@@ -125,7 +125,7 @@ impl Pattern {
 }
 
 /// Whether a pattern matches a whole name. It takes no memory, and at most about as many steps as the product of
-/// the lengths of the pattern's word and of the name: behind each `*` the parts up to the next one are tried at each
+/// the lengths of the pattern's word and of the name: after each `*` the parts up to the next one are tried at each
 /// place of the name at most once.
 pub fn matches(pattern: &Pattern, name: &[u8]) -> bool
     ensures splits { IsTrue result ↔ Matches pattern.now name.now }

@@ -21,7 +21,7 @@ impl ByteRange {
     }
 }
 
-/// The first range of a set, and the bytes behind it.
+/// The first range of a set, and the bytes after it.
 fn first_range(body: &[u8]) -> Option<(ByteRange, &[u8])>
     ensures value { MatchOption result (body.now ≡ []) (λ x. ranges_of body.now ≡ x.0 ∷ ranges_of x.1.now) }
     ensures shorter { MatchOption result (body.now ≡ []) (λ x. length x.1.now < length body.now) }

@@ -34,7 +34,7 @@ fn hex_pair(high: u8, low: u8) -> Option<u8>
     }
 }
 
-/// The bytes that so many pairs of hex digits spell, from left to right, or `None` if one of them is no digit.
+/// The bytes that this number of pairs of hex digits spell, from left to right, or `None` if one of them is no digit.
 fn hex_bytes(alloc: Global, digits: &[u8], count: usize) -> Result<Option<Fill>, AllocError>
     requires some { 0 < count }
     requires few { count ≤ 8 }

@@ -46,7 +46,7 @@ fn alignment<'a>(alloc: Global, tokens: Cursor<'a>) -> Result<(Option<Formula>, 
     }
 }
 
-/// What the head of an output section gives behind its address.
+/// What the head of an output section gives after its address.
 #[derive(Drop)]
 struct SectionHead {
     load: Option<Formula>,

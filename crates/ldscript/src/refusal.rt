@@ -1,8 +1,8 @@
 //! Why a text is no script of the profile.
 
 /// Why `Script::read` refuses. A text of more than 2^20 bytes is `Limit`; else the refusals are tested in the order
-/// `NotTokens`, `Limit`, `NotAScript`, `Repeated`, `MisplacedDot`, and the first that applies is answered. Want of
-/// memory stands apart.
+/// `NotTokens`, `Limit`, `NotAScript`, `Repeated`, `MisplacedDot`, and the first that applies is answered. `NoMemory`
+/// stands apart.
 #[derive(Clone, Copy, Debug, PartialEq, Eq)]
 pub enum ScriptRefusal {
     /// 1: somewhere no token begins, or a comment has no end.
@@ -23,7 +23,7 @@ impl ScriptRefusal {
     ghost use Rattle.std.specs.Prelude.{◌≡◌};
     ghost use Rattle.ldscript.specs.RefusalNumber.{refusal_number};
 
-    /// The number under which the refusal is told, from 1 to 6.
+    /// The number under which the refusal is reported, from 1 to 6.
     pub fn number(self) -> u8
         ensures { result ≡ refusal_number self }
     {

@@ -106,7 +106,7 @@ pub fn name_in_parentheses<'a>(tokens: Cursor<'a>) -> Option<(&'a [u8], Cursor<'
     Some((name, rest))
 }
 
-/// An expression and a mark behind it that can't go on one.
+/// An expression and a mark after it that can't go on one.
 pub fn ended<'a>(
     alloc: Global,
     tokens: Cursor<'a>,

@@ -21,7 +21,7 @@ pub struct Piece {
     pub kind: TokenKind,
     /// The index of its first byte; of a text in double quotes, of the first byte between them.
     pub start: usize,
-    /// The index behind its last byte, and at least `start`.
+    /// The index after its last byte, and at least `start`.
     pub end: usize,
 }
 

@@ -20,7 +20,7 @@ impl Model for ScriptName {
 }
 
 impl ScriptName {
-    /// A copy of these bytes, or an error for want of memory.
+    /// A copy of these bytes, or an error where memory ran out.
     pub fn new(alloc: Global, bytes: &[u8]) -> Result<ScriptName, AllocError>
         ensures { IfOk result (λ n. n ≡ bytes.now) }
     {

@@ -15,7 +15,7 @@ impl TokenRefusal {
     ghost use Rattle.std.specs.Prelude.{◌≡◌};
     ghost use Rattle.ldtokens.specs.Limits.{token_refusal_number};
 
-    /// The number under which the refusal is told: 1, 5 or 6.
+    /// The number under which the refusal is reported: 1, 5 or 6.
     pub fn number(self) -> u8
         ensures { result ≡ token_refusal_number self }
     {

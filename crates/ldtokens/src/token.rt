@@ -99,7 +99,7 @@ pub struct CodeToken {
     pub kind: TokenKind,
     /// The index of its first byte; of a text in double quotes, of the first byte between them.
     pub start: usize,
-    /// The index behind its last byte, and at least `start`.
+    /// The index after its last byte, and at least `start`.
     pub end: usize,
     /// Its line in the text, from 1.
     pub line: u32,

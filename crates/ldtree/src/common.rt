@@ -17,7 +17,7 @@ pub struct Assignment {
 pub struct Assertion {
     /// The condition: any number but 0.
     pub condition: Formula,
-    /// What is told where it does not hold, without its quotes.
+    /// What is reported where it does not hold, without its quotes.
     pub message: ScriptName,
 }
 

@@ -161,7 +161,7 @@ fn note_load_head<'a>(list: &mut Vec<Mention<'a>>, load: &'a Load) -> Result<(),
     }
 }
 
-/// What stands of a load address behind a section's body.
+/// What stands of a load address after a section's body.
 fn note_load_tail<'a>(list: &mut Vec<Mention<'a>>, load: &'a Load) -> Result<(), NoRoom>
     ensures { OnOk result (Adds list.old.items list.new.items (in_load_tail load.now)) }
 {

@@ -26,9 +26,9 @@ mod stream;
 
 use crate::listing::print_object;
 use crate::stream::{Frame, split_frame};
-use elfobj::explain::explain;
 use elfobj::object::Object;
 use elfobj::refusal::ObjectRefusal;
+use elfwhy::explain::explain;
 use ldbase::meter::Meter;
 use std::alloc::Global;
 use std::io;

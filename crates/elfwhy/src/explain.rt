@@ -3,21 +3,21 @@
 
 ghost use Rattle.std.specs.Prelude.{◌≡◌, IfSome, length};
 
-use crate::constants::{
+use elfobj::constants::{
     EHDR_SIZE, ELFCLASS64, ELFDATA2LSB, EM_X86_64, ET_REL, EV_CURRENT, MAX_NAME_LENGTH,
     MAX_SECTION_HEADERS, MAX_SECTION_SIZE, PROFILE_FLAGS, RELA_SIZE, SHDR_SIZE, SHN_ABS,
     SHN_COMMON, SHN_UNDEF, SHT_NOBITS, SHT_NULL, SHT_REL, SHT_STRTAB, STB_GLOBAL, STB_WEAK,
     STT_COMMON, STT_FILE, STT_SECTION, SYM_SIZE,
 };
-use crate::elf_header::{name_table_number, section_count, section_table_offset};
-use crate::field::{is_any_shared, is_outside};
-use crate::names::is_graphic;
-use crate::numbers::{read_u16, read_u32};
-use crate::refusal::ObjectRefusal;
-use crate::relocation_entry::{RelocationEntry, read_relocation_entry};
-use crate::section::{Section, SectionIndex, SectionKind};
-use crate::section_header::{NULL_HEADER, SectionHeader, read_header};
-use crate::symbol_entry::{SymbolEntry, read_symbol_entry};
+use elfobj::elf_header::{name_table_number, section_count, section_table_offset};
+use elfobj::field::{is_any_shared, is_outside};
+use elfobj::names::is_graphic;
+use elfobj::numbers::{read_u16, read_u32};
+use elfobj::refusal::ObjectRefusal;
+use elfobj::relocation_entry::{RelocationEntry, read_relocation_entry};
+use elfobj::section::{Section, SectionIndex, SectionKind};
+use elfobj::section_header::{NULL_HEADER, SectionHeader, read_header};
+use elfobj::symbol_entry::{SymbolEntry, read_symbol_entry};
 use std::alloc::{AllocError, Global};
 use std::fmt;
 
