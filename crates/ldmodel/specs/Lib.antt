@@ -45,6 +45,7 @@ pub mod FaultCode
 pub mod Lent
 pub mod Runs
 pub mod FileLayout
+pub mod Gaps
 pub mod Commands
 pub mod Answers
 pub mod ThinProject
