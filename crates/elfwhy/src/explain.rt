@@ -9,10 +9,10 @@ use elfdefs::constants::{
     SHN_COMMON, SHN_UNDEF, SHT_NOBITS, SHT_NULL, SHT_REL, SHT_STRTAB, STB_GLOBAL, STB_WEAK,
     STT_COMMON, STT_FILE, STT_SECTION, SYM_SIZE,
 };
+use elfdefs::numbers::{read_u16, read_u32};
 use elfobj::elf_header::{name_table_number, section_count, section_table_offset};
 use elfobj::field::{is_any_shared, is_outside};
 use elfobj::names::is_graphic;
-use elfdefs::numbers::{read_u16, read_u32};
 use elfobj::refusal::ObjectRefusal;
 use elfobj::relocation_entry::{RelocationEntry, read_relocation_entry};
 use elfobj::section::{Section, SectionIndex, SectionKind};
