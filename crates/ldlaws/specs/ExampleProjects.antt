@@ -14,7 +14,8 @@ use Rattle.ldtree.specs.declared.statement.Command.TheVariants.{Entry}
 use Rattle.ldtree.specs.declared.statement.Statement.{Statement}
 use Rattle.ldmodel.specs.Options.{default_options}
 use Rattle.ldmodel.specs.Project.{NamedObject, Project}
-use Rattle.ldlaws.specs.Examples.{object, section, reference, defined, undefined, common, exactly, word, from_any, item_at, output, discard, command, sections, provide}
+use Rattle.ldlaws.specs.Examples.{object, section, reference, defined, undefined, common, exactly, word, from_any}
+use Rattle.ldlaws.specs.Examples.{item_at, output, discard, command, sections, provide}
 
 abbrev pub project : List NamedObject → List Statement → Project
 project objects script = record { objects = objects; script = script; options = default_options }

@@ -2,7 +2,8 @@
 -- SHF_ALLOC (gABI, "Sections"), and then the common blocks that it owns: for each name that is decided to be a common
 -- one the linker makes room, in a section COMMON of the object whose entry comes first, which has no bytes in the
 -- file (GNU ld manual, "Input Section for Common Symbols").
-use Rattle.std.specs.Prelude.{ℕ, List, [], ◌++◌, map, flat_map, Option, Some, None, Bool, ◌&&◌, ◌==◌, if◌then◌else◌, codes, bit_or}
+use Rattle.std.specs.Prelude.{ℕ, List, [], ◌++◌, map, flat_map, Option, Some, None, Bool, ◌&&◌, ◌==◌, if◌then◌else◌}
+use Rattle.std.specs.Prelude.{codes, bit_or}
 use Rattle.std.specs.List.{enumerate_from, filter_map}
 use Rattle.elfobj.specs.Sections.{LinkedSection}
 use Rattle.elfobj.specs.Symbols.{NamedSymbol}

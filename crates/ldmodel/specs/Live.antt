@@ -1,7 +1,8 @@
 -- Which input sections the program needs (GNU ld manual, "Command-line Options", `--gc-sections`; "Input Section and
 -- Garbage Collection"). Without garbage collection all that are not left out. With it, the section of the entry symbol,
 -- those that a statement under KEEP takes, and each one that a relocation of a needed one refers to.
-use Rattle.std.specs.Prelude.{ℕ, List, filter, Option, Some, None, Bool, false, ◌||◌, if◌then◌else◌, slice_get, option_and_then, is_none}
+use Rattle.std.specs.Prelude.{ℕ, List, filter, Option, Some, None, Bool, false, ◌||◌, if◌then◌else◌, slice_get}
+use Rattle.std.specs.Prelude.{option_and_then, is_none}
 use Rattle.std.specs.List.{list_any}
 use Rattle.std.specs.Option.{option_map_or}
 use Rattle.elfobj.specs.Symbols.{NamedSymbol}

@@ -1,7 +1,8 @@
 -- What a name stands for, by all that declare it (gABI, "Symbol Table"; GNU ld manual, "Assigning Values to Symbols",
 -- "PROVIDE"). Of several definitions a global one goes before a common one, and that before a weak one; two global
 -- definitions of a name are a fault.
-use Rattle.std.specs.Prelude.{ℕ, ◌+◌, List, [], ◌∷◌, ◌++◌, length, map, filter, flat_map, Option, Bool, true, false, not, ◌&&◌, nat_lt, max, if◌then◌else◌, bytes_eq}
+use Rattle.std.specs.Prelude.{ℕ, ◌+◌, List, [], ◌∷◌, ◌++◌, length, map, filter, flat_map, Option, Bool, true, false}
+use Rattle.std.specs.Prelude.{not, ◌&&◌, nat_lt, max, if◌then◌else◌, bytes_eq}
 use Rattle.std.specs.List.{list_any, enumerate_from}
 use Rattle.std.specs.Option.{option_or}
 use Rattle.elfobj.specs.Symbols.{NamedSymbol}

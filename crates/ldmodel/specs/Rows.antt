@@ -2,7 +2,8 @@
 -- Section Wildcard Patterns"): statement by statement the live sections that the statement takes, in object order and
 -- then section order; SORT_BY_NAME orders those of one statement by their names, byte by byte, SORT_BY_ALIGNMENT by
 -- alignment, the greatest first. One statement with several words takes its sections together.
-use Rattle.std.specs.Prelude.{ℕ, List, [], length, map, filter, flat_map, Option, Some, None, Bool, false, ◌==◌, max, nat_lt, if◌then◌else◌}
+use Rattle.std.specs.Prelude.{ℕ, List, [], length, map, filter, flat_map, Option, Some, None, Bool, false, ◌==◌, max}
+use Rattle.std.specs.Prelude.{nat_lt, if◌then◌else◌}
 use Rattle.std.specs.Cmp.Lexicographic.{slice_cmp}
 use Rattle.std.specs.List.{enumerate_from, range_with_len}
 use Rattle.std.specs.Option.{option_map_or}

@@ -1,5 +1,5 @@
 -- What a computation in steps comes to, as equations between neighbours: each statement begins where the one before it
--- ended. So a placement is told from a list of states, and a fault from the statement at which it comes.
+-- ended (this project's own).
 use Rattle.std.specs.Prelude.{◌≡◌, ℕ, List, [], ◌∷◌, Result, Ok, Err}
 use Rattle.ldtree.specs.declared.statement.Statement.{Statement}
 use Rattle.ldmodel.specs.Fault.{Fault}
