@@ -1,6 +1,6 @@
 -- What the layout of a script is, and its first fault, as equations between neighbours: statement by statement of the
--- script, of SECTIONS, and of the body of an output section, and entry by entry of an input statement. Each begins where
--- the one before it ended, and a fault comes at the first of them that has one (this project's own).
+-- script, of SECTIONS, and of the body of an output section, and entry by entry of an input statement. Each begins
+-- where the one before it ended, and a fault comes at the first of them that has one (this project's own).
 use Rattle.std.specs.Prelude.{◌≡◌, ℕ, ◌+◌, List, [], ◌∷◌, Result, Ok, Err, ◌==◌, true, false}
 use Rattle.ldtree.specs.declared.section.BodyCommand.{BodyCommand}
 use Rattle.ldtree.specs.declared.section.BodyCommand.TheVariants as body

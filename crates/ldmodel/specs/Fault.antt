@@ -11,8 +11,8 @@ pub data Fault : Type 0 where
   UndefinedEntry : (name : List ℕ) → Fault
   -- no input statement takes a section that the program needs
   Orphan : (object section : List ℕ) → Fault
-  -- an expression names a symbol or an output section that is not complete where it stands. (Scripts in which it names a
-  -- region of no MEMORY command before it are refused as such.)
+  -- an expression names a symbol or an output section that is not complete where it stands. (Scripts in which it names
+  -- a region of no MEMORY command before it are refused as such.)
   NotReady : (line : ℕ) → (name : List ℕ) → Fault
   -- a division by 0, or an ALIGN to what is no power of two
   NoValue : (line : ℕ) → Fault

@@ -49,6 +49,7 @@ block_of object entry (Common owner size alignment) =
     if is_same_entry owner entry then Some (common_block object owner size alignment) else None
 block_of object entry _ = None
 
+-- that of an entry, if it owns one. A local entry, as the null entry is, owns none, since it declares no name
 abbrev pub block_at : Project → ℕ → NamedObject → ℕ × NamedSymbol → Option InputSection
 block_at p i o s = block_of o.name (record { object = i; symbol = s.0 }) (decision p s.1.name)
 

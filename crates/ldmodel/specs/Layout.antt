@@ -50,8 +50,8 @@ pub record PlacedSection : Type 0 where
 
 -- a layout, as far as it has come: the location counter; its value before each statement of SECTIONS and, right after
 -- an output section's own, before each statement of its body; the number of the next input statement; and what is
--- complete so far. Statements outside SECTIONS and the input statements of `/DISCARD/` have no `.` in `dots`: the former
--- cannot name `.`, the latter have no expressions, and none of them moves it
+-- complete so far. Statements outside SECTIONS and the input statements of `/DISCARD/` have no `.` in `dots`: the
+-- former cannot name `.`, the latter have no expressions, and none of them moves it
 pub record Layout : Type 0 where
   pub dot : ℕ
   pub dots : List ℕ

@@ -43,7 +43,6 @@ pub mod WorkBound
 pub mod Mentioned
 pub mod FaultCode
 pub mod Lent
-pub mod Runs
 pub mod FileLayout
 pub mod Commands
 pub mod Answers

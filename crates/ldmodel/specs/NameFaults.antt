@@ -1,5 +1,6 @@
 -- The faults that names give. Each strong definition of a name after the first is one; where the script assigns the
--- name, that assignment is the first. An entry symbol that nothing defines is one.
+-- name, that assignment is the first. An entry symbol that nothing defines is one. That these two are faults, and which
+-- definition a fault names, is this project's own.
 use Rattle.std.specs.Prelude.{ℕ, List, [], ◌∷◌, map, filter, Option, Some, None, Bool, false, not, ◌&&◌, ◌||◌}
 use Rattle.std.specs.Prelude.{if◌then◌else◌, slice_get}
 use Rattle.std.specs.Option.{option_map_or}

@@ -16,8 +16,8 @@ page_size = 4096
 abbrev pub end_of : PlacedSection → ℕ
 end_of q = q.start + q.size
 
--- a placed section has bytes in the file exactly where it is loaded: its load size is its size or 0 (`SectionEnd`, where
--- a body has file bytes by what is in it; the two agree on sections of nonzero size)
+-- a placed section has bytes in the file exactly where it is loaded: its load size is its size or 0 (`SectionEnd`,
+-- where a body has file bytes by what is in it; the two agree on sections of nonzero size)
 abbrev pub has_file_bytes : PlacedSection → Bool
 has_file_bytes q = not (q.load_size == 0)
 

@@ -1,6 +1,6 @@
 -- What two links have in common (this project's own): the input sections that stayed where they were, with their bytes
--- in the same place of the image, and the relocations in them whose symbols have another value. An incremental link need
--- not write the bytes of input sections that stayed again, but for the fields of these relocations.
+-- in the same place of the image, and the relocations in them whose symbols have another value. An incremental link
+-- need not write the bytes of input sections that stayed again, but for the fields of these relocations.
 use Rattle.std.specs.Prelude.{Option, Some, None, ℕ, ◌+◌, ◌-◌, List, map, filter, flat_map, Bool, ◌&&◌, not, bytes_eq}
 use Rattle.std.specs.Prelude.{if◌then◌else◌, [], ◌==◌}
 use Rattle.std.specs.List.{list_any}

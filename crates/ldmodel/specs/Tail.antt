@@ -77,8 +77,8 @@ st_size p (Weak e) = entry_size p e
 st_size p (Common owner size alignment) = size
 st_size p _ = 0
 
--- the number of the header of the output section that a part of an object stands in. It is asked of symbols with a value
--- alone, so that some output section holds the part; SHN_ABS, where none does, stands in no symbol table
+-- the number of the header of the output section that a part of an object stands in. It is asked of symbols with a
+-- value alone, so that some output section holds the part; SHN_ABS, where none does, stands in no symbol table
 abbrev pub header_of_part : Layout → List ℕ → Part → ℕ
 header_of_part s object part =
     option_map_or (λ n. n + 1)
