@@ -1,6 +1,6 @@
 -- The groups of a list of output sections are the one way to cut it exactly where neighbours do not share a segment.
-use Rattle.std.proofs.Common.{◌≡◌, ℕ, Bool, true, false, List, [], ◌∷◌, ◌++◌, length, map, flat_map, refl, ap, sym, ◌∙◌, if◌then◌else◌}
-use Rattle.ldmodel.specs.FileLayout.{Neighbours, Each, IsTogether, AreApart, IsGrouping, last_of, last_from, Shares}
+use Rattle.std.proofs.Common.{◌≡◌, Bool, true, false, List, [], ◌∷◌, ◌++◌, flat_map, refl, ap, sym, ◌∙◌, if◌then◌else◌}
+use Rattle.ldmodel.specs.FileLayout.{Neighbours, Each, IsTogether, AreApart, IsGrouping, Shares}
 use Rattle.ldmodel.specs.Layout.{PlacedSection}
 use Rattle.ldmodel.specs.Segments.{Group, groups, with_front, sections_in, shares_segment}
 

@@ -1,42 +1,88 @@
 -- The placement of a script is what the equations between neighbours say, at each depth.
-use Rattle.std.proofs.Common.{◌≡◌, ◌↔◌, ℕ, Bool, true, false, List, [], ◌∷◌, Result, Ok, Err, refl, sym, ap, cond, ◌==◌}
+use Rattle.std.proofs.Common.{◌≡◌, ◌↔◌, ℕ, ◌+◌, ◌^◌, ◌<◌, ◌≤◌, Bool, true, false, List, [], ◌∷◌, ◌++◌, Result, Ok, Err}
+use Rattle.std.proofs.Common.{refl, sym, ap, ◌∙◌, subst, cond, ◌==◌, nat_lt, arith}
+use Rattle.std.proofs.lemmas.Bool.{ltb-true, ltb-false, lt-ltb, le-ltb}
 use Rattle.ldtree.specs.declared.section.BodyCommand.{BodyCommand}
 use Rattle.ldtree.specs.declared.section.BodyCommand.TheVariants as body
-use Rattle.ldtree.specs.declared.section.BodyStatement.{BodyStatement}
 use Rattle.ldtree.specs.declared.section.OutputSection.{OutputSection}
 use Rattle.ldtree.specs.declared.statement.Command.{Command}
 use Rattle.ldtree.specs.declared.statement.Command.TheVariants as top
-use Rattle.ldtree.specs.declared.statement.Item.{Item}
 use Rattle.ldtree.specs.declared.statement.ItemCommand.{ItemCommand}
 use Rattle.ldtree.specs.declared.statement.ItemCommand.TheVariants as item
 use Rattle.ldtree.specs.declared.statement.Statement.{Statement}
-use Rattle.ldmodel.specs.Body.{Body, body_command_step, body_step, piece_placed, pieces_placed}
+use Rattle.ldmodel.specs.Body.{Body, body_command_step, body_step, piece_placed, piece_start, pieces_placed, with_dot}
 use Rattle.ldmodel.specs.Chain.{and_then, run}
-use Rattle.ldmodel.specs.Fault.{Fault}
+use Rattle.ldmodel.specs.Fault.{Fault, PastAddressSpace}
 use Rattle.ldmodel.specs.Layout.{Layout, noted, nothing_placed}
 use Rattle.ldmodel.specs.Placement.{command_step, item_command_step, item_step, opened, placement, region_step}
 use Rattle.ldmodel.specs.Placement.{section_step, statement_step, next_row}
-use Rattle.ldmodel.specs.Rows.{Piece}
+use Rattle.ldmodel.specs.Rows.{Piece, piece_alignment}
 use Rattle.ldmodel.specs.SectionEnd.{section_end}
 use Rattle.ldmodel.specs.SectionHead.{Head, head_of}
 use Rattle.ldlaws.specs.Placed.{Pieces, none, other, one_more, PieceFails, first, after_one, InputsTo, past_inputs, SectionTo}
 use Rattle.ldlaws.specs.Placed.{BodyCommandTo, BodyCommandAt, BodyTo, BodyAt, SectionAt, in_head, in_body, at_end}
 use Rattle.ldlaws.specs.Placed.{ItemCommandTo, ItemCommandAt, ItemTo, ItemAt, RegionTo, RegionAt, CommandTo, CommandAt}
+use Rattle.ldlaws.specs.Placed.{IsLeastMultiple, PieceTo, PieceAt, with_piece}
 use Rattle.ldlaws.specs.Placed.{StatementTo, StatementAt, IsPlacement, IsFirstFault}
+use Rattle.ldlaws.proofs.Multiples.{least_multiple, one_least_multiple}
 use Rattle.ldlaws.proofs.Running.{IsStep, run_of, stop_of, runs_of, stops_of}
+
+positive : (p : Piece) → 0 < piece_alignment p
+positive p = omega arith
+
+module _ (line : ℕ) (b : Body) (p : Piece) (rest : List Piece) where
+  abbrev start : ℕ
+  start = piece_start b.layout.dot p
+
+  is_least : IsLeastMultiple (piece_alignment p) b.layout.dot start
+  is_least = least_multiple (piece_alignment p) b.layout.dot (positive p)
+
+  abbrev ended_at : Bool → Result Body Fault
+  ended_at t = and_then (cond t (Ok (start + p.size)) (Err (PastAddressSpace line))) (λ end. Ok (record (with_dot b end) { rest = rest; pieces = b.pieces ++ record { start = start; piece = p } ∷ [] }))
+
+  piece_to : (c : Body) → piece_placed line b p rest ≡ Ok c → PieceTo b p rest c
+  unfolding piece_placed
+  piece_to c e = go (nat_lt (start + p.size) (2 ^ 64)) refl e
+    where
+      go : (t : Bool) → nat_lt (start + p.size) (2 ^ 64) ≡ t → ended_at t ≡ Ok c → PieceTo b p rest c
+      go true h e = record { start = start; aligned = is_least; fits = ltb-true (start + p.size) (2 ^ 64) h; after = cc }
+      go false h e = absurd (let no : ⊥ = cc in no)
+
+  piece_at : (f : Fault) → piece_placed line b p rest ≡ Err f → PieceAt line b p f
+  unfolding piece_placed
+  piece_at f e = go (nat_lt (start + p.size) (2 ^ 64)) refl e
+    where
+      go : (t : Bool) → nat_lt (start + p.size) (2 ^ 64) ≡ t → ended_at t ≡ Err f → PieceAt line b p f
+      go true h e = absurd (let no : ⊥ = cc in no)
+      go false h e = record { start = start; aligned = is_least; past = ltb-false (start + p.size) (2 ^ 64) h; fault = cc }
+
+  piece_of : (c : Body) → PieceTo b p rest c → piece_placed line b p rest ≡ Ok c
+  unfolding piece_placed
+  piece_of c h =
+      let same : h.start ≡ start = one_least_multiple (piece_alignment p) b.layout.dot h.start start h.aligned is_least in
+      let fits : nat_lt (start + p.size) (2 ^ 64) ≡ true = lt-ltb (start + p.size) (2 ^ 64) (subst (λ n. n + p.size < 2 ^ 64) same h.fits) in
+      let after : with_piece b p rest start ≡ c = ap (with_piece b p rest) (sym same) ∙ h.after in
+      rw fits (rw after refl)
+
+  piece_from : (f : Fault) → PieceAt line b p f → piece_placed line b p rest ≡ Err f
+  unfolding piece_placed
+  piece_from f h =
+      let same : h.start ≡ start = one_least_multiple (piece_alignment p) b.layout.dot h.start start h.aligned is_least in
+      let past : nat_lt (start + p.size) (2 ^ 64) ≡ false = le-ltb (start + p.size) (2 ^ 64) (subst (λ n. 2 ^ 64 ≤ n + p.size) same h.past) in
+      rw past (rw (h.fault) refl)
 
 module _ (line n : ℕ) where
   placed_of : (b c : Body) (ps : List Piece) → Pieces line n b ps c → pieces_placed line n b ps ≡ Ok c
   unfolding pieces_placed
   placed_of b c [] none = refl
   placed_of b c (p ∷ ps) (other e) = rw e refl
-  placed_of b c (p ∷ ps) (one_more {c = d} e k more) = rw e (rw k (placed_of d c ps more))
+  placed_of b c (p ∷ ps) (one_more {c = d} e k more) = rw e (rw (piece_of line b p ps d k) (placed_of d c ps more))
 
   failed_of : (b : Body) (f : Fault) (ps : List Piece) → PieceFails line n b ps f → pieces_placed line n b ps ≡ Err f
   unfolding pieces_placed
   failed_of b f [] x' = elim x' [ ]
-  failed_of b f (p ∷ ps) (first e k) = rw e (rw k refl)
-  failed_of b f (p ∷ ps) (after_one {c = d} e k more) = rw e (rw k (failed_of d f ps more))
+  failed_of b f (p ∷ ps) (first e k) = rw e (rw (piece_from line b p ps f k) refl)
+  failed_of b f (p ∷ ps) (after_one {c = d} e k more) = rw e (rw (piece_of line b p ps d k) (failed_of d f ps more))
 
   pieces_of : (ps : List Piece) (b c : Body) → pieces_placed line n b ps ≡ Ok c → Pieces line n b ps c
   unfolding pieces_placed
@@ -46,7 +92,7 @@ module _ (line n : ℕ) where
       go : (t : Bool) → (p.statement == n) ≡ t → (r : Result Body Fault) → piece_placed line b p ps ≡ r
           → cond t (and_then r (λ d. pieces_placed line n d ps)) (Ok b) ≡ Ok c
           → ((d : Body) → pieces_placed line n d ps ≡ Ok c → Pieces line n d ps c) → Pieces line n b (p ∷ ps) c
-      go true h (Ok d) k e more = one_more h k (more d e)
+      go true h (Ok d) k e more = one_more h (piece_to line b p ps d k) (more d e)
       go true h (Err f) k e more = absurd (let no : ⊥ = cc in no)
       go false h r k e more = let same : b ≡ c = cc in rw same (other h)
 
@@ -58,8 +104,8 @@ module _ (line n : ℕ) where
       go : (t : Bool) → (p.statement == n) ≡ t → (r : Result Body Fault) → piece_placed line b p ps ≡ r
           → cond t (and_then r (λ d. pieces_placed line n d ps)) (Ok b) ≡ Err f
           → ((d : Body) → pieces_placed line n d ps ≡ Err f → PieceFails line n d ps f) → PieceFails line n b (p ∷ ps) f
-      go true h (Ok d) k e more = after_one h k (more d e)
-      go true h (Err g) k e more = let same : g ≡ f = cc in first h (rw (sym same) k)
+      go true h (Ok d) k e more = after_one h (piece_to line b p ps d k) (more d e)
+      go true h (Err g) k e more = let same : g ≡ f = cc in first h (piece_at line b p ps f (rw (sym same) k))
       go false h r k e more = absurd (let no : ⊥ = cc in no)
 
 module _ (line : ℕ) (b : Body) where

@@ -1,5 +1,5 @@
 -- A computation in steps gives what the equations between neighbours say, and the other way round.
-use Rattle.std.proofs.Common.{◌≡◌, List, [], ◌∷◌, Result, Ok, Err, refl, ◌↔◌}
+use Rattle.std.proofs.Common.{◌≡◌, List, [], ◌∷◌, Result, Ok, Err, refl}
 use Rattle.ldmodel.specs.Chain.{and_then, run}
 use Rattle.ldmodel.specs.Fault.{Fault}
 use Rattle.ldlaws.specs.Placed.{Leads, ended, next, Fails, here, later}

@@ -1,5 +1,5 @@
 -- The segments of a list of output sections are its one file layout.
-use Rattle.std.proofs.Common.{◌≡◌, ℕ, suc, ◌+◌, ◌*◌, ◌-◌, ◌%◌, ◌/◌, ◌≤◌, ◌<◌, List, [], ◌∷◌, length, map, refl, ap, sym, ◌∙◌, subst, arith}
+use Rattle.std.proofs.Common.{◌≡◌, ℕ, suc, ◌≤◌, List, [], ◌∷◌, length, map, refl, ap, sym, ◌∙◌, subst, arith}
 use Rattle.ldmodel.specs.FileLayout.{IsLeastCongruent, BeginFrom, IsFileLayout, IsGrouping}
 use Rattle.ldmodel.specs.Layout.{PlacedSection}
 use Rattle.ldmodel.specs.Segments.{Group, Segment, groups, segments, begun, begun_from, congruent, file_end, headers_end, nonempty, start_of}

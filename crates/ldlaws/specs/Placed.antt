@@ -1,7 +1,7 @@
 -- What the layout of a script is, and its first fault, as equations between neighbours: statement by statement of the
 -- script, of SECTIONS, and of the body of an output section, and entry by entry of an input statement. Each begins
 -- where the one before it ended, and a fault comes at the first of them that has one (this project's own).
-use Rattle.std.specs.Prelude.{◌≡◌, ℕ, ◌+◌, List, [], ◌∷◌, Result, Ok, Err, ◌==◌, true, false}
+use Rattle.std.specs.Prelude.{◌≡◌, ℕ, ◌+◌, ◌%◌, ◌^◌, ◌<◌, ◌≤◌, List, [], ◌∷◌, ◌++◌, Ok, Err, ◌==◌, true, false}
 use Rattle.ldtree.specs.declared.section.BodyCommand.{BodyCommand}
 use Rattle.ldtree.specs.declared.section.BodyCommand.TheVariants as body
 use Rattle.ldtree.specs.declared.section.BodyStatement.{BodyStatement}
@@ -13,11 +13,11 @@ use Rattle.ldtree.specs.declared.statement.ItemCommand.{ItemCommand}
 use Rattle.ldtree.specs.declared.statement.ItemCommand.TheVariants as item
 use Rattle.ldtree.specs.declared.statement.Region.{Region}
 use Rattle.ldtree.specs.declared.statement.Statement.{Statement}
-use Rattle.ldmodel.specs.Body.{Body, body_command_step, piece_placed}
-use Rattle.ldmodel.specs.Fault.{Fault}
+use Rattle.ldmodel.specs.Body.{Body, body_command_step, with_dot}
+use Rattle.ldmodel.specs.Fault.{Fault, PastAddressSpace}
 use Rattle.ldmodel.specs.Layout.{Layout, noted, nothing_placed}
 use Rattle.ldmodel.specs.Placement.{command_step, item_command_step, next_row, opened, region_step}
-use Rattle.ldmodel.specs.Rows.{Piece}
+use Rattle.ldmodel.specs.Rows.{Piece, piece_alignment}
 use Rattle.ldmodel.specs.SectionEnd.{section_end}
 use Rattle.ldmodel.specs.SectionHead.{Head, head_of}
 
@@ -32,19 +32,44 @@ pub data Fails {S X : Type 0} (To : S → X → S → Type 0) (At : S → X → 
   here : {s : S} {x : X} {xs : List X} {f : Fault} → At s x f → Fails To At s (x ∷ xs) f
   later : {s t : S} {x : X} {xs : List X} {f : Fault} → To s x t → Fails To At t xs f → Fails To At s (x ∷ xs) f
 
+-- the least multiple of a number not below another
+pub record IsLeastMultiple (of from x : ℕ) : Type 0 where
+  pub above : from ≤ x
+  pub multiple : x % of ≡ 0
+  pub least : (n : ℕ) → from ≤ n → n % of ≡ 0 → x ≤ n
+
+-- an entry stands at an address, `.` is at its end, and the other entries of the row are left
+abbrev pub with_piece : Body → Piece → List Piece → ℕ → Body
+with_piece b p rest start =
+    record (with_dot b (start + p.size)) { rest = rest; pieces = b.pieces ++ record { start = start; piece = p } ∷ [] }
+
+-- an entry starts at the least multiple of its alignment not below `.`, and ends below 2^64
+pub record PieceTo (b : Body) (p : Piece) (rest : List Piece) (c : Body) : Type 0 where
+  pub start : ℕ
+  pub aligned : IsLeastMultiple (piece_alignment p) b.layout.dot start
+  pub fits : start + p.size < 2 ^ 64
+  pub after : with_piece b p rest start ≡ c
+
+-- it would end at 2^64 or past it
+pub record PieceAt (line : ℕ) (b : Body) (p : Piece) (f : Fault) : Type 0 where
+  pub start : ℕ
+  pub aligned : IsLeastMultiple (piece_alignment p) b.layout.dot start
+  pub past : 2 ^ 64 ≤ start + p.size
+  pub fault : PastAddressSpace line ≡ f
+
 -- the entries of input statement number n, with which a row begins, take their places one after the other
 pub data Pieces (line n : ℕ) : Body → List Piece → Body → Type 0 where
   none : {b : Body} → Pieces line n b [] b
   other : {b : Body} {p : Piece} {rest : List Piece} → (p.statement == n) ≡ false → Pieces line n b (p ∷ rest) b
   one_more : {b c d : Body} {p : Piece} {rest : List Piece} → (p.statement == n) ≡ true
-      → piece_placed line b p rest ≡ Ok c → Pieces line n c rest d → Pieces line n b (p ∷ rest) d
+      → PieceTo b p rest c → Pieces line n c rest d → Pieces line n b (p ∷ rest) d
 
 -- one of these entries has a fault
 pub data PieceFails (line n : ℕ) : Body → List Piece → Fault → Type 0 where
   first : {b : Body} {p : Piece} {rest : List Piece} {f : Fault} → (p.statement == n) ≡ true
-      → piece_placed line b p rest ≡ Err f → PieceFails line n b (p ∷ rest) f
+      → PieceAt line b p f → PieceFails line n b (p ∷ rest) f
   after_one : {b c : Body} {p : Piece} {rest : List Piece} {f : Fault} → (p.statement == n) ≡ true
-      → piece_placed line b p rest ≡ Ok c → PieceFails line n c rest f → PieceFails line n b (p ∷ rest) f
+      → PieceTo b p rest c → PieceFails line n c rest f → PieceFails line n b (p ∷ rest) f
 
 -- the next input statement has the next number
 abbrev pub past_inputs : Body → Body → Body
