@@ -1,5 +1,5 @@
 -- What the writer of a session has got.
-use Rattle.std.proofs.Common.{◌≡◌, ◌∙◌, ℕ, List, [], ◌++◌, Option, None, Some, IfSome, IfOk, Result, Ok, Err, refl, sym, ap, subst, append-nil}
+use Rattle.std.proofs.Common.{◌≡◌, ◌∙◌, ℕ, List, [], Option, None, Some, IfSome, IfOk, Result, Ok, Err, refl, ap, subst, append-nil}
 use Rattle.std.specs.Io.KnownBytes.{Appends, append_known}
 use Rattle.ldmodel.specs.ThinProject.{Project}
 use Rattle.ldmodel.specs.Options.{LinkOptions}

@@ -11,3 +11,5 @@ pub mod Running
 pub mod Placements
 pub mod Grouped
 pub mod Segmented
+pub mod Targeted
+pub mod Gapped

@@ -2,7 +2,8 @@
 use Rattle.std.proofs.Common.{◌≡◌, ℕ, suc, ◌≤◌, List, [], ◌∷◌, length, map, refl, ap, sym, ◌∙◌, subst, arith}
 use Rattle.ldmodel.specs.FileLayout.{IsLeastCongruent, BeginFrom, IsFileLayout, IsGrouping}
 use Rattle.ldmodel.specs.Layout.{PlacedSection}
-use Rattle.ldmodel.specs.Segments.{Group, Segment, groups, segments, begun, begun_from, congruent, file_end, headers_end, nonempty, start_of}
+use Rattle.ldmodel.specs.Segments.{Group, Segment, groups, segments, begun, begun_from, congruent, file_end}
+use Rattle.ldmodel.specs.Segments.{headers_end, nonempty, start_of}
 use Rattle.ldlaws.proofs.Grouped.{is_grouping, one_grouping}
 
 least : (end at : ℕ) → IsLeastCongruent end at (congruent end at)

@@ -72,8 +72,8 @@ discarded name inputs =
     let keep : Input = record (from_any (word (exactly (codes ".text.f")) ∷ [])) { keep = true } in
     record (collected name inputs) {
       script =
-        command (Entry (codes "_start"))
-        ∷ sections (discard (keep ∷ []) ∷ output (codes ".text") inputs ∷ []) ∷ [];
+          command (Entry (codes "_start"))
+          ∷ sections (discard (keep ∷ []) ∷ output (codes ".text") inputs ∷ []) ∷ [];
     }
 
 -- `a.o` and `b.o`, each with one symbol and no section

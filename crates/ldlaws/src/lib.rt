@@ -4,7 +4,9 @@
 pub mod edits;
 pub mod examples;
 pub mod gathering;
+pub mod image;
 pub mod layout;
 pub mod links;
 pub mod names;
 pub mod segments;
+pub mod targets;

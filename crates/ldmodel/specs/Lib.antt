@@ -46,6 +46,7 @@ pub mod Mentioned
 pub mod FaultCode
 pub mod Lent
 pub mod FileLayout
+pub mod Gaps
 pub mod Commands
 pub mod Answers
 pub mod ThinProject

@@ -1,5 +1,5 @@
 -- What an edit makes of a project, or why it is refused.
-use Rattle.std.specs.Prelude.{◌≡◌, ◌≢◌, ◌⊎◌, ℕ, ◌^◌, List, length, insert, Option, Some, None, Result, Ok, Err, Bool, not, ◌||◌, ◌&&◌, true, false, nat_lt, nat_le, if◌then◌else◌, bytes_eq}
+use Rattle.std.specs.Prelude.{◌≡◌, ◌≢◌, ◌⊎◌, ℕ, ◌^◌, List, length, insert, Option, Some, None, Result, Ok, Err, Bool, not, ◌||◌, ◌&&◌, true, false, nat_lt, nat_le, if◌then◌else◌}
 use Rattle.std.specs.List.{list_any, list_all}
 use Rattle.elfobj.specs.Object.{object_of}
 use Rattle.elfobj.specs.Refusal.{object_refusal}

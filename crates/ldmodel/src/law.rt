@@ -1,6 +1,6 @@
 //! What holds of the definitions themselves.
 
-ghost use Rattle.std.specs.Prelude.{◌≡◌, List, Result, Ok};
+ghost use Rattle.std.specs.Prelude.{◌≡◌, Result, Ok};
 ghost use Rattle.ldmodel.specs.Options.{LinkOptions};
 ghost use Rattle.ldmodel.specs.ThinProject.{Project, IsProject, empty_project};
 ghost use Rattle.ldmodel.specs.ThinEdits.{Change, After};

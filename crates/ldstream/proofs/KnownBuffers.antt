@@ -1,5 +1,5 @@
 -- What std's buffered readers and writers show when they are new.
-use Rattle.std.proofs.Common.{◌≡◌, ℕ, List, [], ◌++◌, Option, None, Some, refl, ap, append-nil}
+use Rattle.std.proofs.Common.{◌≡◌, ℕ, List, [], Option, None, Some, refl, ap, append-nil}
 use Rattle.std.specs.Io.KnownBytes.{prepend_known, append_known}
 
 pub rest_of_new : (known : Option (List ℕ)) → prepend_known [] known ≡ known

@@ -1,7 +1,7 @@
 -- No stream is cut into commands in two ways.
-use Rattle.std.proofs.Common.{◌≡◌, ℕ, zero, suc, List, [], ◌∷◌, ◌++◌, length, flat_map, refl, sym, ap, arith, ◌∙◌, append_assoc}
-use Rattle.ldstream.specs.Commands.{Command, Add, SetScript, Image, Head, head_of, payload_of, head_line, IsHead, IsCommand, spelling}
-use Rattle.ldstream.specs.Answers.{AreCommands, BeginsCommand}
+use Rattle.std.proofs.Common.{◌≡◌, ℕ, List, [], ◌∷◌, ◌++◌, length, flat_map, refl, sym, ap, ◌∙◌, append_assoc}
+use Rattle.ldstream.specs.Commands.{Command, Add, SetScript, Image, head_of, payload_of, head_line, IsCommand, spelling}
+use Rattle.ldstream.specs.Answers.{AreCommands}
 use Rattle.ldstream.proofs.StreamGrammar.{first_cut, head_no_feed, one_head, announced, payload_length, spelled, NotBegun}
 
 -- two texts that are cut at one length

@@ -8,7 +8,7 @@ use Rattle.ldstream.specs.declared.Status.{Status}
 abbrev pub Answered : World → World → Status → Type 0
 Answered old new status = IfSome old.rest (λ stream. (out : List ℕ) × Appends old.written new.written out × Answers old.project stream out new.project status)
 
--- what is left of a stream that is told
+-- what is left of a stream that is shown
 rest_told : (a b : Option (List ℕ)) (bytes : List ℕ) → Consumes a b bytes → (P : List ℕ → Type 0) → ((t : List ℕ) → b ≡ Some t → P (bytes ++ t)) → IfSome a P
 rest_told None b bytes r P h = tt
 rest_told (Some s) None bytes r P h = absurd r

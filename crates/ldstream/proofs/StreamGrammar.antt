@@ -80,7 +80,7 @@ head_no_feed (ScriptHead count) i =
     no-append 10 (codes "script ") (decimal count) (no_by_test 10 (codes "script ") refl) (decimal_no 10 count (omega arith) (small_count count i.numbers))
 head_no_feed ImageHead i = no_by_test 10 (codes "image") refl
 
--- the words behind `add ` are read in one way
+-- the words after `add ` are read in one way
 pub one_object : (name name' : List ℕ) (at at' count count' : ℕ) → HasNo 32 name → HasNo 32 name' → at < 2 ^ 64 → at' < 2 ^ 64 → count ≤ 2 ^ 26 → count' ≤ 2 ^ 26
     → object_words name at count ≡ object_words name' at' count' → (name ≡ name') × (at ≡ at') × (count ≡ count')
 one_object name name' at at' count count' n n' a a' c c' e =
@@ -157,7 +157,7 @@ short_payload h bytes i l b =
     let parts = ap length same.1 ∙ length-append (payload_of b.command) b.more in
     omega (arith, long, parts)
 
--- the same of what a reader tells
+-- the same of what a reader shows
 pub bad_known : (old new : Option (List ℕ)) (bytes : List ℕ) → 0 < length bytes → ((more : List ℕ) → NotBegun (bytes ++ more)) → Consumes old new bytes → IfSome old IsBad
 bad_known None new bytes l h r = tt
 bad_known (Some s) None bytes l h r = absurd r

@@ -58,7 +58,7 @@ no_parse bs n e small text h = let ok = parse-decimal 64 n bs (Err e) small smal
 pub one_parse : {E : Type 0} (bs : List ℕ) (n m : ℕ) (r : Result ℕ E) → n < 2 ^ 64 → bs ≡ decimal n → r ≡ Ok m → ParsesUnsigned 64 10 bs r → m ≡ n
 one_parse bs n m r small text is h = let ok = parse-decimal 64 n bs r small small text h in cc
 
--- ---- the words behind `add `
+-- ---- the words after `add `
 
 abbrev pub NoObject : List ℕ → Type 0
 NoObject words = (name : List ℕ) (at count : ℕ) → IsWord name → at < 2 ^ 64 → count ≤ 2 ^ 26 → words ≡ object_words name at count → ⊥

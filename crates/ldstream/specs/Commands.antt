@@ -25,7 +25,7 @@ payload_of (Add name at payload) = payload
 payload_of (SetScript payload) = payload
 payload_of Image = []
 
--- the words behind `add `
+-- the words after `add `
 abbrev pub object_words : List ℕ → ℕ → ℕ → List ℕ
 object_words name at count = name ++ 32 ∷ (decimal at ++ 32 ∷ decimal count)
 
@@ -70,7 +70,7 @@ abbrev pub SplitsWord : List ℕ → Option (Bor (List ℕ) × Bor (List ℕ)) �
 SplitsWord bytes None = HasNo 32 bytes
 SplitsWord bytes (Some p) = (bytes ≡ p.0.now ++ 32 ∷ p.1.now) × HasNo 32 p.0.now
 
--- the words behind `add `, by the length of the name and the two numbers
+-- the words after `add `, by the length of the name and the two numbers
 pub record HasWords (words : List ℕ) (w : ObjectWords) : Type 0 where
   pub within : w.name_len ≤ length words
   pub name : IsWord (take w.name_len words)

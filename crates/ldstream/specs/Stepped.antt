@@ -48,7 +48,7 @@ LineRead old new line (Ok Ended) = Consumes old new [] × IsAtEnd new
 LineRead old new line (Ok Broken) = (bytes : List ℕ) × (0 < length bytes) × HasNoFeed bytes × Consumes old new bytes × (IsAtEnd new ⊎ (512 < length bytes))
 LineRead old new line (Err e) = (bytes : List ℕ) × HasNoFeed bytes × Consumes old new bytes
 
--- a head whose name lies in the line behind `add `
+-- a head whose name lies in the line after `add `
 abbrev pub head_in : List ℕ → HeadInLine → Head
 head_in line (Add name_end at count) = AddHead (slice_range line 4 name_end) at count
 head_in line (Script count) = ScriptHead count
@@ -103,7 +103,7 @@ abbrev pub aimed : Aim → List ℕ → Change
 aimed (aim.Object name at) payload = edits.Add name.now at payload
 aimed aim.Script payload = edits.SetScript payload
 
--- the same of an edit whose line was read, with so many bytes of payload to come
+-- the same of an edit whose line was read, with this number of bytes of payload to come
 abbrev pub EditStepped : (List ℕ → Change) → ℕ → World → World → Result Step RunFault → Type 0
 EditStepped change n old new (Ok Next) = (payload answer : List ℕ) × (length payload ≡ n) × Consumes old.rest new.rest payload × Appends old.written new.written answer × EditReply old.project (change payload) answer new.project
 EditStepped change n old new (Ok (End status)) = (part : List ℕ) × (length part < n) × Consumes old.rest new.rest part × IsAtEnd new.rest × Appends old.written new.written stream_line × (new.project ≡ old.project) × (status ≡ Malformed)

@@ -33,7 +33,7 @@ pub enum HeadInLine {
     Image,
 }
 
-/// The words of a line behind `add `.
+/// The words of a line after `add `.
 #[derive(Clone, Copy, Debug)]
 struct ObjectWords {
     /// The length of the name, which comes first.
@@ -44,7 +44,7 @@ struct ObjectWords {
     count: usize,
 }
 
-/// The bytes before the first space, and those behind it.
+/// The bytes before the first space, and those after it.
 fn split_word(bytes: &[u8]) -> Option<(&[u8], &[u8])>
     ensures { SplitsWord bytes.now result }
 {

@@ -1,4 +1,4 @@
-//! Lines of commands, read a byte at a time, so that no byte behind a command is taken from the source.
+//! Lines of commands, read a byte at a time, so that no byte after a command is taken from the source.
 
 ghost use Rattle.std.specs.Prelude.{◌≡◌, length};
 ghost use Rattle.ldstream.specs.Stepped.{CountsFailure, ByteRead, LineRead};
@@ -12,7 +12,7 @@ pub const MAX_LINE: usize = 512;
 /// How the reading of a line ends.
 #[derive(Clone, Copy, Debug, PartialEq, Eq)]
 pub enum LineEnd {
-    /// At its line feed, behind so many bytes.
+    /// At its line feed, after this number of bytes.
     Line(usize),
     /// At the end of the stream, before a byte was read.
     Ended,

@@ -5,7 +5,7 @@ use Rattle.std.specs.Int.{to_le_bytes, w16, w32, w64}
 use Rattle.ldthin.specs.Placement.{Laid, PlacedPiece}
 use Rattle.ldthin.specs.Segments.{Segment, sections_in, file_size, memory_size, length_of}
 
--- 64 bytes, with an entry address and so many segments
+-- 64 bytes, with an entry address and the number of segments
 unfoldable pub elf_header : ℕ → ℕ → List ℕ
 elf_header entry count =
     -- e_ident: magic, ELFCLASS64, ELFDATA2LSB, EV_CURRENT
@@ -69,7 +69,7 @@ has_bytes q = not (q.placed.load_size == 0)
 abbrev pub in_file : Segment → List InFile
 in_file g = map (λ (q : Laid). record { offset = g.offset + (q.placed.start - g.first.placed.start); laid = q }) (sections_in g)
 
--- the byte of the file at an offset behind the headers
+-- the byte of the file at an offset after the headers
 abbrev pub byte_in_file : ℕ → Option InFile → ℕ
 byte_in_file at None = 0
 byte_in_file at (Some x) = byte_of_section x.laid (x.laid.placed.start + (at - x.offset))

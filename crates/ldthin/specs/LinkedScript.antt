@@ -1,4 +1,4 @@
--- What this version links of a script: no statement at all, or one output section behind a start,
+-- What this version links of a script: no statement at all, or one output section after a start,
 --
 --   SECTIONS { . = NUMBER ; NAME : { * ( WORD ) } }
 --
@@ -34,7 +34,7 @@ pub record TakerData : Type 0 where
   pub name : List ℕ
   pub word : List ℕ
 
--- the same behind its start
+-- the same after its start
 pub record FormData : Type 0 where
   pub start : ℕ
   pub name : List ℕ

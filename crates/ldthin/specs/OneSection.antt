@@ -125,7 +125,7 @@ pub record AreFields (m : Member) (start : ℕ) (rs : List Relocation) (fields :
   pub bytes : map (one_field m start) rs ≡ map Some fields
   pub places : map span_of rs ≡ map span_of_patch fields
 
--- a relocation has no field; want of memory says nothing of it
+-- a relocation has no field; out of memory says nothing of it
 abbrev pub MissesField : Member → ℕ → RelocateFault → Type 0
 MissesField m start NoMemory = Unit {0}
 MissesField m start f = (r : Relocation) × Contains (evaluated m.relocations.now) r × (one_field m start r ≡ None)
@@ -168,7 +168,7 @@ abbrev pub EndsBelow : Placed → Option Member → Type 0
 EndsBelow p None = Unit {0}
 EndsBelow p (Some m) = p.start + m.section.size < 2 ^ 64
 
--- a segment that isn't empty, behind the headers and near them, and filled by the row
+-- a segment that isn't empty, after the headers and near them, and filled by the row
 pub record IsWritable (g : Segment) (row : Option Member) : Type 0 where
   pub some : 0 < g.placed.size
   pub behind : headers_end 1 ≤ g.offset

@@ -6,5 +6,6 @@ pub mod form;
 pub mod law;
 pub mod limits;
 pub mod member;
+pub mod named;
 pub mod placed;
 pub mod relocate;

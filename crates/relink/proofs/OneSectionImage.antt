@@ -5,7 +5,7 @@ use Rattle.std.proofs.lemmas.Bool.Decides.{leb_tells}
 use Rattle.std.proofs.lemmas.List.FromFn.{fill_by_all}
 use Rattle.ldthin.specs.Gathering.{Piece}
 use Rattle.ldthin.specs.Segments as segments
-use Rattle.ldthin.specs.Segments.{length_of, file_size, memory_size, headers_end}
+use Rattle.ldthin.specs.Segments.{length_of, file_size, memory_size}
 use Rattle.ldthin.specs.Image.{elf_header, load_header, headers, program_header, byte_at, byte_behind, image_of}
 use Rattle.ldthin.specs.OneSection.{one_segment, segment_of}
 use Rattle.ldthin.specs.declared.placed.Segment.{Segment}
@@ -64,7 +64,7 @@ module _ (g : Segment) (row : List Piece) where
       image_is entry (segment_of (Some g) row) (headers entry (segment_of (Some g) row)) (length-headers entry ∙ sym long)
       (λ o h. sym (header_byte entry o (rw long at h)))
 
--- the bytes of one piece behind the headers
+-- the bytes of one piece after the headers
 pub record IsFilled (g : Segment) (p : Piece) : Type 0 where
   pub loaded : g.placed.load_size ≢ 0
   pub some : 0 < g.placed.size

@@ -144,7 +144,7 @@ without_fields objects (Some p) None OutOfRange other is made = absurd made
 without_fields objects None (Some m) OutOfRange other is made = absurd made
 without_fields objects (Some p) (Some m) OutOfRange other is made = rw (is.1) (relocated_faulty is.0 m p is.2 is.3 made.0 made.1 made.2)
 
--- how a fault is told
+-- how a fault is reported
 pub fault_is : (m : Member) (start : ℕ) (f : RelocateFault) (r : Relocation) → Contains (evaluated m.relocations.now) r → one_field m start r ≡ None → MissesField m start f
 fault_is m start NoMemory r there none = tt
 fault_is m start NotInOutput r there none = (r, there, none)

@@ -52,7 +52,7 @@ fn put_u64(out: &mut Vec<u8>, n: u64) -> Result<(), NoMemory>
     out.extend_from_slice(&n.to_le_bytes())
 }
 
-/// Where the table of so many program headers begins; 0 where there is none.
+/// Where the table of this number of program headers begins; 0 where there is none.
 fn phoff_of(count: u16) -> u64
     ensures { result ≡ (if count == 0 then 0 else 64) }
 {
@@ -99,7 +99,7 @@ fn file_size(g: &Segment) -> u64
     }
 }
 
-/// Writes the program header of a segment with these flags and so many bytes in the file.
+/// Writes the program header of a segment with these flags and this number of bytes in the file.
 #[tactic(auto, unfolding(ldthin::specs::Image::load_header))]
 fn put_load_header(
     out: &mut Vec<u8>,
@@ -134,7 +134,7 @@ pub fn headers(alloc: Global, entry: u64, segment: Option<Segment>) -> Result<Ve
     Ok(out)
 }
 
-/// A canvas with so many bytes, all zero.
+/// A canvas with this number of bytes, all zero.
 fn blank(alloc: Global, length: usize) -> Result<Canvas, NoMemory>
     ensures { IfOk result (λ c. c.bytes ≡ replicate length 0) }
 {

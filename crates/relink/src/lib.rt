@@ -6,7 +6,6 @@ mod image_writer;
 mod link;
 mod linked_part;
 mod linked_script;
-mod named;
 mod not_yet;
 mod place;
 pub mod plain;

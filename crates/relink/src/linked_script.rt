@@ -26,7 +26,7 @@ impl Model for Form {
 }
 
 impl Form {
-    /// A form of copies of a name and a word, or an error for want of memory.
+    /// A form of copies of a name and a word, or out of memory.
     pub fn new(alloc: Global, start: u64, name: &[u8], word: &[u8]) -> Result<Form, NoMemory>
         ensures { IfOk result (λ f. f ≡ record { start = start; name = name.now; word = word.now }) }
     {

@@ -3,7 +3,7 @@
 ghost use Rattle.std.specs.Prelude.{◌≡◌, IfOk};
 
 use elfobj::object::Object;
-use ldmodel::memory::NoMemory;
+use ldbase::memory::NoMemory;
 use std::alloc::Global;
 use std::marker::Model;
 
@@ -23,7 +23,7 @@ impl Model for NamedObject {
 }
 
 impl NamedObject {
-    /// An object under a copy of a name, or an error for want of memory.
+    /// An object under a copy of a name, or out of memory.
     pub fn new(alloc: Global, name: &[u8], object: Object) -> Result<NamedObject, NoMemory>
         ensures { IfOk result (λ o. o ≡ record { name = name.now; object = object }) }
     {

@@ -1,0 +1,19 @@
+-- What a gap of an output section is: a longest run of addresses in it that no input section and no data command
+-- covers.
+use Rattle.std.specs.Prelude.{◌≡◌, ℕ, ◌≤◌, None, ◌⊎◌}
+use Rattle.std.specs.List.{Contains}
+use Rattle.ldmodel.specs.Image.{covering_piece, covering_data, ends_in}
+use Rattle.ldmodel.specs.Layout.{PlacedSection}
+
+-- nothing covers an address
+pub record IsBare (q : PlacedSection) (at : ℕ) : Type 0 where
+  pub piece : covering_piece q at ≡ None
+  pub data_command : covering_data q at ≡ None
+
+-- the gap that an address lies in begins here: all from here to there is bare, and the section starts here, or
+-- something that is not empty ends here
+pub record IsGapStart (q : PlacedSection) (at from : ℕ) : Type 0 where
+  pub inside : q.start ≤ from
+  pub before : from ≤ at
+  pub bare : (x : ℕ) → from ≤ x → x ≤ at → IsBare q x
+  pub longest : (from ≡ q.start) ⊎ Contains (ends_in q) from
