@@ -6,6 +6,7 @@ pub mod FirstMatching
 pub mod Renumbered
 pub mod DistinctNames
 pub mod Outcomes
+pub mod Multiples
 pub mod Running
 pub mod Placements
 pub mod Grouped

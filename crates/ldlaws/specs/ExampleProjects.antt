@@ -14,7 +14,8 @@ use Rattle.ldtree.specs.declared.statement.Command.TheVariants.{Entry}
 use Rattle.ldtree.specs.declared.statement.Statement.{Statement}
 use Rattle.ldmodel.specs.Options.{default_options}
 use Rattle.ldmodel.specs.Project.{NamedObject, Project}
-use Rattle.ldlaws.specs.Examples.{object, section, reference, defined, undefined, common, exactly, word, from_any, item_at, output, discard, command, sections, provide}
+use Rattle.ldlaws.specs.Examples.{object, section, reference, defined, undefined, common, exactly, word, from_any}
+use Rattle.ldlaws.specs.Examples.{item_at, output, discard, command, sections, provide}
 
 abbrev pub project : List NamedObject → List Statement → Project
 project objects script = record { objects = objects; script = script; options = default_options }
@@ -50,12 +51,13 @@ both_but_b =
 abbrev pub defines : (object section name : List ℕ) → NamedObject
 defines o s name = object o (section 1 s 1 [] ∷ []) (defined Global 1 name ∷ [])
 
--- `a.o` defines `_start` and refers to `f` and to another name; `b.o` defines `f`, `c.o` defines `g`; with garbage
--- collection from `_start` on
+-- `a.o` defines `_start` and refers to a name; `b.o` defines `f`, `c.o` defines `g`; with garbage collection from
+-- `_start` on
 abbrev pub collected : List ℕ → List Input → Project
 collected name inputs =
     let text : LinkedSection = section 1 (codes ".text") 1 (reference 2 ∷ []) in
-    let a : NamedObject = object (codes "a.o") (text ∷ []) (defined Global 1 (codes "_start") ∷ undefined name ∷ []) in
+    let symbols : List NamedSymbol = defined Global 1 (codes "_start") ∷ undefined name ∷ [] in
+    let a : NamedObject = object (codes "a.o") (text ∷ []) symbols in
     let b : NamedObject = defines (codes "b.o") (codes ".text.f") (codes "f") in
     let c : NamedObject = defines (codes "c.o") (codes ".text.g") (codes "g") in
     record {

@@ -1,4 +1,5 @@
--- Small projects, to show what the definitions say of them: parts of objects and of scripts, as the readers give them.
+-- Small projects, to show what the definitions say of them: parts of objects and of scripts, made by hand. Some are
+-- such as no reader gives: objects without a text, a relocation that is wider than its section, `.` outside SECTIONS.
 use Rattle.std.specs.Prelude.{ℕ, false, List, [], ◌∷◌, map, None, pos}
 use Rattle.elfobj.specs.Sections.{LinkedSection}
 use Rattle.elfobj.specs.Symbols.{NamedSymbol, null_symbol}

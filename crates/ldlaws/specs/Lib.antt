@@ -1,4 +1,5 @@
 pub mod FirstMatches
+pub mod Placed
 pub mod Renumbering
 pub mod Examples
 pub mod ExampleProjects

@@ -2,7 +2,8 @@
 use Rattle.std.specs.Prelude.{◌≡◌, ℕ, List, map}
 use Rattle.std.specs.List.{enumerate_from}
 use Rattle.elfobj.specs.Symbols.{NamedSymbol}
-use Rattle.ldmodel.specs.Names.{Entry, Declaration, Decision, Strong, Script, Common, Weak, Provided, Undefined, Duplicate, symbol_tables}
+use Rattle.ldmodel.specs.Names.{Entry, Declaration, Decision, Strong, Script, Common, Weak, Provided, Undefined}
+use Rattle.ldmodel.specs.Names.{Duplicate, symbol_tables}
 use Rattle.ldmodel.specs.Project.{NamedObject}
 
 abbrev pub renumbered_entry : (ℕ → ℕ) → Entry → Entry

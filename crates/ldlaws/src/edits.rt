@@ -8,7 +8,7 @@ ghost use Rattle.ldmodel.specs.Project.{Project, empty_project};
 use ldscript::law::one_tree;
 use ldtokens::laws::one_cut;
 
-/// No edit has two outcomes: it leads to one project, or it is refused in one way, and never both.
+/// No edit has two outcomes: not two projects, not two refusals, and not one of each.
 pub fn one_outcome()
     ensures { (p : Project) (c : Change) (x y : Result Project Refusal) → After p c x → After p c y → x ≡ y }
 {

@@ -1,9 +1,10 @@
--- The answers to a stream of commands, command by command. An answer depends on the project at that point alone: how the
--- project came about has no part in it. This language is the product's own.
+-- The answers to a stream of commands, command by command. An answer depends on the project at that point alone: how
+-- the project came about has no part in it. This language is the product's own.
 use Rattle.std.specs.Prelude.{◌≡◌, ℕ, ◌⊎◌, List, [], ◌∷◌, ◌++◌, length, flat_map, Ok, Err, codes, decimal}
 use Rattle.ldmodel.specs.Commands.{Command, Edit, Ask, Query, Image, Map, Faults, AreCommands, IsBad, spelling}
 use Rattle.ldmodel.specs.Project.{Project}
-use Rattle.ldmodel.specs.Edits.{Change, Add, Replace, Move, Remove, SetScript, After, Refusal, NoMemory, refusal_number, inner_number}
+use Rattle.ldmodel.specs.Edits.{Change, Add, Replace, Move, Remove, SetScript, After, Refusal, NoMemory, refusal_number}
+use Rattle.ldmodel.specs.Edits.{inner_number}
 use Rattle.ldmodel.specs.Link.{Link, link}
 
 -- a word, two numbers and a line feed
@@ -23,7 +24,7 @@ unfoldable pub bytes_answer : List ℕ → List ℕ
 bytes_answer bytes = codes "bytes" ++ 32 ∷ (decimal (length bytes) ++ 10 ∷ bytes)
 
 -- a command with a payload needs memory to take it in; `move` and `remove` may run out of memory only where the edit is
--- accepted
+-- accepted. That memory is short where this answer is given is said by the contracts of the code
 abbrev pub MayLackMemory : Project → Change → Type 0
 MayLackMemory p (Add name at bytes) = Unit {0}
 MayLackMemory p (Replace name bytes) = Unit {0}
@@ -66,7 +67,8 @@ pub data Ending : List ℕ → List ℕ → Project → Status → Type 0 where
   ended : (last : Project) → Ending [] [] last (Ended (link last).status)
   bad : (tail : List ℕ) (last : Project) → IsBad tail → Ending tail stream_line last Malformed
 
--- the stream is cut into commands, as many as possible, and each has its answer
+-- the stream is cut into commands, as many as possible, and each has its answer: `tail` is what is left of the stream
+-- after the commands, `answers` are theirs, and `rest` is what is answered to the tail
 pub record Answers (p : Project) (stream out : List ℕ) (last : Project) (status : Status) : Type 0 where
   pub commands : List Command
   pub tail : List ℕ

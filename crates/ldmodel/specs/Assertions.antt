@@ -1,6 +1,7 @@
 -- ASSERT (GNU ld manual, "Other Linker Script Commands"): each condition is evaluated at the end of the link, where
--- every name has what it stands for and every output section stands, those after the ASSERT too. One that has no value,
--- for a name that is undefined or not in the output or for a division by 0, does not hold.
+-- every name has what it stands for and every output section stands, those after the ASSERT too. One that has no value
+-- does not hold: where it names a symbol that is undefined or not in the output, or a section that the script does not
+-- have, divides by 0, or aligns to no power of two.
 use Rattle.std.specs.Prelude.{ℕ, List, filter, map, Option, Some, None, Result, Ok, Err, Bool, false, not}
 use Rattle.ldexpr.specs.Expressions.{Expr}
 use Rattle.ldtree.specs.Numbering.{AssertionAt, asserts}

@@ -1,6 +1,8 @@
 -- The body of an output section (GNU ld manual, "Output Section Description", "Output Section Data" and "The Location
 -- Counter"): each input section starts at the least multiple of its alignment not below `.`, and `.` goes on to its
--- end; inside an output section `.` does not go back, and a number that it is set to counts from the section's start.
+-- end; inside an output section `.` does not go back. `. = e` counts from the section's start, `. += e` and
+-- `. = . + e` from `.`, and `. = ALIGN(e)` is an address. That the sums are whole numbers, and one of 2^64 or more a
+-- fault, is this project's own.
 use Rattle.std.specs.Prelude.{ℕ, ◌+◌, List, [], ◌∷◌, ◌++◌, Option, Some, None, Result, Ok, Err, ◌==◌, nat_lt}
 use Rattle.std.specs.Prelude.{if◌then◌else◌}
 use Rattle.std.specs.Int.{next_multiple_of}
@@ -45,7 +47,8 @@ piece_placed line b p rest =
     and_then (address line (start + p.size)) (λ end.
     Ok (record (with_dot b end) { rest = rest; pieces = b.pieces ++ record { start = start; piece = p } ∷ [] }))
 
--- the entries of an input statement, which are the next ones of the row
+-- the entries of input statement number n: those with this number that the row begins with. In the rows of `Rows` these
+-- are all entries of the statement, since a row goes statement by statement
 unfoldable pub pieces_placed : ℕ → ℕ → Body → List Piece → Result Body Fault
 pieces_placed line n b [] = Ok b
 pieces_placed line n b (p ∷ rest) =
@@ -58,7 +61,8 @@ input_step line b =
     Ok (record c { layout = record c.layout { inputs = b.layout.inputs + 1 } }))
 
 abbrev pub with_data : Body → List ℕ → Body
-with_data b bytes = record b { data_commands = b.data_commands ++ record { start = b.layout.dot; bytes = bytes } ∷ [] }
+with_data b bytes =
+    record b { data_commands = b.data_commands ++ record { start = b.layout.dot; bytes = bytes } ∷ [] }
 
 -- BYTE, SHORT, LONG, QUAD: the lowest bytes of a number, the lowest of them first, where `.` stands
 abbrev pub data_step : ℕ → Body → Width → Expr → Result Body Fault

@@ -1,5 +1,5 @@
--- The commands of a session and how a stream spells them: a line of at most 512 bytes, its line feed, and right after it
--- the payload whose length the line gives. This language is the product's own.
+-- The commands of a session and how a stream spells them: a line of at most 512 bytes, its line feed, and right after
+-- it the payload whose length the line gives. This language is the product's own.
 use Rattle.std.specs.Prelude.{◌≡◌, ◌≢◌, ℕ, ◌^◌, ◌<◌, ◌≤◌, List, [], ◌∷◌, ◌++◌, length, codes, decimal}
 use Rattle.ldmodel.specs.Edits.{Change, Add, Replace, Move, Remove, SetScript}
 

@@ -1,7 +1,9 @@
 -- What an edit makes of a project, or why it is refused. An object is read when it is added, so a project holds none
 -- that is refused. A script is the one tree that its text spells, which is a relation, and so is `After`; no edit has
--- two outcomes.
-use Rattle.std.specs.Prelude.{◌≡◌, ◌≢◌, ◌⊎◌, ℕ, ◌^◌, ◌≤◌, List, [], length, insert, remove, slice_set, slice_index_or, position, count_by, Option, Some, None, Result, Ok, Err, Bool, not, ◌||◌, ◌&&◌, nat_lt, nat_le, if◌then◌else◌, bytes_eq}
+-- two outcomes. Options stay as they are. Edits, their limits and the order of refusals are the product's own.
+use Rattle.std.specs.Prelude.{◌≡◌, ◌≢◌, ◌⊎◌, ℕ, ◌^◌, ◌≤◌, List, [], length, insert, remove, slice_set, slice_index_or}
+use Rattle.std.specs.Prelude.{position, count_by, Option, Some, None, Result, Ok, Err, Bool, not, ◌||◌, ◌&&◌, nat_lt}
+use Rattle.std.specs.Prelude.{nat_le, if◌then◌else◌, bytes_eq}
 use Rattle.std.specs.List.{list_any, list_all}
 use Rattle.elfobj.specs.Names.{is_graphic}
 use Rattle.elfobj.specs.Object.{object_of}
@@ -26,7 +28,8 @@ pub data Change : Type 0 where
   SetScript : (text : List ℕ) → Change
 
 -- the name is in use; no object has it; the position is past the end; the object reader refuses; the script reader
--- refuses; a limit is passed; out of memory
+-- refuses; a limit is passed; out of memory. Where a reader runs out of memory the refusal is `NoMemory`; `NotAnObject`
+-- and `NotAScript` never hold the readers' own reason of that name
 pub data Refusal : Type 0 where
   InUse : Refusal
   Unknown : Refusal

@@ -1,5 +1,5 @@
--- The faults of a link, in the order of its phases: names, gathering, layout, relocation, assertions. Each is one line
--- of the fault text (`FaultText`). Lines are those of the script's statements, from 1.
+-- The faults of a link, in the order of its phases: names, gathering, layout, relocation, assertions (this project's
+-- own). Each is one line of the fault text (`FaultText`). Lines are those of the script's statements, from 1.
 use Rattle.std.specs.Prelude.{ℕ, List}
 use Rattle.elfobj.specs.declared.relocation.RelocationKind.{RelocationKind}
 use Rattle.ldmodel.specs.NameFaults.{Definer}
@@ -11,13 +11,15 @@ pub data Fault : Type 0 where
   UndefinedEntry : (name : List ℕ) → Fault
   -- no input statement takes a section that the program needs
   Orphan : (object section : List ℕ) → Fault
-  -- an expression names a symbol, section or region that is not complete where it stands
+  -- an expression names a symbol or an output section that is not complete where it stands. (Scripts in which it names
+  -- a region of no MEMORY command before it are refused as such.)
   NotReady : (line : ℕ) → (name : List ℕ) → Fault
   -- a division by 0, or an ALIGN to what is no power of two
   NoValue : (line : ℕ) → Fault
   -- `.` goes back inside an output section
   MovedBack : (line : ℕ) → Fault
-  -- an output section does not lie in its memory region
+  -- the addresses of an output section do not lie in the region of `>region`, or its load addresses not in that of
+  -- `AT>region`
   RegionFull : (section region : List ℕ) → Fault
   -- an address, an end or `.` is 2^64 or more
   PastAddressSpace : (line : ℕ) → Fault

@@ -1,5 +1,6 @@
--- What it is for segments to be those of a list of output sections: two neighbours of nonzero size stand in one segment
--- exactly where the test of `Segments` holds, and each segment begins at the least place that it may.
+-- What it is for segments to be those of a list of output sections (this project's own): two neighbours of nonzero size
+-- stand in one segment exactly where `shares_segment` holds; and each segment begins at the least offset, past the
+-- headers and the file bytes of the segments before it, that is congruent to its address modulo the page size.
 use Rattle.std.specs.Prelude.{◌≡◌, ℕ, ◌≤◌, ◌%◌, List, [], ◌∷◌, length, flat_map, map, true, false}
 use Rattle.ldmodel.specs.Layout.{PlacedSection}
 use Rattle.ldmodel.specs.Segments.{Group, Segment, sections_in, nonempty, shares_segment, start_of, file_end}

@@ -12,7 +12,7 @@ use Rattle.ldtree.specs.declared.statement.Statement.{Statement}
 
 -- some pattern of these matches the name
 abbrev pub is_any_match : List (List pattern.Part) → List ℕ → Bool
-is_any_match patterns name = list_any (λ pattern. is_match pattern name) patterns
+is_any_match patterns name = list_any (λ p. is_match p name) patterns
 
 -- a word takes a section of its name, from a file that it doesn't exclude
 abbrev pub word_takes : (file section : List ℕ) → SectionWord → Bool

@@ -1,7 +1,9 @@
--- Which input sections are left out before the program is looked at (GNU ld manual, "Output Section Discarding",
+-- Which input sections are left out before references are followed (GNU ld manual, "Output Section Discarding",
 -- "Command-line Options", `--orphan-handling`): those that /DISCARD/ takes; and of those that no statement takes the
--- empty ones, and all where the option says so.
-use Rattle.std.specs.Prelude.{List, filter, Option, Some, None, Bool, true, false, not, ◌||◌, ◌==◌, slice_get, option_and_then}
+-- empty ones, and all where the option says so. This project's choice: a section that no statement takes is never
+-- placed; it is left out or a fault.
+use Rattle.std.specs.Prelude.{List, filter, Option, Some, None, Bool, true, false, not, ◌||◌, ◌==◌, slice_get}
+use Rattle.std.specs.Prelude.{option_and_then}
 use Rattle.ldtree.specs.Numbering.{InputStatementAt, input_statements}
 use Rattle.ldtree.specs.declared.place.InputPlace.{InputPlace}
 use Rattle.ldtree.specs.declared.place.InputPlace.TheVariants.{InSection, InDiscard}

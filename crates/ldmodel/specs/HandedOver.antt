@@ -1,5 +1,5 @@
 -- What the values that layers hand one another stand for. A layer knows an object by its key; `number` says which place
--- in the project the object of a key has.
+-- in the project the object of a key has (this project's own).
 use Rattle.std.specs.Prelude.{ℕ, List}
 use Rattle.ldmodel.specs.Names.{Entry, Decision, Strong, Script, Common, Weak, Provided, Undefined, Duplicate}
 use Rattle.ldmodel.specs.Rows.{Piece}

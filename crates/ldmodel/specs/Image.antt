@@ -1,6 +1,6 @@
--- The image, byte by byte: an executable file (gABI, "Object Files"). A byte is found by the first case that holds at
--- its offset: a header's; that of an output section with file bytes, which is that of the field, else the input
--- section, else the data command, else the gap that it lies in; the tail's; else 0.
+-- The image, byte by byte: an executable file (gABI, "Object Files"; GNU ld manual, "Output Section Fill"). A byte is
+-- found by the first case that holds at its offset: a header's; that of an output section with file bytes, which is
+-- that of the field, else the input section, else the data command, else the gap that it lies in; the tail's; else 0.
 use Rattle.std.specs.Prelude.{ℕ, ◌+◌, ◌-◌, ◌%◌, max, List, ◌++◌, length, map, find, fold, slice_index, Option, Some}
 use Rattle.std.specs.Prelude.{None, Bool, not, ◌&&◌, ◌==◌, nat_lt, nat_le, bytes_eq, filter, if◌then◌else◌}
 use Rattle.std.specs.List.{range_with_len}

@@ -2,7 +2,8 @@
 -- SHF_ALLOC (gABI, "Sections"), and then the common blocks that it owns: for each name that is decided to be a common
 -- one the linker makes room, in a section COMMON of the object whose entry comes first, which has no bytes in the
 -- file (GNU ld manual, "Input Section for Common Symbols").
-use Rattle.std.specs.Prelude.{ℕ, List, [], ◌++◌, map, flat_map, Option, Some, None, Bool, ◌&&◌, ◌==◌, if◌then◌else◌, codes, bit_or}
+use Rattle.std.specs.Prelude.{ℕ, List, [], ◌++◌, map, flat_map, Option, Some, None, Bool, ◌&&◌, ◌==◌, if◌then◌else◌}
+use Rattle.std.specs.Prelude.{codes, bit_or}
 use Rattle.std.specs.List.{enumerate_from, filter_map}
 use Rattle.elfobj.specs.Sections.{LinkedSection}
 use Rattle.elfobj.specs.Symbols.{NamedSymbol}
@@ -48,6 +49,7 @@ block_of object entry (Common owner size alignment) =
     if is_same_entry owner entry then Some (common_block object owner size alignment) else None
 block_of object entry _ = None
 
+-- that of an entry, if it owns one. A local entry, as the null entry is, owns none, since it declares no name
 abbrev pub block_at : Project → ℕ → NamedObject → ℕ × NamedSymbol → Option InputSection
 block_at p i o s = block_of o.name (record { object = i; symbol = s.0 }) (decision p s.1.name)
 

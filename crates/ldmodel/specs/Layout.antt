@@ -1,5 +1,6 @@
 -- What a layout gives: where the parts of the program stand in memory (GNU ld manual, "SECTIONS Command" and "MEMORY
--- Command"). Addresses and sizes are whole numbers; an address of 2^64 or more is a fault.
+-- Command"). Addresses and sizes are whole numbers, and an address of 2^64 or more is a fault: that is this project's
+-- own.
 use Rattle.std.specs.Prelude.{ℕ, ◌+◌, List, [], ◌∷◌, ◌++◌, find, Option, Result, Ok, Err, Bool, bytes_eq, if◌then◌else◌}
 use Rattle.std.specs.Option.{option_map}
 use Rattle.ldexpr.specs.Expressions.{Expr}
@@ -49,7 +50,8 @@ pub record PlacedSection : Type 0 where
 
 -- a layout, as far as it has come: the location counter; its value before each statement of SECTIONS and, right after
 -- an output section's own, before each statement of its body; the number of the next input statement; and what is
--- complete so far
+-- complete so far. Statements outside SECTIONS and the input statements of `/DISCARD/` have no `.` in `dots`: the
+-- former cannot name `.`, the latter have no expressions, and none of them moves it
 pub record Layout : Type 0 where
   pub dot : ℕ
   pub dots : List ℕ

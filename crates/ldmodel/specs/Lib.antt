@@ -1,3 +1,5 @@
+-- The definitions of a link. In all of them `x.0` and `x.1` are the parts of a pair, and `k.0` is the number in a type
+-- that holds one number, such as `SectionIndex`; `record { 0 = n }` makes such a value.
 pub mod Options
 pub mod Project
 pub mod Edits
@@ -43,7 +45,6 @@ pub mod WorkBound
 pub mod Mentioned
 pub mod FaultCode
 pub mod Lent
-pub mod Runs
 pub mod FileLayout
 pub mod Gaps
 pub mod Commands

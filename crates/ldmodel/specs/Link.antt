@@ -1,5 +1,6 @@
--- The link of a project: a function of the project alone. It goes in phases: names, gathering, layout, relocation,
--- assertions. The faults are those of the first phase that has any; without one there are the image and the map.
+-- The link of a project: a function of the project alone. It goes in phases, which are this project's own: names,
+-- gathering, layout, relocation, assertions. The faults are those of the first phase that has any; without one there
+-- are the image and the map.
 use Rattle.std.specs.Prelude.{ℕ, ◌^◌, List, [], ◌∷◌, ◌++◌, map, option_to_list, Result, Ok, Err, nat_lt, if◌then◌else◌}
 use Rattle.ldmodel.specs.Assertions.{assertion_faults}
 use Rattle.ldmodel.specs.Fault.{Fault, UndefinedEntry, Orphan, ImageTooLong}
@@ -37,7 +38,7 @@ name_faults p = map duplicate_fault (duplicates p) ++ map UndefinedEntry (option
 unfoldable pub gathering_faults : Project → List Fault
 gathering_faults p = map (λ (x : InputSection). Orphan x.object x.name) (orphans p)
 
--- the longest image
+-- the longest image (this project's limit)
 abbrev pub max_image_length : ℕ
 max_image_length = 2 ^ 28
 

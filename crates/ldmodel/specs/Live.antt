@@ -1,7 +1,9 @@
 -- Which input sections the program needs (GNU ld manual, "Command-line Options", `--gc-sections`; "Input Section and
 -- Garbage Collection"). Without garbage collection all that are not left out. With it, the section of the entry symbol,
--- those that a statement under KEEP takes, and each one that a relocation of a needed one refers to.
-use Rattle.std.specs.Prelude.{ℕ, List, filter, Option, Some, None, Bool, false, ◌||◌, if◌then◌else◌, slice_get, option_and_then, is_none}
+-- those that a statement under KEEP takes, and each one that a relocation of a needed one refers to. This project's
+-- choice: no section is needed for its type alone (notes and arrays of functions need KEEP).
+use Rattle.std.specs.Prelude.{ℕ, List, filter, Option, Some, None, Bool, false, ◌||◌, if◌then◌else◌, slice_get}
+use Rattle.std.specs.Prelude.{option_and_then, is_none}
 use Rattle.std.specs.List.{list_any}
 use Rattle.std.specs.Option.{option_map_or}
 use Rattle.elfobj.specs.Symbols.{NamedSymbol}
@@ -55,7 +57,7 @@ abbrev pub is_section : Option SectionId → InputSection → Bool
 is_section id s = option_map_or (is_same s.id) id false
 
 abbrev pub is_kept : Option InputStatementAt → Bool
-is_kept i = option_map_or (λ (i : InputStatementAt). i.input.keep) i false
+is_kept i = option_map_or (λ (x : InputStatementAt). x.input.keep) i false
 
 -- where garbage collection starts
 abbrev pub is_root : Project → InputSection → Bool

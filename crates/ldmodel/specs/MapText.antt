@@ -27,7 +27,8 @@ section_lines q =
     line_of (codes "section" ∷ q.name ∷ hex q.start ∷ hex q.load ∷ hex q.size ∷ flag_letters q ∷ [])
     ++ flat_map piece_line q.pieces
 
--- 16 hyphens where the symbol's section is not in the output
+-- 16 hyphens where the symbol's section is not in the output; every symbol that the map lists is defined, so that
+-- `NotDefined` does not come up
 abbrev pub value_word : SymbolValue → List ℕ
 value_word (Number x) = hex x
 value_word NotDefined = replicate 16 45

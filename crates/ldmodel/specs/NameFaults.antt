@@ -1,10 +1,13 @@
 -- The faults that names give. Each strong definition of a name after the first is one; where the script assigns the
--- name, that assignment is the first. An entry symbol that nothing defines is one.
-use Rattle.std.specs.Prelude.{ℕ, List, [], ◌∷◌, map, filter, Option, Some, None, Bool, false, not, ◌&&◌, ◌||◌, if◌then◌else◌, slice_get}
+-- name, that assignment is the first. An entry symbol that nothing defines is one. That these two are faults, and which
+-- definition a fault names, is this project's own.
+use Rattle.std.specs.Prelude.{ℕ, List, [], ◌∷◌, map, filter, Option, Some, None, Bool, false, not, ◌&&◌, ◌||◌}
+use Rattle.std.specs.Prelude.{if◌then◌else◌, slice_get}
 use Rattle.std.specs.Option.{option_map_or}
 use Rattle.ldmodel.specs.ScriptNames.{is_assigned}
 use Rattle.ldmodel.specs.InputSections.{is_same_entry}
-use Rattle.ldmodel.specs.Names.{Decision, Undefined, Declaration, decision, declarations, entries, entry_symbol, is_strong}
+use Rattle.ldmodel.specs.Names.{Decision, Undefined, Declaration, decision, declarations, entries, entry_symbol}
+use Rattle.ldmodel.specs.Names.{is_strong}
 use Rattle.ldmodel.specs.Project.{NamedObject, Project}
 
 -- what defines a name: the script, or the object of this name

@@ -1,7 +1,9 @@
 -- What a name stands for, by all that declare it (gABI, "Symbol Table"; GNU ld manual, "Assigning Values to Symbols",
--- "PROVIDE"). Of several definitions a global one goes before a common one, and that before a weak one; two global
--- definitions of a name are a fault.
-use Rattle.std.specs.Prelude.{ℕ, ◌+◌, List, [], ◌∷◌, ◌++◌, length, map, filter, flat_map, Option, Bool, true, false, not, ◌&&◌, nat_lt, max, if◌then◌else◌, bytes_eq}
+-- "PROVIDE"). Of several definitions a global one goes before the script's assignment, that before a common one, that
+-- before a weak one, and that before the script's PROVIDE, which needs an undefined entry. Two strong definitions of a
+-- name are a fault; that the script's assignment counts as one is this project's choice (GNU ld lets the script win).
+use Rattle.std.specs.Prelude.{ℕ, ◌+◌, List, [], ◌∷◌, ◌++◌, length, map, filter, flat_map, Option, Bool, true, false}
+use Rattle.std.specs.Prelude.{not, ◌&&◌, nat_lt, max, if◌then◌else◌, bytes_eq}
 use Rattle.std.specs.List.{list_any, enumerate_from}
 use Rattle.std.specs.Option.{option_or}
 use Rattle.elfobj.specs.Symbols.{NamedSymbol}
@@ -20,8 +22,9 @@ pub record Entry : Type 0 where
   pub object : ℕ
   pub symbol : ℕ
 
--- a global definition that isn't common; the script's assignment; a common block, with the entry that owns it, its size
--- and its alignment; the first weak definition; the script's PROVIDE; nothing; two or more strong definitions
+-- a global definition that isn't common; the script's assignment; a common block, with the entry that owns it, the
+-- greatest size and the greatest alignment; the first weak definition; the script's PROVIDE; nothing; two or more
+-- strong definitions, the script's assignment counted
 pub data Decision : Type 0 where
   Strong : (entry : Entry) → Decision
   Script : Decision
@@ -122,16 +125,18 @@ abbrev pub for_first : List Declaration → (Entry → Decision) → Decision �
 for_first [] here otherwise = otherwise
 for_first (d ∷ ds) here otherwise = here d.entry
 
--- the first case that holds, where the script assigns the name, or provides it, and these declare it
-unfoldable pub decided : (is_assigned is_provided : Bool) → List Declaration → Decision
-decided is_assigned is_provided ds =
+-- the first case that holds, where the script assigns the name, or provides it, and these declare it: 1 two or more
+-- strong definitions, the assignment counted; 2 a strong one; 3 the assignment; 4 common ones; 5 weak ones; 6 a PROVIDE
+-- and an undefined entry; 7 nothing
+unfoldable pub decided : (by_script by_provide : Bool) → List Declaration → Decision
+decided by_script by_provide ds =
     let commons : List Declaration = filter is_common ds in
-    if nat_lt 1 (length (filter is_strong ds) + (if is_assigned then 1 else 0)) then Duplicate else
+    if nat_lt 1 (length (filter is_strong ds) + (if by_script then 1 else 0)) then Duplicate else
     for_first (filter is_strong ds) Strong (
-    if is_assigned then Script else
+    if by_script then Script else
     for_first commons (λ owner. Common owner (greatest common_size commons) (greatest common_alignment commons)) (
     for_first (filter is_weak ds) Weak (
-    if is_provided && list_any is_undefined ds then Provided else
+    if by_provide && list_any is_undefined ds then Provided else
     Undefined)))
 
 -- what a name stands for

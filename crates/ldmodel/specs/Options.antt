@@ -1,4 +1,4 @@
--- Options of a link.
+-- Options of a link (GNU ld manual, "Command-line Options": `--gc-sections`, `--entry`, `--orphan-handling`).
 use Rattle.std.specs.Prelude.{ℕ, List, Bool, false, Option, None}
 use Rattle.ldmodel.specs.declared.options.Orphans.{Orphans}
 use Rattle.ldmodel.specs.declared.options.Orphans.TheVariants.{Error}

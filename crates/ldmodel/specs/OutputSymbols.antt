@@ -1,5 +1,5 @@
 -- The symbols of the output: the names that stand for something in it, in byte order. They are listed in the map, and
--- those with a value in the symbol table of the image.
+-- those with a value in the symbol table of the image (this project's own).
 use Rattle.std.specs.Prelude.{ℕ, List, map, codes, Bool, true, false, filter}
 use Rattle.std.specs.Cmp.Lexicographic.{slice_cmp}
 use Rattle.std.specs.Ordering.{is_lt, nat_cmp}

@@ -4,7 +4,7 @@ use Rattle.std.specs.Prelude.{ℕ, ◌+◌, List, [], ◌∷◌, ◌++◌, find,
 use Rattle.ldmodel.specs.Fault.{Fault, AddressesMeet, LoadAddressesMeet}
 use Rattle.ldmodel.specs.Layout.{PlacedSection}
 
--- two ranges, each by where it begins and its size, which is not 0, share a number
+-- two ranges, each by where it begins and its size, share a number; a range of size 0 shares none
 abbrev pub ranges_meet : ℕ → ℕ → ℕ → ℕ → Bool
 ranges_meet a n b m = not (n == 0) && not (m == 0) && nat_lt a (b + m) && nat_lt b (a + n)
 

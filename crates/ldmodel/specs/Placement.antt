@@ -1,5 +1,7 @@
 -- The layout of a script (GNU ld manual, "SECTIONS Command", "MEMORY Command" and "The Location Counter"): one pass
--- over its statements in the order of the text, each of which begins where the one before ended.
+-- over its statements in the order of the text, each of which begins where the one before ended. What `.` is after each
+-- of them is this project's own where the manual leaves it open. `.` is 0 at the start of SECTIONS: nothing before it
+-- sets `.`, and a script has one SECTIONS.
 use Rattle.std.specs.Prelude.{ℕ, ◌+◌, List, [], ◌∷◌, ◌++◌, length, slice_index_or, Result, Ok}
 use Rattle.ldtree.specs.declared.common.DotCommand.{DotCommand}
 use Rattle.ldtree.specs.declared.common.DotCommand.TheVariants.{Set, Add}
@@ -54,7 +56,8 @@ section_step provided row s line o =
     and_then (run (body_step provided) (opened s row h) o.body) (λ b.
     section_end line o h b))
 
--- the row of the next output section
+-- the row of the next output section: its number is how many sections are complete, since each output section statement
+-- adds one, and `/DISCARD/` none and has no row
 abbrev pub next_row : List (List Piece) → Layout → List Piece
 next_row rows s = slice_index_or rows (length s.sections) []
 

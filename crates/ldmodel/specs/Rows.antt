@@ -1,8 +1,10 @@
 -- Which input sections stand in which output section, and in which order (GNU ld manual, "Input Section Basics", "Input
 -- Section Wildcard Patterns"): statement by statement the live sections that the statement takes, in object order and
 -- then section order; SORT_BY_NAME orders those of one statement by their names, byte by byte, SORT_BY_ALIGNMENT by
--- alignment, the greatest first. One statement with several words takes its sections together.
-use Rattle.std.specs.Prelude.{ℕ, List, [], length, map, filter, flat_map, Option, Some, None, Bool, false, ◌==◌, max, nat_lt, if◌then◌else◌}
+-- alignment, the greatest first. One statement with several words takes its sections together, and a sort orders them
+-- together; the latter is this project's extension.
+use Rattle.std.specs.Prelude.{ℕ, List, [], length, map, filter, flat_map, Option, Some, None, Bool, false, ◌==◌, max}
+use Rattle.std.specs.Prelude.{nat_lt, if◌then◌else◌}
 use Rattle.std.specs.Cmp.Lexicographic.{slice_cmp}
 use Rattle.std.specs.List.{enumerate_from, range_with_len}
 use Rattle.std.specs.Option.{option_map_or}
@@ -21,7 +23,8 @@ use Rattle.ldmodel.specs.Sorting.{sort_by}
 use Rattle.ldmodel.specs.declared.sections.Part.{Part}
 
 -- an entry of a row: the number of the input statement, the name of the object, which part of it the input section is,
--- and of that its name, kind, sh_flags, size and alignment. It has no bytes and no relocations
+-- and of that its name, kind, sh_flags, size and sh_addralign as they are in the object: entries with 0 and 1 for the
+-- last differ, though both are placed alike (`piece_alignment`). It has no bytes and no relocations
 pub record Piece : Type 0 where
   pub statement : ℕ
   pub object : List ℕ

@@ -1,5 +1,6 @@
 -- The names that a script gives values to (GNU ld manual, "Assigning Values to Symbols", "PROVIDE"). No name is given a
--- value twice in one script.
+-- value twice in one script that the script reader takes; on another tree the lists of names and the tests of a name
+-- need not agree.
 use Rattle.std.specs.Prelude.{ℕ, List, map, Option, Some, None, Bool, true, false}
 use Rattle.ldtree.specs.Given.{given_by}
 use Rattle.ldtree.specs.Numbering.{AssignmentAt, assignments, provides}

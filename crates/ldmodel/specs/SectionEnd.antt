@@ -1,5 +1,7 @@
 -- An output section after its body: its size, load size and flags, whether its memory regions have room for it, and
--- where they go on (GNU ld manual, "Output Section Region"; gABI, "Sections": SHF_WRITE and SHF_EXECINSTR).
+-- where they go on (GNU ld manual, "Output Section Region"; gABI, "Sections": SHF_WRITE and SHF_EXECINSTR). That a
+-- region goes on at the end of the last section in it, even where that is further back, and the order of the faults,
+-- are this project's own.
 use Rattle.std.specs.Prelude.{ℕ, ◌+◌, ◌-◌, List, [], ◌∷◌, ◌++◌, length, map, Option, Some, None, Result, Ok, Err, Bool}
 use Rattle.std.specs.Prelude.{true, false, not, ◌&&◌, ◌||◌, ◌==◌, nat_le, bit_and, bytes_eq, if◌then◌else◌}
 use Rattle.std.specs.List.{list_any}

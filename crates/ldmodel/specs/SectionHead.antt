@@ -1,5 +1,7 @@
 -- The head of an output section: its alignment, start and load address (GNU ld manual, "Output Section Address",
--- "Output Section LMA" and "Forced Output Alignment"). In its expressions `.` is the value before the section.
+-- "Output Section LMA" and "Forced Output Alignment"). In its expressions `.` is the value before the section. That an
+-- address given is taken as it is, even where it goes back, the difference between start and load address modulo 2^64,
+-- and which fault comes first, are this project's own.
 use Rattle.std.specs.Prelude.{ℕ, max, List, [], ◌∷◌, filter, Option, Some, None, Result, Ok, Err, Bool, true, false}
 use Rattle.std.specs.Prelude.{if◌then◌else◌, bytes_eq}
 use Rattle.std.specs.Int.{is_power_of_two, next_multiple_of}

@@ -1,8 +1,9 @@
--- The section headers of the image, and where the parts of its tail stand (gABI, "Section Header"). `.symtab` stands
--- past the loaded part of the file, aligned to 8, the two string tables right after it, and then the headers, aligned
--- to 8; there the image ends.
+-- The section headers of the image, and where the parts of its tail stand (gABI, "Section Header"). The headers are a
+-- null header, one for each output section, and those of the three tables. Where the tail stands is this project's
+-- choice: `.symtab` past the loaded part of the file, aligned to 8, the two string tables right after it, and then the
+-- headers, aligned to 8; there the image ends.
 use Rattle.std.specs.Prelude.{ℕ, ◌+◌, ◌%◌, List, [], ◌∷◌, ◌++◌, length, map, replicate, codes, ◌==◌, if◌then◌else◌}
-use Rattle.std.specs.Prelude.{flat_map}
+use Rattle.std.specs.Prelude.{◌^◌, flat_map}
 use Rattle.std.specs.List.{enumerate_from}
 use Rattle.std.specs.Int.{to_le_bytes, next_multiple_of, w32, w64}
 use Rattle.elfdefs.specs.declared.constants.TheConstants.{SHT_PROGBITS, SHT_SYMTAB, SHT_STRTAB, SHT_NOBITS, SHF_WRITE}
@@ -75,14 +76,15 @@ section_flags q = SHF_ALLOC + (if q.writable then SHF_WRITE else 0) + (if q.exec
 abbrev pub stated_alignment : PlacedSection → ℕ
 stated_alignment q = if q.start % q.alignment == 0 then q.alignment else 1
 
--- the header of output section number i
+-- the header of output section number i. sh_offset has 64 bits: it is modulo 2^64. In a link without faults only that
+-- of a section without file bytes can be as great, since an image has its limit
 abbrev pub output_header : Layout → List Segment → ℕ × PlacedSection → SectionHeader
 output_header s gs x = record {
   name = name_offset (header_names s) x.0;
   type = if has_file_bytes x.1 then SHT_PROGBITS else SHT_NOBITS;
   flags = section_flags x.1;
   address = x.1.start;
-  offset = file_offset gs x.1;
+  offset = file_offset gs x.1 % 2 ^ 64;
   size = x.1.size;
   link = 0;
   info = 0;

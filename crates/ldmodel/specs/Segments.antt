@@ -1,7 +1,7 @@
 -- Segments: what of the program is loaded as one, and where it stands in the file (gABI, "Program Header": the
 -- addresses and the file offset of a loaded segment are congruent modulo the page size; x86-64 psABI: pages of 4,096
--- bytes). Which sections share a segment is this project's choice. Output sections of nonzero size stand in the order
--- of the script.
+-- bytes). Which sections share a segment is this project's choice: of the output sections of nonzero size, in the order
+-- of the script, neighbours for which `shares_segment` holds.
 use Rattle.std.specs.Prelude.{ℕ, ◌+◌, ◌-◌, ◌*◌, ◌%◌, List, [], ◌∷◌, length, map, filter, find, flat_map, fold, Bool}
 use Rattle.std.specs.Prelude.{not, ◌&&◌, ◌==◌, nat_lt, nat_le, bytes_eq, if◌then◌else◌}
 use Rattle.std.specs.Option.{option_map_or}
@@ -16,6 +16,8 @@ page_size = 4096
 abbrev pub end_of : PlacedSection → ℕ
 end_of q = q.start + q.size
 
+-- a placed section has bytes in the file exactly where it is loaded: its load size is its size or 0 (`SectionEnd`,
+-- where a body has file bytes by what is in it; the two agree on sections of nonzero size)
 abbrev pub has_file_bytes : PlacedSection → Bool
 has_file_bytes q = not (q.load_size == 0)
 

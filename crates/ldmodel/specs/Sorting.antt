@@ -1,4 +1,4 @@
--- Lists in the order of a key. Members with equal keys stay in the order that they had.
+-- Lists in the order of a key. Members with equal keys stay in the order that they had: what a stable sort is.
 use Rattle.std.specs.Prelude.{Bool, List, [], ◌∷◌, if◌then◌else◌}
 use Rattle.std.specs.List.Sorted.{IsSortedBy, IsStableBy}
 
@@ -11,7 +11,8 @@ unfoldable pub sort_by : {X : Type 0} → (below : X → X → Bool) → List X 
 sort_by below [] = []
 sort_by below (x ∷ xs) = insert_by below x (sort_by below xs)
 
--- ys has the members of xs: no member is below the one before it, and those with equal keys stand as they did
+-- ys has the members of xs: no member is below the one before it, and those with equal keys stand as they did. That the
+-- members are the same follows from the latter, since a member has the key of itself
 pub record IsOrdered {X : Type 0} (below : X → X → Bool) (xs ys : List X) : Type 0 where
   pub sorted : IsSortedBy below ys
   pub stable : IsStableBy below xs ys

@@ -1,6 +1,6 @@
--- What two links have in common: the input sections that stayed where they were, with their bytes in the same place of
--- the image, and the relocations in them whose targets have another value. An incremental link need not write the
--- former again, but for the fields of the latter.
+-- What two links have in common (this project's own): the input sections that stayed where they were, with their bytes
+-- in the same place of the image, and the relocations in them whose symbols have another value. An incremental link
+-- need not write the bytes of input sections that stayed again, but for the fields of these relocations.
 use Rattle.std.specs.Prelude.{Option, Some, None, ℕ, ◌+◌, ◌-◌, List, map, filter, flat_map, Bool, ◌&&◌, not, bytes_eq}
 use Rattle.std.specs.Prelude.{if◌then◌else◌, [], ◌==◌}
 use Rattle.std.specs.List.{list_any}
@@ -63,7 +63,8 @@ same_piece x y =
     bytes_eq x.object y.object && bytes_eq x.text y.text && is_same_part x.part y.part && (x.start == y.start)
     && (x.size == y.size) && same_range x.range y.range
 
--- a project and its layout, where its link has no fault
+-- a project and a layout. Links without faults are meant, with the layout that `layout` gives; what is said here of two
+-- such holds of any two
 pub record GoodLink : Type 0 where
   pub project : Project
   pub layout : Layout

@@ -1,5 +1,6 @@
--- The tail of the image (gABI, "Sections", "String Table" and "Symbol Table"): `.symtab`, `.strtab`, `.shstrtab` and
--- the section headers. The headers are a null header, one for each output section, and those of the three tables.
+-- The symbol table of the image, `.symtab`, and its names, `.strtab` (gABI, "String Table" and "Symbol Table"). Which
+-- symbols stand there, and in which order, is this project's choice: those of the output with a value, in byte order of
+-- their names. `.shstrtab`, the section headers, and where all these stand, are in `SectionHeaders`.
 use Rattle.std.specs.Prelude.{ℕ, ◌+◌, ◌*◌, List, [], ◌∷◌, ◌++◌, length, map, replicate, sum_by, Option, Some, None}
 use Rattle.std.specs.Prelude.{filter_map, flat_map, position, take}
 use Rattle.std.specs.List.{list_any, enumerate_from}
@@ -76,7 +77,8 @@ st_size p (Weak e) = entry_size p e
 st_size p (Common owner size alignment) = size
 st_size p _ = 0
 
--- the number of the header of the output section that a part of an object stands in
+-- the number of the header of the output section that a part of an object stands in. It is asked of symbols with a
+-- value alone, so that some output section holds the part; SHN_ABS, where none does, stands in no symbol table
 abbrev pub header_of_part : Layout → List ℕ → Part → ℕ
 header_of_part s object part =
     option_map_or (λ n. n + 1)

@@ -1,8 +1,8 @@
 -- The value of an expression (GNU ld manual, "Expressions in Linker Scripts": numbers are unsigned, and operators are
 -- those of C with C's precedence). Here every number is below 2^64, arithmetic is modulo 2^64, and no number is
 -- relative to a section.
-use Rattle.std.specs.Prelude.{ℕ, ◌-◌, ◌*◌, ◌/◌, ◌%◌, ◌^◌, List, Option, Some, None, Result, Ok, Err, Bool, not, nat_lt}
-use Rattle.std.specs.Prelude.{nat_le, ◌==◌, bit_and, bit_or, if◌then◌else◌}
+use Rattle.std.specs.Prelude.{ℕ, ◌-◌, ◌*◌, ◌/◌, ◌%◌, ◌^◌, List, Option, Some, None, Result, Ok, Err, Bool, false, not}
+use Rattle.std.specs.Prelude.{nat_lt, nat_le, ◌==◌, bit_and, bit_or, if◌then◌else◌}
 use Rattle.std.specs.Option.{option_map}
 use Rattle.std.specs.Int.{is_power_of_two, next_multiple_of}
 use Rattle.ldexpr.specs.Expressions as expression
@@ -91,11 +91,11 @@ binary_value binary.BitOr x y = Ok (bit_or x y)
 binary_value binary.And x y = Ok (if is_true x then truth (is_true y) else 0)
 binary_value binary.Or x y = Ok (if is_true x then 1 else truth (is_true y))
 
--- the first operand alone gives the value, as in C: `0 && e` and `1 || e` do not evaluate e
+-- the first operand alone gives the value, as in C: `0 && e` and `1 || e` do not evaluate e. No other operator has that
 abbrev pub decides_alone : BinaryOperator → ℕ → Bool
 decides_alone binary.And x = x == 0
 decides_alone binary.Or x = is_true x
-decides_alone _ x = nat_lt x 0
+decides_alone _ x = false
 
 -- ALIGN(x, a): the least multiple of a not below x, modulo 2^64; a is a power of two
 abbrev pub aligned : ℕ → ℕ → Result ℕ ValueFault

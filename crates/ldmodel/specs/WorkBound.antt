@@ -1,5 +1,5 @@
--- How much an incremental link may do, by count: of relocations evaluated and of image bytes written. The counts of
--- objects, names and input sections stand with the session.
+-- How much an incremental link may do, by count (this project's own): of relocations evaluated and of image bytes
+-- written. The counts of objects, names and input sections stand with the session.
 use Rattle.std.specs.Prelude.{ℕ, ◌+◌, ◌≤◌, List, filter, flat_map, length, sum_by, not}
 use Rattle.elfobj.specs.RelocationKinds.{width}
 use Rattle.ldmodel.specs.Relocations.{Site}
@@ -17,8 +17,9 @@ bytes_stayed old new = sum_by (λ (x : LinkedPiece). x.range.length) (stayed old
 abbrev pub retargeted_bytes : GoodLink → GoodLink → ℕ
 retargeted_bytes old new = sum_by (λ (t : Site). width t.relocation.kind) (retargeted old new)
 
--- relocations evaluated: at most the sites outside input sections that stayed, and those whose symbol moved; bytes
--- written: at most those of the image but the bytes that stayed, and the fields of the latter
+-- relocations evaluated: at most as many as there are sites outside input sections that stayed, and sites in them whose
+-- symbol has another value. Bytes written: at most those of the image less those of the input sections that stayed, and
+-- the fields of the sites in these whose symbol has another value
 pub record IsImageWork (old new : GoodLink) (relocations bytes : ℕ) : Type 0 where
   pub evaluated : relocations ≤ length (sites_outside old new) + length (retargeted old new)
   pub written : bytes + bytes_stayed old new ≤ image_length new.project new.layout + retargeted_bytes old new
