@@ -1,5 +1,6 @@
 -- What an edit makes of a project, or why it is refused.
-use Rattle.std.specs.Prelude.{◌≡◌, ◌≢◌, ◌⊎◌, ℕ, ◌^◌, List, length, insert, Option, Some, None, Result, Ok, Err, Bool, not, ◌||◌, ◌&&◌, true, false, nat_lt, nat_le, if◌then◌else◌}
+use Rattle.std.specs.Prelude.{◌≡◌, ◌≢◌, ◌⊎◌, ℕ, ◌^◌, List, length, insert, Option, Some, None, Result, Ok, Err, Bool}
+use Rattle.std.specs.Prelude.{not, ◌||◌, ◌&&◌, true, false, nat_lt, nat_le, if◌then◌else◌}
 use Rattle.std.specs.List.{list_any, list_all}
 use Rattle.elfobj.specs.Object.{object_of}
 use Rattle.elfobj.specs.Refusal.{object_refusal}
@@ -44,7 +45,8 @@ is_payload_too_long bytes = nat_lt (2 ^ 26) (length bytes)
 
 -- a name or bytes outside the limits, or as many objects as this version takes: one
 unfoldable pub is_over_limit : List NamedObject → List ℕ → List ℕ → Bool
-is_over_limit objects name bytes = not (is_object_name name) || is_payload_too_long bytes || nat_le MAX_OBJECTS (length objects)
+is_over_limit objects name bytes =
+    not (is_object_name name) || is_payload_too_long bytes || nat_le MAX_OBJECTS (length objects)
 
 -- the refusals that need no look at the object or the script: 1 name in use, 3 position past the end, 6 limit
 unfoldable pub early_refusal : Project → Change → Option EditRefusal
@@ -58,9 +60,11 @@ early_refusal p (SetScript text) = if is_payload_too_long text then Some (refusa
 -- the next project
 abbrev pub Accepts : Project → Change → Project → Type 0
 Accepts p (Add name at bytes) q =
-    (object_refusal bytes ≡ None) × (is_beyond (object_of bytes) ≡ false) × (q ≡ record p { objects = insert p.objects at (record { name = name; object = object_of bytes }) })
+    (object_refusal bytes ≡ None) × (is_beyond (object_of bytes) ≡ false)
+    × (q ≡ record p { objects = insert p.objects at (record { name = name; object = object_of bytes }) })
 Accepts p (SetScript text) q =
-    (s : List Statement) × IsScript text s × (tree : Tree) × (linked_part s ≡ Some tree) × (q ≡ record p { script = tree })
+    (s : List Statement) × IsScript text s × (tree : Tree) × (linked_part s ≡ Some tree)
+    × (q ≡ record p { script = tree })
 
 -- an object of the profile that this version doesn't link yet
 abbrev pub not_yet : EditRefusal

@@ -25,7 +25,8 @@ good objects sections = record { status = 0; image = image_of 0 (segments (map (
 
 -- where the sections are placed
 abbrev pub linked_placed : List NamedObject → List Laid → Link
-linked_placed objects sections = if length (relocation_faults objects sections) == 0 then good objects sections else faulty
+linked_placed objects sections =
+    if length (relocation_faults objects sections) == 0 then good objects sections else faulty
 
 abbrev pub linked_by : List NamedObject → Result State PlaceFault → Link
 linked_by objects (Ok s) = linked_placed objects s.sections
@@ -36,7 +37,8 @@ linked_by objects (Err f) = faulty
 -- most 2^26 bytes
 unfoldable pub link_of : Tree → List NamedObject → Link
 link_of tree objects =
-    if length (orphans tree (members objects)) == 0 then linked_by objects (placement tree (rows tree (members objects)))
+    if length (orphans tree (members objects)) == 0
+    then linked_by objects (placement tree (rows tree (members objects)))
     else faulty
 
 unfoldable pub link : Project → Link
