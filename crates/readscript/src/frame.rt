@@ -1,4 +1,4 @@
-//! Frames of the input: a line that says what follows, and so many bytes.
+//! Frames of the input: a line that says what follows and how many bytes, and then those bytes.
 
 /// What is asked.
 pub enum Frame<'a> {

@@ -6,7 +6,7 @@
 //!     script LENGTH           a script
 //!     numbers LENGTH          a script, for the numbers of its statements
 //!     tokens LENGTH           a text, to be cut into tokens
-//!     match WORD NAME         a pattern of so many bytes, and right after it a name of so many bytes
+//!     match WORD NAME         lengths in bytes of a pattern and of a name, which follow one after the other
 //!
 //! For a `script` it prints an empty line, its line, the text with `| ` before each of its lines, and the tree, a line
 //! for each statement:
