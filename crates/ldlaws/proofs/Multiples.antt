@@ -13,12 +13,12 @@ apart a m n hm hn h =
     let dn : n / a * a + n % a ≡ n = div-add-mod' n a in
     ⊎_elim
     (λ (l : m / a < n / a).
-      let wide : (m / a + 1) * a ≤ n / a * a = mul-le-mul_right a (omega (arith, l)) in
-      let one : (m / a + 1) * a ≡ m / a * a + a = omega arith in
-      omega (arith, dm, dn, wide, one, hm, hn))
+    let wide : (m / a + 1) * a ≤ n / a * a = mul-le-mul_right a (omega (arith, l)) in
+    let one : (m / a + 1) * a ≡ m / a * a + a = omega arith in
+    omega (arith, dm, dn, wide, one, hm, hn))
     (λ (g : n / a ≤ m / a).
-      let narrow : n / a * a ≤ m / a * a = mul-le-mul_right a g in
-      omega (arith, dm, dn, narrow, hm, hn, h))
+    let narrow : n / a * a ≤ m / a * a = mul-le-mul_right a g in
+    omega (arith, dm, dn, narrow, hm, hn, h))
     (cases_lt (m / a) (n / a))
 
 pub record IsNext (a x y : ℕ) : Type 0 where
@@ -34,6 +34,7 @@ is_next a x pos = ⊎_elim on past (eq-zero-or-pos (x % a))
         let none : (a - x % a) % a ≡ 0 = ap (λ k. (a - k) % a) e ∙ ap (λ k. k % a) (sub-zero a) ∙ mod_self a in
         let same : next_multiple_of x a ≡ x = omega (arith, none) in
         record { above = omega (arith, same); near = omega (arith, same, pos); multiple = ap (λ k. k % a) same ∙ e }
+
     past : 0 < x % a → IsNext a x (next_multiple_of x a)
     past h =
         let below : x % a < a = mod-lt x pos in

@@ -201,6 +201,7 @@ module _ (provided : List (List ℕ)) where
           ended = e;
         }
         end h k (Err f) l e = absurd (let no : ⊥ = cc in no)
+
         go : (r : Result Head Fault) → head_of s row line o ≡ r → and_then r rest_of ≡ Ok t
             → SectionTo provided row s line o t
         go (Ok h) k e = end h k (with_body h) refl e
@@ -223,6 +224,7 @@ module _ (provided : List (List ℕ)) where
         end h k (Err g) l e =
             let same : g ≡ f = cc in
             in_body h k (stops_of (body_step provided) (BodyTo provided) (BodyAt provided) is_body_step o.body (opened s row h) f (rw (sym same) l))
+
         go : (r : Result Head Fault) → head_of s row line o ≡ r → and_then r rest_of ≡ Err f
             → SectionAt provided row s line o f
         go (Ok h) k e = end h k (with_body h) refl e
@@ -331,10 +333,12 @@ module _ (script : List Statement) (rows : List (List Piece)) (provided : List (
   unfolding placement
   placed s = (
     (λ e. record { leads = runs_of (statement_step rows provided) (StatementTo rows provided) (StatementAt rows provided) (is_statement_step rows provided) script nothing_placed s e }),
-    (λ h. run_of (statement_step rows provided) (StatementTo rows provided) (StatementAt rows provided) (is_statement_step rows provided) nothing_placed s script h.leads))
+    (λ h. run_of (statement_step rows provided) (StatementTo rows provided) (StatementAt rows provided) (is_statement_step rows provided) nothing_placed s script h.leads),
+  )
 
   pub faulty : (f : Fault) → (placement script rows provided ≡ Err f) ↔ IsFirstFault script rows provided f
   unfolding placement
   faulty f = (
     (λ e. record { fails = stops_of (statement_step rows provided) (StatementTo rows provided) (StatementAt rows provided) (is_statement_step rows provided) script nothing_placed f e }),
-    (λ h. stop_of (statement_step rows provided) (StatementTo rows provided) (StatementAt rows provided) (is_statement_step rows provided) nothing_placed f script h.fails))
+    (λ h. stop_of (statement_step rows provided) (StatementTo rows provided) (StatementAt rows provided) (is_statement_step rows provided) nothing_placed f script h.fails),
+  )
