@@ -1,0 +1,70 @@
+-- What a project is kept as, and what a staged edit makes of it.
+use Rattle.std.specs.Prelude.{◌≡◌, ◌⊎◌, List, Some, None, Result, Ok, Err, unwrap_or}
+use Rattle.ldtree.specs.declared.statement.Statement.{Statement}
+use Rattle.ldmodel.specs.Counts.{Counts}
+use Rattle.ldmodel.specs.Edits.{Change, After, RefusedAs}
+use Rattle.ldmodel.specs.Options.{LinkOptions}
+use Rattle.ldmodel.specs.Project.{Project, NamedObject}
+use Rattle.ldmodel.specs.Raised.{raised}
+use Rattle.ldmodel.specs.declared.meter.Count.TheVariants.{Objects}
+use Rattle.ldproject.specs.EditMeaning.{refusal_of}
+use Rattle.ldproject.specs.Listing.{Entry, Contents, objects_of}
+use Rattle.ldproject.specs.Next.{Fits, next_entries}
+use Rattle.ldproject.specs.Staging.{IsStaged, SameButRoom}
+use Rattle.ldproject.specs.declared.edit.Refusal.{Refusal}
+use Rattle.ldproject.specs.declared.edit.Refusal.TheVariants.{NoMemory}
+use Rattle.ldproject.specs.declared.staged.Staged.{Staged}
+
+-- objects under keys, the script and the options
+pub record Listing : Type 0 where
+  pub entries : List Entry
+  pub script : List Statement
+  pub options : LinkOptions
+
+abbrev pub project_of : Listing → Project
+project_of l = record { objects = objects_of l.entries; script = l.script; options = l.options }
+
+-- what is kept, with room for more
+pub record Holding : Type 0 where
+  pub contents : Contents
+  pub script : List Statement
+  pub options : LinkOptions
+
+abbrev pub listing_of : Holding → Listing
+listing_of h = record { entries = h.contents.entries; script = h.script; options = h.options }
+
+-- the project that is kept
+abbrev pub held : Holding → Project
+held h = project_of (listing_of h)
+
+-- what a staged edit makes of it
+abbrev pub next_listing : Holding → Staged → Listing
+next_listing h s = record {
+  entries = next_entries h.contents.entries s.objects;
+  script = unwrap_or s.script h.script;
+  options = h.options;
+}
+
+-- there may be more room, and all else is the same
+pub record SameHolding (old new : Holding) : Type 0 where
+  pub contents : SameButRoom old.contents new.contents
+  pub rest : new ≡ record old { contents = new.contents }
+
+-- all growths of an edit of the objects alone, which leads to these; or there was no memory
+abbrev pub Makes : Holding → List NamedObject → Result Staged Refusal → Type 0
+Makes h next (Ok s) = IsStaged h.contents s.objects next × (s.script ≡ None)
+Makes h next (Err r) = r ≡ NoMemory
+
+-- the same of another script
+abbrev pub MakesScript : Holding → List Statement → Result Staged Refusal → Type 0
+MakesScript h next (Ok s) = IsStaged h.contents s.objects (held h).objects × (s.script ≡ Some next)
+MakesScript h next (Err r) = r ≡ NoMemory
+
+-- the edit is staged, and leads where the definition says; or it is refused
+abbrev pub Stages : Holding → Change → Result Staged Refusal → Type 0
+Stages h change (Ok s) = Fits h.contents s.objects × After (held h) change (Ok (project_of (next_listing h s)))
+Stages h change (Err r) = RefusedAs (held h) change (refusal_of r)
+
+-- at most one object is read
+abbrev pub ReadsAtMostOne : Counts → Counts → Type 0
+ReadsAtMostOne before after = (after ≡ before) ⊎ (after ≡ raised before Objects 1)

@@ -1,0 +1,6 @@
+pub mod EditMeaning
+pub mod Listing
+pub mod Slots
+pub mod Next
+pub mod Staging
+pub mod Holding

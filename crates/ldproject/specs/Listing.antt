@@ -1,0 +1,21 @@
+-- Objects in their order under stable keys.
+use Rattle.std.specs.Prelude.{ℕ, List, map, count_by, nat_eq}
+use Rattle.ldmodel.specs.Project.{NamedObject}
+
+-- an object and the key that it keeps while the project has it
+pub record Entry : Type 0 where
+  pub key : ℕ
+  pub named : NamedObject
+
+abbrev pub objects_of : List Entry → List NamedObject
+objects_of entries = map (λ (e : Entry). e.named) entries
+
+-- how often a key is listed
+abbrev pub key_count : List Entry → ℕ → ℕ
+key_count entries key = count_by (λ (e : Entry). nat_eq key e.key) entries
+
+-- what is kept, the key of the next new object, and how many more objects fit with no allocation
+pub record Contents : Type 0 where
+  pub entries : List Entry
+  pub vacant_key : ℕ
+  pub room : ℕ

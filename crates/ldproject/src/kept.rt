@@ -1,0 +1,119 @@
+//! The objects of a project under stable keys, in their order.
+
+ghost use Rattle.std.specs.Prelude.{◌≡◌, ◌==◌, ◌<◌, [], ℕ, length, is_some, true};
+ghost use Rattle.ldmodel.specs.Edits.{place_of, is_in_use};
+ghost use Rattle.ldproject.specs.Listing.{objects_of, key_count};
+ghost use Rattle.ldproject.specs.Next.{Fits, next_entries, CanChange, next_slot, named_under, KeysAreStable};
+ghost use Rattle.slab.specs.Slab.{get};
+
+mod growing;
+
+use crate::named::NamedObject;
+use crate::staged::{StagedObjects, Step};
+use slab::Slab;
+use std::alloc::Global;
+use std::marker::Model;
+
+/// The objects of a project, each under a key that it keeps, in their order.
+#[derive(Drop)]
+pub struct Kept {
+    alloc: Global,
+    objects: Slab<NamedObject>,
+    order: Vec<usize>,
+}
+
+impl Model for Kept {
+    ghost use Rattle.std.specs.Prelude.{◌-◌, map};
+    ghost use Rattle.slab.specs.Slab.{slab_len};
+    ghost use Rattle.ldproject.specs.Listing.{Contents};
+    ghost use Rattle.ldproject.specs.Slots.{entry_at, IsOrdered};
+
+    ghost Value = { Contents };
+
+    ghost view = { λ k. record {
+      entries = map (entry_at k.objects) k.order.items;
+      vacant_key = k.objects.vacant_key;
+      room = k.objects.capacity - slab_len k.objects;
+    } };
+
+    ghost invariant = { λ k. IsOrdered k.objects k.order.items };
+}
+
+/// Makes a step on the objects, with no allocation.
+fn change(objects: &mut Slab<NamedObject>, step: Step)
+    requires { CanChange objects.old step }
+    ensures { (key : ℕ) → get objects.new key ≡ next_slot objects.old step key }
+{
+    match step {
+        Step::Put { key, named } => {
+            if objects.contains(key) {
+                objects[key] = named;
+            } else {
+                objects.insert_reserved(named);
+            }
+        }
+        Step::Remove { key } => {
+            objects.remove(key);
+        }
+        Step::Stay => {}
+    }
+}
+
+impl Kept {
+    /// No object.
+    pub fn new(alloc: Global) -> Kept
+        ensures { result.entries ≡ [] }
+    {
+        Kept {
+            alloc,
+            objects: Slab::new(alloc),
+            order: Vec::new(alloc),
+        }
+    }
+
+    /// The number of objects.
+    pub fn len(&self) -> usize
+        ensures { result ≡ length self.now.entries }
+    {
+        self.order.len()
+    }
+
+    /// Whether there is no object.
+    pub fn is_empty(&self) -> bool
+        ensures { result ≡ (length self.now.entries == 0) }
+    {
+        self.order.is_empty()
+    }
+
+    /// Where the object with this name stands. The names are looked through one by one.
+    pub fn place_of(&self, name: &[u8]) -> Option<usize>
+        ensures place { result ≡ place_of (objects_of self.now.entries) name.now }
+        ensures used { is_some result ≡ is_in_use (objects_of self.now.entries) name.now }
+    {
+        for (i, key) in self.order.iter().enumerate() {
+            if self.objects[*key].name() == name {
+                return Some(i);
+            }
+        }
+        None
+    }
+
+    /// The object under a key.
+    pub fn named(&self, key: usize) -> &NamedObject
+        requires { 0 < key_count self.now.entries key }
+        ensures { result.now ≡ named_under self.now.entries key }
+    {
+        &self.objects[key]
+    }
+
+    /// Makes a staged edit, with no allocation.
+    pub(crate) fn commit(&mut self, staged: StagedObjects)
+        requires { Fits self.old staged }
+        ensures next { self.new.entries ≡ next_entries self.old.entries staged }
+        ensures stable { KeysAreStable self.old.entries self.new.entries }
+    {
+        let StagedObjects { order, step } = staged;
+        change(&mut self.objects, step);
+        self.order = order;
+    }
+}

@@ -1,0 +1,8 @@
+//! A project under edits that are staged first, with all the memory that they need, and then committed without any.
+#![tactic(auto)]
+
+pub mod edit;
+pub mod kept;
+pub mod named;
+pub mod project;
+pub mod staged;
