@@ -1,7 +1,9 @@
 -- The names that faults and the map have numbers and keys in place of, as the code finds them.
-use Rattle.std.specs.Prelude.{◌≡◌, ℕ, List, [], map, Option}
+use Rattle.std.specs.Prelude.{◌≡◌, ℕ, List, [], map, find, Option, ◌==◌}
 use Rattle.std.specs.Borrow.{Bor}
 use Rattle.std.specs.Option.{option_map, option_map_or}
+use Rattle.elfobj.specs.Sections.{LinkedSection}
+use Rattle.elfobj.specs.declared.section.SectionIndex.{SectionIndex}
 use Rattle.ldscript.specs.Numbered.{shown_regions, shown_sections}
 use Rattle.ldscript.specs.Numbering.{AssertionAt, OutputSectionAt, asserts, output_sections, regions}
 use Rattle.ldtree.specs.declared.statement.Region.{Region}
@@ -37,3 +39,7 @@ pub record AreNamesOf (p : Project) (names : ScriptNames) : Type 0 where
   pub assertions : shown_assertions names.assertions.now ≡ asserts p.script
   pub mentioned : shown_names names.mentioned.now ≡ mentioned_names p.script
   pub entry : option_map (λ (n : Bor (List ℕ)). n.now) names.entry ≡ entry_symbol p
+
+-- the linked section of a number
+abbrev pub numbered : List LinkedSection → SectionIndex → Option LinkedSection
+numbered sections k = find (λ (x : LinkedSection). x.number.0 == k.0) sections

@@ -7,4 +7,5 @@ mod draft;
 mod hex;
 mod line;
 pub mod members;
+mod named;
 pub mod script_names;
