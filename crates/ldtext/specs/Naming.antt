@@ -7,6 +7,10 @@ use Rattle.elfobj.specs.declared.section.SectionIndex.{SectionIndex}
 use Rattle.ldscript.specs.Numbered.{shown_regions, shown_sections}
 use Rattle.ldscript.specs.Numbering.{AssertionAt, OutputSectionAt, asserts, output_sections, regions}
 use Rattle.ldtree.specs.declared.statement.Region.{Region}
+use Rattle.ldmodel.specs.FaultCode.{fault_of}
+use Rattle.ldmodel.specs.FaultText.{fault_words}
+use Rattle.ldmodel.specs.Lines.{line_of}
+use Rattle.ldmodel.specs.declared.fault.Fault as code
 use Rattle.ldmodel.specs.Mentioned.{mentioned_names}
 use Rattle.ldmodel.specs.Names.{entry_symbol}
 use Rattle.ldmodel.specs.Project.{Project}
@@ -43,3 +47,7 @@ pub record AreNamesOf (p : Project) (names : ScriptNames) : Type 0 where
 -- the linked section of a number
 abbrev pub numbered : List LinkedSection → SectionIndex → Option LinkedSection
 numbered sections k = find (λ (x : LinkedSection). x.number.0 == k.0) sections
+
+-- the line of a fault
+abbrev pub line_of_fault : Project → (number : ℕ → ℕ) → code.Fault → List ℕ
+line_of_fault p number f = line_of (fault_words (fault_of p number f))

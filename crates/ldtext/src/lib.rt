@@ -4,6 +4,7 @@
 
 pub mod assertion;
 mod draft;
+mod fault_line;
 mod hex;
 mod line;
 pub mod members;

@@ -1,7 +1,8 @@
 //! The names of a script by their numbers.
 
-ghost use Rattle.std.specs.Prelude.{◌≡◌, slice_get, [], unwrap_or};
-ghost use Rattle.std.specs.Option.{option_map_or};
+ghost use Rattle.std.specs.Prelude.{◌≡◌, ℕ, List, slice_get, [], unwrap_or};
+ghost use Rattle.std.specs.Option.{option_map};
+ghost use Rattle.std.specs.Borrow.{Bor};
 ghost use Rattle.ldscript.specs.Numbered.{shown_regions, shown_sections};
 ghost use Rattle.ldtext.specs.Naming.{assertion_line, assertion_message, shown_assertions, shown_names, section_name, region_name};
 
@@ -52,6 +53,16 @@ impl<'a> ScriptNames<'a> {
     {
         match self.mentioned.get(number.0 as usize) {
             Some(name) => *name,
+            None => &[],
+        }
+    }
+
+    /// The name of the entry symbol; no bytes where the link has none.
+    pub fn entry(&self) -> &'a [u8]
+        ensures { result.now ≡ unwrap_or (option_map (λ (n : Bor (List ℕ)). n.now) self.now.entry) [] }
+    {
+        match self.entry {
+            Some(name) => name,
             None => &[],
         }
     }
