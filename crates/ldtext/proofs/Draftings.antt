@@ -35,3 +35,8 @@ added_both d e f x y h k = k ∙ ap (λ z. added z y) h ∙ added_twice d x y
 -- nothing is left to be added
 pub added_end : (d : Drafted) (rest : List ℕ) (end : Drafted) → rest ≡ [] → added d rest ≡ end → d ≡ end
 added_end d rest end h i = sym (added_none d) ∙ ap (added d) (sym h) ∙ i
+
+-- a text that is written from nothing
+pub written_whole : (d start : Drafted) (text : List ℕ) → start ≡ record { is_written = true; size = 0; bytes = [] } → d ≡ added start text → d.bytes ≡ text
+unfolding added
+written_whole d start text s e = ap (λ x. x.bytes) (e ∙ ap (λ x. added x text) s)

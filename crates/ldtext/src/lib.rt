@@ -5,6 +5,7 @@
 pub mod assertion;
 mod draft;
 mod fault_line;
+pub mod faults;
 mod hex;
 mod line;
 pub mod members;
