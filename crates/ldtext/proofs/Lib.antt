@@ -1,0 +1,4 @@
+-- Lemmas of the crate.
+pub mod Draftings
+pub mod Spelling
+pub mod FoundSections
