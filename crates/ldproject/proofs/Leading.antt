@@ -12,22 +12,27 @@ use Rattle.ldproject.specs.declared.edit.Refusal.{Refusal}
 use Rattle.ldproject.specs.declared.staged.Staged.{Staged}
 
 -- where the objects and the script are known, the next project is
-leads : (h : Holding) (s : Staged) (objects : List NamedObject) (script : Option (List Statement)) → IsStaged h.contents s.objects objects
+leads : (h : Holding) (s : Staged) (objects : List NamedObject) (script : Option (List Statement))
+    → IsStaged h.contents s.objects objects
     → s.script ≡ script
     → project_of (next_listing h s) ≡ record (held h) { objects = objects; script = unwrap_or script h.script }
 leads h s objects script staged e =
-    ap (λ (os : List NamedObject). let p : Project = record { objects = os; script = unwrap_or s.script h.script; options = h.options } in p) staged.makes
-    ∙ ap (λ (m : Option (List Statement)). let p : Project = record { objects = objects; script = unwrap_or m h.script; options = h.options } in p) e
+    ap (λ (os : List NamedObject). let p : Project =
+    record { objects = os; script = unwrap_or s.script h.script; options = h.options } in p) staged.makes
+    ∙ ap (λ (m : Option (List Statement)). let p : Project =
+    record { objects = objects; script = unwrap_or m h.script; options = h.options } in p) e
 
 -- an edit of the objects alone
-pub stages_objects : (h : Holding) (c : Change) (next : List NamedObject) (r : Result Staged Refusal) → early_refusal (held h) c ≡ None
+pub stages_objects : (h : Holding) (c : Change) (next : List NamedObject) (r : Result Staged Refusal)
+    → early_refusal (held h) c ≡ None
     → Accepts (held h) c (with_objects (held h) next) → Makes h next r → Stages h c r
 stages_objects h c next (Ok s) early accepts made =
     (made.0.fits, (early, subst (Accepts (held h) c) (sym (leads h s next None made.0 made.1)) accepts))
 stages_objects h c next (Err r) early accepts made = inr (early, ap refusal_of made)
 
 -- an edit of the script
-pub stages_script : (h : Holding) (text : List ℕ) (script : List Statement) (r : Result Staged Refusal) → early_refusal (held h) (SetScript text) ≡ None
+pub stages_script : (h : Holding) (text : List ℕ) (script : List Statement) (r : Result Staged Refusal)
+    → early_refusal (held h) (SetScript text) ≡ None
     → IsScript text script → MakesScript h script r → Stages h (SetScript text) r
 stages_script h text script (Ok s) early is made =
     (made.0.fits, (early, (script, is, leads h s (held h).objects (Some script) made.0 made.1)))

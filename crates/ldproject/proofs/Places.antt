@@ -1,5 +1,6 @@
 -- Where an object with a name stands.
-use Rattle.std.proofs.Common.{◌≡◌, ℕ, ◌<◌, List, map, length, get_or, ap, ◌∙◌, arith, Bool, true, false, cond, refl, ◌∷◌, [], ◌+◌}
+use Rattle.std.proofs.Common.{◌≡◌, ℕ, ◌<◌, List, map, length, get_or, ap, ◌∙◌, arith, Bool, true, false, cond, refl}
+use Rattle.std.proofs.Common.{◌∷◌, [], ◌+◌}
 use Rattle.std.specs.Prelude.{bytes_eq, is_some, Some, None, nat_lt, ◌||◌, not}
 use Rattle.std.specs.List.{list_any, position, position_or_len}
 use Rattle.std.proofs.lemmas.List.{length-map, get_or-map}
@@ -12,45 +13,55 @@ use Rattle.ldmodel.specs.Project.{NamedObject}
 use Rattle.ldproject.specs.Listing.{Entry}
 use Rattle.ldproject.specs.Slots.{named_at, entry_at}
 
-pub position-some : {X : Type 0} (p : X → Bool) (xs : List X) (i : ℕ) (d : X) → i < length xs → ((k : ℕ) → k < i → p (get_or xs k d) ≡ false) → p (get_or xs i d) ≡ true
+pub position-some : {X : Type 0} (p : X → Bool) (xs : List X) (i : ℕ) (d : X) → i < length xs
+    → ((k : ℕ) → k < i → p (get_or xs k d) ≡ false) → p (get_or xs i d) ≡ true
     → position p xs ≡ Some i
 position-some p xs i d h before here =
     let at : position_or_len p xs ≡ i = position_or_len_is p xs i d (omega arith) before (λ _. here) in
     rw at (ap (λ b. cond b (Some i) None) (lt-ltb i (length xs) h))
 
-pub position-none : {X : Type 0} (p : X → Bool) (xs : List X) (d : X) → ((k : ℕ) → k < length xs → p (get_or xs k d) ≡ false) → position p xs ≡ None
+pub position-none : {X : Type 0} (p : X → Bool) (xs : List X) (d : X)
+    → ((k : ℕ) → k < length xs → p (get_or xs k d) ≡ false) → position p xs ≡ None
 position-none p xs d before =
-    let at : position_or_len p xs ≡ length xs = position_or_len_is p xs (length xs) d (omega arith) before (λ h. absurd (omega arith)) in
+    let at : position_or_len p xs ≡ length xs =
+    position_or_len_is p xs (length xs) d (omega arith) before (λ h. absurd (omega arith)) in
     rw at (ap (λ b. cond b (Some (length xs)) None) (le-ltb (length xs) (length xs) (omega arith)))
 
 abbrev pub is_named_at : Slab NamedObject → List ℕ → List ℕ → ℕ → Bool
 is_named_at slots order name i = bytes_eq (named_at slots (get_or order i 0)).name name
 
 -- the test of a name, at an element of the mapped list
-named_there : (slots : Slab NamedObject) (order name : List ℕ) (i : ℕ) (b : Bool) → i < length order → is_named_at slots order name i ≡ b
+named_there : (slots : Slab NamedObject) (order name : List ℕ) (i : ℕ) (b : Bool) → i < length order
+    → is_named_at slots order name i ≡ b
     → bytes_eq (get_or (map (named_at slots) order) i unnamed).name name ≡ b
-named_there slots order name i b h e = ap (λ (o : NamedObject). bytes_eq o.name name) (get_or-map (named_at slots) order i 0 unnamed h) ∙ e
+named_there slots order name i b h e =
+    ap (λ (o : NamedObject). bytes_eq o.name name) (get_or-map (named_at slots) order i 0 unnamed h) ∙ e
 
 -- the objects that the entries show
 abbrev pub objects_shown : Slab NamedObject → List ℕ → List NamedObject
 objects_shown slots order = map (λ (e : Entry). e.named) (map (entry_at slots) order)
 
-pub objects-entries : (slots : Slab NamedObject) (order : List ℕ) → map (λ (e : Entry). e.named) (map (entry_at slots) order) ≡ map (named_at slots) order
+pub objects-entries : (slots : Slab NamedObject) (order : List ℕ)
+    → map (λ (e : Entry). e.named) (map (entry_at slots) order) ≡ map (named_at slots) order
 objects-entries slots order = map-map (λ (e : Entry). e.named) (entry_at slots) order
 
-pub place_of-some : (slots : Slab NamedObject) (order name : List ℕ) (i : ℕ) → i < length order → ((k : ℕ) → k < i → is_named_at slots order name k ≡ false) → is_named_at slots order name i ≡ true
+pub place_of-some : (slots : Slab NamedObject) (order name : List ℕ) (i : ℕ) → i < length order
+    → ((k : ℕ) → k < i → is_named_at slots order name k ≡ false) → is_named_at slots order name i ≡ true
     → place_of (objects_shown slots order) name ≡ Some i
 place_of-some slots order name i h before here =
     ap (λ objects. place_of objects name) (objects-entries slots order)
     ∙ position-some (λ (o : NamedObject). bytes_eq o.name name) (map (named_at slots) order) i unnamed (rw length-map h)
-    (λ k q. named_there slots order name k false (omega arith) (before k q)) (named_there slots order name i true h here)
+    (λ k q. named_there slots order name k false (omega arith) (before k q))
+    (named_there slots order name i true h here)
 
-pub place_of-none : (slots : Slab NamedObject) (order name : List ℕ) → ((k : ℕ) → k < length order → is_named_at slots order name k ≡ false)
+pub place_of-none : (slots : Slab NamedObject) (order name : List ℕ)
+    → ((k : ℕ) → k < length order → is_named_at slots order name k ≡ false)
     → place_of (objects_shown slots order) name ≡ None
 place_of-none slots order name before =
     ap (λ objects. place_of objects name) (objects-entries slots order)
     ∙ position-none (λ (o : NamedObject). bytes_eq o.name name) (map (named_at slots) order) unnamed
-    (λ k q. let h : k < length order = rw (length-map order (named_at slots)) at q in named_there slots order name k false h (before k h))
+    (λ k q. let h : k < length order = rw (length-map order (named_at slots)) at q in
+    named_there slots order name k false h (before k h))
 
 -- an element passes at a place exactly where one passes at all
 lt_any : {X : Type 0} (p : X → Bool) (xs : List X) → nat_lt (position_or_len p xs) (length xs) ≡ list_any p xs

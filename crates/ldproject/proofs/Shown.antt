@@ -19,10 +19,12 @@ next_entry_at entries step order at key o within there named =
     ∙ ap (λ (n : NamedObject). let e : Entry = record { key = key; named = n } in Some e) named)
 
 -- a key that is listed after the step, and under which it puts no object, was listed before
-pub listed_before : (entries : List Entry) (step : Step) (key : ℕ) → put_under step key ≡ None → 0 < next_count entries step key → 0 < key_count entries key
+pub listed_before : (entries : List Entry) (step : Step) (key : ℕ) → put_under step key ≡ None
+    → 0 < next_count entries step key → 0 < key_count entries key
 listed_before entries (Put new named) key none h = at_key (nat_eq key new) none h
   where
-    at_key : (b : Bool) → cond b (Some named) None ≡ None → 0 < cond b 1 (key_count entries key) → 0 < key_count entries key
+    at_key : (b : Bool) → cond b (Some named) None ≡ None → 0 < cond b 1 (key_count entries key)
+        → 0 < key_count entries key
     at_key true none h = cc
     at_key false none h = h
 listed_before entries (Remove old) key none h = at_key (nat_eq key old) h

@@ -1,10 +1,12 @@
 //! A project, changed by edits in two parts.
 
 ghost use Rattle.std.specs.Prelude.{◌≡◌, ◌<◌, length, Some, None, option_map, slice_get, is_some, ◌==◌};
-ghost use Rattle.ldmodel.specs.Edits.{Add, Replace, Move, Remove, SetScript, early_refusal, place_of, is_in_use, is_full};
+ghost use Rattle.ldmodel.specs.Edits.{Add, Replace, Move, Remove, SetScript, early_refusal, place_of, is_in_use};
+ghost use Rattle.ldmodel.specs.Edits.{is_full};
 ghost use Rattle.ldmodel.specs.Project.{empty_project};
 ghost use Rattle.ldproject.specs.EditMeaning.{change_of, refusal_of};
-ghost use Rattle.ldproject.specs.Holding.{Holding, Listing, Stages, SameHolding, ReadsAtMostOne, held, listing_of, next_listing, project_of};
+ghost use Rattle.ldproject.specs.Holding.{Holding, Listing, Stages, SameHolding, ReadsAtMostOne, held, listing_of};
+ghost use Rattle.ldproject.specs.Holding.{next_listing, project_of};
 ghost use Rattle.ldproject.specs.Listing.{objects_of};
 ghost use Rattle.ldproject.specs.Next.{Fits, KeysAreStable};
 

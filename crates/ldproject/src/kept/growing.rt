@@ -1,6 +1,7 @@
 //! All growths of an edit of the objects, before anything changes.
 
-ghost use Rattle.std.specs.Prelude.{◌≡◌, ◌<◌, ◌≤◌, None, Some, IfOk, insert, remove, slice_set, slice_index, slice_index_or, length};
+ghost use Rattle.std.specs.Prelude.{◌≡◌, ◌<◌, ◌≤◌, None, Some, IfOk, insert, remove, slice_set, slice_index};
+ghost use Rattle.std.specs.Prelude.{slice_index_or, length};
 ghost use Rattle.ldmodel.specs.Edits.{place_of, unnamed};
 ghost use Rattle.ldproject.specs.Listing.{objects_of};
 ghost use Rattle.ldproject.specs.Staging.{IsStaged, SameButRoom};
@@ -62,7 +63,9 @@ impl Kept {
         requires place { at ≤ length self.old.entries }
         requires unused { place_of (objects_of self.old.entries) name.now ≡ None }
         ensures same { SameButRoom self.old self.new }
-        ensures staged { IfOk result (λ s. IsStaged self.new s (insert (objects_of self.old.entries) at (record { name = name.now; object = object }))) }
+        ensures staged { IfOk result (λ s.
+            IsStaged self.new s (insert (objects_of self.old.entries) at
+            (record { name = name.now; object = object }))) }
     {
         let named = NamedObject::new(self.alloc, name, object)?;
         self.objects.reserve(1)?;
@@ -82,7 +85,9 @@ impl Kept {
         object: Object,
     ) -> Result<StagedObjects, NoMemory>
         requires { place_of (objects_of self.now.entries) name.now ≡ Some at }
-        ensures { IfOk result (λ s. IsStaged self.now s (slice_set (objects_of self.now.entries) at (record { name = name.now; object = object }))) }
+        ensures { IfOk result (λ s.
+            IsStaged self.now s (slice_set (objects_of self.now.entries) at
+            (record { name = name.now; object = object }))) }
     {
         let named = NamedObject::new(self.alloc, name, object)?;
         let order = Vec::from_slice(self.alloc, &self.order)?;
@@ -98,7 +103,8 @@ impl Kept {
         requires from { from < length self.now.entries }
         requires to { to ≤ length (remove (objects_of self.now.entries) from) }
         ensures { let objects = objects_of self.now.entries in
-            IfOk result (λ s. IsStaged self.now s (insert (remove objects from) to (slice_index_or objects from unnamed))) }
+            IfOk result (λ s. IsStaged self.now s
+            (insert (remove objects from) to (slice_index_or objects from unnamed))) }
     {
         let order = with_key_moved(self.alloc, &self.order, from, to)?;
         Ok(StagedObjects {

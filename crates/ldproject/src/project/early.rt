@@ -1,7 +1,8 @@
 //! The refusals of an edit for which neither an object nor a script is read, and where the edit is to be made.
 
 ghost use Rattle.std.specs.Prelude.{◌≡◌, ◌≤◌, ◌<◌, ◌||◌, None, Some, IfOk, IfErr, length, not};
-ghost use Rattle.ldmodel.specs.Edits.{Add, Replace, Move, Remove, SetScript, early_refusal, is_full, is_object_name, is_too_long, place_of};
+ghost use Rattle.ldmodel.specs.Edits.{Add, Replace, Move, Remove, SetScript, early_refusal, is_full, is_object_name};
+ghost use Rattle.ldmodel.specs.Edits.{is_too_long, place_of};
 ghost use Rattle.ldproject.specs.EditMeaning.{refusal_of};
 ghost use Rattle.ldproject.specs.Holding.{held};
 ghost use Rattle.ldproject.specs.Listing.{objects_of};
@@ -24,7 +25,8 @@ impl Kept {
 
     /// Whether the name, the bytes or one more object is outside the limits.
     fn is_over_limit(&self, name: &[u8], bytes: &[u8]) -> bool
-        ensures { result ≡ (not (is_object_name name.now) || is_too_long bytes.now || is_full (objects_of self.now.entries)) }
+        ensures { result ≡ (not (is_object_name name.now) || is_too_long bytes.now
+            || is_full (objects_of self.now.entries)) }
     {
         !is_object_name(name) || is_too_long(bytes) || self.is_full()
     }
@@ -37,7 +39,8 @@ impl Project {
         ensures ok { IfOk result (λ place. early_refusal (held self.now) (Add name.now at bytes.now) ≡ None) }
         ensures place { IfOk result (λ place. (place ≡ at) × (place ≤ length self.now.contents.entries)) }
         ensures unused { IfOk result (λ place. place_of (objects_of self.now.contents.entries) name.now ≡ None) }
-        ensures err { IfErr result (λ r. early_refusal (held self.now) (Add name.now at bytes.now) ≡ Some (refusal_of r)) }
+        ensures err { IfErr result (λ r. early_refusal (held self.now) (Add name.now at bytes.now)
+            ≡ Some (refusal_of r)) }
     {
         if let Some(_) = self.kept.place_of(name) {
             return Err(Refusal::InUse);
@@ -56,7 +59,8 @@ impl Project {
     pub(crate) fn place_to_replace(&self, name: &[u8], bytes: &[u8]) -> Result<usize, Refusal>
         ensures ok { IfOk result (λ place. early_refusal (held self.now) (Replace name.now bytes.now) ≡ None) }
         ensures place { IfOk result (λ place. place_of (objects_of self.now.contents.entries) name.now ≡ Some place) }
-        ensures err { IfErr result (λ r. early_refusal (held self.now) (Replace name.now bytes.now) ≡ Some (refusal_of r)) }
+        ensures err { IfErr result (λ r. early_refusal (held self.now) (Replace name.now bytes.now)
+            ≡ Some (refusal_of r)) }
     {
         let Some(place) = self.kept.place_of(name) else {
             return Err(Refusal::Unknown);

@@ -17,7 +17,8 @@ use ldscript::script::Script;
 
 /// An edit of the objects alone, for which all memory was had.
 fn staged(grown: Result<StagedObjects, NoMemory>) -> Result<Staged, Refusal>
-    ensures ok { (h : Holding) (next : List NamedObject) → IfOk grown (λ s. IsStaged h.contents s next) → Makes h next result }
+    ensures ok { (h : Holding) (next : List NamedObject) → IfOk grown (λ s. IsStaged h.contents s next)
+        → Makes h next result }
 {
     match grown {
         Ok(objects) => Ok(Staged {

@@ -15,5 +15,6 @@ returns c =
     sym (get_or_read c.self.inside.order.items c.args.at c.index-key.result.now within c.index-key.ensures 0) in
     subst (λ (k : Contents). IsStaged k (staged c.in_ok-order.order (Remove c.index-key.result.now))
     (remove (objects_of k.entries) c.args.at)) c.self.view_is
-    (removed_staged c.self.inside.objects c.self.inside.order.items c.args.at c.index-key.result.now c.in_ok-order.order c.self.invariant within key
+    (removed_staged c.self.inside.objects c.self.inside.order.items c.args.at c.index-key.result.now
+    c.in_ok-order.order c.self.invariant within key
     (c.in_ok-order.ensures ∙ ap (λ ks. remove ks c.args.at) c.deref.ensures.value))

@@ -13,13 +13,16 @@ pub returns : goal.returns
 returns c =
     let o : NamedObject = record { name = c.args.name.now; object = c.args.object } in
     let named : c.in_ok-named.named ≡ o = c.in_ok-named.ensures in
-    let place = subst (λ (k : Contents). place_of (objects_of k.entries) c.args.name.now ≡ Some c.args.at) (sym c.self.view_is) c.requires in
-    let within : c.args.at < length c.self.inside.order.items = place_within c.self.inside.objects c.self.inside.order.items c.args.name.now c.args.at place in
+    let place = subst (λ (k : Contents). place_of (objects_of k.entries) c.args.name.now
+    ≡ Some c.args.at) (sym c.self.view_is) c.requires in
+    let within : c.args.at < length c.self.inside.order.items =
+    place_within c.self.inside.objects c.self.inside.order.items c.args.name.now c.args.at place in
     let key : get_or c.self.inside.order.items c.args.at 0 ≡ c.index-key.result.now =
     sym (get_or_read c.self.inside.order.items c.args.at c.index-key.result.now within c.index-key.ensures 0) in
     let at_o = subst (λ (k : Contents). IsStaged k (staged c.in_ok-order.order (Put c.index-key.result.now o))
     (set (objects_of k.entries) c.args.at o)) c.self.view_is
-    (replaced_staged c.self.inside.objects c.self.inside.order.items c.args.at c.index-key.result.now o c.in_ok-order.order c.self.invariant key place
+    (replaced_staged c.self.inside.objects c.self.inside.order.items c.args.at c.index-key.result.now o
+    c.in_ok-order.order c.self.invariant key place
     (c.in_ok-order.ensures.items ∙ c.deref.ensures.value)) in
     subst (λ (n : NamedObject). IsStaged c.args.self.now (staged c.in_ok-order.order (Put c.index-key.result.now n))
     (set (objects_of c.args.self.now.entries) c.args.at o)) (sym named) at_o

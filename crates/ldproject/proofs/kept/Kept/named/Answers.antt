@@ -11,7 +11,8 @@ use Rattle.ldproject.proofs.kept.Kept.named.Goals as goal
 pub returns : goal.returns
 returns c =
     let listed = subst (λ (k : Contents). 0 < key_count k.entries c.args.key) (sym c.self.view_is) c.requires in
-    let count : 0 < count_by (nat_eq c.args.key) c.self.inside.order.items = omega (arith, listed, key_count-entries c.self.inside.objects c.self.inside.order.items c.args.key) in
+    let count : 0 < count_by (nat_eq c.args.key) c.self.inside.order.items =
+    omega (arith, listed, key_count-entries c.self.inside.objects c.self.inside.order.items c.args.key) in
     sym (ap (λ (k : Contents). named_under k.entries c.args.key) (sym c.self.view_is)
     ∙ (named_under-entries c.self.inside.objects c.self.inside.order.items c.args.key count
     ∙ ap (λ (o : Option NamedObject). unwrap_or o unnamed) c.index.ensures))

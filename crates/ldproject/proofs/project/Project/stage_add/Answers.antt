@@ -12,21 +12,35 @@ use Rattle.ldproject.specs.Listing.{Contents}
 
 pub returns-in-Ok-read-clause-staged : goal.returns-in-Ok-read-clause-staged
 returns-in-Ok-read-clause-staged c =
-    let old : Holding = record { contents = c.self.inside.kept; script = c.self.inside.script; options = c.self.inside.options } in
-    let h : Holding = record { contents = c.grow_add.new.self; script = c.self.inside.script; options = c.self.inside.options } in
+    let old : Holding = record {
+      contents = c.self.inside.kept;
+      script = c.self.inside.script;
+      options =
+          c.self.inside.options;
+    } in
+    let h : Holding = record {
+      contents = c.grow_add.new.self;
+      script = c.self.inside.script;
+      options =
+          c.self.inside.options;
+    } in
     let change : Change = Add c.args.name.now c.args.at c.args.bytes.items in
     let objects : List NamedObject = objects_of old.contents.entries in
     let o : NamedObject = record { name = c.args.name.now; object = c.in-Ok-read.object } in
     let next : List NamedObject = insert objects c.in-Ok.place o in
-    let same : old.contents.entries ≡ h.contents.entries = sym (ap (λ (k : Contents). k.entries) c.grow_add.ensures.same.same) in
+    let same : old.contents.entries ≡ h.contents.entries =
+    sym (ap (λ (k : Contents). k.entries) c.grow_add.ensures.same.same) in
     let project : held old ≡ held h =
-    ap (λ (es : List Entry). let p : Project = record { objects = objects_of es; script = c.self.inside.script; options = c.self.inside.options } in p) same in
+    ap (λ (es : List Entry). let p : Project =
+    record { objects = objects_of es; script = c.self.inside.script; options = c.self.inside.options } in p) same in
     let early_here : early_refusal (held c.args.self.now) change ≡ None =
-    ap (λ (b : List ℕ). early_refusal (held c.args.self.now) (Add c.args.name.now c.args.at b)) (sym c.deref.ensures.value) ∙ c.in-Ok.ensures.ok in
+    ap (λ (b : List ℕ). early_refusal (held c.args.self.now) (Add c.args.name.now c.args.at b))
+    (sym c.deref.ensures.value) ∙ c.in-Ok.ensures.ok in
     let early_old = subst (λ (x : Holding). early_refusal (held x) change ≡ None) (sym c.self.view_is) early_here in
     let early = subst (λ (p : Project). early_refusal p change ≡ None) project early_old in
     let read : o ≡ named c.args.name.now c.args.bytes.items =
-    ap (λ (d : ObjectData). let x : NamedObject = record { name = c.args.name.now; object = d } in x) c.in-Ok-read.ensures.ok.1 in
+    ap (λ (d : ObjectData). let x : NamedObject = record { name = c.args.name.now; object = d } in
+    x) c.in-Ok-read.ensures.ok.1 in
     let made : next ≡ insert (objects_of h.contents.entries) c.args.at (named c.args.name.now c.args.bytes.items) =
     ap (λ (x : NamedObject). insert objects c.in-Ok.place x) read
     ∙ (ap (λ (i : ℕ). insert objects i (named c.args.name.now c.args.bytes.items)) c.in-Ok.ensures.place.0

@@ -3,4 +3,5 @@ use Rattle.ldproject.proofs.project.Project.stage_script.Goals as goal
 
 pub returns-in-Ok : goal.returns-in-Ok
 returns-in-Ok c =
-    stages_script c.args.self.now c.args.text.now c.in-Ok.script c.stage_read.result c.in_default.ensures.ok c.in-Ok.ensures.read c.stage_read.ensures
+    stages_script c.args.self.now c.args.text.now c.in-Ok.script c.stage_read.result c.in_default.ensures.ok
+    c.in-Ok.ensures.read c.stage_read.ensures
