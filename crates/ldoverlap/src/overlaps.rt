@@ -74,11 +74,7 @@ fn number(k: usize) -> Result<OutputIndex, NoMemory>
 }
 
 /// The faults of all that meet an earlier one, with the first such.
-fn push_meetings(
-    faults: &mut Vec<Fault>,
-    space: Space,
-    extents: &[Extent],
-) -> Result<(), NoMemory>
+fn push_meetings(faults: &mut Vec<Fault>, space: Space, extents: &[Extent]) -> Result<(), NoMemory>
     ensures { OnOk result (faults.new.items ≡ faults.old.items ++ met_before space extents.now) }
 {
     for k in 0..extents.len() {

@@ -1,6 +1,7 @@
 //! The length of the image.
 
 ghost use Rattle.std.specs.Prelude.{◌≡◌, ℕ, ◌+◌, ◌*◌, ◌≤◌, ◌<◌, ◌^◌, List, length, nat_lt, Option, Some, None, if◌then◌else◌};
+ghost use Rattle.std.specs.Int.{next_multiple_of};
 ghost use Rattle.ldmodel.specs.Link.{max_image_length};
 ghost use Rattle.ldmodel.specs.declared.fault.Fault.TheVariants.{ImageTooLong};
 ghost use Rattle.ldsegments.specs.Length.{IsImageLength};
@@ -27,20 +28,22 @@ pub struct TailSizes {
 
 /// The least multiple of 8 not below a number.
 fn align(x: u128) -> u128
-    requires { x < 2 ^ 127 }
+    requires { x + 8 < 2 ^ 128 }
     ensures { result ≡ next_multiple_of x 8 }
 {
     x + (8 - x % 8) % 8
 }
 
+/// A cap that no file reaches.
+const FAR: u128 = 3 << 126;
+
 /// Where the loaded part of the file ends: at the end of the last file bytes, or of the headers.
-fn loaded_end(segments: &[Segment]) -> u128
-{
+fn loaded_end(segments: &[Segment]) -> u128 {
     let mut end = header_length(segments.len());
     for segment in segments {
-        end = end_after(end, segment);
+        end = end_after(end, *segment);
     }
-    end
+    end.min(FAR)
 }
 
 /// The length of an image with these segments and this tail.
