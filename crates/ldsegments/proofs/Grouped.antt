@@ -1,16 +1,9 @@
 -- The groups of the code, from the first output section to the last, are those of the definition.
-use Rattle.std.proofs.Common.{◌≡◌, ◌∙◌, sym, refl, ap, subst, ℕ, ◌+◌, ◌-◌, List, [], ◌∷◌, ◌++◌, append_assoc, map, fold}
-use Rattle.std.proofs.Common.{Option, Some, None, Bool, true, false, ◌==◌, cond, arith, slice_get, if◌then◌else◌, not}
-use Rattle.std.proofs.lemmas.Grind.{common_steps, fold-append}
-use Rattle.std.specs.List.{AllZip, last_or}
+use Rattle.std.proofs.Common.{◌≡◌, ◌∙◌, sym, refl, ap, List, [], ◌∷◌, ◌++◌, append_assoc}
+use Rattle.std.proofs.Common.{None, Bool, true, false, if◌then◌else◌}
 use Rattle.ldmodel.specs.Layout.{PlacedSection}
-use Rattle.ldmodel.specs.Lent.{placed_of}
-use Rattle.ldmodel.specs.Segments.{Group, file_size, groups, has_file_bytes, memory_size, nonempty, reach, sections_in, shares_segment, with_front}
-use Rattle.ldmodel.specs.declared.laid.OutputIndex.{OutputIndex}
-use Rattle.ldmodel.specs.declared.laid.Placed.{Placed}
-use Rattle.ldsegments.specs.declared.group.Group as code
-use Rattle.ldsegments.specs.declared.group.Running.{Running}
-use Rattle.ldsegments.specs.Grouping.{IsGroup, Current, IsCurrent, IsRunning, Grouped, Takes, begun, joined, single, extended, groups_after, groups_from}
+use Rattle.ldmodel.specs.Segments.{Group, groups, sections_in, shares_segment, with_front}
+use Rattle.ldsegments.specs.Grouping.{Current, single, extended, groups_after, groups_from}
 
 -- a group that may go on, before the groups of those after it
 abbrev continue : Current → List Group → List Group
@@ -26,13 +19,13 @@ joint q g = record { first = q; others = sections_in g }
 over_front : (c : Current) (q : PlacedSection) (gs : List Group)
     → continue c (with_front q gs)
     ≡ (if shares_segment c.last q then continue (record { group = extended c.group q; last = q }) gs
-       else (c.group ∷ continue (record { group = single q; last = q }) gs))
+    else (c.group ∷ continue (record { group = single q; last = q }) gs))
 over_front c q [] = refl
 over_front c q (g ∷ gs) = by_case (shares_segment q g.first) where
   by_case : (b : Bool) → continue c (if b then joint q g ∷ gs else (single q ∷ g ∷ gs))
       ≡ (if shares_segment c.last q
-         then (if b then record { first = c.group.first; others = (c.group.others ++ q ∷ []) ++ sections_in g } ∷ gs else (extended c.group q ∷ g ∷ gs))
-         else (c.group ∷ (if b then joint q g ∷ gs else (single q ∷ g ∷ gs))))
+      then (if b then record { first = c.group.first; others = (c.group.others ++ q ∷ []) ++ sections_in g } ∷ gs else (extended c.group q ∷ g ∷ gs))
+      else (c.group ∷ (if b then joint q g ∷ gs else (single q ∷ g ∷ gs))))
   by_case true =
       ap (λ (o : List PlacedSection). if shares_segment c.last q then record { first = c.group.first; others = o } ∷ gs else (c.group ∷ joint q g ∷ gs))
       (sym (append_assoc c.group.others (q ∷ []) (sections_in g)))

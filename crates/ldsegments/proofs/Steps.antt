@@ -1,19 +1,19 @@
 -- One more output section for the groups so far.
-use Rattle.std.proofs.Common.{◌≡◌, ◌∙◌, sym, refl, ap, subst, ℕ, ◌+◌, ◌-◌, List, [], ◌∷◌, ◌++◌, append_assoc, drop, map, fold, add-one}
-use Rattle.std.proofs.Common.{Option, Some, None, zero, suc, length, get_or, ◌<◌, ◌≤◌, Bool, true, false, ◌==◌, cond, arith, slice_get, if◌then◌else◌, not}
-use Rattle.std.proofs.lemmas.Grind.{common_steps, fold-append}
+use Rattle.std.proofs.Common.{◌≡◌, ◌∙◌, sym, refl, ap, subst, ℕ, ◌+◌, ◌-◌, List, [], ◌∷◌, ◌++◌, append_assoc, drop, map, add-one}
+use Rattle.std.proofs.Common.{Option, Some, None, zero, suc, length, get_or, ◌<◌, ◌≤◌, Bool, true, false, ◌==◌, arith, slice_get, if◌then◌else◌, not}
+use Rattle.std.proofs.lemmas.Grind.{fold-append}
 use Rattle.std.proofs.lemmas.Bool.{false_from_ne_true}
 use Rattle.std.proofs.lemmas.Bool.Decides.{Decides-eqb}
 use Rattle.std.proofs.lemmas.List.{append-nil, drop_all, length-map}
 use Rattle.std.specs.List.{AllZip, last_or}
 use Rattle.ldmodel.specs.Layout.{PlacedSection}
 use Rattle.ldmodel.specs.Lent.{placed_of}
-use Rattle.ldmodel.specs.Segments.{Group, file_size, groups, has_file_bytes, memory_size, nonempty, reach, sections_in, shares_segment}
+use Rattle.ldmodel.specs.Segments.{Group, file_size, groups, has_file_bytes, nonempty, reach, shares_segment}
 use Rattle.ldmodel.specs.declared.laid.OutputIndex.{OutputIndex}
 use Rattle.ldmodel.specs.declared.laid.Placed.{Placed}
 use Rattle.ldsegments.specs.declared.group.Group as code
 use Rattle.ldsegments.specs.declared.group.Running.{Running}
-use Rattle.ldsegments.specs.Grouping.{IsGroup, Current, IsCurrent, IsRunning, Grouped, Takes, bare, begun, joined, single, extended, groups_after, groups_from}
+use Rattle.ldsegments.specs.Grouping.{IsGroup, Current, IsRunning, Grouped, Takes, bare, begun, joined, single, extended, groups_after, groups_from}
 use Rattle.ldsegments.proofs.Grouped.{from_none}
 
 pub zip_more : {A B : Type 0} (R : A → B → Type 0) (xs : List A) (ys : List B) (x : A) (y : B) → AllZip R xs ys → R x y
@@ -124,8 +124,8 @@ goes_on s rest q number done x at filled h shared = with_some h.current h.is h.s
     same =
         same ∙ ap (λ l. h.complete ++ groups_after c l) (filled_is q rest filled)
         ∙ ap (λ b. h.complete ++ (if b then groups_after (record { group = extended c.group q; last = q }) (nonempty rest)
-                                  else (c.group ∷ groups_after (record { group = single q; last = q }) (nonempty rest))))
-          (shared c.last is.last);
+        else (c.group ∷ groups_after (record { group = single q; last = q }) (nonempty rest))))
+        (shared c.last is.last);
   }
 
 -- a group ends, and the next one begins
@@ -140,19 +140,19 @@ ends s rest q number done x at filled h apart = with_some h.current h.is h.same 
       → Grouped s rest (done ++ x.group ∷ []) (Some (record { group = begun number (placed_of q); last = placed_of q }))
   with_some None is same = absurd is
   with_some (Some c) is same =
-    let next : List Group = groups_after (record { group = single q; last = q }) (nonempty rest) in
-    record {
-      complete = h.complete ++ c.group ∷ [];
-      current = Some (record { group = single q; last = q });
-      are = zip_more (IsGroup s) h.complete done c.group x.group h.are is.group;
-      is = record { group = begun_is s q number at; last = refl };
-      same =
-          same ∙ ap (λ l. h.complete ++ groups_after c l) (filled_is q rest filled)
-          ∙ ap (λ b. h.complete ++ (if b then groups_after (record { group = extended c.group q; last = q }) (nonempty rest)
-                                    else (c.group ∷ next)))
+      let next : List Group = groups_after (record { group = single q; last = q }) (nonempty rest) in
+      record {
+        complete = h.complete ++ c.group ∷ [];
+        current = Some (record { group = single q; last = q });
+        are = zip_more (IsGroup s) h.complete done c.group x.group h.are is.group;
+        is = record { group = begun_is s q number at; last = refl };
+        same =
+            same ∙ ap (λ l. h.complete ++ groups_after c l) (filled_is q rest filled)
+            ∙ ap (λ b. h.complete ++ (if b then groups_after (record { group = extended c.group q; last = q }) (nonempty rest)
+            else (c.group ∷ next)))
             (apart c.last is.last)
-          ∙ sym (append_assoc h.complete (c.group ∷ []) next);
-    }
+            ∙ sym (append_assoc h.complete (c.group ∷ []) next);
+      }
 
 pub none_left : (s : List PlacedSection) (done : List code.Group) → Grouped s [] done None
     → AllZip (IsGroup s) (groups (nonempty s)) done
@@ -199,9 +199,9 @@ pub take_begins : (done : List code.Group) (k : ℕ) (placed : Placed) (number :
     → Takes done None k placed done (Some (record { group = g; last = placed }))
 take_begins done k placed number g same filled made = record {
   at = λ s rest q at is h.
-    subst (λ r. Grouped s rest done (Some r))
-    (ap (λ (x : Placed). running_at (begun number x) x) is ∙ ap (λ x. running_at x placed) (sym made))
-    (begins s rest q number done (ap (λ n. slice_get s n) same ∙ at) (ap (λ (x : Placed). x.size == 0) is ∙ no_zero placed.size filled) h);
+      subst (λ r. Grouped s rest done (Some r))
+      (ap (λ (x : Placed). running_at (begun number x) x) is ∙ ap (λ x. running_at x placed) (sym made))
+      (begins s rest q number done (ap (λ n. slice_get s n) same ∙ at) (ap (λ (x : Placed). x.size == 0) is ∙ no_zero placed.size filled) h);
 }
 
 pub take_goes_on : (done : List code.Group) (x : Running) (k : ℕ) (placed : Placed) (number : OutputIndex) (g : code.Group)
@@ -210,10 +210,10 @@ pub take_goes_on : (done : List code.Group) (x : Running) (k : ℕ) (placed : Pl
     → Takes done (Some x) k placed done (Some (record { group = g; last = placed }))
 take_goes_on done x k placed number g same filled made shared = record {
   at = λ s rest q at is h.
-    subst (λ r. Grouped s rest done (Some r))
-    (ap (λ (y : Placed). running_at (joined x.group number y) y) is ∙ ap (λ y. running_at y placed) (sym made))
-    (goes_on s rest q number done x (ap (λ n. slice_get s n) same ∙ at) (ap (λ (y : Placed). y.size == 0) is ∙ no_zero placed.size filled) h
-     (λ p px. shared_by_numbers p q x.last placed true px is shared));
+      subst (λ r. Grouped s rest done (Some r))
+      (ap (λ (y : Placed). running_at (joined x.group number y) y) is ∙ ap (λ y. running_at y placed) (sym made))
+      (goes_on s rest q number done x (ap (λ n. slice_get s n) same ∙ at) (ap (λ (y : Placed). y.size == 0) is ∙ no_zero placed.size filled) h
+      (λ p px. shared_by_numbers p q x.last placed true px is shared));
 }
 
 pub take_ends : (done : List code.Group) (x : Running) (k : ℕ) (placed : Placed) (number : OutputIndex) (g : code.Group)
@@ -222,10 +222,10 @@ pub take_ends : (done : List code.Group) (x : Running) (k : ℕ) (placed : Place
     → Takes done (Some x) k placed (done ++ x.group ∷ []) (Some (record { group = g; last = placed }))
 take_ends done x k placed number g same filled made apart = record {
   at = λ s rest q at is h.
-    subst (λ r. Grouped s rest (done ++ x.group ∷ []) (Some r))
-    (ap (λ (y : Placed). running_at (begun number y) y) is ∙ ap (λ y. running_at y placed) (sym made))
-    (ends s rest q number done x (ap (λ n. slice_get s n) same ∙ at) (ap (λ (y : Placed). y.size == 0) is ∙ no_zero placed.size filled) h
-     (λ p px. shared_by_numbers p q x.last placed false px is apart));
+      subst (λ r. Grouped s rest (done ++ x.group ∷ []) (Some r))
+      (ap (λ (y : Placed). running_at (begun number y) y) is ∙ ap (λ y. running_at y placed) (sym made))
+      (ends s rest q number done x (ap (λ n. slice_get s n) same ∙ at) (ap (λ (y : Placed). y.size == 0) is ∙ no_zero placed.size filled) h
+      (λ p px. shared_by_numbers p q x.last placed false px is apart));
 }
 
 -- what stands at a place of the output sections whose numbers these are
@@ -257,15 +257,15 @@ pub take_at : (s : List PlacedSection) (sections : List Placed) (k : ℕ) (d : P
     → Grouped s (drop k s) done running → Grouped s (drop (k + 1) s) new_done new_running
 take_at s sections k d done new_done running new_running same below takes h =
     let here : At s k (get_or sections k d) =
-        subst (λ l. At s k (get_or l k d)) same (stands_at s k d (omega (arith, below, ap (λ l. length l) same))) in
+    subst (λ l. At s k (get_or l k d)) same (stands_at s k d (omega (arith, below, ap (λ l. length l) same))) in
     subst (λ n. Grouped s (drop n s) new_done new_running) (sym (add-one k))
     (takes.at s (drop (suc k) s) here.section here.at here.numbers
-     (subst (λ l. Grouped s l done running) here.front h))
+    (subst (λ l. Grouped s l done running) here.front h))
 
 -- after the last one no section is left
 pub at_end : (s : List PlacedSection) (sections : List Placed) (k : ℕ) (done : List code.Group) (running : Option Running)
     → map placed_of s ≡ sections → length sections ≤ k → Grouped s (drop k s) done running → Grouped s [] done running
 at_end s sections k done running same past h =
     let long : length s ≤ k =
-        omega (arith, past, ap (λ l. length l) same, length-map s placed_of) in
+    omega (arith, past, ap (λ l. length l) same, length-map s placed_of) in
     subst (λ l. Grouped s l done running) (drop_all k s long) h

@@ -1,5 +1,5 @@
 -- One step a section; in the end all of them are in groups.
-use Rattle.std.proofs.Common.{◌++◌, ◌∷◌, [], Option, Some, None, sym, subst}
+use Rattle.std.proofs.Common.{[], None, sym, subst}
 use Rattle.std.specs.List.{AllZip}
 use Rattle.ldmodel.specs.Segments.{groups, nonempty}
 use Rattle.ldsegments.specs.Grouping.{Grouped, IsGroup}
@@ -19,13 +19,13 @@ pub returns-in_ok-push-in-Some : goal.returns-in_ok-push-in-Some
 returns-in_ok-push-in-Some c s same =
     subst (λ l. AllZip (IsGroup s) (groups (nonempty s)) l) (sym (c.in_ok-push-in-Some.ensures.items))
     (last_left s c.loop-number.grouping.done.items c.in-Some.running
-     (subst (λ r. Grouped s [] c.loop-number.grouping.done.items r) c.in-Some.is
-      (at_end s c.args.sections.now c.loop-number.number c.loop-number.grouping.done.items c.loop-number.grouping.running
-       same c.loop-number-test.false (c.loop-number.invariant s same))))
+    (subst (λ r. Grouped s [] c.loop-number.grouping.done.items r) c.in-Some.is
+    (at_end s c.args.sections.now c.loop-number.number c.loop-number.grouping.done.items c.loop-number.grouping.running
+    same c.loop-number-test.false (c.loop-number.invariant s same))))
 
 pub returns-in-None : goal.returns-in-None
 returns-in-None c s same =
     none_left s c.loop-number.grouping.done.items
     (subst (λ r. Grouped s [] c.loop-number.grouping.done.items r) c.in-None.is
-     (at_end s c.args.sections.now c.loop-number.number c.loop-number.grouping.done.items c.loop-number.grouping.running
-      same c.loop-number-test.false (c.loop-number.invariant s same)))
+    (at_end s c.args.sections.now c.loop-number.number c.loop-number.grouping.done.items c.loop-number.grouping.running
+    same c.loop-number-test.false (c.loop-number.invariant s same)))
