@@ -1,0 +1,3 @@
+pub mod FirstTakers
+pub mod Marks
+pub mod NamedLists

@@ -1,0 +1,4 @@
+pub mod Words
+pub mod WordTables
+pub mod Matches
+pub mod Graphs

@@ -1,0 +1,8 @@
+//! Which input sections are in a link, and in which order they stand: the statement that takes a section, the sections
+//! that the program needs, and the rows of the output sections.
+#![tactic(auto)]
+
+pub mod marking;
+pub mod matcher;
+mod word;
+mod word_table;
