@@ -1,3 +1,5 @@
 pub mod FirstTakers
 pub mod Marks
 pub mod NamedLists
+pub mod Members
+pub mod LivePaths

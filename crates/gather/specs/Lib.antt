@@ -2,3 +2,4 @@ pub mod Words
 pub mod WordTables
 pub mod Matches
 pub mod Graphs
+pub mod LiveMarks

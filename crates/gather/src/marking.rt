@@ -1,8 +1,13 @@
 //! Which sections can be reached from the roots.
 
-ghost use Rattle.std.specs.Prelude.{◌≡◌, ◌+◌, ◌<◌, ◌≤◌, ◌↔◌, ℕ, IfOk, OnOk, length, slice_index, slice_range};
+ghost use Rattle.std.specs.Prelude.{◌≡◌, true, ◌+◌, ◌<◌, ◌≤◌, ◌↔◌, ℕ, IfOk, OnOk, length, slice_index, slice_range};
+ghost use Rattle.ldmodel.specs.InputSections.{input_sections};
+ghost use Rattle.ldmodel.specs.Live.{live};
+ghost use Rattle.ldmodel.specs.Project.{Project};
+ghost use Rattle.gather.specs.LiveMarks.{IsGraphOf, marked};
 ghost use Rattle.gather.specs.Graphs.{IsInRange, IsLive, IsMarked, IsVisit, graph};
 
+use ldlaws::gathering::live_by_path;
 use ldmodel::memory::NoMemory;
 use std::alloc::Global;
 
@@ -34,11 +39,8 @@ fn references<'a>(starts: &[usize], targets: &'a [usize], section: usize) -> &'a
     &targets[starts[section]..starts[section + 1]]
 }
 
-/// The live sections, of sections that are known by their numbers: those that a way leads to from a root. `out` says which
-/// are left out: no way leads through these. The numbers of the sections that section number `a` refers to are
-/// `targets[starts[a]..starts[a + 1]]`. Each section is expanded at most once, and nothing is recursive. An error says
-/// that memory ran out.
-pub fn mark(
+/// Marks the sections that a way leads to from a root, along which none is left out.
+fn reach(
     alloc: Global,
     out: &[bool],
     roots: &[usize],
@@ -61,4 +63,24 @@ pub fn mark(
         }
     }
     Ok(live)
+}
+
+/// The live sections under garbage collection, of sections that are known by their numbers, from 0 in object order. `out`
+/// says of each whether it is left out; the sections that number `a` refers to are
+/// `targets[starts[a]..starts[a + 1]]`. The time grows with the number of sections and references, each section is
+/// expanded at most once, and nothing is recursive. An error says that memory ran out.
+pub fn mark(
+    alloc: Global,
+    out: &[bool],
+    roots: &[usize],
+    starts: &[usize],
+    targets: &[usize],
+) -> Result<Vec<bool>, NoMemory>
+    requires { IsInRange (graph out.now roots.now starts.now targets.now) }
+    ensures long { IfOk result (λ marks. length marks.items ≡ length out.now) }
+    ensures reached { IfOk result (λ marks. (s : ℕ) → IsMarked marks.items s ↔ IsLive (graph out.now roots.now starts.now targets.now) s) }
+    ensures live { IfOk result (λ marks. (p : Project) → p.options.gc ≡ true → IsGraphOf p (graph out.now roots.now starts.now targets.now) → marked marks.items (input_sections p) ≡ live p) }
+{
+    live_by_path();
+    reach(alloc, out, roots, starts, targets)
 }

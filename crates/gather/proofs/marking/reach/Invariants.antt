@@ -2,7 +2,7 @@ use Rattle.std.proofs.Common.{◌≡◌, ◌<◌, ℕ, length, get_or, slice_ind
 use Rattle.std.specs.List.{Contains}
 use Rattle.gather.specs.Graphs.{Graph, graph, IsIn, IsLive, IsMarked}
 use Rattle.gather.proofs.Marks.{Marks, work}
-use Rattle.gather.proofs.marking.mark.Given as goal
+use Rattle.gather.proofs.marking.reach.Given as goal
 
 abbrev pub invariant-loop-root : goal.invariant-loop-root
 invariant-loop-root l =
