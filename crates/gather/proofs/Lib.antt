@@ -3,3 +3,5 @@ pub mod Marks
 pub mod NamedLists
 pub mod Members
 pub mod LivePaths
+pub mod Sorts
+pub mod RowSteps

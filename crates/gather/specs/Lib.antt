@@ -3,3 +3,4 @@ pub mod WordTables
 pub mod Matches
 pub mod Graphs
 pub mod LiveMarks
+pub mod RowPieces

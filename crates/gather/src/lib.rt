@@ -4,5 +4,7 @@
 
 pub mod marking;
 pub mod matcher;
+pub mod rows;
+mod sorting;
 mod word;
 mod word_table;
