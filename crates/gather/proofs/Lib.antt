@@ -5,3 +5,4 @@ pub mod Members
 pub mod LivePaths
 pub mod Sorts
 pub mod RowSteps
+pub mod GatheredLists

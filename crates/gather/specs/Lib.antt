@@ -4,3 +4,5 @@ pub mod Matches
 pub mod Graphs
 pub mod LiveMarks
 pub mod RowPieces
+pub mod Gathered
+pub mod LeftOut

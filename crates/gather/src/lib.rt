@@ -2,6 +2,9 @@
 //! that the program needs, and the rows of the output sections.
 #![tactic(auto)]
 
+pub mod gathered;
+pub mod left_out;
+pub mod live_sections;
 pub mod marking;
 pub mod matcher;
 pub mod rows;
