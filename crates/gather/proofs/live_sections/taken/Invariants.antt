@@ -1,0 +1,9 @@
+-- What was found, with what is still to be found, is all.
+use Rattle.std.proofs.Common.{◌≡◌, ◌++◌, drop}
+use Rattle.std.specs.List.{filter_map}
+use Rattle.gather.specs.Gathered.{taken_named}
+use Rattle.gather.specs.LiveMarks.{marked}
+use Rattle.gather.proofs.live_sections.taken.Given as goal
+
+abbrev pub invariant-loop-place : goal.invariant-loop-place
+invariant-loop-place l = l.pieces.items ++ filter_map taken_named (marked (drop l.place l.marks) (drop l.place l.sections)) ≡ filter_map taken_named (marked l.marks l.sections)

@@ -1,0 +1,19 @@
+-- What is in the rows, with what statements still bring, is all; the lists of these statements are as they were.
+use Rattle.std.proofs.Common.{◌≡◌, ◌<◌, ◌≤◌, ◌++◌, ℕ, length, drop, get_or, Vec, Global}
+use Rattle.std.specs.Prelude.{flat_map}
+use Rattle.std.specs.List.{All, enumerate_from}
+use Rattle.ldtree.specs.Numbered.{shown_inputs}
+use Rattle.ldtree.specs.Numbering.{output_sections}
+use Rattle.ldmodel.specs.declared.rows.Piece as code
+use Rattle.gather.specs.RowPieces.{IsNamed, Naming, of_statement, pieces_at, shown_row}
+use Rattle.gather.specs.declared.sorting.NamedPiece.{NamedPiece}
+use Rattle.gather.proofs.rows.rows.Given as goal
+
+abbrev pub invariant-loop-number : goal.invariant-loop-number
+invariant-loop-number l = record {
+  long : length l.found.items ≡ length (output_sections l.script);
+  buckets : length l.buckets.items ≡ length l.statement-items;
+  left : (k : ℕ) (d : Vec NamedPiece Global) → l.number ≤ k → k < length l.statement-items → (get_or l.buckets.items k d).items ≡ of_statement l.pieces k;
+  rows : (n : Naming) → All (IsNamed n) l.pieces → (k : ℕ) (d : Vec code.Piece Global) → k < length l.found.items
+      → shown_row n (get_or l.found.items k d) ++ flat_map (pieces_at n l.pieces k) (enumerate_from l.number (shown_inputs (drop l.number l.statement-items))) ≡ flat_map (pieces_at n l.pieces k) (enumerate_from 0 (shown_inputs l.statement-items));
+}

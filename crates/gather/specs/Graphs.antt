@@ -1,0 +1,49 @@
+-- Graphs of sections by their numbers, and what can be reached in one.
+use Rattle.std.specs.Prelude.{ℕ, ◌≡◌, ◌<◌, ◌≤◌, ◌+◌, Bool, true, false, cond, ◌||◌, List, ◌∷◌, [], ◌++◌, length, slice_index, slice_index_or, slice_range, slice_set, Contains}
+use Rattle.std.specs.List.{All}
+
+-- sections by their numbers: of each whether it is left out, the numbers of the roots, and the numbers of the sections
+-- that relocations refer to: those of section a are the targets from starts a up to starts (a + 1)
+pub record Graph : Type 0 where
+  pub out : List Bool
+  pub roots : List ℕ
+  pub starts : List ℕ
+  pub targets : List ℕ
+
+abbrev pub graph : List Bool → (roots starts targets : List ℕ) → Graph
+graph out roots starts targets = record { out = out; roots = roots; starts = starts; targets = targets }
+
+-- each number is that of a section, and each section has its targets
+pub record IsInRange (g : Graph) : Type 0 where
+  pub starts : length g.starts ≡ length g.out + 1
+  pub ordered : (a : ℕ) → a < length g.out → slice_index g.starts a ≤ slice_index g.starts (a + 1)
+  pub inside : (a : ℕ) → a < length g.out → slice_index g.starts (a + 1) ≤ length g.targets
+  pub roots : All (λ r. r < length g.out) g.roots
+  pub targets : All (λ t. t < length g.out) g.targets
+
+-- a section that is not left out
+abbrev pub IsIn : Graph → ℕ → Type 0
+IsIn g s = slice_index_or g.out s true ≡ false
+
+abbrev pub targets_of : Graph → ℕ → List ℕ
+targets_of g a = slice_range g.targets (slice_index g.starts a) (slice_index g.starts (a + 1))
+
+-- a relocation of a refers to b
+abbrev pub LeadsTo : Graph → ℕ → ℕ → Type 0
+LeadsTo g a b = (a < length g.out) × Contains (targets_of g a) b
+
+-- a root, or what a live section refers to; none of them left out
+pub data IsLive (g : Graph) : ℕ → Type 0 where
+  from_root : (s : ℕ) → Contains g.roots s → IsIn g s → IsLive g s
+  from_live : (a b : ℕ) → IsLive g a → LeadsTo g a b → IsIn g b → IsLive g b
+
+abbrev pub IsMarked : List Bool → ℕ → Type 0
+IsMarked live s = slice_index_or live s false ≡ true
+
+-- what a visit of one section leaves: one that is left out or marked changes nothing, another is marked and put on the
+-- stack
+abbrev pub IsVisit : List Bool → ℕ → (live : List Bool) (stack : List ℕ) (live' : List Bool) (stack' : List ℕ) → Type 0
+IsVisit out next live stack live' stack' =
+    cond (slice_index_or out next true || slice_index_or live next false)
+    ((live' ≡ live) × (stack' ≡ stack))
+    ((live' ≡ slice_set live next true) × (stack' ≡ stack ++ next ∷ []))

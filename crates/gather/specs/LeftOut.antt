@@ -1,0 +1,13 @@
+-- Which sections are left out before references are followed, by the number of the statement that takes them.
+use Rattle.std.specs.Prelude.{ℕ, List, Option, Some, None, Bool, ◌||◌, ◌==◌, slice_get, option_and_then}
+use Rattle.ldtree.specs.Numbering.{InputStatementAt}
+use Rattle.ldmodel.specs.Gathering.{is_discard, are_discarded}
+use Rattle.ldmodel.specs.declared.options.Orphans.{Orphans}
+
+abbrev pub is_out_by : Orphans → (size : ℕ) → Option InputStatementAt → Bool
+is_out_by orphans size None = (size == 0) || are_discarded orphans
+is_out_by orphans size (Some i) = is_discard i.place
+
+-- the section has this size, and the statement of this number takes it
+abbrev pub is_out_of : List InputStatementAt → Orphans → (size : ℕ) → Option ℕ → Bool
+is_out_of statements orphans size number = is_out_by orphans size (option_and_then (slice_get statements) number)

@@ -1,0 +1,98 @@
+//! What becomes of the live sections: statements take them, or they are orphans.
+
+ghost use Rattle.std.specs.Prelude.{◌≡◌, ◌++◌, ◌∷◌, [], IfOk, OnOk, length, map, not, if◌then◌else◌};
+ghost use Rattle.ldmodel.specs.HandedOver.{section_id};
+ghost use Rattle.ldmodel.specs.InputSections.{input_sections};
+ghost use Rattle.ldmodel.specs.Live.{live, orphans};
+ghost use Rattle.ldmodel.specs.Project.{Project};
+ghost use Rattle.ldmodel.specs.Sections.{InputSection};
+ghost use Rattle.std.specs.List.{filter_map};
+ghost use Rattle.gather.specs.Gathered.{AreGathered, Keys, taken_named, untaken};
+ghost use Rattle.gather.specs.LiveMarks.{marked};
+ghost use Rattle.gather.specs.RowPieces.{AreTaken};
+
+use crate::gathered::Gathered;
+use crate::rows::NamedPiece;
+use ldmodel::memory::NoMemory;
+use ldmodel::sections::SectionKey;
+use std::alloc::Global;
+
+/// The sections without those that are left out: the live ones where nothing is collected. An error says that memory ran
+/// out.
+pub fn not_out(alloc: Global, out: &[bool]) -> Result<Vec<bool>, NoMemory>
+    ensures { IfOk result (λ marks. marks.items ≡ map not out.now) }
+{
+    let mut marks = Vec::with_capacity(alloc, out.len())?;
+    for is_out in out {
+        marks.push(!*is_out)?;
+    }
+    Ok(marks)
+}
+
+/// Adds a section, if it is live and a statement takes it.
+fn add_taken<'a>(
+    pieces: &mut Vec<NamedPiece<'a>>,
+    section: &Gathered<'a>,
+    is_live: bool,
+) -> Result<(), NoMemory>
+    ensures { OnOk result (pieces.new.items ≡ pieces.old.items ++ filter_map taken_named (if is_live then section.now ∷ [] else [])) }
+{
+    match section.statement {
+        Some(statement) if is_live => {
+            pieces.push(section.piece(statement))?;
+            Ok(())
+        }
+        _ => Ok(()),
+    }
+}
+
+/// Adds a section, if it is live and no statement takes it.
+fn add_untaken(
+    found: &mut Vec<SectionKey>,
+    section: &Gathered<'_>,
+    is_live: bool,
+) -> Result<(), NoMemory>
+    ensures { OnOk result (found.new.items ≡ found.old.items ++ filter_map untaken (if is_live then section.now ∷ [] else [])) }
+{
+    match section.statement {
+        None if is_live => {
+            found.push(section.section)?;
+            Ok(())
+        }
+        _ => Ok(()),
+    }
+}
+
+/// The live sections that statements take, as pieces of these, in their order. `marks` says of each section whether it is
+/// live. An error says that memory ran out.
+pub fn taken<'a>(
+    alloc: Global,
+    sections: &[Gathered<'a>],
+    marks: &[bool],
+) -> Result<Vec<NamedPiece<'a>>, NoMemory>
+    requires { length marks.now ≡ length sections.now }
+    ensures { IfOk result (λ pieces. (p : Project) (keys : Keys) → AreGathered p keys sections.now → marked marks.now (input_sections p) ≡ live p → AreTaken p keys.naming pieces.items) }
+{
+    let mut pieces = Vec::new(alloc);
+    for (place, section) in sections.iter().enumerate() {
+        add_taken(&mut pieces, section, marks[place])?;
+    }
+    Ok(pieces)
+}
+
+/// The live sections that no statement takes, each of them a fault, in their order. `marks` says of each section whether it
+/// is live. An error says that memory ran out.
+pub fn orphans(
+    alloc: Global,
+    sections: &[Gathered<'_>],
+    marks: &[bool],
+) -> Result<Vec<SectionKey>, NoMemory>
+    requires { length marks.now ≡ length sections.now }
+    ensures { IfOk result (λ found. (p : Project) (keys : Keys) → AreGathered p keys sections.now → marked marks.now (input_sections p) ≡ live p → map (section_id keys.number) found.items ≡ map (λ (s : InputSection). s.id) (orphans p)) }
+{
+    let mut found = Vec::new(alloc);
+    for (place, section) in sections.iter().enumerate() {
+        add_untaken(&mut found, section, marks[place])?;
+    }
+    Ok(found)
+}

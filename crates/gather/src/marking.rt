@@ -1,0 +1,86 @@
+//! Which sections can be reached from the roots.
+
+ghost use Rattle.std.specs.Prelude.{◌≡◌, true, ◌+◌, ◌<◌, ◌≤◌, ◌↔◌, ℕ, IfOk, OnOk, length, slice_index, slice_range};
+ghost use Rattle.ldmodel.specs.InputSections.{input_sections};
+ghost use Rattle.ldmodel.specs.Live.{live};
+ghost use Rattle.ldmodel.specs.Project.{Project};
+ghost use Rattle.gather.specs.LiveMarks.{IsGraphOf, marked};
+ghost use Rattle.gather.specs.Graphs.{IsInRange, IsLive, IsMarked, IsVisit, graph};
+
+use ldlaws::gathering::live_by_path;
+use ldmodel::memory::NoMemory;
+use std::alloc::Global;
+
+/// Marks a section and puts it on the stack, unless it is left out or marked.
+fn visit(
+    live: &mut Vec<bool>,
+    stack: &mut Vec<usize>,
+    out: &[bool],
+    next: usize,
+) -> Result<(), NoMemory>
+    requires out { next < length out.now }
+    requires live { next < length live.old.items }
+    ensures { OnOk result (IsVisit out.now next live.old.items stack.old.items live.new.items stack.new.items) }
+{
+    if !(out[next] || live[next]) {
+        live[next] = true;
+        stack.push(next)?;
+    }
+    Ok(())
+}
+
+/// The sections that a section refers to.
+fn references<'a>(starts: &[usize], targets: &'a [usize], section: usize) -> &'a [usize]
+    requires place { section + 1 < length starts.now }
+    requires ordered { slice_index starts.now section ≤ slice_index starts.now (section + 1) }
+    requires inside { slice_index starts.now (section + 1) ≤ length targets.now }
+    ensures { result.now ≡ slice_range targets.now (slice_index starts.now section) (slice_index starts.now (section + 1)) }
+{
+    &targets[starts[section]..starts[section + 1]]
+}
+
+/// Marks the sections that a way leads to from a root, along which none is left out.
+fn reach(
+    alloc: Global,
+    out: &[bool],
+    roots: &[usize],
+    starts: &[usize],
+    targets: &[usize],
+) -> Result<Vec<bool>, NoMemory>
+    requires { IsInRange (graph out.now roots.now starts.now targets.now) }
+    ensures long { IfOk result (λ live. length live.items ≡ length out.now) }
+    ensures live { IfOk result (λ live. (s : ℕ) → IsMarked live.items s ↔ IsLive (graph out.now roots.now starts.now targets.now) s) }
+{
+    let mut live = vec![in alloc; false; out.len()]?;
+    let mut stack: Vec<usize> = Vec::new(alloc);
+    for root in roots {
+        visit(&mut live, &mut stack, out, *root)?;
+    }
+    while let Some(section) = stack.pop() {
+        let row = references(starts, targets, section);
+        for target in row {
+            visit(&mut live, &mut stack, out, *target)?;
+        }
+    }
+    Ok(live)
+}
+
+/// The live sections under garbage collection, of sections that are known by their numbers, from 0 in object order. `out`
+/// says of each whether it is left out; the sections that number `a` refers to are
+/// `targets[starts[a]..starts[a + 1]]`. The time grows with the number of sections and references, each section is
+/// expanded at most once, and nothing is recursive. An error says that memory ran out.
+pub fn mark(
+    alloc: Global,
+    out: &[bool],
+    roots: &[usize],
+    starts: &[usize],
+    targets: &[usize],
+) -> Result<Vec<bool>, NoMemory>
+    requires { IsInRange (graph out.now roots.now starts.now targets.now) }
+    ensures long { IfOk result (λ marks. length marks.items ≡ length out.now) }
+    ensures reached { IfOk result (λ marks. (s : ℕ) → IsMarked marks.items s ↔ IsLive (graph out.now roots.now starts.now targets.now) s) }
+    ensures live { IfOk result (λ marks. (p : Project) → p.options.gc ≡ true → IsGraphOf p (graph out.now roots.now starts.now targets.now) → marked marks.items (input_sections p) ≡ live p) }
+{
+    live_by_path();
+    reach(alloc, out, roots, starts, targets)
+}

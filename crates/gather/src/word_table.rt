@@ -1,0 +1,109 @@
+//! The words of a script, by what their patterns match.
+
+ghost use Rattle.std.specs.Prelude.{◌≡◌, ◌++◌, ◌∷◌, [], ℕ, List, Option, IfOk, OnOk, bytes_eq, if◌then◌else◌};
+ghost use Rattle.std.specs.List.{filter};
+ghost use Rattle.gather.specs.Matches.{number_of};
+ghost use Rattle.gather.specs.Words.{first_taker, is_named, is_wild, lesser, shown_word, shown_words, words_of};
+ghost use Rattle.gather.specs.WordTables.{AddsWords, listed, shown_listed};
+
+use crate::word::{WordAt, first_taker};
+use ldmodel::memory::NoMemory;
+use ldmodel::rows::InputIndex;
+use ldscript::tree::{Input, SectionWord};
+use std::alloc::Global;
+use std::collections::BTreeMap;
+
+/// The words of a script in the order of the text: those that match one name under that name, and the others in a list.
+#[derive(Drop)]
+pub struct WordTable<'a> {
+    named: BTreeMap<&'a [u8], Vec<WordAt<'a>>>,
+    wild: Vec<WordAt<'a>>,
+}
+
+/// The one of two statements that comes first.
+fn lesser(a: Option<InputIndex>, b: Option<InputIndex>) -> Option<InputIndex>
+    ensures { number_of result ≡ lesser (number_of a) (number_of b) }
+{
+    match (a, b) {
+        (Some(m), Some(n)) => Some(InputIndex(m.0.min(n.0))),
+        (None, found) | (found, None) => found,
+    }
+}
+
+impl<'a> WordTable<'a> {
+    /// The table of no words.
+    pub fn new(alloc: Global) -> WordTable<'a>
+        ensures named { (name : List ℕ) → shown_listed result name ≡ [] }
+        ensures wild { shown_words result.wild.items ≡ [] }
+    {
+        WordTable {
+            named: BTreeMap::new(alloc),
+            wild: Vec::new(alloc),
+        }
+    }
+
+    /// Adds a word that matches this name alone.
+    fn add_named(&mut self, alloc: Global, name: &'a [u8], word: WordAt<'a>) -> Result<(), NoMemory>
+        ensures named { OnOk result ((q : List ℕ) → listed self.new q ≡ (if bytes_eq name.now q then listed self.old q ++ word.entry ∷ [] else listed self.old q)) }
+        ensures wild { self.new.wild ≡ self.old.wild }
+    {
+        match self.named.get_mut(name) {
+            Some(words) => {
+                words.push(word)?;
+                Ok(())
+            }
+            None => {
+                let mut words = Vec::new(alloc);
+                words.push(word)?;
+                self.named.insert(name, words)?;
+                Ok(())
+            }
+        }
+    }
+
+    /// Adds a word.
+    fn add(&mut self, alloc: Global, word: WordAt<'a>) -> Result<(), NoMemory>
+        ensures { OnOk result (AddsWords self.old self.new (shown_word word.entry ∷ [])) }
+    {
+        match word.word.pattern.exact_name() {
+            Some(name) => self.add_named(alloc, name, word),
+            None => {
+                self.wild.push(word)?;
+                Ok(())
+            }
+        }
+    }
+
+    /// Adds the words of a statement.
+    pub fn add_statement(
+        &mut self,
+        alloc: Global,
+        statement: InputIndex,
+        input: &'a Input,
+    ) -> Result<(), NoMemory>
+        ensures { OnOk result (AddsWords self.old self.new (words_of statement.0 input.now input.now.sections)) }
+    {
+        for word in input.sections.as_slice() {
+            self.add(
+                alloc,
+                WordAt {
+                    statement,
+                    input,
+                    word,
+                },
+            )?;
+        }
+        Ok(())
+    }
+
+    /// The first statement that takes the sections of this name in the file of this name, by a word of the table.
+    pub fn first_taker(&self, file: &[u8], section: &[u8]) -> Option<InputIndex>
+        ensures { number_of result ≡ lesser (first_taker file.now section.now (shown_listed self.now section.now)) (first_taker file.now section.now (shown_words self.now.wild.items)) }
+    {
+        let named = match self.named.get(section) {
+            Some(words) => first_taker(words, file, section),
+            None => None,
+        };
+        lesser(named, first_taker(&self.wild, file, section))
+    }
+}
