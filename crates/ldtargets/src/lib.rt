@@ -1,0 +1,8 @@
+//! Values of symbols in the output, and the fields of relocations against them.
+#![tactic(auto)]
+
+pub mod known;
+pub mod site;
+pub mod symbol;
+pub mod target;
+pub mod value;
