@@ -1,2 +1,4 @@
 mod Values
-pub mod Sites
+mod Sites
+mod Runs
+mod Added

@@ -102,7 +102,7 @@ fn field_with<L: Known>(
 }
 
 /// The field of a relocation of number `entry`, in its place; or its fault. It counts one relocation.
-fn evaluate<L: Known>(
+pub fn evaluate<L: Known>(
     link: &L,
     values: &[SymbolValue],
     section: &PlacedSection<'_>,
