@@ -1,0 +1,4 @@
+mod Values
+mod Sites
+mod Runs
+mod Added

@@ -1,0 +1,9 @@
+use Rattle.std.proofs.Common.{ap}
+use Rattle.elfobj.specs.declared.relocation.Relocation.{Relocation}
+use Rattle.ldtargets.proofs.Sites.{evaluated}
+use Rattle.ldtargets.proofs.site.evaluate.Goals as goal
+
+pub returns-clause-evaluated : goal.returns-clause-evaluated
+returns-clause-evaluated g c =
+    λ t h is. evaluated (g.L.Known.known c.args.link.now) t _ _
+    (c.site_value-value.ensures t h.site (ap (λ (r : Relocation). r.symbol) is)) (c.field_with.ensures.outcome t h is)

@@ -1,0 +1,56 @@
+-- Fields and faults of relocations, as they are added to lists.
+use Rattle.std.specs.Prelude.{◌≡◌, ◌≤◌, ℕ, List, ◌++◌, length, map, filter, Option}
+use Rattle.std.specs.List.{All, filter_map}
+use Rattle.std.specs.Result.{result_err}
+use Rattle.elfobj.specs.Relocations.{field_end}
+use Rattle.elfobj.specs.Sections.{LinkedSection}
+use Rattle.elfobj.specs.declared.relocation.Relocation.{Relocation}
+use Rattle.ldfields.specs.Patches.{AreInOrder, patched_byte}
+use Rattle.ldfields.specs.declared.patch.Patch.{Patch}
+use Rattle.ldmodel.specs.Counts.{Counts}
+use Rattle.ldmodel.specs.Fault.{Fault}
+use Rattle.ldmodel.specs.FaultCode.{fault_of}
+use Rattle.ldmodel.specs.Project.{NamedObject}
+use Rattle.ldmodel.specs.Raised.{raised}
+use Rattle.ldmodel.specs.Relocations.{Site, fields_of, is_evaluated, patch_of, site_field, sites_at}
+use Rattle.ldmodel.specs.declared.fault.Fault as code
+use Rattle.ldbase.specs.declared.meter.Count.TheVariants as count
+use Rattle.ldtargets.specs.KnownLink.{KnownLink}
+
+-- the sites among relocations of a section
+abbrev pub sites_among : NamedObject → LinkedSection → ℕ → List Relocation → List Site
+sites_among o x start rs =
+    map (λ r. record { object = o; section = x; start = start; relocation = r })
+    (filter (λ (r : Relocation). is_evaluated r.kind) rs)
+
+abbrev pub field_at : KnownLink → Site → Option Patch
+field_at l t = patch_of t (site_field l.project l.layout t)
+
+abbrev pub fault_at : KnownLink → Site → Option Fault
+fault_at l t = result_err (site_field l.project l.layout t)
+
+-- what the faults of the code stand for
+abbrev pub faults_of : KnownLink → List code.Fault → List Fault
+faults_of l fs = map (fault_of l.project l.number) fs
+
+-- the faults of these sites were added, and each site counted
+pub record IsCounted (l : KnownLink) (ts : List Site) (old_faults new_faults : List code.Fault) (before after : Counts) : Type 0 where
+  pub faults : faults_of l new_faults ≡ faults_of l old_faults ++ filter_map (fault_at l) ts
+  pub counted : after ≡ raised before count.Fields (length ts)
+
+-- so were the fields, in this order
+pub record IsTried (l : KnownLink) (ts : List Site) (old new : List Patch) (old_faults new_faults : List code.Fault) (before after : Counts) : Type 0 where
+  pub fields : new ≡ old ++ filter_map (field_at l) ts
+  pub counts : IsCounted l ts old_faults new_faults before after
+
+-- the fields of a section that starts at an address, in the order of their offsets: they give its bytes
+pub record IsRun (l : KnownLink) (o : NamedObject) (x : LinkedSection) (start : ℕ) (run : List Patch) : Type 0 where
+  pub same : (bytes : List ℕ) (i : ℕ) → patched_byte bytes run i ≡ patched_byte bytes (fields_of l.project l.layout o x start) i
+  pub order : (n : ℕ) → All (λ r. field_end r ≤ n) x.relocations → AreInOrder 0 n run
+
+-- all sites of a section were evaluated: its fields were added in the order of their offsets
+pub record IsAdded (l : KnownLink) (o : NamedObject) (x : LinkedSection) (start : ℕ) (old new : List Patch) (old_faults new_faults : List code.Fault) (before after : Counts) : Type 0 where
+  pub run : List Patch
+  pub fields : new ≡ old ++ run
+  pub is_run : IsRun l o x start run
+  pub counts : IsCounted l (sites_at o x start) old_faults new_faults before after

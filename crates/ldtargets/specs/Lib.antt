@@ -1,0 +1,4 @@
+pub mod Values
+pub mod KnownLink
+pub mod Sites
+pub mod Fields

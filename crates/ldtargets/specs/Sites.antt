@@ -1,0 +1,39 @@
+-- Relocations of input sections in the output, as the code hands them on.
+use Rattle.std.specs.Prelude.{◌≡◌, ℕ, List, map, Option, Some, Result, Ok, Err, slice_get}
+use Rattle.elfobj.specs.Sections.{LinkedSection}
+use Rattle.elfobj.specs.Symbols.{NamedSymbol}
+use Rattle.ldfields.specs.declared.patch.Patch.{Patch}
+use Rattle.ldmodel.specs.FaultCode.{fault_of}
+use Rattle.ldmodel.specs.Image.{section_numbered}
+use Rattle.ldmodel.specs.Project.{NamedObject}
+use Rattle.ldmodel.specs.Relocations.{Site, field_with, site_field}
+use Rattle.ldmodel.specs.SymbolValues.{SymbolValue}
+use Rattle.ldmodel.specs.declared.fault.Fault as code
+use Rattle.ldtargets.specs.KnownLink.{KnownLink, named_object}
+use Rattle.ldtargets.specs.declared.site.PlacedSection.{PlacedSection}
+
+-- a section of an object, as the code has it at hand
+pub record IsPlaced (l : KnownLink) (m : PlacedSection) (o : NamedObject) (x : LinkedSection) : Type 0 where
+  pub object_is : named_object l m.object ≡ Some o
+  pub section_is : section_numbered o m.section ≡ Some x
+  pub symbols_are : m.symbols.now ≡ map (λ (y : NamedSymbol). y.symbol) o.object.symbols
+  pub relocations_are : m.relocations.now ≡ x.relocations
+
+-- a site of it
+pub record IsSite (l : KnownLink) (m : PlacedSection) (t : Site) : Type 0 where
+  pub placed : IsPlaced l m t.object t.section
+  pub start_is : t.start ≡ m.start
+
+-- that of an entry of its table
+pub record IsSiteAt (l : KnownLink) (m : PlacedSection) (entry : ℕ) (t : Site) : Type 0 where
+  pub site : IsSite l m t
+  pub entry_is : slice_get m.relocations.now entry ≡ Some t.relocation
+
+-- what a site comes to: its field in its place, or its fault
+abbrev pub IsOutcome : KnownLink → Site → SymbolValue → Result Patch code.Fault → Type 0
+IsOutcome l t v (Ok x) = (field_with t v ≡ Ok x.field) × (x.offset ≡ t.relocation.offset)
+IsOutcome l t v (Err f) = field_with t v ≡ Err (fault_of l.project l.number f)
+
+abbrev pub IsEvaluated : KnownLink → Site → Result Patch code.Fault → Type 0
+IsEvaluated l t (Ok x) = (site_field l.project l.layout t ≡ Ok x.field) × (x.offset ≡ t.relocation.offset)
+IsEvaluated l t (Err f) = site_field l.project l.layout t ≡ Err (fault_of l.project l.number f)

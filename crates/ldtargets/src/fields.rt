@@ -1,0 +1,106 @@
+//! The fields of whole input sections, in one flat list, and the faults of their relocations.
+
+ghost use Rattle.std.specs.Prelude.{◌≡◌, ◌+◌, ◌<◌, ◌^◌, All, OnOk, Some, [], ◌∷◌, slice_get};
+ghost use Rattle.elfobj.specs.Profile.{AreApart};
+ghost use Rattle.elfobj.specs.Relocations.{field_end};
+ghost use Rattle.elfobj.specs.Sections.{LinkedSection};
+ghost use Rattle.ldmodel.specs.Project.{NamedObject};
+ghost use Rattle.ldtargets.specs.Fields.{IsAdded, IsTried, sites_among};
+ghost use Rattle.ldtargets.specs.KnownLink.{AreNameValues};
+ghost use Rattle.ldtargets.specs.Sites.{IsPlaced};
+
+use crate::known::Known;
+use crate::site::{PlacedSection, evaluate, is_evaluated};
+use crate::value::SymbolValue;
+use elfobj::relocation::Relocation;
+use ldfields::patch::{Patch, in_order};
+use ldmodel::fault::Fault;
+use ldmodel::memory::NoMemory;
+use ldmodel::meter::Meter;
+use std::alloc::{AllocError, Global};
+
+/// Evaluates the relocation of number `entry`: adds its field, or its fault.
+fn add_site<L: Known>(
+    link: &L,
+    values: &[SymbolValue],
+    section: &PlacedSection<'_>,
+    entry: usize,
+    relocation: &Relocation,
+    fields: &mut Vec<Patch>,
+    faults: &mut Vec<Fault>,
+    meter: &mut Meter,
+) -> Result<(), NoMemory>
+    requires values { AreNameValues (L.known link.now) values.now }
+    requires entry_is { slice_get section.now.relocations.now entry ≡ Some relocation.now }
+    requires below { section.now.start + relocation.now.offset < 2 ^ 64 }
+    ensures { OnOk result ((o : NamedObject) (x : LinkedSection) → IsPlaced (L.known link.now) section.now o x → IsTried (L.known link.now) (sites_among o x section.now.start (relocation.now ∷ [])) fields.old.items fields.new.items faults.old.items faults.new.items meter.old meter.new) }
+{
+    // so that the range of the count is known
+    let _fields = meter.fields();
+    if !is_evaluated(relocation.kind) {
+        return Ok(());
+    }
+    let Ok(entry) = u32::try_from(entry) else {
+        return Err(AllocError);
+    };
+    match evaluate(link, values, section, entry, relocation, meter) {
+        Ok(field) => {
+            fields.push(field)?;
+            Ok(())
+        }
+        Err(fault) => {
+            faults.push(fault)?;
+            Ok(())
+        }
+    }
+}
+
+/// Evaluates all relocations of a section, in the order of their table.
+fn add_sites<L: Known>(
+    link: &L,
+    values: &[SymbolValue],
+    section: &PlacedSection<'_>,
+    fields: &mut Vec<Patch>,
+    faults: &mut Vec<Fault>,
+    meter: &mut Meter,
+) -> Result<(), NoMemory>
+    requires values { AreNameValues (L.known link.now) values.now }
+    requires below { All (λ r. section.now.start + r.offset < 2 ^ 64) section.now.relocations.now }
+    ensures { OnOk result ((o : NamedObject) (x : LinkedSection) → IsPlaced (L.known link.now) section.now o x → IsTried (L.known link.now) (sites_among o x section.now.start section.now.relocations.now) fields.old.items fields.new.items faults.old.items faults.new.items meter.old meter.new) }
+{
+    // so that the range of the count is known
+    let _fields = meter.fields();
+    for entry in 0..section.relocations.len() {
+        let relocation = &section.relocations[entry];
+        add_site(link, values, section, entry, relocation, fields, faults, meter)?;
+    }
+    Ok(())
+}
+
+/// Evaluates the relocations of an input section in the output, each of which counts as one. Adds the fields to
+/// `fields`, in the order of their offsets, and the faults to `faults`, in the order of their table. `values` are the
+/// values of all names.
+///
+/// An error says that there was no memory for them; a table of 2^32 relocations or more, which no object has whose
+/// length is within the limit, counts as that.
+pub fn add_fields<L: Known>(
+    alloc: Global,
+    link: &L,
+    values: &[SymbolValue],
+    section: &PlacedSection<'_>,
+    fields: &mut Vec<Patch>,
+    faults: &mut Vec<Fault>,
+    meter: &mut Meter,
+) -> Result<(), NoMemory>
+    requires values { AreNameValues (L.known link.now) values.now }
+    requires placed { (o : NamedObject) × (x : LinkedSection) × IsPlaced (L.known link.now) section.now o x }
+    requires apart { AreApart section.now.relocations.now }
+    requires below { All (λ r. section.now.start + r.offset < 2 ^ 64) section.now.relocations.now }
+    ensures { OnOk result ((o : NamedObject) (x : LinkedSection) → IsPlaced (L.known link.now) section.now o x → IsAdded (L.known link.now) o x section.now.start fields.old.items fields.new.items faults.old.items faults.new.items meter.old meter.new) }
+{
+    let mut own = Vec::with_capacity(alloc, section.relocations.len())?;
+    add_sites(link, values, section, &mut own, faults, meter)?;
+    let mut own = in_order(own)?;
+    fields.append(&mut own)?;
+    Ok(())
+}

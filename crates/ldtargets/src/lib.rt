@@ -1,0 +1,9 @@
+//! Values of symbols in the output, and the fields of relocations against them.
+#![tactic(auto)]
+
+pub mod fields;
+pub mod known;
+pub mod site;
+pub mod symbol;
+pub mod target;
+pub mod value;

@@ -1,0 +1,121 @@
+//! Relocations of an input section in the output: each one's field, or its fault.
+
+ghost use Rattle.std.specs.Prelude.{◌≡◌, ◌+◌, ◌<◌, ◌^◌, Some, length, option_copied, slice_get, true};
+ghost use Rattle.ldbase.specs.Raised.{raised};
+ghost use Rattle.ldmodel.specs.Relocations.{Site, is_evaluated, site_value};
+ghost use Rattle.ldtargets.specs.KnownLink.{AreNameValues};
+ghost use Rattle.ldtargets.specs.Sites.{IsEvaluated, IsOutcome, IsSite, IsSiteAt};
+ghost use Rattle.ldtargets.specs.Values.{value_of};
+
+use crate::known::Known;
+use crate::target::referenced_value;
+use crate::value::SymbolValue;
+use elfobj::relocation::{Relocation, RelocationKind, SymbolIndex};
+use elfobj::section::SectionIndex;
+use elfobj::symbol::Symbol;
+use ldfields::field::evaluate::field;
+use ldfields::patch::Patch;
+use ldmodel::fault::{Fault, SiteKey};
+use ldmodel::meter::{Count, Meter};
+use ldmodel::names::ObjectKey;
+
+/// An input section in the output, with what its relocations need.
+#[derive(Clone, Copy, Debug)]
+pub struct PlacedSection<'a> {
+    /// Its object.
+    pub object: ObjectKey,
+    /// Its number among the section headers.
+    pub section: SectionIndex,
+    /// The address that it starts at.
+    pub start: u64,
+    /// The symbols of its object.
+    pub symbols: &'a [Symbol],
+    /// Its relocations, in the order of their table.
+    pub relocations: &'a [Relocation],
+}
+
+/// Whether a relocation of this kind is evaluated: `NONE` is not.
+pub fn is_evaluated(kind: RelocationKind) -> bool
+    ensures { result ≡ is_evaluated kind }
+{
+    !matches!(kind, RelocationKind::None)
+}
+
+/// The value of the symbol that a relocation of a section names.
+fn site_value<L: Known>(
+    link: &L,
+    values: &[SymbolValue],
+    section: &PlacedSection<'_>,
+    symbol: SymbolIndex,
+) -> SymbolValue
+    requires { AreNameValues (L.known link.now) values.now }
+    ensures { (t : Site) → IsSite (L.known link.now) section.now t → t.relocation.symbol ≡ symbol → value_of result ≡ site_value (L.known link.now).project (L.known link.now).layout t }
+{
+    match section.symbols.get(symbol.0 as usize) {
+        None => SymbolValue::NotDefined,
+        Some(entry) => referenced_value(link, values, section.object, symbol, entry),
+    }
+}
+
+/// The field of a relocation of number `entry` against a symbol of a value; or its fault.
+fn field_with<L: Known>(
+    link: &L,
+    section: &PlacedSection<'_>,
+    entry: u32,
+    relocation: &Relocation,
+    value: SymbolValue,
+    meter: &mut Meter,
+) -> Result<Patch, Fault>
+    requires evaluated { is_evaluated relocation.now.kind ≡ true }
+    requires below { section.now.start + relocation.now.offset < 2 ^ 64 }
+    ensures outcome { (t : Site) → IsSiteAt (L.known link.now) section.now entry t → t.relocation ≡ relocation.now → IsOutcome (L.known link.now) t (value_of value) result }
+    ensures counted { meter.new ≡ raised meter.old Count.Fields 1 }
+{
+    let site = SiteKey {
+        object: section.object,
+        section: section.section,
+        entry,
+    };
+    match value {
+        SymbolValue::NotDefined => {
+            meter.raise(Count::Fields, 1);
+            Err(Fault::UndefinedSymbol(site))
+        }
+        SymbolValue::NotInOutput => {
+            meter.raise(Count::Fields, 1);
+            Err(Fault::TargetNotInOutput(site))
+        }
+        SymbolValue::Number(value) => {
+            let place = section.start + relocation.offset;
+            match field(relocation, value, place, meter) {
+                Ok(field) => Ok(Patch {
+                    offset: relocation.offset as usize,
+                    field,
+                }),
+                Err(overflow) => Err(Fault::FieldOverflow {
+                    site,
+                    value: overflow.value,
+                }),
+            }
+        }
+    }
+}
+
+/// The field of a relocation of number `entry`, in its place; or its fault. It counts one relocation.
+pub fn evaluate<L: Known>(
+    link: &L,
+    values: &[SymbolValue],
+    section: &PlacedSection<'_>,
+    entry: u32,
+    relocation: &Relocation,
+    meter: &mut Meter,
+) -> Result<Patch, Fault>
+    requires values { AreNameValues (L.known link.now) values.now }
+    requires evaluated { is_evaluated relocation.now.kind ≡ true }
+    requires below { section.now.start + relocation.now.offset < 2 ^ 64 }
+    ensures evaluated { (t : Site) → IsSiteAt (L.known link.now) section.now entry t → t.relocation ≡ relocation.now → IsEvaluated (L.known link.now) t result }
+    ensures counted { meter.new ≡ raised meter.old Count.Fields 1 }
+{
+    let value = site_value(link, values, section, relocation.symbol);
+    field_with(link, section, entry, relocation, value, meter)
+}

@@ -1,0 +1,97 @@
+//! What relocations name, and the values of what they name.
+
+ghost use Rattle.std.specs.Prelude.{◌≡◌, Some};
+ghost use Rattle.elfobj.specs.Symbols.{NamedSymbol};
+ghost use Rattle.ldmodel.specs.Names.{is_local, is_weak_binding};
+ghost use Rattle.ldmodel.specs.Project.{NamedObject};
+ghost use Rattle.ldmodel.specs.SymbolValues.{number_or_0};
+ghost use Rattle.ldmodel.specs.Targets.{referenced_value, target_number, target_of};
+ghost use Rattle.ldmodel.specs.Targets as model;
+ghost use Rattle.ldtargets.specs.KnownLink.{AreNameValues, IsSymbolOf, named_target, value_under};
+ghost use Rattle.ldtargets.specs.Values.{value_of};
+
+use crate::known::Known;
+use crate::symbol::own_value;
+use crate::value::SymbolValue;
+use elfobj::relocation::SymbolIndex;
+use elfobj::symbol::{Binding, Symbol, SymbolPlace};
+use ldmodel::names::{NameKey, ObjectKey};
+use ldmodel::sections::{Part, SectionKey};
+use ldmodel::target::Target;
+
+/// Whether a symbol is seen in its own object alone.
+fn is_local(binding: Binding) -> bool
+    ensures { result ≡ is_local binding }
+{
+    matches!(binding, Binding::Local)
+}
+
+/// Whether a reference needs no definition.
+fn is_weak(binding: Binding) -> bool
+    ensures { result ≡ is_weak_binding binding }
+{
+    matches!(binding, Binding::Weak)
+}
+
+/// What the value of a symbol of an object turns on: its name; the section that a local one lies in; or nothing.
+pub fn target_of<L: Known>(
+    link: &L,
+    object: ObjectKey,
+    index: SymbolIndex,
+    symbol: &Symbol,
+) -> Target
+    ensures { (o : NamedObject) (x : NamedSymbol) → IsSymbolOf (L.known link.now) object index symbol.now o x → named_target (L.known link.now) result ≡ Some (target_of o x) }
+{
+    if !is_local(symbol.binding) {
+        return Target::Name(link.name_key(object, index));
+    }
+    match symbol.place {
+        SymbolPlace::Section(section) => Target::Section(object, section),
+        SymbolPlace::Undefined | SymbolPlace::Absolute | SymbolPlace::Common => Target::Fixed,
+    }
+}
+
+/// The value of the name of a key, in a table of the values of all names.
+fn value_under(values: &[SymbolValue], name: NameKey) -> SymbolValue
+    ensures { result ≡ value_under values.now name }
+{
+    match values.get(name.0) {
+        None => SymbolValue::NotDefined,
+        Some(value) => *value,
+    }
+}
+
+/// The number of a target: the value of a name, where one without a number counts as 0, or the address of a section.
+/// `values` are those of all names. While the number of a target stays the same, so do the fields of all relocations
+/// against it.
+pub fn target_number<L: Known>(link: &L, values: &[SymbolValue], target: Target) -> u64
+    requires { AreNameValues (L.known link.now) values.now }
+    ensures { (t : model.Target) → named_target (L.known link.now) target ≡ Some t → result ≡ target_number (L.known link.now).project (L.known link.now).layout t }
+{
+    match target {
+        Target::Name(name) => value_under(values, name).number_or_0(),
+        Target::Section(object, section) => {
+            let part = Part::InTable(section);
+            link.start(SectionKey { object, part }).unwrap_or(0)
+        }
+        Target::Fixed => 0,
+    }
+}
+
+/// S, the value of a symbol that a relocation of its object names. `values` are those of all names.
+pub fn referenced_value<L: Known>(
+    link: &L,
+    values: &[SymbolValue],
+    object: ObjectKey,
+    index: SymbolIndex,
+    symbol: &Symbol,
+) -> SymbolValue
+    requires { AreNameValues (L.known link.now) values.now }
+    ensures { (o : NamedObject) (x : NamedSymbol) → IsSymbolOf (L.known link.now) object index symbol.now o x → value_of result ≡ referenced_value (L.known link.now).project (L.known link.now).layout o x }
+{
+    if is_local(symbol.binding) {
+        return own_value(link, object, symbol);
+    }
+    let value = value_under(values, link.name_key(object, index));
+    value.or_weak(is_weak(symbol.binding))
+}
