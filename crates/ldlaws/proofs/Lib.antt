@@ -13,3 +13,4 @@ pub mod Grouped
 pub mod Segmented
 pub mod Targeted
 pub mod Gapped
+pub mod Small

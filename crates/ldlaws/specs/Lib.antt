@@ -3,3 +3,4 @@ pub mod Placed
 pub mod Renumbering
 pub mod Examples
 pub mod ExampleProjects
+pub mod Bounds

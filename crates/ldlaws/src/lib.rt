@@ -10,3 +10,4 @@ pub mod links;
 pub mod names;
 pub mod segments;
 pub mod targets;
+pub mod values;
