@@ -14,3 +14,4 @@ pub mod Segmented
 pub mod Targeted
 pub mod Gapped
 pub mod Small
+pub mod Cutting

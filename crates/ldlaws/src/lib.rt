@@ -9,5 +9,6 @@ pub mod layout;
 pub mod links;
 pub mod names;
 pub mod segments;
+pub mod streams;
 pub mod targets;
 pub mod values;
