@@ -1,8 +1,8 @@
 -- No spelling of a command begins another, so no stream is cut into commands in two ways.
-use Rattle.std.proofs.Common.{◌≡◌, ◌≢◌, ℕ, zero, suc, ◌+◌, ◌%◌, ◌^◌, Bool, true, false, not, ◌&&◌, ◌==◌, ◌<◌, ◌≤◌, List, [], ◌∷◌, ◌++◌, length, codes, decimal, flat_map, refl, sym, ap, subst, arith, ◌∙◌, append_assoc}
+use Rattle.std.proofs.Common.{◌≡◌, ◌≢◌, ℕ, zero, suc, ◌+◌, ◌%◌, ◌^◌, Bool, true, false, not, ◌&&◌, ◌==◌, ◌<◌, List, [], ◌∷◌, ◌++◌, length, codes, decimal, flat_map, refl, sym, ap, arith, ◌∙◌, append_assoc}
 use Rattle.std.proofs.lemmas.Fmt.{decimal_by_steps, decimal_injective}
 use Rattle.std.proofs.lemmas.Bool.{false≢true, eq-eqb}
-use Rattle.ldmodel.specs.Commands.{Query, Image, Map, Faults, Command, Edit, Ask, edit_line, query_line, line, edit_payload, payload, spelling, HasNo, IsWord, IsPosition, IsPayload, HasWords, IsCommand, AreCommands, BeginsCommand}
+use Rattle.ldmodel.specs.Commands.{Query, Image, Map, Faults, Command, Edit, Ask, edit_line, query_line, line, edit_payload, payload, spelling, HasNo, IsWord, IsPayload, HasWords, IsCommand, AreCommands, BeginsCommand}
 use Rattle.ldmodel.specs.Edits.{Change, Add, Replace, Move, Remove, SetScript}
 
 no_append : (b : ℕ) (xs ys : List ℕ) → HasNo b xs → HasNo b ys → HasNo b (xs ++ ys)

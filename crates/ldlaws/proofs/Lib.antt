@@ -15,3 +15,7 @@ pub mod Targeted
 pub mod Gapped
 pub mod Small
 pub mod Cutting
+pub mod Effects
+pub mod RowParts
+pub mod RowsPlaced
+pub mod OwnRows

@@ -1,5 +1,5 @@
 -- The value of an expression is below 2^64.
-use Rattle.std.proofs.Common.{◌≡◌, ℕ, ◌+◌, ◌-◌, ◌*◌, ◌/◌, ◌%◌, ◌^◌, ◌<◌, ◌≤◌, ◌==◌, nat_lt, nat_le, Bool, true, false, cond, not, List, Option, Some, None, Result, Ok, Err, bit_and, bit_or, refl, subst, arith}
+use Rattle.std.proofs.Common.{◌≡◌, ℕ, ◌+◌, ◌-◌, ◌*◌, ◌/◌, ◌%◌, ◌^◌, ◌<◌, ◌==◌, nat_lt, nat_le, Bool, true, false, cond, not, List, Option, Some, None, Result, Ok, Err, refl, subst, arith}
 use Rattle.std.proofs.Math.Nat.{div-le_self, mod-le}
 use Rattle.std.proofs.lemmas.Nat.{mod_below, and_le_l, or_lt}
 use Rattle.std.specs.Int.{is_power_of_two, next_multiple_of}

@@ -4,3 +4,4 @@ pub mod Renumbering
 pub mod Examples
 pub mod ExampleProjects
 pub mod Bounds
+pub mod Spread

@@ -1,12 +1,15 @@
 //! Laws of layout: a placement by equations between neighbours.
 
-ghost use Rattle.std.specs.Prelude.{◌≡◌, ◌↔◌, ℕ, List, Ok, Err};
+ghost use Rattle.std.specs.Prelude.{◌≡◌, ◌↔◌, ℕ, List, Ok, Err, map};
 ghost use Rattle.ldtree.specs.declared.statement.Statement.{Statement};
 ghost use Rattle.ldmodel.specs.Fault.{Fault};
 ghost use Rattle.ldmodel.specs.Layout.{Layout};
+ghost use Rattle.ldmodel.specs.Names.{provided};
 ghost use Rattle.ldmodel.specs.Placement.{placement};
-ghost use Rattle.ldmodel.specs.Rows.{Piece};
+ghost use Rattle.ldmodel.specs.Project.{Project};
+ghost use Rattle.ldmodel.specs.Rows.{Piece, rows};
 ghost use Rattle.ldlaws.specs.Placed.{IsFirstFault, IsPlacement};
+ghost use Rattle.ldlaws.specs.Spread.{entries_in};
 
 /// A layout is that of a script exactly where the statements lead to it, each from where the one before it ended: the
 /// statements of the script, those of SECTIONS, those of the body of each output section, the regions of MEMORY, and
@@ -16,4 +19,9 @@ ghost use Rattle.ldlaws.specs.Placed.{IsFirstFault, IsPlacement};
 pub fn placement_by_steps()
     ensures placed { (script : List Statement) (rows : List (List Piece)) (provided : List (List ℕ)) (s : Layout) → (placement script rows provided ≡ Ok s) ↔ IsPlacement script rows provided s }
     ensures faulty { (script : List Statement) (rows : List (List Piece)) (provided : List (List ℕ)) (f : Fault) → (placement script rows provided ≡ Err f) ↔ IsFirstFault script rows provided f }
+{}
+
+/// Each entry of every row is placed once and in the order of the row: what stands in the output sections are the rows.
+pub fn placed_are_rows()
+    ensures { (p : Project) (s : Layout) → placement p.script (rows p) (provided p) ≡ Ok s → map entries_in s.sections ≡ rows p }
 {}
