@@ -1,5 +1,5 @@
 -- What one statement does to a layout and to the body of an output section.
-use Rattle.std.proofs.Common.{◌≡◌, ℕ, ◌+◌, ◌%◌, ◌^◌, ◌≤◌, nat_lt, Bool, true, false, cond, List, [], ◌∷◌, length, Option, Some, None, Result, Ok, Err, refl, ap, ◌∙◌, subst, arith, bytes_eq}
+use Rattle.std.proofs.Common.{◌≡◌, ℕ, ◌+◌, ◌%◌, ◌^◌, ◌≤◌, ◌==◌, nat_lt, Bool, true, false, cond, List, [], ◌∷◌, length, Option, Some, None, Result, Ok, Err, refl, ap, ◌∙◌, subst, arith, bytes_eq}
 use Rattle.std.specs.List.{list_any}
 use Rattle.std.proofs.lemmas.Bool.{ltb-false}
 use Rattle.byteorder.specs.Endian.{little_bytes}
@@ -12,12 +12,14 @@ use Rattle.ldtree.specs.declared.common.Common.TheVariants as common
 use Rattle.ldtree.specs.declared.common.Assignment.{Assignment}
 use Rattle.ldtree.specs.declared.common.DotCommand.{DotCommand}
 use Rattle.ldtree.specs.declared.common.DotCommand.TheVariants.{Set, Add}
+use Rattle.ldtree.specs.declared.section.BodyCommand.{BodyCommand}
+use Rattle.ldtree.specs.declared.section.BodyCommand.TheVariants as body
 use Rattle.ldtree.specs.declared.section.OutputSection.{OutputSection}
 use Rattle.ldtree.specs.declared.section.Width.{Width}
 use Rattle.ldtree.specs.declared.section.Width.TheVariants.{Byte, Short, Long, Quad}
 use Rattle.ldtree.specs.declared.statement.Region.{Region}
 use Rattle.ldmodel.specs.Assigning.{assigned, common_step}
-use Rattle.ldmodel.specs.Body.{Body, with_dot, with_data, data_step, moved, advanced, set_to, dot_step, body_step}
+use Rattle.ldmodel.specs.Body.{Body, piece_placed, pieces_placed, body_command_step, with_dot, with_data, data_step, moved, advanced, set_to, dot_step, body_step}
 use Rattle.ldmodel.specs.Chain.{and_then, run}
 use Rattle.ldmodel.specs.Fault.{Fault, MovedBack, PastAddressSpace}
 use Rattle.ldmodel.specs.Layout.{Layout, PlacedSection, address, number, with_symbol}
@@ -25,6 +27,8 @@ use Rattle.ldmodel.specs.Placement.{free_dot_step, region_step, section_step, op
 use Rattle.ldmodel.specs.Rows.{Piece}
 use Rattle.ldmodel.specs.SectionEnd.{section_end, placed_section, with_section, with_room, find_region, load_region}
 use Rattle.ldmodel.specs.SectionHead.{Head, head_of}
+use Rattle.ldlaws.specs.Placed.{PieceTo, past_inputs}
+use Rattle.ldlaws.proofs.Placements.{piece_to}
 
 -- a value comes of another
 pub record Came {X Y F : Type 0} (r : Result X F) (go : X → Result Y F) (y : Y) : Type 0 where
@@ -190,3 +194,29 @@ section_placed provided row s line o t e =
     let h = came (head_of s row line o) (λ h. and_then (run (body_step provided) (opened s row h) o.body) (λ b. section_end line o h b)) t e in
     let b = came (run (body_step provided) (opened s row h.value) o.body) (λ b. section_end line o h.value b) t h.gives in
     record { head = h.value; last = b.value; body = b.is; after = ended_after line o b.value (placed_section o h.value b.value) t b.gives }
+
+-- what the placing of one entry keeps, that of an input statement keeps
+pub pieces_by : (line n : ℕ) (I : Body → Type 0) → ((b : Body) (p : Piece) (rest : List Piece) (c : Body) → PieceTo b p rest c → I b → I c)
+    → (ps : List Piece) (b c : Body) → pieces_placed line n b ps ≡ Ok c → I b → I c
+unfolding pieces_placed
+pieces_by line n I each [] b c e h = let same : b ≡ c = cc in subst I same h
+pieces_by line n I each (p ∷ ps) b c e h = go (p.statement == n) e (λ d g i. pieces_by line n I each ps d c g i)
+  where
+    go : (t : Bool) → cond t (and_then (piece_placed line b p ps) (λ d. pieces_placed line n d ps)) (Ok b) ≡ Ok c → ((d : Body) → pieces_placed line n d ps ≡ Ok c → I d → I c) → I c
+    go true k more =
+        let d = came (piece_placed line b p ps) (λ d. pieces_placed line n d ps) c k in
+        more d.value d.gives (each b p ps d.value (piece_to line b p ps d.value d.is) h)
+    go false k more = let same : b ≡ c = cc in subst I same h
+
+-- what quiet statements and entries keep, every statement of a body keeps
+pub command_by : (provided : List (List ℕ)) (I : Body → Type 0) → ((b c : Body) → Quiet b c → I b → I c)
+    → ((b : Body) (p : Piece) (rest : List Piece) (c : Body) → PieceTo b p rest c → I b → I c) → ((b c : Body) → I c → I (past_inputs b c))
+    → (line : ℕ) (b : Body) (x : BodyCommand) (c : Body) → body_command_step provided line b x ≡ Ok c → I b → I c
+unfolding body_command_step
+command_by provided I quiet piece past line b (body.Dot d) c e h = quiet b c (dot_quiet line b d c e) h
+command_by provided I quiet piece past line b (body.Common d) c e h = quiet b c (common_quiet provided line b d c e) h
+command_by provided I quiet piece past line b (body.Data w x) c e h = quiet b c (data_quiet line b w x c e) h
+command_by provided I quiet piece past line b (body.Input i) c e h =
+    let d = came (pieces_placed line b.layout.inputs b b.rest) (λ d. Ok (past_inputs b d)) c e in
+    let after : past_inputs b d.value ≡ c = (let f = d.gives in cc) in
+    subst I after (past b d.value (pieces_by line b.layout.inputs I piece b.rest b d.value d.is h))

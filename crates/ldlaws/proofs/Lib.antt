@@ -19,3 +19,4 @@ pub mod Effects
 pub mod RowParts
 pub mod RowsPlaced
 pub mod OwnRows
+pub mod Dotted

@@ -1,13 +1,13 @@
 -- How input sections and data commands lie in an output section, which entries of rows they are, and which statements
 -- have a `.`.
-use Rattle.std.specs.Prelude.{ℕ, suc, ◌+◌, ◌≤◌, ◌⊎◌, List, [], ◌∷◌, length, map, sum_by}
+use Rattle.std.specs.Prelude.{◌≡◌, ◌++◌, ℕ, suc, ◌+◌, ◌≤◌, ◌⊎◌, List, [], ◌∷◌, length, map}
 use Rattle.ldtree.specs.Numbering.{items}
 use Rattle.ldtree.specs.declared.statement.Item.{Item}
 use Rattle.ldtree.specs.declared.statement.ItemCommand.{ItemCommand}
 use Rattle.ldtree.specs.declared.statement.ItemCommand.TheVariants as item
 use Rattle.ldtree.specs.declared.statement.Statement.{Statement}
 use Rattle.ldmodel.specs.FileLayout.{Each}
-use Rattle.ldmodel.specs.Layout.{PlacedSection, PlacedPiece, PlacedData}
+use Rattle.ldmodel.specs.Layout.{Layout, PlacedSection, PlacedPiece, PlacedData}
 use Rattle.ldmodel.specs.Rows.{Piece}
 
 -- the entries of rows that stand in an output section
@@ -49,5 +49,15 @@ dots_of_command _ = 1
 abbrev pub dots_of : Item → ℕ
 dots_of i = dots_of_command i.command
 
+abbrev pub dots_of_all : List Item → ℕ
+dots_of_all [] = 0
+dots_of_all (i ∷ is) = dots_of i + dots_of_all is
+
 abbrev pub dots_in : List Statement → ℕ
-dots_in script = sum_by dots_of (items script)
+dots_in script = dots_of_all (items script)
+
+-- a statement of SECTIONS keeps `.` as it was before it, and then that before each statement of a body: as many as `values`
+pub record Notes (values : ℕ) (s t : Layout) : Type 0 where
+  pub more : List ℕ
+  pub dots : t.dots ≡ s.dots ++ s.dot ∷ more
+  pub count : suc (length more) ≡ values
