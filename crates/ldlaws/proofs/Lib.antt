@@ -20,3 +20,4 @@ pub mod RowParts
 pub mod RowsPlaced
 pub mod OwnRows
 pub mod Dotted
+pub mod Spreading

@@ -6,13 +6,14 @@ ghost use Rattle.ldtree.specs.declared.statement.Item.{Item};
 ghost use Rattle.ldtree.specs.declared.statement.Statement.{Statement};
 ghost use Rattle.ldmodel.specs.Body.{Body, body_step};
 ghost use Rattle.ldmodel.specs.Fault.{Fault};
+ghost use Rattle.ldmodel.specs.FileLayout.{Each};
 ghost use Rattle.ldmodel.specs.Layout.{Layout};
 ghost use Rattle.ldmodel.specs.Names.{provided};
 ghost use Rattle.ldmodel.specs.Placement.{item_step, placement};
 ghost use Rattle.ldmodel.specs.Project.{Project};
 ghost use Rattle.ldmodel.specs.Rows.{Piece, rows};
 ghost use Rattle.ldlaws.specs.Placed.{IsFirstFault, IsPlacement};
-ghost use Rattle.ldlaws.specs.Spread.{Notes, dots_in, dots_of, entries_in};
+ghost use Rattle.ldlaws.specs.Spread.{IsSpread, Notes, dots_in, dots_of, entries_in};
 
 /// A layout is that of a script exactly where the statements lead to it, each from where the one before it ended: the
 /// statements of the script, those of SECTIONS, those of the body of each output section, the regions of MEMORY, and
@@ -36,4 +37,10 @@ pub fn dots_by_statement()
     ensures counted { (script : List Statement) (rows : List (List Piece)) (provided : List (List ℕ)) (s : Layout) → placement script rows provided ≡ Ok s → length s.dots ≡ dots_in script }
     ensures of_item { (rows : List (List Piece)) (provided : List (List ℕ)) (s : Layout) (i : Item) (t : Layout) → item_step rows provided s i ≡ Ok t → Notes (dots_of i) s t }
     ensures of_body { (provided : List (List ℕ)) (b : Body) (x : BodyStatement) (c : Body) → body_step provided b x ≡ Ok c → c.layout.dots ≡ b.layout.dots ++ b.layout.dot ∷ [] }
+{}
+
+/// In an output section of a placement nothing meets: its input sections and its data commands lie from its start up to
+/// its end, each past the earlier ones of its kind, and none of one kind shares an address with one of the other.
+pub fn nothing_meets()
+    ensures { (script : List Statement) (rows : List (List Piece)) (provided : List (List ℕ)) (s : Layout) → placement script rows provided ≡ Ok s → Each IsSpread s.sections }
 {}
