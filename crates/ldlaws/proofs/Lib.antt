@@ -21,3 +21,4 @@ pub mod RowsPlaced
 pub mod OwnRows
 pub mod Dotted
 pub mod Spreading
+pub mod FileOrder

@@ -24,7 +24,7 @@ pub each_imply : {X : Type 0} (P Q : X → Type 0) → ((x : X) → P x → Q x)
 each_imply P Q f [] h = tt
 each_imply P Q f (x ∷ xs) h = (f x h.0, each_imply P Q f xs h.1)
 
-each_and : {X : Type 0} (P Q R : X → Type 0) → ((x : X) → P x → Q x → R x) → (xs : List X) → Each P xs → Each Q xs → Each R xs
+pub each_and : {X : Type 0} (P Q R : X → Type 0) → ((x : X) → P x → Q x → R x) → (xs : List X) → Each P xs → Each Q xs → Each R xs
 each_and P Q R f [] h k = tt
 each_and P Q R f (x ∷ xs) h k = (f x h.0 k.0, each_and P Q R f xs h.1 k.1)
 

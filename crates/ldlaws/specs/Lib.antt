@@ -5,3 +5,4 @@ pub mod Examples
 pub mod ExampleProjects
 pub mod Bounds
 pub mod Spread
+pub mod FileOrder
