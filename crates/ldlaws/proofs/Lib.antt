@@ -22,3 +22,4 @@ pub mod OwnRows
 pub mod Dotted
 pub mod Spreading
 pub mod FileOrder
+pub mod Apart
