@@ -23,3 +23,4 @@ pub mod Dotted
 pub mod Spreading
 pub mod FileOrder
 pub mod Apart
+pub mod Total

@@ -6,3 +6,4 @@ pub mod ExampleProjects
 pub mod Bounds
 pub mod Spread
 pub mod FileOrder
+pub mod Outcomes
