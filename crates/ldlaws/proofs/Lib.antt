@@ -24,3 +24,4 @@ pub mod Spreading
 pub mod FileOrder
 pub mod Apart
 pub mod Total
+pub mod Courses
