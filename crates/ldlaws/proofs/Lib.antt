@@ -13,3 +13,15 @@ pub mod Grouped
 pub mod Segmented
 pub mod Targeted
 pub mod Gapped
+pub mod Small
+pub mod Cutting
+pub mod Effects
+pub mod RowParts
+pub mod RowsPlaced
+pub mod OwnRows
+pub mod Dotted
+pub mod Spreading
+pub mod FileOrder
+pub mod Apart
+pub mod Total
+pub mod Courses

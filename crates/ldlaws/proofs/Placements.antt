@@ -40,7 +40,7 @@ module _ (line : ℕ) (b : Body) (p : Piece) (rest : List Piece) where
   abbrev ended_at : Bool → Result Body Fault
   ended_at t = and_then (cond t (Ok (start + p.size)) (Err (PastAddressSpace line))) (λ end. Ok (record (with_dot b end) { rest = rest; pieces = b.pieces ++ record { start = start; piece = p } ∷ [] }))
 
-  piece_to : (c : Body) → piece_placed line b p rest ≡ Ok c → PieceTo b p rest c
+  pub piece_to : (c : Body) → piece_placed line b p rest ≡ Ok c → PieceTo b p rest c
   unfolding piece_placed
   piece_to c e = go (nat_lt (start + p.size) (2 ^ 64)) refl e
     where

@@ -24,7 +24,7 @@ same_groups : (end : ℕ) (gs : List Group) → map group_in (begun_from end gs)
 same_groups end [] = refl
 same_groups end (g ∷ gs) = ap (λ l. g ∷ l) (same_groups (file_end end (begun end g)) gs)
 
-same_count : (end : ℕ) (gs : List Group) → length (begun_from end gs) ≡ length gs
+pub same_count : (end : ℕ) (gs : List Group) → length (begun_from end gs) ≡ length gs
 same_count end [] = refl
 same_count end (g ∷ gs) = ap suc (same_count (file_end end (begun end g)) gs)
 

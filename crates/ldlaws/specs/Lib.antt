@@ -3,3 +3,7 @@ pub mod Placed
 pub mod Renumbering
 pub mod Examples
 pub mod ExampleProjects
+pub mod Bounds
+pub mod Spread
+pub mod FileOrder
+pub mod Outcomes

@@ -1,12 +1,19 @@
 //! Laws of layout: a placement by equations between neighbours.
 
-ghost use Rattle.std.specs.Prelude.{◌≡◌, ◌↔◌, ℕ, List, Ok, Err};
+ghost use Rattle.std.specs.Prelude.{◌≡◌, ◌↔◌, ℕ, List, [], ◌∷◌, ◌++◌, length, Ok, Err, map};
+ghost use Rattle.ldtree.specs.declared.section.BodyStatement.{BodyStatement};
+ghost use Rattle.ldtree.specs.declared.statement.Item.{Item};
 ghost use Rattle.ldtree.specs.declared.statement.Statement.{Statement};
+ghost use Rattle.ldmodel.specs.Body.{Body, body_step};
 ghost use Rattle.ldmodel.specs.Fault.{Fault};
+ghost use Rattle.ldmodel.specs.FileLayout.{Each};
 ghost use Rattle.ldmodel.specs.Layout.{Layout};
-ghost use Rattle.ldmodel.specs.Placement.{placement};
-ghost use Rattle.ldmodel.specs.Rows.{Piece};
+ghost use Rattle.ldmodel.specs.Names.{provided};
+ghost use Rattle.ldmodel.specs.Placement.{item_step, placement};
+ghost use Rattle.ldmodel.specs.Project.{Project};
+ghost use Rattle.ldmodel.specs.Rows.{Piece, rows};
 ghost use Rattle.ldlaws.specs.Placed.{IsFirstFault, IsPlacement};
+ghost use Rattle.ldlaws.specs.Spread.{IsSpread, Notes, dots_in, dots_of, entries_in};
 
 /// A layout is that of a script exactly where the statements lead to it, each from where the one before it ended: the
 /// statements of the script, those of SECTIONS, those of the body of each output section, the regions of MEMORY, and
@@ -16,4 +23,24 @@ ghost use Rattle.ldlaws.specs.Placed.{IsFirstFault, IsPlacement};
 pub fn placement_by_steps()
     ensures placed { (script : List Statement) (rows : List (List Piece)) (provided : List (List ℕ)) (s : Layout) → (placement script rows provided ≡ Ok s) ↔ IsPlacement script rows provided s }
     ensures faulty { (script : List Statement) (rows : List (List Piece)) (provided : List (List ℕ)) (f : Fault) → (placement script rows provided ≡ Err f) ↔ IsFirstFault script rows provided f }
+{}
+
+/// Each entry of every row is placed once and in the order of the row: what stands in the output sections are the rows.
+pub fn placed_are_rows()
+    ensures { (p : Project) (s : Layout) → placement p.script (rows p) (provided p) ≡ Ok s → map entries_in s.sections ≡ rows p }
+{}
+
+/// What a layout keeps of `.` is its value before each statement of SECTIONS and of the body of an output section, one
+/// for each, in the order of the text: a statement of SECTIONS adds the value before itself and then those of its body,
+/// a statement of a body adds the value before itself, and a script has as many as it has such statements.
+pub fn dots_by_statement()
+    ensures counted { (script : List Statement) (rows : List (List Piece)) (provided : List (List ℕ)) (s : Layout) → placement script rows provided ≡ Ok s → length s.dots ≡ dots_in script }
+    ensures of_item { (rows : List (List Piece)) (provided : List (List ℕ)) (s : Layout) (i : Item) (t : Layout) → item_step rows provided s i ≡ Ok t → Notes (dots_of i) s t }
+    ensures of_body { (provided : List (List ℕ)) (b : Body) (x : BodyStatement) (c : Body) → body_step provided b x ≡ Ok c → c.layout.dots ≡ b.layout.dots ++ b.layout.dot ∷ [] }
+{}
+
+/// In an output section of a placement nothing meets: its input sections and its data commands lie from its start up to
+/// its end, each past the earlier ones of its kind, and none of one kind shares an address with one of the other.
+pub fn nothing_meets()
+    ensures { (script : List Statement) (rows : List (List Piece)) (provided : List (List ℕ)) (s : Layout) → placement script rows provided ≡ Ok s → Each IsSpread s.sections }
 {}

@@ -49,6 +49,7 @@ pub mod FileLayout
 pub mod Gaps
 pub mod Commands
 pub mod Answers
+pub mod LinkCommand
 pub mod ThinProject
 pub mod ThinEdits
 pub mod ThinEditMeaning

@@ -1,0 +1,16 @@
+-- What an edit comes to.
+use Rattle.std.specs.Prelude.{Result}
+use Rattle.ldmodel.specs.Edits.{Change, Add, Replace, Move, Remove, SetScript, Refusal, After}
+use Rattle.ldmodel.specs.Project.{Project}
+
+-- a project, or a refusal
+abbrev pub HasOutcome : Project → Change → Type 0
+HasOutcome p c = (x : Result Project Refusal) × After p c x
+
+-- an edit of objects
+abbrev pub IsNoScript : Change → Type 0
+IsNoScript (Add name at bytes) = Unit {0}
+IsNoScript (Replace name bytes) = Unit {0}
+IsNoScript (Move name to) = Unit {0}
+IsNoScript (Remove name) = Unit {0}
+IsNoScript (SetScript text) = ⊥
