@@ -1,0 +1,4 @@
+pub mod Entries
+pub mod Ordering
+pub mod ProgramHeaders
+pub mod Sorts
