@@ -1,6 +1,6 @@
 -- String tables and tables of records, entry by entry.
 use Rattle.std.proofs.Common.{◌≡◌, ◌+◌, ◌<◌, ◌≤◌, ℕ, List, [], ◌∷◌, ◌++◌, length, map, take, get_or, flat_map, append_assoc, append-nil, length-append, refl, sym, ap, ◌∙◌, arith}
-use native.Mathlib.Nat.{zero-add}
+use Rattle.std.proofs.Math.Nat.{zero-add}
 use Rattle.std.specs.List.{enumerate_from, sum_by}
 use Rattle.std.proofs.lemmas.Grind.{flat_map-append}
 use Rattle.std.proofs.lemmas.List.{take_more, get_or-map, length-map, take_all}

@@ -1,5 +1,6 @@
 -- The values that the tail is made of: that they are those of a link.
-use Rattle.std.specs.Prelude.{◌≡◌, ℕ, ◌+◌, ◌%◌, ◌^◌, ◌*◌, List, [], ◌∷◌, ◌++◌, map, flat_map, replicate, Bool, codes}
+use Rattle.std.specs.Prelude.{◌≡◌, ℕ, ◌+◌, ◌%◌, ◌^◌, ◌*◌, List, [], ◌∷◌, ◌++◌, map, flat_map, replicate, Bool, codes, length}
+use Rattle.std.specs.Int.{next_multiple_of}
 use Rattle.std.specs.Prelude.{◌==◌, not, if◌then◌else◌}
 use Rattle.std.specs.List.{AllZip, enumerate_from}
 use Rattle.elfdefs.specs.declared.constants.TheConstants.{SHT_PROGBITS, SHT_NOBITS, SHF_WRITE, SHF_ALLOC, SHF_EXECINSTR}
@@ -7,10 +8,11 @@ use Rattle.elfdefs.specs.declared.constants.TheConstants.{STB_GLOBAL, STB_WEAK}
 use Rattle.ldmodel.specs.Layout.{Layout, PlacedSection}
 use Rattle.ldmodel.specs.Lent.{placed_of}
 use Rattle.ldmodel.specs.Project.{Project}
-use Rattle.ldmodel.specs.SectionHeaders.{SectionHeader, FilePart}
+use Rattle.ldmodel.specs.SectionHeaders.{SectionHeader, FilePart, Tables, end_of_part, header_bytes, part_at}
+use Rattle.ldmodel.specs.SectionHeaders.{table_headers}
 use Rattle.ldmodel.specs.Segments.{Segment, segments, file_offset, loaded_end}
 use Rattle.ldmodel.specs.Tail.{SymbolEntry, ValuedSymbol, name_offset, kind_number, symbol_bytes, table_symbols, st_binding}
-use Rattle.ldmodel.specs.Tail.{st_type, st_shndx, st_size}
+use Rattle.ldmodel.specs.Tail.{st_type, st_shndx, st_size, string_table}
 use Rattle.ldmodel.specs.declared.laid.Placed.{Placed}
 use Rattle.ldtail.specs.declared.sections.TableSection.{TableSection}
 use Rattle.ldtail.specs.declared.symbols.TableSymbol.{TableSymbol}
@@ -86,3 +88,32 @@ section_header_of names x = record {
   alignment = alignment_of x.1.placed;
   entry_size = 0;
 }
+
+-- the three tables, the first past the end of the loaded part
+unfoldable pub tables_of : ℕ → List TableSymbol → List TableSection → Tables
+tables_of end xs ys =
+    let symbols : FilePart = part_at (next_multiple_of end 8) (symbol_table_of xs) in
+    let symbol_names : FilePart = part_at (end_of_part symbols) (string_table (names_of xs)) in
+    record {
+      symbols = symbols;
+      symbol_names = symbol_names;
+      header_names = part_at (end_of_part symbol_names) (string_table (header_names_of ys));
+    }
+
+-- the null header and those of the output sections
+unfoldable pub output_headers_of : List TableSection → List ℕ
+output_headers_of ys =
+    replicate 64 0 ++ flat_map (λ x. header_bytes (section_header_of (header_names_of ys) x)) (enumerate_from 0 ys)
+
+-- the section headers in their place
+unfoldable pub header_part_of : ℕ → List TableSymbol → List TableSection → FilePart
+header_part_of end xs ys =
+    let t : Tables = tables_of end xs ys in
+    part_at (next_multiple_of (end_of_part t.header_names) 8)
+    (output_headers_of ys ++ flat_map header_bytes (table_headers (length ys) (header_names_of ys) t))
+
+-- the parts of the tail
+abbrev pub tail_of : ℕ → List TableSymbol → List TableSection → List FilePart
+tail_of end xs ys =
+    let t : Tables = tables_of end xs ys in
+    t.symbols ∷ t.symbol_names ∷ t.header_names ∷ header_part_of end xs ys ∷ []

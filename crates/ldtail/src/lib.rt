@@ -8,3 +8,4 @@ pub mod sections;
 pub mod strings;
 pub mod symbols;
 
+pub mod tail;

@@ -1,10 +1,10 @@
 //! The section headers (gABI, "Section Header").
 
-ghost use Rattle.std.specs.Prelude.{◌≡◌, ◌+◌, ◌*◌, ◌++◌, ◌<◌, ◌^◌, IfOk, OnOk, List, ℕ, flat_map, length, map};
+ghost use Rattle.std.specs.Prelude.{◌≡◌, ◌+◌, ◌++◌, ◌∷◌, [], IfOk, OnOk, List, ℕ, flat_map, length, take};
 ghost use Rattle.std.specs.List.{enumerate_from};
-ghost use Rattle.ldmodel.specs.SectionHeaders.{FilePart, SectionHeader, header_bytes, table_headers};
+ghost use Rattle.ldmodel.specs.SectionHeaders.{header_bytes};
 ghost use Rattle.ldmodel.specs.Tail.{string_table, name_offset};
-ghost use Rattle.ldtail.specs.Tables.{alignment_of, flags_of, header_names_of, section_header_of};
+ghost use Rattle.ldtail.specs.Tables.{alignment_of, flags_of, header_names_of, output_headers_of, section_header_of};
 ghost use Rattle.ldtail.specs.HeaderRecord.{header_of};
 
 use crate::number::{put_u32, put_u64};
@@ -117,12 +117,84 @@ fn names_length(sections: &[TableSection<'_>]) -> usize {
     total
 }
 
-/// The headers of output sections after the null header, and the names of all headers.
+/// Where the names of the tables' own headers begin in the table of names.
+#[derive(Clone, Copy, Debug, PartialEq, Eq)]
+pub struct TableNames {
+    /// `.symtab`.
+    pub symbols: u64,
+    /// `.strtab`.
+    pub symbol_names: u64,
+    /// `.shstrtab`.
+    pub header_names: u64,
+}
+
+/// The null header and those of the output sections, the names of all headers, and where those of the tables begin.
 #[derive(Drop)]
-pub(crate) struct HeaderTables {
-    pub(crate) headers: Vec<u8>,
-    pub(crate) names: Vec<u8>,
-    pub(crate) symbols_at: u64,
-    pub(crate) symbol_names_at: u64,
-    pub(crate) header_names_at: u64,
+pub struct OutputHeaders {
+    /// The headers.
+    pub headers: Vec<u8>,
+    /// The names.
+    pub names: Vec<u8>,
+    /// The names of the tables' headers.
+    pub tables: TableNames,
+}
+
+/// Writes the headers of the output sections, and adds their names to those of no headers.
+fn put_sections(
+    headers: &mut Vec<u8>,
+    names: &mut Vec<u8>,
+    sections: &[TableSection<'_>],
+) -> Result<(), NoMemory>
+    requires { names.old.items ≡ 0 ∷ [] }
+    ensures headers { OnOk result (headers.new.items ≡ headers.old.items ++ flat_map (λ x. header_bytes (section_header_of (header_names_of sections.now) x)) (enumerate_from 0 sections.now)) }
+    ensures names { OnOk result (names.new.items ≡ string_table (take (length sections.now) (header_names_of sections.now))) }
+{
+    for x in sections {
+        let at = add_name(names, x.name)?;
+        put_header(headers, &section_header(at as u64, x))?;
+    }
+    Ok(())
+}
+
+/// Adds the names of the tables' headers to those of the output sections.
+fn add_tables(names: &mut Vec<u8>, sections: &[TableSection<'_>]) -> Result<TableNames, NoMemory>
+    requires { names.old.items ≡ string_table (take (length sections.now) (header_names_of sections.now)) }
+    ensures symbols { IfOk result (λ t. t.symbols ≡ name_offset (header_names_of sections.now) (length sections.now)) }
+    ensures symbol_names { IfOk result (λ t. t.symbol_names ≡ name_offset (header_names_of sections.now) (length sections.now + 1)) }
+    ensures header_names { IfOk result (λ t. t.header_names ≡ name_offset (header_names_of sections.now) (length sections.now + 2)) }
+    ensures names { OnOk result (names.new.items ≡ string_table (header_names_of sections.now)) }
+{
+    let _count = sections.len();
+    let symbols = add_name(names, b".symtab")? as u64;
+    let symbol_names = add_name(names, b".strtab")? as u64;
+    let header_names = add_name(names, b".shstrtab")? as u64;
+    Ok(TableNames {
+        symbols,
+        symbol_names,
+        header_names,
+    })
+}
+
+/// The null header and those of output sections, with all names.
+pub(crate) fn output_headers(
+    alloc: Global,
+    sections: &[TableSection<'_>],
+) -> Result<OutputHeaders, NoMemory>
+    ensures headers { IfOk result (λ t. t.headers.items ≡ output_headers_of sections.now) }
+    ensures names { IfOk result (λ t. t.names.items ≡ string_table (header_names_of sections.now)) }
+    ensures symbols { IfOk result (λ t. t.tables.symbols ≡ name_offset (header_names_of sections.now) (length sections.now)) }
+    ensures symbol_names { IfOk result (λ t. t.tables.symbol_names ≡ name_offset (header_names_of sections.now) (length sections.now + 1)) }
+    ensures header_names { IfOk result (λ t. t.tables.header_names ≡ name_offset (header_names_of sections.now) (length sections.now + 2)) }
+{
+    let room = sections.len().saturating_add(4).saturating_mul(64);
+    let mut headers = Vec::with_capacity(alloc, room)?;
+    let mut names = no_names(alloc, names_length(sections))?;
+    headers.extend_from_slice(&[0; 64])?;
+    put_sections(&mut headers, &mut names, sections)?;
+    let tables = add_tables(&mut names, sections)?;
+    Ok(OutputHeaders {
+        headers,
+        names,
+        tables,
+    })
 }
