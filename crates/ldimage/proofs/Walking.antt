@@ -8,13 +8,9 @@ use Rattle.std.proofs.Math.Nat.{zero-add}
 use Rattle.ldbase.specs.Counts.{Counts}
 use Rattle.ldbase.specs.Raised.{raised}
 use Rattle.ldbase.specs.declared.meter.Count.TheVariants.{Bytes}
-use Rattle.ldimage.specs.Stretches.{Begun, Fills, IsDrawn, Stand, byte_in, content_byte, drawn_byte, stays_at, stays_in, stretch_at, written, written_in}
+use Rattle.ldimage.specs.Stretches.{Begun, Fills, Stand, byte_in, content_byte, drawn_byte, stays_at, stays_in, stretch_at, written, written_in}
 use Rattle.ldimage.specs.declared.stretch.Stretch.{Stretch}
 use Rattle.ldimage.proofs.Counting.{raised_more}
-
-bool_cases : (b : Bool) → (b ≡ true) ⊎ (b ≡ false)
-bool_cases true = inl refl
-bool_cases false = inr refl
 
 pub stand-end : (from end : ℕ) (xs : List Stretch) → Stand from end xs → from ≤ end
 stand-end from end [] h = omega (arith, h)
@@ -58,7 +54,8 @@ turn_of done end k xs x l h e = let P : Stretch → Type 0 = λ y. Turn done end
 pub record Walked (xs : List Stretch) (k done : ℕ) (old new : List ℕ) (m n : Counts) : Type 0 where
   pub order : Stand done (length old) (drop k xs)
   pub rest : (o : ℕ) → done ≤ o → stretch_at 0 xs o ≡ stretch_at done (drop k xs) o
-  pub right : (o : ℕ) → o < done → get_or new o 0 ≡ drawn_byte xs o
+  pub right : (o : ℕ) → o < done → stays_at xs o ≡ false → get_or new o 0 ≡ drawn_byte xs o
+  pub kept : (o : ℕ) → o < done → stays_at xs o ≡ true → get_or new o 0 ≡ get_or old o 0
   pub same : (o : ℕ) → done ≤ o → get_or new o 0 ≡ get_or old o 0
   pub len : length new ≡ length old
   pub counted : (i : ℕ) → raised n Bytes (written done (drop k xs) + i) ≡ raised m Bytes (written 0 xs + i)
@@ -73,29 +70,27 @@ pub record Wrote (from : ℕ) (x : Stretch) (old new : List ℕ) (m n : Counts) 
   pub counted : (i : ℕ) → raised n Bytes i ≡ raised m Bytes (written_in from x + i)
 
 module _ (xs : List Stretch) (k done : ℕ) (x : Stretch) (old now new : List ℕ) (m n q : Counts)
-    (stays : (o : ℕ) → o < length old → stays_at xs o ≡ true → get_or old o 0 ≡ drawn_byte xs o)
     (w : Walked xs k done old now m n) (t : Turn done (length old) k xs x) (r : Wrote done x now new n q) where
   at : (o : ℕ) → done ≤ o → o < x.end → stretch_at 0 xs o ≡ Some (record { from = done; stretch = x })
   at o a b = w.rest o a ∙ t.here o b
 
-  right_stays : (o : ℕ) → done ≤ o → o < x.end → x.stays ≡ true → get_or new o 0 ≡ drawn_byte xs o
-  right_stays o a b e =
-      ap (λ bs. get_or bs o 0) (r.kept e) ∙ w.same o a
-      ∙ stays o (omega (arith, t.within)) (ap stays_in (at o a b) ∙ e)
+  as_own : (o : ℕ) → done ≤ o → o < x.end → stays_at xs o ≡ x.stays
+  as_own o a b = ap stays_in (at o a b)
 
-  right_written : (o : ℕ) → done ≤ o → o < x.end → x.stays ≡ false → get_or new o 0 ≡ drawn_byte xs o
+  right_stays : (o : ℕ) → done ≤ o → o < x.end → stays_at xs o ≡ true → get_or new o 0 ≡ get_or old o 0
+  right_stays o a b e = ap (λ bs. get_or bs o 0) (r.kept (sym (as_own o a b) ∙ e)) ∙ w.same o a
+
+  right_written : (o : ℕ) → done ≤ o → o < x.end → stays_at xs o ≡ false → get_or new o 0 ≡ drawn_byte xs o
   right_written o a b e =
       let back : done + (o - done) ≡ o = omega arith in
-      ap (λ j. get_or new j 0) (sym back) ∙ r.own e (o - done) (omega arith) ∙ sym (ap (byte_in o) (at o a b))
+      ap (λ j. get_or new j 0) (sym back) ∙ r.own (sym (as_own o a b) ∙ e) (o - done) (omega arith) ∙ sym (ap (byte_in o) (at o a b))
 
   pub walk_on : Walked xs (k + 1) x.end old new m q
   walk_on = record {
     order = t.order;
     rest = λ o a. w.rest o (omega (arith, t.above)) ∙ t.later o a;
-    right = λ o a. elim (cases_lt o done) [
-      | inl b ↦ r.before o b ∙ w.right o b
-      | inr b ↦ elim (bool_cases x.stays) [ | inl s ↦ right_stays o b a s | inr s ↦ right_written o b a s ]
-    ];
+    right = λ o a e. elim (cases_lt o done) [ | inl b ↦ r.before o b ∙ w.right o b e | inr b ↦ right_written o b a e ];
+    kept = λ o a e. elim (cases_lt o done) [ | inl b ↦ r.before o b ∙ w.kept o b e | inr b ↦ right_stays o b a e ];
     same = λ o a. r.after o a ∙ w.same o (omega (arith, t.above));
     len = r.len ∙ w.len;
     counted = λ i. (
@@ -107,10 +102,8 @@ module _ (xs : List Stretch) (k done : ℕ) (x : Stretch) (old now new : List �
   }
 
 -- past the last stretch
-pub walked_all : (xs : List Stretch) (k done : ℕ) (old new : List ℕ) (m n : Counts) → length xs ≤ k → Walked xs k done old new m n → IsDrawn xs (length old) new
-walked_all xs k done old new m n l w =
-    let last : done ≡ length old = subst (Stand done (length old)) (drop_all k xs l) w.order in
-    record { len = w.len; bytes = λ o a. w.right o (omega (arith, last)) }
+pub done_all : (xs : List Stretch) (k done : ℕ) (old new : List ℕ) (m n : Counts) → length xs ≤ k → Walked xs k done old new m n → done ≡ length old
+done_all xs k done old new m n l w = subst (Stand done (length old)) (drop_all k xs l) w.order
 
 pub counted_all : (xs : List Stretch) (k done : ℕ) (old new : List ℕ) (m n : Counts) → length xs ≤ k → Walked xs k done old new m n
     → (i : ℕ) → raised n Bytes i ≡ raised m Bytes (written 0 xs + i)
@@ -121,7 +114,8 @@ pub walked_none : (xs : List Stretch) (old : List ℕ) (m : Counts) → Stand 0 
 walked_none xs old m h = record {
   order = h;
   rest = λ o a. refl;
-  right = λ o a. absurd (omega arith);
+  right = λ o a e. absurd (omega arith);
+  kept = λ o a e. absurd (omega arith);
   same = λ o a. refl;
   len = refl;
   counted = λ i. refl;

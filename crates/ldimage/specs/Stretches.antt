@@ -1,7 +1,7 @@
 -- Stretches of the image (`stretch`), and the bytes that they stand for.
 use Rattle.std.specs.Prelude.{◌≡◌, ℕ, ◌+◌, ◌-◌, ◌%◌, ◌<◌, ◌≤◌, List, [], ◌∷◌, length, slice_index, Option, Some, None}
 use Rattle.std.specs.Prelude.{Bool, true, false, nat_lt, nat_le, ◌&&◌, if◌then◌else◌, sum_by}
-use Rattle.std.specs.List.{list_any}
+use Rattle.std.specs.List.{list_any, All}
 use Rattle.std.specs.Option.{option_map_or}
 use Rattle.std.specs.Int.{to_le_bytes, w64}
 use Rattle.ldfields.specs.Patches.{AreInOrder, patch_end, patched_byte, covers}
@@ -64,21 +64,20 @@ written from (x ∷ xs) = written_in from x + written x.end xs
 abbrev pub is_patched : List Patch → ℕ → Bool
 is_patched patches o = list_any (λ (q : Patch). covers q o) patches
 
--- a patch of bytes of the image, at its offset in the file
-pub record IsPatchOf (xs : List Stretch) (end : ℕ) (q : Patch) : Type 0 where
-  pub within : patch_end q ≤ end
-  pub right : (i : ℕ) → i < length q.field → slice_index q.field i ≡ drawn_byte xs (q.offset + i)
+-- a patch, at its offset in the file, has the bytes of an image
+abbrev pub IsPatchOf : (ℕ → ℕ) → Patch → Type 0
+IsPatchOf image q = (i : ℕ) → i < length q.field → slice_index q.field i ≡ image (q.offset + i)
 
--- a byte that stays and that no patch covers stands in the canvas
-abbrev pub Stays : List Stretch → ℕ → List Patch → List ℕ → Type 0
-Stays xs end patches canvas =
-    (o : ℕ) → o < end → stays_at xs o ≡ true → is_patched patches o ≡ false
-    → (o < length canvas) × (slice_index canvas o ≡ drawn_byte xs o)
+abbrev pub EndsBy : ℕ → Patch → Type 0
+EndsBy end q = patch_end q ≤ end
 
--- bytes are those of the stretches, up to the end
-pub record IsDrawn (xs : List Stretch) (end : ℕ) (image : List ℕ) : Type 0 where
-  pub len : length image ≡ end
-  pub bytes : (o : ℕ) → o < end → slice_index image o ≡ drawn_byte xs o
+-- stretches and patches are a plan for an image, where the canvas has these bytes: the stretches have its bytes but where
+-- they stay; so do the patches; and a byte that stays and that no patch covers stands in the canvas
+pub record IsPlanFor (image : ℕ → ℕ) (xs : List Stretch) (end : ℕ) (patches : List Patch) (canvas : List ℕ) : Type 0 where
+  pub drawn : (o : ℕ) → o < end → stays_at xs o ≡ false → drawn_byte xs o ≡ image o
+  pub patched : All (IsPatchOf image) patches
+  pub stays : (o : ℕ) → o < end → stays_at xs o ≡ true → is_patched patches o ≡ false
+      → (o < length canvas) × (slice_index canvas o ≡ image o)
 
 -- how many bytes patches have
 abbrev pub patch_bytes : List Patch → ℕ

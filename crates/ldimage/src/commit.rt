@@ -2,7 +2,7 @@
 
 ghost use Rattle.std.specs.Prelude.{◌≡◌, ◌≤◌, ◌<◌, ◌+◌, ◌-◌, ℕ, All, length, slice_index, true, false};
 ghost use Rattle.ldbase.specs.Raised.{raised};
-ghost use Rattle.ldimage.specs.Stretches.{Fills, IsDrawn, IsPatchOf, Stand, Stays, content_byte, drawn_byte, is_patched, patch_bytes, stays_at, written, written_in};
+ghost use Rattle.ldimage.specs.Stretches.{EndsBy, Fills, IsPatchOf, IsPlanFor, Stand, content_byte, drawn_byte, is_patched, patch_bytes, stays_at, written, written_in};
 
 use crate::stretch::{Content, Stretch};
 use ldbase::meter::{Count, Meter};
@@ -59,9 +59,10 @@ fn write_stretch(canvas: &mut Canvas, from: usize, x: &Stretch<'_>, meter: &mut 
 
 /// Writes all stretches but those that stay, each byte once.
 fn write_stretches(canvas: &mut Canvas, stretches: &[Stretch<'_>], meter: &mut Meter)
-    requires order { Stand 0 (length canvas.old.bytes) stretches.now }
-    requires stays { (o : ℕ) → o < length canvas.old.bytes → stays_at stretches.now o ≡ true → slice_index canvas.old.bytes o ≡ drawn_byte stretches.now o }
-    ensures image { IsDrawn stretches.now (length canvas.old.bytes) canvas.new.bytes }
+    requires { Stand 0 (length canvas.old.bytes) stretches.now }
+    ensures written { (o : ℕ) → o < length canvas.old.bytes → stays_at stretches.now o ≡ false → slice_index canvas.new.bytes o ≡ drawn_byte stretches.now o }
+    ensures kept { (o : ℕ) → o < length canvas.old.bytes → stays_at stretches.now o ≡ true → slice_index canvas.new.bytes o ≡ slice_index canvas.old.bytes o }
+    ensures len { length canvas.new.bytes ≡ length canvas.old.bytes }
     ensures room { canvas.new.room ≡ canvas.old.room }
     ensures counted { (n : ℕ) → raised meter.new Count.Bytes n ≡ raised meter.old Count.Bytes (written 0 stretches.now + n) }
 {
@@ -73,29 +74,24 @@ fn write_stretches(canvas: &mut Canvas, stretches: &[Stretch<'_>], meter: &mut M
     }
 }
 
-/// Writes patches, which are right for the image of the stretches, at their places in the file.
-fn write_patches(
-    canvas: &mut Canvas,
-    stretches: &[Stretch<'_>],
-    patches: &[Patch],
-    meter: &mut Meter,
-)
-    requires { All (IsPatchOf stretches.now (length canvas.old.bytes)) patches.now }
-    ensures grows { (o : ℕ) → slice_index canvas.old.bytes o ≡ drawn_byte stretches.now o → slice_index canvas.new.bytes o ≡ drawn_byte stretches.now o }
-    ensures settled { (o : ℕ) → is_patched patches.now o ≡ true → slice_index canvas.new.bytes o ≡ drawn_byte stretches.now o }
+/// Writes patches at their places in the file: where they have the bytes of an image, what was right for it stays so, and
+/// what they cover becomes so.
+fn write_patches(canvas: &mut Canvas, patches: &[Patch], meter: &mut Meter)
+    requires { All (EndsBy (length canvas.old.bytes)) patches.now }
+    ensures grows { (image : ℕ → ℕ) → All (IsPatchOf image) patches.now → (o : ℕ) → slice_index canvas.old.bytes o ≡ image o → slice_index canvas.new.bytes o ≡ image o }
+    ensures settled { (image : ℕ → ℕ) → All (IsPatchOf image) patches.now → (o : ℕ) → is_patched patches.now o ≡ true → slice_index canvas.new.bytes o ≡ image o }
     ensures len { length canvas.new.bytes ≡ length canvas.old.bytes }
     ensures room { canvas.new.room ≡ canvas.old.room }
     ensures counted { (n : ℕ) → raised meter.new Count.Bytes n ≡ raised meter.old Count.Bytes (patch_bytes patches.now + n) }
 {
     let _len = canvas.len();
-    let _stretches = stretches;
     for patch in patches {
         canvas.write(patch.offset, patch.field.bytes(), meter);
     }
 }
 
-/// Brings the canvas to the image of the stretches, of this length: sets the length, writes the patches, and then the
-/// stretches that don't stay. It takes no memory.
+/// Brings the canvas to the image that the stretches, up to `end`, and the patches are a plan for: sets the length,
+/// writes the patches, and then the stretches that don't stay. It takes no memory.
 pub fn write_image(
     canvas: &mut Canvas,
     stretches: &[Stretch<'_>],
@@ -105,13 +101,13 @@ pub fn write_image(
 )
     requires order { Stand 0 end stretches.now }
     requires room { end ≤ canvas.old.room }
-    requires patches { All (IsPatchOf stretches.now end) patches.now }
-    requires stays { Stays stretches.now end patches.now canvas.old.bytes }
-    ensures image { IsDrawn stretches.now end canvas.new.bytes }
+    requires patches { All (EndsBy end) patches.now }
+    ensures len { length canvas.new.bytes ≡ end }
+    ensures image { (image : ℕ → ℕ) → IsPlanFor image stretches.now end patches.now canvas.old.bytes → (o : ℕ) → o < end → slice_index canvas.new.bytes o ≡ image o }
     ensures counted { meter.new ≡ raised meter.old Count.Bytes (patch_bytes patches.now + written 0 stretches.now) }
 {
     canvas.resize_reserved(end);
-    write_patches(canvas, stretches, patches, meter);
+    write_patches(canvas, patches, meter);
     write_stretches(canvas, stretches, meter);
     // nothing more: so the count is said exactly where nothing was written too
     meter.raise(Count::Bytes, 0);
