@@ -16,10 +16,10 @@ pub stand-end : (from end : ℕ) (xs : List Stretch) → Stand from end xs → f
 stand-end from end [] h = omega (arith, h)
 stand-end from end (x ∷ xs) h = let later = stand-end x.end end xs h.2 in omega (arith, h.0)
 
-here-cons : (from : ℕ) (x : Stretch) (xs : List Stretch) (o : ℕ) → o < x.end → stretch_at from (x ∷ xs) o ≡ Some (record { from = from; stretch = x })
+pub here-cons : (from : ℕ) (x : Stretch) (xs : List Stretch) (o : ℕ) → o < x.end → stretch_at from (x ∷ xs) o ≡ Some (record { from = from; stretch = x })
 here-cons from x xs o l = grind (arith, nat_tests)
 
-later-cons : (from : ℕ) (x : Stretch) (xs : List Stretch) (o : ℕ) → x.end ≤ o → stretch_at from (x ∷ xs) o ≡ stretch_at x.end xs o
+pub later-cons : (from : ℕ) (x : Stretch) (xs : List Stretch) (o : ℕ) → x.end ≤ o → stretch_at from (x ∷ xs) o ≡ stretch_at x.end xs o
 later-cons from x xs o l = grind (arith, nat_tests)
 
 -- what the next stretch says

@@ -51,6 +51,17 @@ stays_in x = option_map_or (λ (b : Begun). b.stretch.stays) x false
 abbrev pub stays_at : List Stretch → ℕ → Bool
 stays_at xs o = stays_in (stretch_at 0 xs o)
 
+-- a byte of the image, and whether it stays
+pub record Spot : Type 0 where
+  pub byte : ℕ
+  pub stays : Bool
+
+abbrev pub spot_of : ℕ → Option Begun → Spot
+spot_of o x = record { byte = byte_in o x; stays = stays_in x }
+
+abbrev pub spot_at : List Stretch → ℕ → Spot
+spot_at xs o = spot_of o (stretch_at 0 xs o)
+
 -- how many bytes a stretch has that are to be written
 abbrev pub written_in : ℕ → Stretch → ℕ
 written_in from x = if x.stays then 0 else x.end - from

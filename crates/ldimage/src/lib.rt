@@ -2,4 +2,6 @@
 #![tactic(auto)]
 
 pub mod commit;
+pub mod plan;
+pub mod section;
 pub mod stretch;
