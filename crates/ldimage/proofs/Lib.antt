@@ -1,0 +1,4 @@
+pub mod Counting
+pub mod Growing
+pub mod Patching
+pub mod Walking

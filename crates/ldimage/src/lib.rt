@@ -1,0 +1,7 @@
+//! The image: a plan that makes every growth, and a commit that takes no memory and has no refusal.
+#![tactic(auto)]
+
+pub mod commit;
+pub mod plan;
+pub mod section;
+pub mod stretch;

@@ -1,0 +1,6 @@
+pub mod Entries
+pub mod HeaderNames
+pub mod OfLink
+pub mod Ordering
+pub mod ProgramHeaders
+pub mod Sorts

@@ -1,0 +1,3 @@
+pub mod HeaderRecord
+pub mod SegmentBytes
+pub mod Tables

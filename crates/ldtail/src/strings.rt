@@ -1,0 +1,26 @@
+//! String tables (gABI, "String Table"): names, each followed by a zero byte, after one zero byte.
+
+ghost use Rattle.std.specs.Prelude.{◌≡◌, ◌++◌, ◌∷◌, [], IfOk, OnOk, length};
+
+use ldmodel::memory::NoMemory;
+use std::alloc::Global;
+
+/// A string table of no names, with room for this number of bytes.
+pub(crate) fn no_names(alloc: Global, room: usize) -> Result<Vec<u8>, NoMemory>
+    ensures { IfOk result (λ v. v.items ≡ 0 ∷ []) }
+{
+    let mut names = Vec::with_capacity(alloc, room)?;
+    names.push(0)?;
+    Ok(names)
+}
+
+/// Adds a name, and returns where it begins.
+pub(crate) fn add_name(names: &mut Vec<u8>, name: &[u8]) -> Result<usize, NoMemory>
+    ensures at { IfOk result (λ at. at ≡ length names.old.items) }
+    ensures added { OnOk result (names.new.items ≡ names.old.items ++ name.now ++ 0 ∷ []) }
+{
+    let at = names.len();
+    names.extend_from_slice(name)?;
+    names.push(0)?;
+    Ok(at)
+}
