@@ -2,9 +2,12 @@
 use Rattle.std.proofs.Common.{◌≡◌, ◌∙◌, ℕ, ◌<◌, List, map, length, get_or, ap, arith, Bool, true, false, cond, refl}
 use Rattle.std.specs.Prelude.{nat_eq, slice_get, Some, None}
 use Rattle.std.specs.Option.{option_map}
-use Rattle.std.proofs.lemmas.Option.{slice_get-map, slice_get_read}
+use Rattle.std.proofs.Common.{◌∷◌, [], ◌++◌, ◌+◌, take, suc}
+use Rattle.std.proofs.Math.Seq.{take-suc}
+use Rattle.std.proofs.lemmas.List.{length-map, get_or-map}
+use Rattle.std.proofs.lemmas.Option.{slice_get-map, slice_get_read, slice_get_within, get_or_from_slice_get}
 use Rattle.ldmodel.specs.Project.{NamedObject}
-use Rattle.ldproject.specs.Listing.{Entry, key_count}
+use Rattle.ldproject.specs.Listing.{Entry, key_count, objects_of}
 use Rattle.ldproject.specs.Next.{put_under, next_named, next_entry, next_count}
 use Rattle.ldproject.specs.declared.staged.Step.{Step}
 use Rattle.ldproject.specs.declared.staged.Step.TheVariants.{Put, Remove, Stay}
@@ -33,3 +36,18 @@ listed_before entries (Remove old) key none h = at_key (nat_eq key old) h
     at_key true h = absurd (omega arith)
     at_key false h = h
 listed_before entries Stay key none h = h
+
+-- one more of the objects of entries
+pub take_entry : (entries : List Entry) (at key : ℕ) (o : NamedObject) → slice_get entries at
+    ≡ Some (record { key = key; named = o })
+    → take (at + 1) (objects_of entries) ≡ take at (objects_of entries) ++ o ∷ []
+take_entry entries at key o e =
+    let entry : Entry = record { key = key; named = o } in
+    let within : at < length entries = slice_get_within entries at entry e in
+    let here : get_or (objects_of entries) at o ≡ o =
+    get_or-map (λ (x : Entry). x.named) entries at entry o within
+    ∙ ap (λ (x : Entry). x.named) (get_or_from_slice_get entries at entry entry e) in
+    let one : at + 1 ≡ suc at = omega arith in
+    ap (λ n. take n (objects_of entries)) one
+    ∙ (take-suc (objects_of entries) at o (rw length-map within)
+    ∙ ap (λ (x : NamedObject). take at (objects_of entries) ++ x ∷ []) here)

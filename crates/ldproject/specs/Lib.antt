@@ -4,3 +4,4 @@ pub mod Slots
 pub mod Next
 pub mod Staging
 pub mod Holding
+pub mod Inputs

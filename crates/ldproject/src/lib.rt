@@ -2,6 +2,7 @@
 #![tactic(auto)]
 
 pub mod edit;
+pub mod input;
 pub mod kept;
 pub mod named;
 pub mod project;

@@ -1,21 +1,20 @@
 //! A project, changed by edits in two parts.
 
-ghost use Rattle.std.specs.Prelude.{◌≡◌, ◌<◌, length, Some, None, option_map, slice_get, is_some, ◌==◌};
-ghost use Rattle.ldmodel.specs.Edits.{Add, Replace, Move, Remove, SetScript, early_refusal, place_of, is_in_use};
-ghost use Rattle.ldmodel.specs.Edits.{is_full};
+ghost use Rattle.std.specs.Prelude.{◌≡◌, ◌==◌, ◌<◌, length, Some, IfOk, slice_get};
 ghost use Rattle.ldmodel.specs.Project.{empty_project};
-ghost use Rattle.ldproject.specs.EditMeaning.{change_of, refusal_of};
-ghost use Rattle.ldproject.specs.Holding.{Holding, Listing, Stages, SameHolding, ReadsAtMostOne, held, listing_of};
-ghost use Rattle.ldproject.specs.Holding.{next_listing, project_of};
+ghost use Rattle.ldproject.specs.Holding.{held, listing_of, next_listing};
+ghost use Rattle.ldproject.specs.Inputs.{shown_inputs};
 ghost use Rattle.ldproject.specs.Listing.{objects_of};
 ghost use Rattle.ldproject.specs.Next.{Fits, KeysAreStable};
 
 mod early;
 mod staging;
 
+use crate::input::Input;
 use crate::kept::Kept;
 use crate::named::NamedObject;
 use crate::staged::Staged;
+use ldmodel::memory::NoMemory;
 use ldmodel::names::ObjectKey;
 use ldmodel::options::Options;
 use ldscript::script::Script;
@@ -99,6 +98,7 @@ impl<'a> Model for Next<'a> {
     ghost coded = { Prim.hlevel (codes, formula.the_row.coded) };
 
     ghost use Rattle.ldproject.specs.Holding.{next_listing};
+    ghost use Rattle.ldproject.specs.Inputs.{shown_inputs};
     ghost use Rattle.ldproject.specs.Next.{Fits};
 
     ghost view = { λ n. next_listing n.project.now n.staged.now };
@@ -132,6 +132,25 @@ impl<'a> Next<'a> {
             Some(named) => (ObjectKey(key), named),
             None => (ObjectKey(key), project.kept.named(key)),
         }
+    }
+
+    /// All objects, in their order.
+    ///
+    /// # Errors
+    ///
+    /// Where memory runs out.
+    pub fn inputs(&self, alloc: Global) -> Result<Vec<Input<'a>>, NoMemory>
+        ensures { IfOk result (λ v. shown_inputs v.items ≡ objects_of self.now.entries) }
+    {
+        let mut inputs = Vec::with_capacity(alloc, self.len())?;
+        for at in 0..self.len() {
+            let (_key, named) = self.entry(at);
+            inputs.push(Input {
+                name: named.name(),
+                object: named.object(),
+            })?;
+        }
+        Ok(inputs)
     }
 
     /// The script.
