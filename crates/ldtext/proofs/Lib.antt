@@ -2,3 +2,5 @@
 pub mod Draftings
 pub mod Spelling
 pub mod FoundSections
+pub mod Merging
+pub mod SideBySide

@@ -2,3 +2,4 @@
 pub mod Drafts
 pub mod LineWords
 pub mod Naming
+pub mod ShownMap
