@@ -4,3 +4,6 @@ pub mod Spelling
 pub mod FoundSections
 pub mod Merging
 pub mod SideBySide
+pub mod Mapped
+pub mod ByteOrder
+pub mod MergedNames

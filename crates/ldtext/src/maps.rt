@@ -3,7 +3,10 @@
 ghost use Rattle.std.specs.Prelude.{◌≡◌, OnOk, IfOk, length, drop, map};
 ghost use Rattle.std.specs.Vec.{vec_items};
 ghost use Rattle.ldscript.specs.Numbered.{shown_sections};
+ghost use Rattle.ldmodel.specs.Layout.{Layout};
+ghost use Rattle.ldmodel.specs.MapText.{map_text};
 ghost use Rattle.ldtext.specs.Drafts.{added};
+ghost use Rattle.ldtext.specs.MapOf.{IsMapOf};
 ghost use Rattle.ldtext.specs.ShownMap.{letters, piece_text, pieces_text, section_text, sections_text, shown_map};
 
 use crate::draft::Draft;
@@ -136,4 +139,24 @@ fn put_map<M: Members>(draft: &mut Draft, members: &M, parts: &MapParts<'_>) -> 
     put_line(draft, &[Word::Bytes(b"entry"), Word::Hex(parts.entry)])?;
     put_sections(draft, members, parts)?;
     put_symbols(draft, members, parts.named, parts.given)
+}
+
+/// The map of a link: the entry point, the output sections with their rows, and the symbols in byte order of names.
+/// `specs/MapOf.antt` says which values `parts` must have.
+///
+/// # Errors
+///
+/// Where there is no memory for the text, the only memory that it takes.
+pub fn map_text<M: Members>(
+    alloc: Global,
+    parts: &MapParts<'_>,
+    members: &M,
+) -> Result<Vec<u8>, NoMemory>
+    ensures { (s : Layout) → IsMapOf (M.project members.now) (M.number members.now) s parts.now → IfOk result (λ text. text.items ≡ map_text (M.project members.now) s) }
+{
+    let mut measured = Draft::to_measure(alloc);
+    put_map(&mut measured, members, parts)?;
+    let mut written = Draft::to_write(alloc, measured.size())?;
+    put_map(&mut written, members, parts)?;
+    Ok(written.into_bytes())
 }
