@@ -92,11 +92,7 @@ fn push_meeting(
 }
 
 /// The faults of all that meet an earlier one.
-fn push_meetings(
-    faults: &mut Vec<Fault>,
-    space: Space,
-    extents: &[Extent],
-) -> Result<(), NoMemory>
+fn push_meetings(faults: &mut Vec<Fault>, space: Space, extents: &[Extent]) -> Result<(), NoMemory>
     ensures { OnOk result (faults.new.items ≡ faults.old.items ++ met_before space extents.now) }
 {
     for k in 0..extents.len() {
@@ -116,7 +112,7 @@ fn push_overlaps(
     ensures { OnOk result (faults.new.items ≡ faults.old.items ++ met_before space (extents_in space sections.now)) }
 {
     let extents = extents(alloc, space, sections)?;
-    let mut ascending = extents.clone()?;
+    let mut ascending = Vec::from_slice(alloc, &extents)?;
     ascending.sort_unstable_by_key(|e| e.start);
     if are_ascending(&ascending) {
         return Ok(());

@@ -1,5 +1,5 @@
 -- Bytes added one part after another are added together.
-use Rattle.std.proofs.Common.{◌≡◌, ◌+◌, ℕ, List, [], ◌∷◌, ◌++◌, length, refl, ap, sym, ◌∙◌, append_assoc, append-nil, length-append, arith, Bool, true, false, cond}
+use Rattle.std.proofs.Common.{◌≡◌, ◌+◌, ℕ, List, [], ◌∷◌, ◌++◌, length, refl, ap, sym, ◌∙◌, subst, append_assoc, append-nil, length-append, arith, Bool, true, false, cond}
 use Rattle.ldtext.specs.Drafts.{Drafted, added}
 
 written_twice : (b : Bool) (bs xs ys : List ℕ)
@@ -40,3 +40,8 @@ added_end d rest end h i = sym (added_none d) ∙ ap (added d) (sym h) ∙ i
 pub written_whole : (d start : Drafted) (text : List ℕ) → start ≡ record { is_written = true; size = 0; bytes = [] } → d ≡ added start text → d.bytes ≡ text
 unfolding added
 written_whole d start text s e = ap (λ x. x.bytes) (e ∙ ap (λ x. added x text) s)
+
+-- three parts, one after the other
+pub added_three : (d e f : Drafted) (x y z : List ℕ) → e ≡ added d x → f ≡ added e y → (P : Drafted → Type 0) → P (added f z) → P (added d (x ++ (y ++ z)))
+added_three d e f x y z a b P p =
+    subst P (ap (λ w. added w z) (b ∙ ap (λ w. added w y) a) ∙ added_twice (added d x) y z ∙ added_twice d x (y ++ z)) p

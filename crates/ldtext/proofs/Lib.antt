@@ -2,3 +2,8 @@
 pub mod Draftings
 pub mod Spelling
 pub mod FoundSections
+pub mod Merging
+pub mod SideBySide
+pub mod Mapped
+pub mod ByteOrder
+pub mod MergedNames

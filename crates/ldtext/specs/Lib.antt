@@ -2,3 +2,5 @@
 pub mod Drafts
 pub mod LineWords
 pub mod Naming
+pub mod ShownMap
+pub mod MapOf

@@ -8,6 +8,8 @@ mod fault_line;
 pub mod faults;
 mod hex;
 mod line;
+pub mod maps;
 pub mod members;
 mod named;
 pub mod script_names;
+pub mod symbols;

@@ -1,5 +1,5 @@
 -- One range a step.
-use Rattle.ldoverlap.proofs.Covering.{ascends_over_all, ascends_over_empty, ascends_over_none, ascends_over_one}
+use Rattle.ldoverlap.proofs.Covering.{ascends_over_all, ascends_over_none}
 use Rattle.ldoverlap.proofs.extent.are_ascending.Goals as goal
 
 pub loop-extent-init : goal.loop-extent-init
