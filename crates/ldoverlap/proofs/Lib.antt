@@ -2,3 +2,4 @@ pub mod Covering
 pub mod Apart
 pub mod Finding
 pub mod Named
+pub mod Outputs

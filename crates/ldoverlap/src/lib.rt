@@ -2,4 +2,5 @@
 #![tactic(auto)]
 
 mod extent;
+pub mod law;
 pub mod overlaps;

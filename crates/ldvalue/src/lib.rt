@@ -2,5 +2,6 @@
 #![tactic(auto)]
 
 pub mod mentioned;
+mod operator;
 pub mod scope;
 pub mod value;
