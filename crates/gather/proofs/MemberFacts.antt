@@ -1,8 +1,9 @@
 -- The sections of objects, as the input sections of their project.
-use Rattle.std.proofs.Common.{◌≡◌, ◌<◌, ◌+◌, ℕ, zero, suc, List, [], ◌∷◌, ◌++◌, length, map, get_or, drop, refl, ap, sym, ◌∙◌, subst, arith, Option, Some, None, append_assoc, append-nil}
+use Rattle.std.proofs.Common.{◌≡◌, ◌<◌, ◌≤◌, ◌+◌, ⊎_elim, ℕ, zero, suc, List, [], ◌∷◌, ◌++◌, length, map, get_or, drop, refl, ap, sym, ◌∙◌, subst, arith, Option, Some, None, append_assoc, append-nil}
 use Rattle.std.specs.Prelude.{slice_get, flat_map, codes}
 use Rattle.std.specs.List.{All, AllZip, Contains, enumerate_from}
-use Rattle.std.proofs.lemmas.List.{drop_more, map-append}
+use Rattle.std.proofs.lemmas.Bool.{cases_lt}
+use Rattle.std.proofs.lemmas.List.{drop_all, drop_more, get_or_past, map-append}
 use Rattle.std.proofs.lemmas.List.Concat.{flat_map-cons}
 use Rattle.std.proofs.lemmas.List.Elements.{All-cons, All-nil}
 use Rattle.std.proofs.lemmas.Option.{get_or_from_slice_get, slice_get_within}
@@ -30,21 +31,31 @@ there (x ∷ xs) zero h = (x, refl)
 there (x ∷ xs) (suc i) h = there xs i (omega (arith, h))
 
 -- the linked sections from a place on
-beside_more : (keys : Keys) (m : Member) (ss : List LinkedSection) (ms : List (Option InputIndex)) (i : ℕ) (s : LinkedSection) → slice_get ss i ≡ Some s → i < length ms
+beside_more : (keys : Keys) (m : Member) (ss : List LinkedSection) (ms : List (Option InputIndex)) (i : ℕ) (s : LinkedSection) → slice_get ss i ≡ Some s
     → beside keys m (drop i ss) (map number_of (drop i ms)) ≡ facts_of_linked keys m s (number_of (get_or ms i None)) ∷ beside keys m (drop (i + 1) ss) (map number_of (drop (i + 1) ms))
-beside_more keys m ss ms i s e h =
-    ap (λ l. beside keys m l (map number_of (drop i ms))) (drop_more ss i s (slice_get_within ss i s e) ∙ ap (λ x. x ∷ drop (i + 1) ss) (get_or_from_slice_get ss i s s e))
-    ∙ ap (λ l. beside keys m (s ∷ drop (i + 1) ss) (map number_of l)) (drop_more ms i None h)
+beside_more keys m ss ms i s e = first ∙ ⊎_elim inside past (cases_lt i (length ms))
+  where
+    first : beside keys m (drop i ss) (map number_of (drop i ms)) ≡ beside keys m (s ∷ drop (i + 1) ss) (map number_of (drop i ms))
+    first = ap (λ l. beside keys m l (map number_of (drop i ms))) (drop_more ss i s (slice_get_within ss i s e) ∙ ap (λ x. x ∷ drop (i + 1) ss) (get_or_from_slice_get ss i s s e))
+
+    inside : i < length ms → beside keys m (s ∷ drop (i + 1) ss) (map number_of (drop i ms)) ≡ facts_of_linked keys m s (number_of (get_or ms i None)) ∷ beside keys m (drop (i + 1) ss) (map number_of (drop (i + 1) ms))
+    inside h = ap (λ l. beside keys m (s ∷ drop (i + 1) ss) (map number_of l)) (drop_more ms i None h)
+
+    past : length ms ≤ i → beside keys m (s ∷ drop (i + 1) ss) (map number_of (drop i ms)) ≡ facts_of_linked keys m s (number_of (get_or ms i None)) ∷ beside keys m (drop (i + 1) ss) (map number_of (drop (i + 1) ms))
+    past h =
+        ap (λ l. beside keys m (s ∷ drop (i + 1) ss) (map number_of l)) (drop_all i ms h)
+        ∙ ap (λ o. facts_of_linked keys m s (number_of o) ∷ beside keys m (drop (i + 1) ss) []) (sym (get_or_past ms i None h))
+        ∙ ap (λ l. facts_of_linked keys m s (number_of (get_or ms i None)) ∷ beside keys m (drop (i + 1) ss) (map number_of l)) (sym (drop_all (i + 1) ms (omega (arith, h))))
 
 -- one more linked section is added
 pub linked_step : (keys : Keys) (m : Member) (old new : List Gathered) (x : Gathered) (i : ℕ) (s : LinkedSection) (all : List Facts)
-    → slice_get m.object.now.sections i ≡ Some s → i < length m.matches.now → shown_facts keys x ≡ facts_of_linked keys m s (number_of (get_or m.matches.now i None)) → new ≡ old ++ x ∷ []
+    → slice_get m.object.now.sections i ≡ Some s → shown_facts keys x ≡ facts_of_linked keys m s (number_of (get_or m.matches.now i None)) → new ≡ old ++ x ∷ []
     → map (shown_facts keys) old ++ beside keys m (drop i m.object.now.sections) (map number_of (drop i m.matches.now)) ≡ all
     → map (shown_facts keys) new ++ beside keys m (drop (i + 1) m.object.now.sections) (map number_of (drop (i + 1) m.matches.now)) ≡ all
-linked_step keys m old new x i s all e h is pushed before =
+linked_step keys m old new x i s all e is pushed before =
     ap (λ l. l ++ rest) (ap (map (shown_facts keys)) pushed ∙ map-append (shown_facts keys) old (x ∷ []))
     ∙ append_assoc (map (shown_facts keys) old) (shown_facts keys x ∷ []) rest
-    ∙ ap (λ l. map (shown_facts keys) old ++ l) (ap (λ f. f ∷ rest) is ∙ sym (beside_more keys m m.object.now.sections m.matches.now i s e h))
+    ∙ ap (λ l. map (shown_facts keys) old ++ l) (ap (λ f. f ∷ rest) is ∙ sym (beside_more keys m m.object.now.sections m.matches.now i s e))
     ∙ before
   where
     rest : List Facts

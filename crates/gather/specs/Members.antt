@@ -17,10 +17,6 @@ use Rattle.gather.specs.declared.gathered.Gathered.{Gathered}
 use Rattle.gather.specs.declared.member.CommonBlock.{CommonBlock}
 use Rattle.gather.specs.declared.member.Member.{Member}
 
--- each linked section has its match
-abbrev pub HasMatches : Member → Type 0
-HasMatches m = length m.matches.now ≡ length m.object.now.sections
-
 -- the block as the definition has it, owned by object number i of this name
 abbrev pub block_of : ℕ → List ℕ → CommonBlock → InputSection
 block_of i name b = common_block name (record { object = i; symbol = b.symbol.0 }) b.size b.alignment
@@ -60,10 +56,10 @@ abbrev pub IsLinkedAt : Member → ℕ → Gathered → Type 0
 IsLinkedAt m place x =
     (keys : Keys) (s : LinkedSection) → slice_get m.object.now.sections place ≡ Some s → shown_facts keys x ≡ facts_of_linked keys m s (number_of (slice_index_or m.matches.now place None))
 
--- what is known of the linked sections, each beside its match
+-- what is known of the linked sections, each beside its match, if there is one
 abbrev pub beside : Keys → Member → List LinkedSection → List (Option ℕ) → List Facts
 beside keys m [] ns = []
-beside keys m (s ∷ ss) [] = []
+beside keys m (s ∷ ss) [] = facts_of_linked keys m s None ∷ beside keys m ss []
 beside keys m (s ∷ ss) (n ∷ ns) = facts_of_linked keys m s n ∷ beside keys m ss ns
 
 abbrev pub linked_facts : Keys → Member → List Facts

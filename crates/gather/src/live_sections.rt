@@ -1,6 +1,6 @@
 //! What becomes of the live sections: statements take them, or they are orphans.
 
-ghost use Rattle.std.specs.Prelude.{◌≡◌, ◌++◌, ◌∷◌, [], IfOk, OnOk, length, map, not, if◌then◌else◌};
+ghost use Rattle.std.specs.Prelude.{◌≡◌, ◌++◌, ◌∷◌, [], IfOk, OnOk, false, map, not, slice_index_or, if◌then◌else◌};
 ghost use Rattle.ldmodel.specs.HandedOver.{section_id};
 ghost use Rattle.ldmodel.specs.InputSections.{input_sections};
 ghost use Rattle.ldmodel.specs.Live.{live, orphans};
@@ -27,6 +27,13 @@ pub fn not_out(alloc: Global, out: &[bool]) -> Result<Vec<bool>, NoMemory>
         marks.push(!*is_out)?;
     }
     Ok(marks)
+}
+
+/// The mark of the section of this number; a section without one is not live.
+fn is_marked(marks: &[bool], number: usize) -> bool
+    ensures { result ≡ slice_index_or marks.now number false }
+{
+    marks.get(number).copied().unwrap_or(false)
 }
 
 /// Adds a section, if it is live and a statement takes it.
@@ -70,12 +77,11 @@ pub fn taken<'a>(
     sections: &[Gathered<'a>],
     marks: &[bool],
 ) -> Result<Vec<NamedPiece<'a>>, NoMemory>
-    requires { length marks.now ≡ length sections.now }
     ensures { IfOk result (λ pieces. (p : Project) (keys : Keys) → AreGathered p keys sections.now → marked marks.now (input_sections p) ≡ live p → AreTaken p keys.naming pieces.items) }
 {
     let mut pieces = Vec::new(alloc);
     for (place, section) in sections.iter().enumerate() {
-        add_taken(&mut pieces, section, marks[place])?;
+        add_taken(&mut pieces, section, is_marked(marks, place))?;
     }
     Ok(pieces)
 }
@@ -87,12 +93,11 @@ pub fn orphans(
     sections: &[Gathered<'_>],
     marks: &[bool],
 ) -> Result<Vec<SectionKey>, NoMemory>
-    requires { length marks.now ≡ length sections.now }
     ensures { IfOk result (λ found. (p : Project) (keys : Keys) → AreGathered p keys sections.now → marked marks.now (input_sections p) ≡ live p → map (section_id keys.number) found.items ≡ map (λ (s : InputSection). s.id) (orphans p)) }
 {
     let mut found = Vec::new(alloc);
     for (place, section) in sections.iter().enumerate() {
-        add_untaken(&mut found, section, marks[place])?;
+        add_untaken(&mut found, section, is_marked(marks, place))?;
     }
     Ok(found)
 }

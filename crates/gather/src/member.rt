@@ -1,9 +1,9 @@
 //! The input sections of a project, object by object.
 
-ghost use Rattle.std.specs.Prelude.{◌≡◌, ◌<◌, All, IfOk, OnOk, length, map};
+ghost use Rattle.std.specs.Prelude.{◌≡◌, ◌<◌, IfOk, OnOk, length, map};
 ghost use Rattle.ldmodel.specs.Project.{Project};
 ghost use Rattle.gather.specs.Gathered.{AreGathered, Keys, shown_facts};
-ghost use Rattle.gather.specs.Members.{AddsFacts, AreMembers, HasMatches, IsLinkedAt, NamesSections, block_facts, linked_facts};
+ghost use Rattle.gather.specs.Members.{AddsFacts, AreMembers, IsLinkedAt, NamesSections, block_facts, linked_facts};
 
 use crate::gathered::Gathered;
 use elfdefs::constants::{SHF_ALLOC, SHF_WRITE};
@@ -45,8 +45,7 @@ pub struct Member<'a> {
 impl<'a> Member<'a> {
     /// Its linked section at this place among them.
     fn linked_at(&self, place: usize) -> Gathered<'a>
-        requires place { place < length self.now.object.now.sections }
-        requires matches { HasMatches self.now }
+        requires { place < length self.now.object.now.sections }
         ensures { IsLinkedAt self.now place result }
     {
         let object: &'a Object = self.object;
@@ -61,7 +60,7 @@ impl<'a> Member<'a> {
             flags: section.flags,
             size: section.size,
             alignment: section.alignment,
-            statement: self.matches[place],
+            statement: self.matches.get(place).copied().unwrap_or(None),
         }
     }
 
@@ -85,7 +84,6 @@ impl<'a> Member<'a> {
 
     /// Adds its linked sections.
     fn add_linked(&self, sections: &mut Vec<Gathered<'a>>) -> Result<(), NoMemory>
-        requires { HasMatches self.now }
         ensures { OnOk result ((keys : Keys) → AddsFacts keys sections.old.items sections.new.items (linked_facts keys self.now)) }
     {
         for place in 0..self.object.sections().len() {
@@ -111,7 +109,6 @@ pub fn input_sections<'a>(
     alloc: Global,
     members: &[Member<'a>],
 ) -> Result<Vec<Gathered<'a>>, NoMemory>
-    requires { All HasMatches members.now }
     ensures { IfOk result (λ sections. (p : Project) (keys : Keys) → AreMembers p keys members.now → NamesSections p keys → AreGathered p keys sections.items) }
 {
     let mut sections = Vec::new(alloc);
