@@ -1,6 +1,7 @@
 //! What becomes of the live sections: statements take them, or they are orphans.
 
 ghost use Rattle.std.specs.Prelude.{◌≡◌, ◌++◌, ◌∷◌, [], IfOk, OnOk, false, map, not, slice_index_or, if◌then◌else◌};
+ghost use Rattle.ldmodel.specs.Gathering.{is_out};
 ghost use Rattle.ldmodel.specs.HandedOver.{section_id};
 ghost use Rattle.ldmodel.specs.InputSections.{input_sections};
 ghost use Rattle.ldmodel.specs.Live.{live, orphans};
@@ -13,6 +14,7 @@ ghost use Rattle.gather.specs.RowPieces.{AreTaken};
 
 use crate::gathered::Gathered;
 use crate::rows::NamedPiece;
+use ldlaws::gathering::live_by_path;
 use ldmodel::memory::NoMemory;
 use ldmodel::sections::SectionKey;
 use std::alloc::Global;
@@ -20,8 +22,10 @@ use std::alloc::Global;
 /// The sections without those that are left out: the live ones where nothing is collected. An error says that memory ran
 /// out.
 pub fn not_out(alloc: Global, out: &[bool]) -> Result<Vec<bool>, NoMemory>
-    ensures { IfOk result (λ marks. marks.items ≡ map not out.now) }
+    ensures marks { IfOk result (λ marks. marks.items ≡ map not out.now) }
+    ensures live { IfOk result (λ marks. (p : Project) → p.options.gc ≡ false → out.now ≡ map (is_out p) (input_sections p) → marked marks.items (input_sections p) ≡ live p) }
 {
+    live_by_path();
     let mut marks = Vec::with_capacity(alloc, out.len())?;
     for is_out in out {
         marks.push(!*is_out)?;
