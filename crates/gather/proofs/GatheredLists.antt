@@ -1,10 +1,10 @@
 -- What holds of gathered sections, as of the input sections that they stand for.
-use Rattle.std.proofs.Common.{◌≡◌, ◌<◌, ◌+◌, ℕ, Bool, true, false, cond, not, ◌||◌, List, [], ◌∷◌, ◌++◌, length, filter, map, get_or, drop, ltb, refl, ap, sym, ◌∙◌, subst, arith, Option, Some, None, ◌≤◌, zero, suc, append_assoc, append-nil}
+use Rattle.std.proofs.Common.{◌≡◌, ◌<◌, ◌+◌, ℕ, Bool, true, false, cond, not, ◌||◌, List, [], ◌∷◌, ◌++◌, length, filter, map, get_or, drop, ltb, refl, ap, sym, ◌∙◌, subst, arith, Option, Some, None, ◌≤◌, zero, suc, append_assoc, append-nil, ⊎_elim}
 use Rattle.std.specs.Prelude.{slice_get, option_and_then}
 use Rattle.std.specs.List.{All, filter_map, cons_option, position, position_or_len}
 use Rattle.std.specs.Option.{option_map, is_none}
-use Rattle.std.proofs.lemmas.Bool.{ltb-true}
-use Rattle.std.proofs.lemmas.List.{drop_more, drop_all, get_or_default}
+use Rattle.std.proofs.lemmas.Bool.{cases_lt, ltb-true}
+use Rattle.std.proofs.lemmas.List.{drop_more, drop_all, get_or_default, get_or_past}
 use Rattle.std.proofs.lemmas.List.Elements.{All-head, All-tail, All-cons, All-nil, filter_map-append}
 use Rattle.ldtree.specs.Numbering.{InputStatementAt, input_statements}
 use Rattle.ldtree.specs.declared.statement.Statement.{Statement}
@@ -54,13 +54,25 @@ out_are p keys xs a =
     ∙ sym (map_again (λ (f : Facts). is_out_of (input_statements p.script) p.options.orphans f.size f.statement) (facts p) (input_sections p))
     ∙ out_is p (input_sections p)
 
+marked_nil : {X : Type 0} (marks : List Bool) → marked {X = X} marks [] ≡ []
+marked_nil [] = refl
+marked_nil (b ∷ bs) = refl
+
 -- the marked members from a place on
-pub marked_more : {X : Type 0} (marks : List Bool) (xs : List X) (i : ℕ) (x : X) → i < length xs → length marks ≡ length xs → x ≡ get_or xs i x
+pub marked_more : {X : Type 0} (marks : List Bool) (xs : List X) (i : ℕ) (x : X) → i < length xs → x ≡ get_or xs i x
     → marked (drop i marks) (drop i xs) ≡ cond (get_or marks i false) (x ∷ marked (drop (i + 1) marks) (drop (i + 1) xs)) (marked (drop (i + 1) marks) (drop (i + 1) xs))
-marked_more marks xs i x h long is =
-    let within : i < length marks = omega (arith, h, long) in
-    ap (λ l. marked l (drop i xs)) (drop_more marks i false within)
-    ∙ ap (marked (get_or marks i false ∷ drop (i + 1) marks)) (drop_more xs i x h ∙ ap (λ y. y ∷ drop (i + 1) xs) (sym is))
+marked_more marks xs i x h is = ⊎_elim inside past (cases_lt i (length marks))
+  where
+    inside : i < length marks → marked (drop i marks) (drop i xs) ≡ cond (get_or marks i false) (x ∷ marked (drop (i + 1) marks) (drop (i + 1) xs)) (marked (drop (i + 1) marks) (drop (i + 1) xs))
+    inside within =
+        ap (λ l. marked l (drop i xs)) (drop_more marks i false within)
+        ∙ ap (marked (get_or marks i false ∷ drop (i + 1) marks)) (drop_more xs i x h ∙ ap (λ y. y ∷ drop (i + 1) xs) (sym is))
+
+    past : length marks ≤ i → marked (drop i marks) (drop i xs) ≡ cond (get_or marks i false) (x ∷ marked (drop (i + 1) marks) (drop (i + 1) xs)) (marked (drop (i + 1) marks) (drop (i + 1) xs))
+    past l =
+        ap (λ bs. marked bs (drop i xs)) (drop_all i marks l)
+        ∙ ap (λ bs. marked bs (drop (i + 1) xs)) (sym (drop_all (i + 1) marks (omega (arith, l))))
+        ∙ ap (λ b. cond b (x ∷ marked (drop (i + 1) marks) (drop (i + 1) xs)) (marked (drop (i + 1) marks) (drop (i + 1) xs))) (sym (get_or_past marks i false l))
 
 -- a piece, by the facts
 piece_by : ℕ → Facts → Piece
@@ -186,13 +198,13 @@ orphans_are p keys marks xs found is a l =
     ∙ ap (λ ss. map (λ (s : InputSection). s.id) (filter (λ s. is_none (taken_by p s)) ss)) l
 
 -- what is found, one section later
-pub found_step : {Y : Type 0} (h : Gathered → Option Y) (old new all : List Y) (marks : List Bool) (xs : List Gathered) (i : ℕ) (d : Gathered)
-    → i < length xs → length marks ≡ length xs → new ≡ old ++ filter_map h (cond (get_or marks i false) (get_or xs i d ∷ []) [])
+pub found_step : {Y : Type 0} (h : Gathered → Option Y) (old new all : List Y) (marks : List Bool) (xs : List Gathered) (i : ℕ) (d : Gathered) (b : Bool)
+    → i < length xs → b ≡ get_or marks i false → new ≡ old ++ filter_map h (cond b (get_or xs i d ∷ []) [])
     → old ++ filter_map h (marked (drop i marks) (drop i xs)) ≡ all → new ++ filter_map h (marked (drop (i + 1) marks) (drop (i + 1) xs)) ≡ all
-found_step h old new all marks xs i d within long added before =
-    ap (λ l. l ++ filter_map h (marked (drop (i + 1) marks) (drop (i + 1) xs))) added
+found_step h old new all marks xs i d b within is added before =
+    ap (λ l. l ++ filter_map h (marked (drop (i + 1) marks) (drop (i + 1) xs))) (added ∙ ap (λ m. old ++ filter_map h (cond m (get_or xs i d ∷ []) [])) is)
     ∙ append_assoc old (filter_map h (cond (get_or marks i false) (get_or xs i d ∷ []) [])) (filter_map h (marked (drop (i + 1) marks) (drop (i + 1) xs)))
-    ∙ ap (λ l. old ++ l) (go (get_or marks i false) (get_or xs i d) (marked (drop (i + 1) marks) (drop (i + 1) xs)) ∙ ap (filter_map h) (sym (marked_more marks xs i (get_or xs i d) within long (get_or_default xs i d (get_or xs i d) within))))
+    ∙ ap (λ l. old ++ l) (go (get_or marks i false) (get_or xs i d) (marked (drop (i + 1) marks) (drop (i + 1) xs)) ∙ ap (filter_map h) (sym (marked_more marks xs i (get_or xs i d) within (get_or_default xs i d (get_or xs i d) within))))
     ∙ before
   where
     go : (b : Bool) (x : Gathered) (rest : List Gathered) → filter_map h (cond b (x ∷ []) []) ++ filter_map h rest ≡ filter_map h (cond b (x ∷ rest) rest)
@@ -201,6 +213,6 @@ found_step h old new all marks xs i d within long added before =
 
 -- nothing is left to be found
 pub found_all : {Y : Type 0} (h : Gathered → Option Y) (found all : List Y) (marks : List Bool) (xs : List Gathered) (i : ℕ)
-    → length xs ≤ i → length marks ≡ length xs → found ++ filter_map h (marked (drop i marks) (drop i xs)) ≡ all → found ≡ all
-found_all h found all marks xs i past long e =
-    sym (append-nil found) ∙ ap (λ l. found ++ filter_map h (marked l (drop i xs))) (sym (drop_all i marks (omega (arith, long, past)))) ∙ e
+    → length xs ≤ i → found ++ filter_map h (marked (drop i marks) (drop i xs)) ≡ all → found ≡ all
+found_all h found all marks xs i past e =
+    sym (append-nil found) ∙ ap (λ l. found ++ filter_map h l) (sym (marked_nil (drop i marks))) ∙ ap (λ l. found ++ filter_map h (marked (drop i marks) l)) (sym (drop_all i xs past)) ∙ e

@@ -6,3 +6,4 @@ pub mod LivePaths
 pub mod Sorts
 pub mod RowSteps
 pub mod GatheredLists
+pub mod MemberFacts

@@ -1,8 +1,9 @@
 -- The sections that are reached in the graph of a project are the live ones.
-use Rattle.std.proofs.Common.{◌≡◌, ◌<◌, ◌↔◌, ℕ, Bool, true, false, not, ◌&&◌, List, length, filter, get_or, refl, ap, sym, ◌∙◌, subst, arith, Some, Result, Ok, Err, IfOk}
+use Rattle.std.proofs.Common.{◌≡◌, ◌<◌, ◌↔◌, ℕ, Bool, true, false, not, ◌&&◌, List, length, filter, get_or, refl, ap, sym, ◌∙◌, subst, arith, Some, Result, Ok, Err, IfOk, cond, map, [], ◌∷◌}
 use Rattle.std.specs.Prelude.{slice_get, slice_index_or}
 use Rattle.std.specs.List.{Contains}
 use Rattle.std.proofs.lemmas.Bool.{and_parts, and_from, not-true}
+use Rattle.std.proofs.lemmas.List.{get_or-map, length-map}
 use Rattle.std.proofs.lemmas.Option.{slice_get_within, slice_get-get_or, get_or_from_slice_get}
 use Rattle.ldmodel.specs.Gathering.{is_out, candidates}
 use Rattle.ldmodel.specs.InputSections.{input_sections}
@@ -25,8 +26,14 @@ module _ (p : Project) (g : Graph) (w : IsGraphOf p g) where
   abbrev is_in : InputSection → Bool
   is_in s = not (is_out p s)
 
+  long : length g.out ≡ length all
+  long = ap length w.out ∙ length-map all (is_out p)
+
+  out_at : (k : ℕ) (s : InputSection) → IsSectionAt p k s → slice_index_or g.out k true ≡ is_out p s
+  out_at k s e = ap (λ l. slice_index_or l k true) w.out ∙ get_or-map (is_out p) all k s true (slice_get_within all k s e) ∙ ap (is_out p) (get_or_from_slice_get all k s s e)
+
   not_out : (k : ℕ) (s : InputSection) → IsSectionAt p k s → IsIn g k → is_out p s ≡ false
-  not_out k s e i = sym (w.out k s e) ∙ i
+  not_out k s e i = sym (out_at k s e) ∙ i
 
   candidate : (k : ℕ) (s : InputSection) → IsSectionAt p k s → is_out p s ≡ false → Contains (candidates p) s
   candidate k s e o = filter_in is_in all s (k, slice_get_within all k s e, get_or_from_slice_get all k s s e) (ap not o)
@@ -43,7 +50,7 @@ module _ (p : Project) (g : Graph) (w : IsGraphOf p g) where
       start s (candidate k s e o) ((w.roots k s e o).1 c)
   live_path k (from_live a b l t i) s e =
       let o : is_out p s ≡ false = not_out k s e i in
-      let within : a < length all = omega (arith, t.0, w.long) in
+      let within : a < length all = omega (arith, t.0, long) in
       let at : IsSectionAt p a (get_or all a s) = slice_get-get_or all a s within in
       let before : is_out p (get_or all a s) ≡ false = not_out a (get_or all a s) at (live_in g a l) in
       step (get_or all a s) s (live_path a l (get_or all a s) at) (candidate k s e o) ((w.references a k (get_or all a s) s at e before o).1 t)
@@ -55,14 +62,14 @@ module _ (p : Project) (g : Graph) (w : IsGraphOf p g) where
   path_live : (s : InputSection) → Path (is_root p) (refers_to p) (candidates p) s → (k : ℕ) → IsSectionAt p k s → IsLive g k
   path_live s (start x c h) k e =
       let o : is_out p s ≡ false = (among s c).1 in
-      from_root k ((w.roots k s e o).0 h) (w.out k s e ∙ o)
+      from_root k ((w.roots k s e o).0 h) (out_at k s e ∙ o)
   path_live s (step x y q c h) k e =
       let o : is_out p s ≡ false = (among s c).1 in
       let from : Contains all x × (is_out p x ≡ false) = among x (on_path x q) in
       let at : IsSectionAt p from.0.0 x = at_place x from.0 in
-      from_live from.0.0 k (path_live x q from.0.0 at) ((w.references from.0.0 k x s at e from.1 o).0 h) (w.out k s e ∙ o)
+      from_live from.0.0 k (path_live x q from.0.0 at) ((w.references from.0.0 k x s at e from.1 o).0 h) (out_at k s e ∙ o)
 
-  module _ (marks : List Bool) (long : length marks ≡ length g.out) (reached : (k : ℕ) → IsMarked marks k ↔ IsLive g k)
+  module _ (marks : List Bool) (as_long : length marks ≡ length g.out) (reached : (k : ℕ) → IsMarked marks k ↔ IsLive g k)
       (paths : (s : InputSection) → Contains (live p) s ↔ Path (is_root p) (refers_to p) (candidates p) s)
       (test : InputSection → Bool) (in_order : live p ≡ filter test (candidates p)) where
     abbrev passes : InputSection → Bool
@@ -79,10 +86,15 @@ module _ (p : Project) (g : Graph) (w : IsGraphOf p g) where
 
     pub marked_live : marked marks all ≡ live p
     marked_live =
-        marked_filter passes marks all (long ∙ w.long) mark_is
+        marked_filter passes marks all (as_long ∙ long) mark_is
         ∙ sym (filter_twice is_in test all) ∙ sym in_order
 
 -- what two clauses say together of an Ok
 pub if_ok_two : {T E : Type 0} (r : Result T E) (A B D : T → Type 0) → ((v : T) → A v → B v → D v) → IfOk r A → IfOk r B → IfOk r D
 if_ok_two (Ok v) A B D f a b = f v a b
 if_ok_two (Err e) A B D f a b = tt
+
+-- without garbage collection those that are not left out
+pub kept_are : {X : Type 0} (out : X → Bool) (xs : List X) → marked (map not (map out xs)) xs ≡ filter (λ x. not (out x)) xs
+kept_are out [] = refl
+kept_are out (x ∷ xs) = ap (λ l. cond (not (out x)) (x ∷ l) l) (kept_are out xs)

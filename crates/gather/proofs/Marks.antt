@@ -8,7 +8,7 @@ use Rattle.std.proofs.lemmas.List.Elements.{All-contains, All-take, All-drop, Co
 use Rattle.std.proofs.lemmas.List.Sums.{sum_by-set}
 use Rattle.std.proofs.lemmas.Grind.{get_or_default_zero}
 use Rattle.std.proofs.Math.ListN.{drop}
-use Rattle.gather.specs.Graphs.{Graph, IsInRange, IsIn, IsLive, LeadsTo, targets_of, IsMarked, IsVisit, from_root, from_live}
+use Rattle.gather.specs.Graphs.{Graph, IsIn, IsLive, LeadsTo, targets_of, IsMarked, IsVisit, from_root, from_live}
 
 -- where the search stands: `at` is the section that is being expanded, or no section
 pub record Marks (g : Graph) (live : List Bool) (stack : List ℕ) (at : ℕ) : Type 0 where
@@ -80,16 +80,18 @@ visit_new g live stack at next m l h o u = record {
 visit_old : (g : Graph) (live : List Bool) (stack : List ℕ) (at next : ℕ) → Marks g live stack at → (IsIn g next → IsMarked live next) → Visited g live stack at next live stack
 visit_old g live stack at next m k = record { marks = m; marked = k; kept = λ _ x. x; same_work = refl }
 
-pub visited : (g : Graph) (live : List Bool) (stack : List ℕ) (at next : ℕ) (live' : List Bool) (stack' : List ℕ) → Marks g live stack at → (IsIn g next → IsLive g next) → next < length live
+pub visited : (g : Graph) (live : List Bool) (stack : List ℕ) (at next : ℕ) (live' : List Bool) (stack' : List ℕ) → Marks g live stack at → (IsIn g next → IsLive g next)
     → IsVisit g.out next live stack live' stack' → Visited g live stack at next live' stack'
-visited g live stack at next live' stack' m l h v = go (get_or g.out next true) (get_or live next false) refl refl v
+visited g live stack at next live' stack' m l v = go (get_or g.out next true) (get_or live next false) refl refl v
   where
     go : (o u : Bool) → get_or g.out next true ≡ o → get_or live next false ≡ u
         → cond (o || u) ((live' ≡ live) × (stack' ≡ stack)) ((live' ≡ set live next true) × (stack' ≡ stack ++ next ∷ []))
         → Visited g live stack at next live' stack'
     go true u eo eu p = rw (p.0, p.1) (visit_old g live stack at next m (λ i. absurd (false≢true (sym i ∙ eo))))
     go false true eo eu p = rw (p.0, p.1) (visit_old g live stack at next m (λ _. eu))
-    go false false eo eu p = rw (p.0, p.1) (visit_new g live stack at next m l h eo eu)
+    go false false eo eu p =
+        let inside : next < length g.out = ⊎_elim (λ h. h) (λ h. absurd (false≢true (sym eo ∙ get_or_past g.out next true h))) (cases_lt next (length g.out)) in
+        rw (p.0, p.1) (visit_new g live stack at next m l (omega (arith, inside, m.long)) eo eu)
 
 -- the last of the stack is taken to be expanded
 pub marks_pop : (g : Graph) (live : List Bool) (stack rest : List ℕ) (s : ℕ) → stack ≡ rest ++ s ∷ [] → Marks g live stack (length g.out) → Marks g live rest s
@@ -132,11 +134,6 @@ leads_out g s k items h e w = (h, subst (λ l. Contains l (get_or items k 0)) e 
 -- what holds of each place holds of each that is contained
 pub each_contained : (xs : List ℕ) (P : ℕ → Type 0) → ((k : ℕ) → k < length xs → P (get_or xs k 0)) → (x : ℕ) → Contains xs x → P x
 each_contained xs P f x c = subst P (sym (get_or_default_zero xs c.0 x c.1) ∙ c.2) (f c.0 c.1)
-
-pub target_within : (g : Graph) (s k : ℕ) (items : List ℕ) → IsInRange g → items ≡ targets_of g s → k < length items → get_or items k 0 < length g.out
-target_within g s k items r e w =
-    let w' : k < length (targets_of g s) = subst (λ l. k < length l) e w in
-    subst (λ l. get_or l k 0 < length g.out) (sym e) (All-take (λ t. t < length g.out) (slice_index g.starts (s + 1) - slice_index g.starts s) (drop (slice_index g.starts s) g.targets) (All-drop (λ t. t < length g.out) (slice_index g.starts s) g.targets r.targets) k 0 w')
 
 pub empty_length : (xs : List ℕ) → length xs ≡ 0 → xs ≡ []
 empty_length [] h = refl

@@ -3,7 +3,8 @@ use Rattle.std.specs.Prelude.{ℕ, ◌≡◌, ◌<◌, ◌≤◌, ◌+◌, Bool,
 use Rattle.std.specs.List.{All}
 
 -- sections by their numbers: of each whether it is left out, the numbers of the roots, and the numbers of the sections
--- that relocations refer to: those of section a are the targets from starts a up to starts (a + 1)
+-- that relocations refer to: those of section a are the targets from starts a up to starts (a + 1). A number past the
+-- end of `out` is that of no section
 pub record Graph : Type 0 where
   pub out : List Bool
   pub roots : List ℕ
@@ -12,14 +13,6 @@ pub record Graph : Type 0 where
 
 abbrev pub graph : List Bool → (roots starts targets : List ℕ) → Graph
 graph out roots starts targets = record { out = out; roots = roots; starts = starts; targets = targets }
-
--- each number is that of a section, and each section has its targets
-pub record IsInRange (g : Graph) : Type 0 where
-  pub starts : length g.starts ≡ length g.out + 1
-  pub ordered : (a : ℕ) → a < length g.out → slice_index g.starts a ≤ slice_index g.starts (a + 1)
-  pub inside : (a : ℕ) → a < length g.out → slice_index g.starts (a + 1) ≤ length g.targets
-  pub roots : All (λ r. r < length g.out) g.roots
-  pub targets : All (λ t. t < length g.out) g.targets
 
 -- a section that is not left out
 abbrev pub IsIn : Graph → ℕ → Type 0

@@ -6,3 +6,4 @@ pub mod LiveMarks
 pub mod RowPieces
 pub mod Gathered
 pub mod LeftOut
+pub mod Members

@@ -7,6 +7,7 @@ pub mod left_out;
 pub mod live_sections;
 pub mod marking;
 pub mod matcher;
+pub mod member;
 pub mod rows;
 mod sorting;
 mod word;

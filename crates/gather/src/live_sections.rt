@@ -1,6 +1,7 @@
 //! What becomes of the live sections: statements take them, or they are orphans.
 
-ghost use Rattle.std.specs.Prelude.{◌≡◌, ◌++◌, ◌∷◌, [], IfOk, OnOk, length, map, not, if◌then◌else◌};
+ghost use Rattle.std.specs.Prelude.{◌≡◌, ◌++◌, ◌∷◌, [], IfOk, OnOk, false, map, not, slice_index_or, if◌then◌else◌};
+ghost use Rattle.ldmodel.specs.Gathering.{is_out};
 ghost use Rattle.ldmodel.specs.HandedOver.{section_id};
 ghost use Rattle.ldmodel.specs.InputSections.{input_sections};
 ghost use Rattle.ldmodel.specs.Live.{live, orphans};
@@ -13,6 +14,7 @@ ghost use Rattle.gather.specs.RowPieces.{AreTaken};
 
 use crate::gathered::Gathered;
 use crate::rows::NamedPiece;
+use ldlaws::gathering::live_by_path;
 use ldmodel::memory::NoMemory;
 use ldmodel::sections::SectionKey;
 use std::alloc::Global;
@@ -20,13 +22,22 @@ use std::alloc::Global;
 /// The sections without those that are left out: the live ones where nothing is collected. An error says that memory ran
 /// out.
 pub fn not_out(alloc: Global, out: &[bool]) -> Result<Vec<bool>, NoMemory>
-    ensures { IfOk result (λ marks. marks.items ≡ map not out.now) }
+    ensures marks { IfOk result (λ marks. marks.items ≡ map not out.now) }
+    ensures live { IfOk result (λ marks. (p : Project) → p.options.gc ≡ false → out.now ≡ map (is_out p) (input_sections p) → marked marks.items (input_sections p) ≡ live p) }
 {
+    live_by_path();
     let mut marks = Vec::with_capacity(alloc, out.len())?;
     for is_out in out {
         marks.push(!*is_out)?;
     }
     Ok(marks)
+}
+
+/// The mark of the section of this number; a section without one is not live.
+fn is_marked(marks: &[bool], number: usize) -> bool
+    ensures { result ≡ slice_index_or marks.now number false }
+{
+    marks.get(number).copied().unwrap_or(false)
 }
 
 /// Adds a section, if it is live and a statement takes it.
@@ -70,12 +81,11 @@ pub fn taken<'a>(
     sections: &[Gathered<'a>],
     marks: &[bool],
 ) -> Result<Vec<NamedPiece<'a>>, NoMemory>
-    requires { length marks.now ≡ length sections.now }
     ensures { IfOk result (λ pieces. (p : Project) (keys : Keys) → AreGathered p keys sections.now → marked marks.now (input_sections p) ≡ live p → AreTaken p keys.naming pieces.items) }
 {
     let mut pieces = Vec::new(alloc);
     for (place, section) in sections.iter().enumerate() {
-        add_taken(&mut pieces, section, marks[place])?;
+        add_taken(&mut pieces, section, is_marked(marks, place))?;
     }
     Ok(pieces)
 }
@@ -87,12 +97,11 @@ pub fn orphans(
     sections: &[Gathered<'_>],
     marks: &[bool],
 ) -> Result<Vec<SectionKey>, NoMemory>
-    requires { length marks.now ≡ length sections.now }
     ensures { IfOk result (λ found. (p : Project) (keys : Keys) → AreGathered p keys sections.now → marked marks.now (input_sections p) ≡ live p → map (section_id keys.number) found.items ≡ map (λ (s : InputSection). s.id) (orphans p)) }
 {
     let mut found = Vec::new(alloc);
     for (place, section) in sections.iter().enumerate() {
-        add_untaken(&mut found, section, marks[place])?;
+        add_untaken(&mut found, section, is_marked(marks, place))?;
     }
     Ok(found)
 }

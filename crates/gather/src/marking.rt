@@ -1,11 +1,11 @@
 //! Which sections can be reached from the roots.
 
-ghost use Rattle.std.specs.Prelude.{◌≡◌, true, ◌+◌, ◌<◌, ◌≤◌, ◌↔◌, ℕ, IfOk, OnOk, length, slice_index, slice_range};
+ghost use Rattle.std.specs.Prelude.{◌≡◌, true, ◌+◌, ◌<◌, ◌^◌, ◌↔◌, ℕ, IfOk, OnOk, length, slice_index, slice_range};
 ghost use Rattle.ldmodel.specs.InputSections.{input_sections};
 ghost use Rattle.ldmodel.specs.Live.{live};
 ghost use Rattle.ldmodel.specs.Project.{Project};
 ghost use Rattle.gather.specs.LiveMarks.{IsGraphOf, marked};
-ghost use Rattle.gather.specs.Graphs.{IsInRange, IsLive, IsMarked, IsVisit, graph};
+ghost use Rattle.gather.specs.Graphs.{IsLive, IsMarked, IsVisit, graph};
 
 use ldlaws::gathering::live_by_path;
 use ldmodel::memory::NoMemory;
@@ -18,25 +18,36 @@ fn visit(
     out: &[bool],
     next: usize,
 ) -> Result<(), NoMemory>
-    requires out { next < length out.now }
-    requires live { next < length live.old.items }
+    requires { length live.old.items ≡ length out.now }
     ensures { OnOk result (IsVisit out.now next live.old.items stack.old.items live.new.items stack.new.items) }
 {
-    if !(out[next] || live[next]) {
+    if next < out.len() && !(out[next] || live[next]) {
         live[next] = true;
         stack.push(next)?;
     }
     Ok(())
 }
 
+/// The targets from one place up to another, of which those beyond the end are none.
+fn between(targets: &[usize], start: usize, end: usize) -> &[usize]
+    ensures { result.now ≡ slice_range targets.now start end }
+{
+    let end = end.min(targets.len());
+    if start <= end {
+        &targets[start..end]
+    } else {
+        &targets[..0]
+    }
+}
+
 /// The sections that a section refers to.
 fn references<'a>(starts: &[usize], targets: &'a [usize], section: usize) -> &'a [usize]
-    requires place { section + 1 < length starts.now }
-    requires ordered { slice_index starts.now section ≤ slice_index starts.now (section + 1) }
-    requires inside { slice_index starts.now (section + 1) ≤ length targets.now }
+    requires { section + 1 < 2 ^ 64 }
     ensures { result.now ≡ slice_range targets.now (slice_index starts.now section) (slice_index starts.now (section + 1)) }
 {
-    &targets[starts[section]..starts[section + 1]]
+    let start = starts.get(section).copied().unwrap_or(0);
+    let end = starts.get(section + 1).copied().unwrap_or(0);
+    between(targets, start, end)
 }
 
 /// Marks the sections that a way leads to from a root, along which none is left out.
@@ -47,7 +58,6 @@ fn reach(
     starts: &[usize],
     targets: &[usize],
 ) -> Result<Vec<bool>, NoMemory>
-    requires { IsInRange (graph out.now roots.now starts.now targets.now) }
     ensures long { IfOk result (λ live. length live.items ≡ length out.now) }
     ensures live { IfOk result (λ live. (s : ℕ) → IsMarked live.items s ↔ IsLive (graph out.now roots.now starts.now targets.now) s) }
 {
@@ -76,7 +86,6 @@ pub fn mark(
     starts: &[usize],
     targets: &[usize],
 ) -> Result<Vec<bool>, NoMemory>
-    requires { IsInRange (graph out.now roots.now starts.now targets.now) }
     ensures long { IfOk result (λ marks. length marks.items ≡ length out.now) }
     ensures reached { IfOk result (λ marks. (s : ℕ) → IsMarked marks.items s ↔ IsLive (graph out.now roots.now starts.now targets.now) s) }
     ensures live { IfOk result (λ marks. (p : Project) → p.options.gc ≡ true → IsGraphOf p (graph out.now roots.now starts.now targets.now) → marked marks.items (input_sections p) ≡ live p) }

@@ -1,8 +1,8 @@
 use Rattle.std.proofs.Common.{◌≡◌, ◌<◌, ℕ, ◌+◌, length, get_or, arith, below_more, sym, ◌∙◌, rules, refl, subst, List, [], ◌∷◌}
 use Rattle.std.specs.List.{Contains}
 use Rattle.std.proofs.lemmas.List.Elements.{Contains-push, All-contains, Contains-get_or}
-use Rattle.gather.specs.Graphs.{Graph, graph, IsInRange, IsIn, IsLive, IsMarked, from_root, from_live}
-use Rattle.gather.proofs.Marks.{marks_start, visited, Visited, marks_pop, marks_done, marks_end, marked_within, leads_in, leads_out, target_within, Marks, empty_length, each_contained}
+use Rattle.gather.specs.Graphs.{Graph, graph, IsIn, IsLive, IsMarked, from_root, from_live}
+use Rattle.gather.proofs.Marks.{marks_start, visited, Visited, marks_pop, marks_done, marks_end, marked_within, leads_in, leads_out, Marks, empty_length, each_contained}
 use Rattle.gather.proofs.marking.reach.Goals as goal
 
 pub loop-root-preserved : goal.loop-root-preserved
@@ -11,9 +11,8 @@ loop-root-preserved c =
     let i = c.loop-root.root-index in
     let in' : i < length c.args.roots.now = c.loop-root-test.true in
     let next = get_or c.args.roots.now i 0 in
-    let within : next < length c.loop-root.live.items = omega (arith, c.requires.roots i 0 in', c.loop-root.invariant.marks.long) in
     let v : Visited g c.loop-root.live.items c.loop-root.stack.items (length g.out) next c.visit.new.live.items c.visit.new.stack.items =
-    visited g _ _ _ next _ _ c.loop-root.invariant.marks (λ h. from_root next (Contains-get_or c.args.roots.now i 0 in') h) within c.in_ok-visit.ensures in
+    visited g _ _ _ next _ _ c.loop-root.invariant.marks (λ h. from_root next (Contains-get_or c.args.roots.now i 0 in') h) c.in_ok-visit.ensures in
     record {
       marks = v.marks;
       roots = below_more _ _ (λ k h o. v.kept _ (c.loop-root.invariant.roots k h o)) v.marked;
@@ -27,34 +26,12 @@ loop-section-init c =
       roots = each_contained c.args.roots.now (λ r. IsIn g r → IsMarked c.loop-root.live.items r) (λ k h. c.loop-root.invariant.roots k (omega (arith, c.loop-root-test.false)));
     }
 
-pub references-row-requires-clause-place : goal.references-row-requires-clause-place
-references-row-requires-clause-place c =
+pub references-row-requires : goal.references-row-requires
+references-row-requires c =
     let m = c.loop-section.invariant.marks in
     let on : Contains c.loop-section.stack.items c.in-Some.section = rw c.in-Some.ensures.items (Contains-push c.pop.new.self.items c.in-Some.section) in
-    omega (arith, m.long, marked_within c.loop-section.live.items c.in-Some.section (m.on_stack _ on), c.requires.starts)
-
-pub references-row-requires-clause-ordered : goal.references-row-requires-clause-ordered
-references-row-requires-clause-ordered c =
-    let m = c.loop-section.invariant.marks in
-    let on : Contains c.loop-section.stack.items c.in-Some.section = rw c.in-Some.ensures.items (Contains-push c.pop.new.self.items c.in-Some.section) in
-    c.requires.ordered c.in-Some.section (omega (arith, m.long, marked_within c.loop-section.live.items c.in-Some.section (m.on_stack _ on)))
-
-pub references-row-requires-clause-inside : goal.references-row-requires-clause-inside
-references-row-requires-clause-inside c =
-    let m = c.loop-section.invariant.marks in
-    let on : Contains c.loop-section.stack.items c.in-Some.section = rw c.in-Some.ensures.items (Contains-push c.pop.new.self.items c.in-Some.section) in
-    c.requires.inside c.in-Some.section (omega (arith, m.long, marked_within c.loop-section.live.items c.in-Some.section (m.on_stack _ on)))
-
-pub visit-requires-in-loop-target-clause-out : goal.visit-requires-in-loop-target-clause-out
-visit-requires-in-loop-target-clause-out c =
-    let g : Graph = graph c.args.out.now c.args.roots.now c.args.starts.now c.args.targets.now in
-    target_within g c.in-Some.section c.loop-target.target-index c.references-row.result.now c.requires c.references-row.ensures c.loop-target-test.true
-
-pub visit-requires-in-loop-target-clause-live : goal.visit-requires-in-loop-target-clause-live
-visit-requires-in-loop-target-clause-live c =
-    let g : Graph = graph c.args.out.now c.args.roots.now c.args.starts.now c.args.targets.now in
-    let inside = target_within g c.in-Some.section c.loop-target.target-index c.references-row.result.now c.requires c.references-row.ensures c.loop-target-test.true in
-    omega (arith, inside, c.loop-target.invariant.marks.long)
+    let inside : c.in-Some.section < length c.loop-section.live.items = marked_within c.loop-section.live.items c.in-Some.section (m.on_stack _ on) in
+    omega (arith, inside, c.loop-section.live.small)
 
 pub loop-target-init : goal.loop-target-init
 loop-target-init c =
@@ -80,10 +57,8 @@ loop-target-preserved c =
     let here : c.in-Some.section < length g.out = omega (arith, inv.marks.long, marked_within c.loop-target.live.items c.in-Some.section inv.at) in
     let leads = leads_out g c.in-Some.section i items here c.references-row.ensures in' in
     let l : IsIn g next → IsLive g next = λ h. from_live c.in-Some.section next (inv.marks.sound _ inv.at) leads h in
-    let inside = target_within g c.in-Some.section i items c.requires c.references-row.ensures in' in
-    let within : next < length c.loop-target.live.items = omega (arith, inside, inv.marks.long) in
     let v : Visited g c.loop-target.live.items c.loop-target.stack.items c.in-Some.section next c.visit-in-loop-target.new.live.items c.visit-in-loop-target.new.stack.items =
-    visited g _ _ _ next _ _ inv.marks l within c.in_ok-visit-2.ensures in
+    visited g _ _ _ next _ _ inv.marks l c.in_ok-visit-2.ensures in
     record {
       marks = v.marks;
       roots = λ r h o. v.kept _ (inv.roots r h o);
