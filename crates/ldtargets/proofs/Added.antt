@@ -47,20 +47,20 @@ module _ (l : KnownLink) where
   counted_more : (a b : List Site) (g0 g1 g2 : List code.Fault) (m0 m1 m2 : Counts) → IsCounted l a g0 g1 m0 m1 → IsCounted l b g1 g2 m1 m2 → IsCounted l (a ++ b) g0 g2 m0 m2
   counted_more a b g0 g1 g2 m0 m1 m2 p q = record {
     faults =
-      q.faults ∙ ap (λ fs. fs ++ filter_map (fault_at l) b) p.faults
-      ∙ append_assoc (faults_of l g0) (filter_map (fault_at l) a) (filter_map (fault_at l) b)
-      ∙ ap (λ fs. faults_of l g0 ++ fs) (sym (filter_map-append (fault_at l) a b));
+        q.faults ∙ ap (λ fs. fs ++ filter_map (fault_at l) b) p.faults
+        ∙ append_assoc (faults_of l g0) (filter_map (fault_at l) a) (filter_map (fault_at l) b)
+        ∙ ap (λ fs. faults_of l g0 ++ fs) (sym (filter_map-append (fault_at l) a b));
     counted =
-      q.counted ∙ ap (λ m. raised m count.Fields (length b)) p.counted ∙ raise_both m0 (length a) (length b)
-      ∙ ap (raised m0 count.Fields) (sym (length-append a b));
+        q.counted ∙ ap (λ m. raised m count.Fields (length b)) p.counted ∙ raise_both m0 (length a) (length b)
+        ∙ ap (raised m0 count.Fields) (sym (length-append a b));
   }
 
   pub tried_more : (a b : List Site) (f0 f1 f2 : List Patch) (g0 g1 g2 : List code.Fault) (m0 m1 m2 : Counts) → IsTried l a f0 f1 g0 g1 m0 m1 → IsTried l b f1 f2 g1 g2 m1 m2 → IsTried l (a ++ b) f0 f2 g0 g2 m0 m2
   tried_more a b f0 f1 f2 g0 g1 g2 m0 m1 m2 p q = record {
     fields =
-      q.fields ∙ ap (λ fs. fs ++ filter_map (field_at l) b) p.fields
-      ∙ append_assoc f0 (filter_map (field_at l) a) (filter_map (field_at l) b)
-      ∙ ap (λ fs. f0 ++ fs) (sym (filter_map-append (field_at l) a b));
+        q.fields ∙ ap (λ fs. fs ++ filter_map (field_at l) b) p.fields
+        ∙ append_assoc f0 (filter_map (field_at l) a) (filter_map (field_at l) b)
+        ∙ ap (λ fs. f0 ++ fs) (sym (filter_map-append (field_at l) a b));
     counts = counted_more a b g0 g1 g2 m0 m1 m2 p.counts q.counts;
   }
 
@@ -102,8 +102,8 @@ pub added : (l : KnownLink) (m : PlacedSection) (o : NamedObject) (x : LinkedSec
     → IsAdded l o x m.start f0 f1 g0 g1 m0 m1
 added l m o x h f0 f1 old own run g0 g1 m0 m1 tried none same order e =
     let own_is : own ≡ filter_map (field_at l) (sites_among o x m.start x.relocations) =
-      tried.fields ∙ ap (λ fs. fs ++ filter_map (field_at l) (sites_among o x m.start m.relocations.now)) none
-      ∙ ap (λ rs. filter_map (field_at l) (sites_among o x m.start rs)) h.relocations_are in
+    tried.fields ∙ ap (λ fs. fs ++ filter_map (field_at l) (sites_among o x m.start m.relocations.now)) none
+    ∙ ap (λ rs. filter_map (field_at l) (sites_among o x m.start rs)) h.relocations_are in
     record {
       run = run;
       fields = e;

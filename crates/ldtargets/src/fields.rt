@@ -72,7 +72,9 @@ fn add_sites<L: Known>(
     let _fields = meter.fields();
     for entry in 0..section.relocations.len() {
         let relocation = &section.relocations[entry];
-        add_site(link, values, section, entry, relocation, fields, faults, meter)?;
+        add_site(
+            link, values, section, entry, relocation, fields, faults, meter,
+        )?;
     }
     Ok(())
 }
