@@ -1,13 +1,12 @@
 -- Sites that were evaluated one after another.
 use Rattle.std.proofs.Common.{◌≡◌, ◌<◌, ◌≤◌, ◌^◌, ℕ, ◌+◌, ◌-◌, suc, List, [], ◌∷◌, ◌++◌, length, map, filter, take, get_or, false, min, refl, ap, sym, ◌∙◌, arith, add-one, append_assoc, append-nil, length-append, subst, take-suc}
 use Rattle.std.proofs.Math.Seq.{take-length}
-use Rattle.elfobj.specs.Profile as elf
 use Rattle.std.specs.List.{All, filter_map}
 use Rattle.std.proofs.lemmas.List.{map-append}
 use Rattle.std.proofs.lemmas.List.Elements.{filter-append, filter_map-append}
 use Rattle.elfobj.specs.Sections.{LinkedSection}
 use Rattle.elfobj.specs.declared.relocation.Relocation.{Relocation}
-use Rattle.ldfields.specs.Patches.{AreApart, AreInOrder, IsWithin, patched_byte}
+use Rattle.ldfields.specs.Patches.{AreInOrder, IsWithin, patched_byte}
 use Rattle.ldfields.specs.declared.patch.Patch.{Patch}
 use Rattle.ldmodel.specs.Counts.{Counts, capped}
 use Rattle.ldmodel.specs.Project.{NamedObject}
@@ -15,11 +14,11 @@ use Rattle.ldmodel.specs.Raised.{raised}
 use Rattle.ldmodel.specs.Relocations.{Site, is_evaluated}
 use Rattle.ldmodel.specs.declared.fault.Fault as code
 use Rattle.ldbase.specs.declared.meter.Count.TheVariants as count
-use Rattle.ldtargets.specs.Fields.{IsAdded, IsCounted, IsTried, fault_at, faults_of, field_at, sites_among}
+use Rattle.ldtargets.specs.Fields.{AreFieldsOf, IsAdded, IsCounted, IsTried, fault_at, faults_of, field_at, sites_among}
 use Rattle.ldtargets.specs.KnownLink.{KnownLink}
 use Rattle.ldtargets.specs.Sites.{IsPlaced}
 use Rattle.ldtargets.specs.declared.site.PlacedSection.{PlacedSection}
-use Rattle.ldtargets.proofs.Runs.{apart, within}
+use Rattle.ldtargets.proofs.Runs.{within}
 
 raise_none : (m : Counts) → m.fields < 2 ^ 64 → m ≡ raised m count.Fields 0
 raise_none m h =
@@ -47,20 +46,20 @@ module _ (l : KnownLink) where
   counted_more : (a b : List Site) (g0 g1 g2 : List code.Fault) (m0 m1 m2 : Counts) → IsCounted l a g0 g1 m0 m1 → IsCounted l b g1 g2 m1 m2 → IsCounted l (a ++ b) g0 g2 m0 m2
   counted_more a b g0 g1 g2 m0 m1 m2 p q = record {
     faults =
-      q.faults ∙ ap (λ fs. fs ++ filter_map (fault_at l) b) p.faults
-      ∙ append_assoc (faults_of l g0) (filter_map (fault_at l) a) (filter_map (fault_at l) b)
-      ∙ ap (λ fs. faults_of l g0 ++ fs) (sym (filter_map-append (fault_at l) a b));
+        q.faults ∙ ap (λ fs. fs ++ filter_map (fault_at l) b) p.faults
+        ∙ append_assoc (faults_of l g0) (filter_map (fault_at l) a) (filter_map (fault_at l) b)
+        ∙ ap (λ fs. faults_of l g0 ++ fs) (sym (filter_map-append (fault_at l) a b));
     counted =
-      q.counted ∙ ap (λ m. raised m count.Fields (length b)) p.counted ∙ raise_both m0 (length a) (length b)
-      ∙ ap (raised m0 count.Fields) (sym (length-append a b));
+        q.counted ∙ ap (λ m. raised m count.Fields (length b)) p.counted ∙ raise_both m0 (length a) (length b)
+        ∙ ap (raised m0 count.Fields) (sym (length-append a b));
   }
 
   pub tried_more : (a b : List Site) (f0 f1 f2 : List Patch) (g0 g1 g2 : List code.Fault) (m0 m1 m2 : Counts) → IsTried l a f0 f1 g0 g1 m0 m1 → IsTried l b f1 f2 g1 g2 m1 m2 → IsTried l (a ++ b) f0 f2 g0 g2 m0 m2
   tried_more a b f0 f1 f2 g0 g1 g2 m0 m1 m2 p q = record {
     fields =
-      q.fields ∙ ap (λ fs. fs ++ filter_map (field_at l) b) p.fields
-      ∙ append_assoc f0 (filter_map (field_at l) a) (filter_map (field_at l) b)
-      ∙ ap (λ fs. f0 ++ fs) (sym (filter_map-append (field_at l) a b));
+        q.fields ∙ ap (λ fs. fs ++ filter_map (field_at l) b) p.fields
+        ∙ append_assoc f0 (filter_map (field_at l) a) (filter_map (field_at l) b)
+        ∙ ap (λ fs. f0 ++ fs) (sym (filter_map-append (field_at l) a b));
     counts = counted_more a b g0 g1 g2 m0 m1 m2 p.counts q.counts;
   }
 
@@ -87,29 +86,24 @@ module _ (l : KnownLink) (o : NamedObject) (x : LinkedSection) (start : ℕ) (rs
       let e : i ≡ length rs = omega arith in
       subst (λ ys. IsTried l (sites_among o x start ys) f0 f1 g0 g1 m0 m1) (ap (λ n. take n rs) e ∙ take-length rs) p
 
--- the fields of a section are apart
-pub own_apart : (l : KnownLink) (o : NamedObject) (x : LinkedSection) (start : ℕ) (rs : List Relocation) (old own : List Patch) (g0 g1 : List code.Fault) (m0 m1 : Counts)
-    → IsTried l (sites_among o x start rs) old own g0 g1 m0 m1 → old ≡ [] → elf.AreApart rs → AreApart own
-own_apart l o x start rs old own g0 g1 m0 m1 tried none h = rw (tried.fields, none) (apart l o x start rs h)
-
--- they are put in order and added
+-- the fields of a section are put in order and added
 pub added : (l : KnownLink) (m : PlacedSection) (o : NamedObject) (x : LinkedSection) → IsPlaced l m o x
     → (f0 f1 old own run : List Patch) (g0 g1 : List code.Fault) (m0 m1 : Counts)
-    → IsTried l (sites_among o x m.start m.relocations.now) old own g0 g1 m0 m1 → old ≡ []
+    → IsTried l (sites_among o x m.start m.relocations.now) old own g0 g1 m0 m1 → old ≡ [] → AreFieldsOf m.relocations.now (length m.relocations.now) own
     → ((bytes : List ℕ) (i : ℕ) → patched_byte bytes run i ≡ patched_byte bytes own i)
     → ((n : ℕ) → All (IsWithin n) own → AreInOrder 0 n run)
     → f1 ≡ f0 ++ run
     → IsAdded l o x m.start f0 f1 g0 g1 m0 m1
-added l m o x h f0 f1 old own run g0 g1 m0 m1 tried none same order e =
+added l m o x h f0 f1 old own run g0 g1 m0 m1 tried none of same order e =
     let own_is : own ≡ filter_map (field_at l) (sites_among o x m.start x.relocations) =
-      tried.fields ∙ ap (λ fs. fs ++ filter_map (field_at l) (sites_among o x m.start m.relocations.now)) none
-      ∙ ap (λ rs. filter_map (field_at l) (sites_among o x m.start rs)) h.relocations_are in
+    tried.fields ∙ ap (λ fs. fs ++ filter_map (field_at l) (sites_among o x m.start m.relocations.now)) none
+    ∙ ap (λ rs. filter_map (field_at l) (sites_among o x m.start rs)) h.relocations_are in
     record {
       run = run;
       fields = e;
       is_run = record {
         same = λ bytes i. same bytes i ∙ ap (λ ps. patched_byte bytes ps i) own_is;
-        order = λ n ends. order n (rw own_is (within l o x m.start n x.relocations ends));
+        order = λ n ends. order n (within m.relocations.now n (length m.relocations.now) own of (rw h.relocations_are ends));
       };
       counts = subst (λ rs. IsCounted l (sites_among o x m.start rs) g0 g1 m0 m1) h.relocations_are tried.counts;
     }

@@ -2,3 +2,5 @@ mod Values
 mod Sites
 mod Runs
 mod Added
+mod Places
+mod Kept

@@ -1,80 +1,23 @@
 -- Fields of relocations that share no byte share none.
-use Rattle.std.proofs.Common.{◌≡◌, ◌<◌, ◌≤◌, ℕ, ◌+◌, zero, suc, List, [], ◌∷◌, length, map, filter, Bool, true, false, cond, Option, Some, None, Result, Ok, Err, refl, ap, sym, ◌∙◌, arith, if◌then◌else◌, max, min, nat_lt, get_or}
-use Rattle.std.specs.List.{All, AllPairs, cons_option, filter_map}
-use Rattle.std.proofs.lemmas.List.Elements.{All-cons, All-filter, All-map}
-use Rattle.std.proofs.lemmas.List.Kept.{AllPairs-cons, AllPairs-filter}
-use Rattle.std.proofs.lemmas.Option.{same_Some}
-use Rattle.byteorder.specs.Endian.{little_bytes}
+use Rattle.std.proofs.Common.{◌≡◌, ◌⊎◌, inl, inr, ◌<◌, ◌≤◌, ℕ, ◌+◌, zero, suc, List, [], ◌∷◌, ◌++◌, length, Option, Some, true, false, refl, ap, sym, ◌∙◌, arith, get_or, max, min, nat_lt, subst}
+use Rattle.std.specs.Prelude.{slice_get}
+use Rattle.std.specs.List.{All, AllPairs}
+use Rattle.std.proofs.lemmas.Bool.{cases_eq}
+use Rattle.std.proofs.lemmas.List.{get_or_append_left, length-append}
+use Rattle.std.proofs.lemmas.Option.{get_or_from_slice_get, slice_get_within}
+use Rattle.std.proofs.Math.Seq.{get_or-append_seam}
 use Rattle.elfobj.specs.Profile as elf
 use Rattle.elfobj.specs.RelocationKinds.{width}
 use Rattle.elfobj.specs.Relocations as of
 use Rattle.elfobj.specs.Relocations.{field_end}
-use Rattle.elfobj.specs.Sections.{LinkedSection}
 use Rattle.elfobj.specs.declared.relocation.Relocation.{Relocation}
 use Rattle.elfobj.specs.declared.relocation.RelocationKind.{RelocationKind}
 use Rattle.elfobj.specs.declared.relocation.RelocationKind.TheVariants as kind
-use Rattle.ldfields.specs.Fields as field
-use Rattle.ldfields.specs.Fields.{field_of}
 use Rattle.ldfields.specs.Patches.{AreApart, IsWithin, meets, patch_end}
 use Rattle.ldfields.specs.declared.patch.Patch.{Patch}
-use Rattle.ldmodel.specs.Fault.{Fault}
-use Rattle.ldmodel.specs.Project.{NamedObject}
-use Rattle.ldmodel.specs.Relocations.{Site, field_or_overflow, field_with, is_evaluated, patch_of, site_field, site_place, site_value}
-use Rattle.ldmodel.specs.SymbolValues.{SymbolValue, Number, NotDefined, NotInOutput}
-use Rattle.ldtargets.specs.Fields.{field_at, sites_among}
-use Rattle.ldtargets.specs.KnownLink.{KnownLink}
-
--- what holds of all items, or of all pairs of them, holds of what is given of them
-all_cons : {Y : Type 0} (Q : Y → Type 0) (o : Option Y) (ys : List Y) → ((y : Y) → o ≡ Some y → Q y) → All Q ys → All Q (cons_option o ys)
-all_cons Q None ys h all = all
-all_cons Q (Some y) ys h all = All-cons Q y ys (h y refl) all
-
-pairs_cons : {Y : Type 0} (Q : Y → Y → Type 0) (o : Option Y) (ys : List Y) → ((y : Y) → o ≡ Some y → All (Q y) ys) → AllPairs Q ys → AllPairs Q (cons_option o ys)
-pairs_cons Q None ys h all = all
-pairs_cons Q (Some y) ys h all = AllPairs-cons Q y ys (h y refl) all
-
-module _ {X Y : Type 0} (f : X → Option Y) where
-  all_given : (P : X → Type 0) (Q : Y → Type 0) → ((x : X) (y : Y) → P x → f x ≡ Some y → Q y) → (xs : List X) → All P xs → All Q (filter_map f xs)
-  all_given P Q h [] all = λ k d low. absurd (omega (arith, low))
-  all_given P Q h (x ∷ xs) all =
-      all_cons Q (f x) (filter_map f xs) (λ y e. h x y (all zero x (omega arith)) e)
-      (all_given P Q h xs (λ k d low. all (suc k) d (omega (arith, low))))
-
-  pairs_given : (R : X → X → Type 0) (Q : Y → Y → Type 0) → ((a b : X) (y z : Y) → R a b → f a ≡ Some y → f b ≡ Some z → Q y z) → (xs : List X) → AllPairs R xs → AllPairs Q (filter_map f xs)
-  pairs_given R Q h [] all = λ i j d before low. absurd (omega (arith, low))
-  pairs_given R Q h (x ∷ xs) all =
-      pairs_cons Q (f x) (filter_map f xs)
-      (λ y e. all_given (R x) (Q y) (λ b z r g. h x b y z r e g) xs (λ k d low. all zero (suc k) d (omega arith) (omega (arith, low))))
-      (pairs_given R Q h xs (λ i j d before low. all (suc i) (suc j) d (omega (arith, before)) (omega (arith, low))))
-
-pairs_mapped : {X Y : Type 0} (R : Y → Y → Type 0) (g : X → Y) (xs : List X) → AllPairs (λ a b. R (g a) (g b)) xs → AllPairs R (map g xs)
-pairs_mapped R g [] all = λ i j d before low. absurd (omega (arith, low))
-pairs_mapped R g (x ∷ xs) all =
-    AllPairs-cons R (g x) (map g xs)
-    (All-map (R (g x)) g xs (λ k d low. all zero (suc k) d (omega arith) (omega (arith, low))))
-    (pairs_mapped R g xs (λ i j d before low. all (suc i) (suc j) d (omega (arith, before)) (omega (arith, low))))
-
-if_cons : {X : Type 0} (P : X → Type 0) (b : Bool) (x : X) (xs : List X) → (b ≡ true → P x) → All P xs → All P (if b then x ∷ xs else xs)
-if_cons P true x xs h all = All-cons P x xs (h refl) all
-if_cons P false x xs h all = all
-
-passing : {X : Type 0} (p : X → Bool) (xs : List X) → All (λ x. p x ≡ true) (filter p xs)
-passing p [] = λ k d low. absurd (omega (arith, low))
-passing p (x ∷ xs) = if_cons (λ y. p y ≡ true) (p x) x (filter p xs) (λ e. e) (passing p xs)
-
--- the bytes of a field
-as_wide : (k : RelocationKind) (v : ℕ) → length (little_bytes (width k) v) ≡ width k
-as_wide kind.None v = refl
-as_wide kind.Abs64 v = refl
-as_wide kind.Pc32 v = refl
-as_wide kind.Plt32 v = refl
-as_wide kind.Abs32 v = refl
-as_wide kind.Abs32Signed v = refl
-as_wide kind.Abs16 v = refl
-as_wide kind.Pc16 v = refl
-as_wide kind.Abs8 v = refl
-as_wide kind.Pc8 v = refl
-as_wide kind.Pc64 v = refl
+use Rattle.ldmodel.specs.Relocations.{is_evaluated}
+use Rattle.ldtargets.specs.Fields.{AreFieldsOf, IsAmong, IsNext}
+use Rattle.ldtargets.specs.Sites.{IsFieldOf}
 
 some_width : (k : RelocationKind) → is_evaluated k ≡ true → 0 < width k
 some_width kind.None e = cc
@@ -89,70 +32,75 @@ some_width kind.Abs8 e = omega arith
 some_width kind.Pc8 e = omega arith
 some_width kind.Pc64 e = omega arith
 
-module _ (l : KnownLink) (t : Site) where
-  abbrev HasWidth : Result (List ℕ) Fault → Type 0
-  HasWidth (Ok f) = length f ≡ width t.relocation.kind
-  HasWidth (Err e) = Unit {0}
+-- what holds of the items of a list and of one more
+module _ {X : Type 0} (xs : List X) (x : X) where
+  at_last : (k : ℕ) (d : X) → k ≡ length xs → get_or (xs ++ x ∷ []) k d ≡ x
+  at_last k d e = ap (λ n. get_or (xs ++ x ∷ []) n d) e ∙ get_or-append_seam xs x [] d
 
-  chosen : (b : Bool) (v : ℕ) → HasWidth (field_or_overflow t (if b then Ok (little_bytes (width t.relocation.kind) v) else Err (record { value = v })))
-  chosen true v = as_wide t.relocation.kind v
-  chosen false v = tt
+  below_last : (k : ℕ) → k < length (xs ++ x ∷ []) → (k ≡ length xs → ⊥) → k < length xs
+  below_last k low differs =
+      let long : length (xs ++ x ∷ []) ≡ length xs + 1 = length-append xs (x ∷ []) in
+      omega (arith, low, long, differs)
 
-  of_number : (x p : ℕ) → HasWidth (field_or_overflow t (field_of t.relocation x p))
-  unfolding field_of
-  of_number x p = chosen (field.fits t.relocation.kind (field.value t.relocation x p)) (field.value t.relocation x p)
+  all_longer : (P : X → Type 0) → All P xs → P x → All P (xs ++ x ∷ [])
+  all_longer P all one = λ k d low. elim (cases_eq k (length xs)) [
+    | inl e ↦ rw (at_last k d e) one
+    | inr differs ↦ rw (get_or_append_left xs (x ∷ []) d k (below_last k low differs)) (all k d (below_last k low differs))
+  ]
 
-  of_value : (v : SymbolValue) → HasWidth (field_with t v)
-  of_value (Number x) = of_number x (site_place t)
-  of_value NotDefined = tt
-  of_value NotInOutput = tt
+  pairs_longer : (R : X → X → Type 0) → AllPairs R xs → All (λ y. R y x) xs → AllPairs R (xs ++ x ∷ [])
+  pairs_longer R pairs one = λ i j d before low. elim (cases_eq j (length xs)) [
+    | inl e ↦
+        let early : i < length xs = omega (arith, before, e) in
+        rw (at_last j d e, get_or_append_left xs (x ∷ []) d i early) (one i d early)
+    | inr differs ↦
+        let late : j < length xs = below_last j low differs in
+        let early : i < length xs = omega (arith, before, late) in
+        rw (get_or_append_left xs (x ∷ []) d i early, get_or_append_left xs (x ∷ []) d j late) (pairs i j d before late)
+  ]
 
-  of_site : HasWidth (site_field l.project l.layout t)
-  unfolding site_field
-  of_site = of_value (site_value l.project l.layout t)
+-- fields of two relocations that are apart are apart
+apart_fields : (r q : Relocation) (x y : Patch) → IsFieldOf r x → IsFieldOf q y → of.meets r q ≡ false → meets x y ≡ false
+apart_fields r q x y h k e = rw (h.offset_is, h.width_is, k.offset_is, k.width_is) e
 
-  in_place : (r : Result (List ℕ) Fault) (y : Patch) → HasWidth r → patch_of t r ≡ Some y → (y.offset ≡ t.relocation.offset) × (length y.field ≡ width t.relocation.kind)
-  in_place (Ok f) y h e =
-      let is : record { offset = t.relocation.offset; field = f } ≡ y = same_Some _ _ e in
-      (sym (ap (λ (z : Patch). z.offset) is), sym (ap (λ (z : Patch). length z.field) is) ∙ h)
-  in_place (Err f) y h e = cc
+module _ (rs : List Relocation) (i : ℕ) (r : Relocation) (is : slice_get rs i ≡ Some r) where
+  further : (x : Patch) → IsAmong rs i x → IsAmong rs (i + 1) x
+  further x h = (h.0, h.1, omega (arith, h.2), h.3, h.4)
 
-  placed : (y : Patch) → field_at l t ≡ Some y → (y.offset ≡ t.relocation.offset) × (length y.field ≡ width t.relocation.kind)
-  placed y e = in_place (site_field l.project l.layout t) y of_site e
+  apart_from : elf.AreApart rs → (y : Patch) → IsFieldOf r y → (x : Patch) → IsAmong rs i x → meets x y ≡ false
+  apart_from all y k x h =
+      let first : get_or rs h.0 r ≡ h.1 = get_or_from_slice_get rs h.0 h.1 r h.3 in
+      let second : get_or rs i r ≡ r = get_or_from_slice_get rs i r r is in
+      apart_fields h.1 r x y h.4 k (rw (first, second) at (all h.0 i r h.2 (slice_get_within rs i r is)))
 
-abbrev Apart : Site → Site → Type 0
-Apart t u = of.meets t.relocation u.relocation ≡ false
+  added_one : (ps : List Patch) (y : Patch) → AreFieldsOf rs i ps → IsFieldOf r y → AreFieldsOf rs (i + 1) (ps ++ y ∷ [])
+  added_one ps y h k = record {
+    each = all_longer ps y (IsAmong rs (i + 1)) (λ j d low. further (get_or ps j d) (h.each j d low)) (i, r, omega arith, is, k);
+    apart = λ all. pairs_longer ps y (λ p q. meets p q ≡ false) (h.apart all) (λ j d low. apart_from all y k (get_or ps j d) (h.each j d low));
+  }
 
-apart_fields : (l : KnownLink) (t u : Site) (y z : Patch) → Apart t u → field_at l t ≡ Some y → field_at l u ≡ Some z → meets y z ≡ false
-apart_fields l t u y z h a b =
-    let p = placed l t y a in
-    let q = placed l u z b in
-    rw (p.0, p.1, q.0, q.1) h
+  pub next_fields : (ps qs : List Patch) → AreFieldsOf rs i ps → IsNext r ps qs → AreFieldsOf rs (i + 1) qs
+  next_fields ps qs h (inl e) = rw e (record { each = λ j d low. further (get_or ps j d) (h.each j d low); apart = h.apart })
+  next_fields ps qs h (inr n) = rw (n.1) (added_one ps n.0 h n.2)
 
--- fields of relocations that are apart are apart
-pub apart : (l : KnownLink) (o : NamedObject) (x : LinkedSection) (start : ℕ) (rs : List Relocation) → elf.AreApart rs → AreApart (filter_map (field_at l) (sites_among o x start rs))
-apart l o x start rs h =
-    pairs_given (field_at l) Apart (λ p q. meets p q ≡ false) (apart_fields l) (sites_among o x start rs)
-    (pairs_mapped Apart (λ r. record { object = o; section = x; start = start; relocation = r }) (filter (λ (r : Relocation). is_evaluated r.kind) rs)
-    (AllPairs-filter (λ r q. of.meets r q ≡ false) (λ (r : Relocation). is_evaluated r.kind) rs h))
+pub no_fields : (rs : List Relocation) (ps : List Patch) → ps ≡ [] → AreFieldsOf rs 0 ps
+no_fields rs ps e = rw e (record { each = λ j d low. absurd (omega (arith, low)); apart = λ all i j d before low. absurd (omega (arith, low)) })
 
-record EndsBy (n : ℕ) (t : Site) : Type 0 where
-  kept : is_evaluated t.relocation.kind ≡ true
-  end : field_end t.relocation ≤ n
+pub all_fields : (rs : List Relocation) (ps : List Patch) (i : ℕ) → length rs ≤ i → i ≤ length rs → AreFieldsOf rs i ps → AreFieldsOf rs (length rs) ps
+all_fields rs ps i low high h =
+    let e : i ≡ length rs = omega arith in
+    subst (λ n. AreFieldsOf rs n ps) e h
 
-within_field : (l : KnownLink) (n : ℕ) (t : Site) (y : Patch) → EndsBy n t → field_at l t ≡ Some y → IsWithin n y
-within_field l n t y h e =
-    let p = placed l t y e in
-    let wide = some_width t.relocation.kind h.kept in
-    let end = h.end in
-    record { some = omega (arith, p.1, wide); end = omega (arith, p.0, p.1, end) }
+-- fields of relocations that end by a limit end there
+within_one : (n : ℕ) (r : Relocation) (x : Patch) → IsFieldOf r x → field_end r ≤ n → IsWithin n x
+within_one n r x h end =
+    let wide = some_width r.kind h.kept in
+    let at = h.offset_is in
+    let width = h.width_is in
+    record { some = omega (arith, width, wide); end = omega (arith, at, width, end) }
 
-both : {X : Type 0} (P Q : X → Type 0) (xs : List X) → All P xs → All Q xs → All (λ x. P x × Q x) xs
-both P Q xs p q = λ k d low. (p k d low, q k d low)
-
--- those of relocations that end by a limit end there
-pub within : (l : KnownLink) (o : NamedObject) (x : LinkedSection) (start n : ℕ) (rs : List Relocation) → All (λ r. field_end r ≤ n) rs → All (IsWithin n) (filter_map (field_at l) (sites_among o x start rs))
-within l o x start n rs h =
-    all_given (field_at l) (EndsBy n) (IsWithin n) (within_field l n) (sites_among o x start rs)
-    (All-map (EndsBy n) (λ r. record { object = o; section = x; start = start; relocation = r }) (filter (λ (r : Relocation). is_evaluated r.kind) rs)
-    (λ k d low. record { kept = passing (λ (r : Relocation). is_evaluated r.kind) rs k d low; end = All-filter (λ (r : Relocation). is_evaluated r.kind) (λ r. field_end r ≤ n) rs h k d low }))
+pub within : (rs : List Relocation) (n m : ℕ) (ps : List Patch) → AreFieldsOf rs m ps → All (λ r. field_end r ≤ n) rs → All (IsWithin n) ps
+within rs n m ps h ends = λ k d low.
+    let f = h.each k d low in
+    let last : get_or rs f.0 f.1 ≡ f.1 = get_or_from_slice_get rs f.0 f.1 f.1 f.3 in
+    within_one n f.1 (get_or ps k d) f.4 (rw last at (ends f.0 f.1 (slice_get_within rs f.0 f.1 f.3)))

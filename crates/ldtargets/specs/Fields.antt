@@ -1,11 +1,12 @@
 -- Fields and faults of relocations, as they are added to lists.
-use Rattle.std.specs.Prelude.{◌≡◌, ◌≤◌, ℕ, List, ◌++◌, length, map, filter, Option}
+use Rattle.std.specs.Prelude.{◌≡◌, ◌≤◌, ℕ, List, ◌++◌, length, map, filter, Option, Some, [], ◌∷◌, ◌⊎◌, ◌<◌, slice_get}
 use Rattle.std.specs.List.{All, filter_map}
 use Rattle.std.specs.Result.{result_err}
+use Rattle.elfobj.specs.Profile as elf
 use Rattle.elfobj.specs.Relocations.{field_end}
 use Rattle.elfobj.specs.Sections.{LinkedSection}
 use Rattle.elfobj.specs.declared.relocation.Relocation.{Relocation}
-use Rattle.ldfields.specs.Patches.{AreInOrder, patched_byte}
+use Rattle.ldfields.specs.Patches.{AreApart, AreInOrder, patched_byte}
 use Rattle.ldfields.specs.declared.patch.Patch.{Patch}
 use Rattle.ldmodel.specs.Counts.{Counts}
 use Rattle.ldmodel.specs.Fault.{Fault}
@@ -16,6 +17,7 @@ use Rattle.ldmodel.specs.Relocations.{Site, fields_of, is_evaluated, patch_of, s
 use Rattle.ldmodel.specs.declared.fault.Fault as code
 use Rattle.ldbase.specs.declared.meter.Count.TheVariants as count
 use Rattle.ldtargets.specs.KnownLink.{KnownLink}
+use Rattle.ldtargets.specs.Sites.{IsFieldOf}
 
 -- the sites among relocations of a section
 abbrev pub sites_among : NamedObject → LinkedSection → ℕ → List Relocation → List Site
@@ -42,6 +44,19 @@ pub record IsCounted (l : KnownLink) (ts : List Site) (old_faults new_faults : L
 pub record IsTried (l : KnownLink) (ts : List Site) (old new : List Patch) (old_faults new_faults : List code.Fault) (before after : Counts) : Type 0 where
   pub fields : new ≡ old ++ filter_map (field_at l) ts
   pub counts : IsCounted l ts old_faults new_faults before after
+
+-- a relocation was looked at: it has no field, or its field was added
+abbrev pub IsNext : Relocation → List Patch → List Patch → Type 0
+IsNext r old new = (new ≡ old) ⊎ ((x : Patch) × (new ≡ old ++ x ∷ []) × IsFieldOf r x)
+
+-- a field of one of the first n relocations
+abbrev pub IsAmong : List Relocation → ℕ → Patch → Type 0
+IsAmong rs n x = (j : ℕ) × (r : Relocation) × (j < n) × (slice_get rs j ≡ Some r) × IsFieldOf r x
+
+-- fields of the first n relocations, each of which has one at most
+pub record AreFieldsOf (rs : List Relocation) (n : ℕ) (fields : List Patch) : Type 0 where
+  pub each : All (IsAmong rs n) fields
+  pub apart : elf.AreApart rs → AreApart fields
 
 -- the fields of a section that starts at an address, in the order of their offsets: they give its bytes
 pub record IsRun (l : KnownLink) (o : NamedObject) (x : LinkedSection) (start : ℕ) (run : List Patch) : Type 0 where

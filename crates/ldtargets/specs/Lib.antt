@@ -2,3 +2,4 @@ pub mod Values
 pub mod KnownLink
 pub mod Sites
 pub mod Fields
+pub mod Index

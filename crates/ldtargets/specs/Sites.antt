@@ -1,12 +1,14 @@
 -- Relocations of input sections in the output, as the code hands them on.
-use Rattle.std.specs.Prelude.{◌≡◌, ℕ, List, map, Option, Some, Result, Ok, Err, slice_get}
+use Rattle.std.specs.Prelude.{◌≡◌, ℕ, List, map, Option, Some, Result, Ok, Err, length, slice_get, true}
+use Rattle.elfobj.specs.RelocationKinds.{width}
 use Rattle.elfobj.specs.Sections.{LinkedSection}
 use Rattle.elfobj.specs.Symbols.{NamedSymbol}
+use Rattle.elfobj.specs.declared.relocation.Relocation.{Relocation}
 use Rattle.ldfields.specs.declared.patch.Patch.{Patch}
 use Rattle.ldmodel.specs.FaultCode.{fault_of}
 use Rattle.ldmodel.specs.Image.{section_numbered}
 use Rattle.ldmodel.specs.Project.{NamedObject}
-use Rattle.ldmodel.specs.Relocations.{Site, field_with, site_field}
+use Rattle.ldmodel.specs.Relocations.{Site, field_with, is_evaluated, site_field}
 use Rattle.ldmodel.specs.SymbolValues.{SymbolValue}
 use Rattle.ldmodel.specs.declared.fault.Fault as code
 use Rattle.ldtargets.specs.KnownLink.{KnownLink, named_object}
@@ -37,3 +39,9 @@ IsOutcome l t v (Err f) = field_with t v ≡ Err (fault_of l.project l.number f)
 abbrev pub IsEvaluated : KnownLink → Site → Result Patch code.Fault → Type 0
 IsEvaluated l t (Ok x) = (site_field l.project l.layout t ≡ Ok x.field) × (x.offset ≡ t.relocation.offset)
 IsEvaluated l t (Err f) = site_field l.project l.layout t ≡ Err (fault_of l.project l.number f)
+
+-- a field of a relocation, in its place
+pub record IsFieldOf (r : Relocation) (x : Patch) : Type 0 where
+  pub kept : is_evaluated r.kind ≡ true
+  pub offset_is : x.offset ≡ r.offset
+  pub width_is : length x.field ≡ width r.kind

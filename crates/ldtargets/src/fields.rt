@@ -1,12 +1,12 @@
 //! The fields of whole input sections, in one flat list, and the faults of their relocations.
 
-ghost use Rattle.std.specs.Prelude.{◌≡◌, ◌+◌, ◌<◌, ◌^◌, All, OnOk, Some, [], ◌∷◌, slice_get};
+ghost use Rattle.std.specs.Prelude.{◌≡◌, ◌+◌, ◌<◌, ◌^◌, All, OnOk, Some, [], ◌∷◌, length, slice_get};
 ghost use Rattle.elfobj.specs.Profile.{AreApart};
 ghost use Rattle.elfobj.specs.Relocations.{field_end};
 ghost use Rattle.elfobj.specs.Sections.{LinkedSection};
 ghost use Rattle.ldmodel.specs.Project.{NamedObject};
-ghost use Rattle.ldtargets.specs.Fields.{IsAdded, IsTried, sites_among};
-ghost use Rattle.ldtargets.specs.KnownLink.{AreNameValues};
+ghost use Rattle.ldtargets.specs.Fields.{AreFieldsOf, IsAdded, IsNext, IsTried, sites_among};
+ghost use Rattle.ldtargets.specs.KnownLink.{AreNameValues, KnownLink};
 ghost use Rattle.ldtargets.specs.Sites.{IsPlaced};
 
 use crate::known::Known;
@@ -30,10 +30,10 @@ fn add_site<L: Known>(
     faults: &mut Vec<Fault>,
     meter: &mut Meter,
 ) -> Result<(), NoMemory>
-    requires values { AreNameValues (L.known link.now) values.now }
     requires entry_is { slice_get section.now.relocations.now entry ≡ Some relocation.now }
     requires below { section.now.start + relocation.now.offset < 2 ^ 64 }
-    ensures { OnOk result ((o : NamedObject) (x : LinkedSection) → IsPlaced (L.known link.now) section.now o x → IsTried (L.known link.now) (sites_among o x section.now.start (relocation.now ∷ [])) fields.old.items fields.new.items faults.old.items faults.new.items meter.old meter.new) }
+    ensures next { OnOk result (IsNext relocation.now fields.old.items fields.new.items) }
+    ensures tried { OnOk result ((l : KnownLink) → L.knows link.now l → AreNameValues l values.now → (o : NamedObject) (x : LinkedSection) → IsPlaced l section.now o x → IsTried l (sites_among o x section.now.start (relocation.now ∷ [])) fields.old.items fields.new.items faults.old.items faults.new.items meter.old meter.new) }
 {
     // so that the range of the count is known
     let _fields = meter.fields();
@@ -64,15 +64,18 @@ fn add_sites<L: Known>(
     faults: &mut Vec<Fault>,
     meter: &mut Meter,
 ) -> Result<(), NoMemory>
-    requires values { AreNameValues (L.known link.now) values.now }
+    requires none { fields.old.items ≡ [] }
     requires below { All (λ r. section.now.start + r.offset < 2 ^ 64) section.now.relocations.now }
-    ensures { OnOk result ((o : NamedObject) (x : LinkedSection) → IsPlaced (L.known link.now) section.now o x → IsTried (L.known link.now) (sites_among o x section.now.start section.now.relocations.now) fields.old.items fields.new.items faults.old.items faults.new.items meter.old meter.new) }
+    ensures fields { OnOk result (AreFieldsOf section.now.relocations.now (length section.now.relocations.now) fields.new.items) }
+    ensures tried { OnOk result ((l : KnownLink) → L.knows link.now l → AreNameValues l values.now → (o : NamedObject) (x : LinkedSection) → IsPlaced l section.now o x → IsTried l (sites_among o x section.now.start section.now.relocations.now) fields.old.items fields.new.items faults.old.items faults.new.items meter.old meter.new) }
 {
     // so that the range of the count is known
     let _fields = meter.fields();
     for entry in 0..section.relocations.len() {
         let relocation = &section.relocations[entry];
-        add_site(link, values, section, entry, relocation, fields, faults, meter)?;
+        add_site(
+            link, values, section, entry, relocation, fields, faults, meter,
+        )?;
     }
     Ok(())
 }
@@ -92,11 +95,9 @@ pub fn add_fields<L: Known>(
     faults: &mut Vec<Fault>,
     meter: &mut Meter,
 ) -> Result<(), NoMemory>
-    requires values { AreNameValues (L.known link.now) values.now }
-    requires placed { (o : NamedObject) × (x : LinkedSection) × IsPlaced (L.known link.now) section.now o x }
     requires apart { AreApart section.now.relocations.now }
     requires below { All (λ r. section.now.start + r.offset < 2 ^ 64) section.now.relocations.now }
-    ensures { OnOk result ((o : NamedObject) (x : LinkedSection) → IsPlaced (L.known link.now) section.now o x → IsAdded (L.known link.now) o x section.now.start fields.old.items fields.new.items faults.old.items faults.new.items meter.old meter.new) }
+    ensures { OnOk result ((l : KnownLink) → L.knows link.now l → AreNameValues l values.now → (o : NamedObject) (x : LinkedSection) → IsPlaced l section.now o x → IsAdded l o x section.now.start fields.old.items fields.new.items faults.old.items faults.new.items meter.old meter.new) }
 {
     let mut own = Vec::with_capacity(alloc, section.relocations.len())?;
     add_sites(link, values, section, &mut own, faults, meter)?;

@@ -11,32 +11,33 @@ use ldmodel::names::{Case, NameKey, ObjectKey};
 use ldmodel::sections::SectionKey;
 
 /// What a linker knows of a link: its objects, where their sections start, and what names stand for, under the
-/// linker's own keys.
+/// linker's own keys. What is said of a link holds of each one that it may be; of one that knows nothing of any link,
+/// as a test's, nothing is said.
 pub trait Known {
-    /// The link, with what the keys stand for.
-    ghost known: { Self → KnownLink };
+    /// The links that it may be, with what the keys stand for.
+    ghost knows: { Self → KnownLink → Type 0 };
 
     /// The object of a key, if there is one.
     fn object(&self, key: ObjectKey) -> Option<&Object>
-        ensures { option_copied result ≡ object_of (known self.now) key };
+        ensures { (l : KnownLink) → knows self.now l → option_copied result ≡ object_of l key };
 
     /// Where an input section starts, if it is in the output.
     fn start(&self, section: SectionKey) -> Option<u64>
-        ensures { result ≡ start_of (known self.now) section };
+        ensures { (l : KnownLink) → knows self.now l → result ≡ start_of l section };
 
     /// The key of the name of a symbol that isn't local.
     fn name_key(&self, object: ObjectKey, symbol: SymbolIndex) -> NameKey
-        ensures { IsNameOf (known self.now) object symbol result };
+        ensures { (l : KnownLink) → knows self.now l → IsNameOf l object symbol result };
 
     /// A number that is greater than each key of a name.
     fn name_limit(&self) -> usize
-        ensures { (k : ℕ) (name : List ℕ) → (known self.now).name k ≡ Some name → k < result };
+        ensures { (l : KnownLink) → knows self.now l → (k : ℕ) (name : List ℕ) → l.name k ≡ Some name → k < result };
 
     /// What the name of a key stands for.
     fn case(&self, name: NameKey) -> Option<Case>
-        ensures { IsCaseOf (known self.now) name result };
+        ensures { (l : KnownLink) → knows self.now l → IsCaseOf l name result };
 
     /// The value that the script gives the name of a key, if it gives one.
     fn script_value(&self, name: NameKey) -> Option<u64>
-        ensures { IsScriptValueOf (known self.now) name result };
+        ensures { (l : KnownLink) → knows self.now l → IsScriptValueOf l name result };
 }

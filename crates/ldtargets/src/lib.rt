@@ -1,7 +1,9 @@
 //! Values of symbols in the output, and the fields of relocations against them.
 #![tactic(auto)]
 
+mod bucket;
 pub mod fields;
+pub mod index;
 pub mod known;
 pub mod site;
 pub mod symbol;

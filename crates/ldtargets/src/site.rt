@@ -1,10 +1,10 @@
 //! Relocations of an input section in the output: each one's field, or its fault.
 
-ghost use Rattle.std.specs.Prelude.{◌≡◌, ◌+◌, ◌<◌, ◌^◌, Some, length, option_copied, slice_get, true};
+ghost use Rattle.std.specs.Prelude.{◌≡◌, IfOk, ◌+◌, ◌<◌, ◌^◌, Some, length, option_copied, slice_get, true};
 ghost use Rattle.ldbase.specs.Raised.{raised};
 ghost use Rattle.ldmodel.specs.Relocations.{Site, is_evaluated, site_value};
-ghost use Rattle.ldtargets.specs.KnownLink.{AreNameValues};
-ghost use Rattle.ldtargets.specs.Sites.{IsEvaluated, IsOutcome, IsSite, IsSiteAt};
+ghost use Rattle.ldtargets.specs.KnownLink.{AreNameValues, KnownLink};
+ghost use Rattle.ldtargets.specs.Sites.{IsEvaluated, IsFieldOf, IsOutcome, IsSite, IsSiteAt};
 ghost use Rattle.ldtargets.specs.Values.{value_of};
 
 use crate::known::Known;
@@ -48,8 +48,7 @@ fn site_value<L: Known>(
     section: &PlacedSection<'_>,
     symbol: SymbolIndex,
 ) -> SymbolValue
-    requires { AreNameValues (L.known link.now) values.now }
-    ensures { (t : Site) → IsSite (L.known link.now) section.now t → t.relocation.symbol ≡ symbol → value_of result ≡ site_value (L.known link.now).project (L.known link.now).layout t }
+    ensures { (l : KnownLink) → L.knows link.now l → AreNameValues l values.now → (t : Site) → IsSite l section.now t → t.relocation.symbol ≡ symbol → value_of result ≡ site_value l.project l.layout t }
 {
     match section.symbols.get(symbol.0 as usize) {
         None => SymbolValue::NotDefined,
@@ -58,8 +57,7 @@ fn site_value<L: Known>(
 }
 
 /// The field of a relocation of number `entry` against a symbol of a value; or its fault.
-fn field_with<L: Known>(
-    link: &L,
+fn field_with(
     section: &PlacedSection<'_>,
     entry: u32,
     relocation: &Relocation,
@@ -68,7 +66,8 @@ fn field_with<L: Known>(
 ) -> Result<Patch, Fault>
     requires evaluated { is_evaluated relocation.now.kind ≡ true }
     requires below { section.now.start + relocation.now.offset < 2 ^ 64 }
-    ensures outcome { (t : Site) → IsSiteAt (L.known link.now) section.now entry t → t.relocation ≡ relocation.now → IsOutcome (L.known link.now) t (value_of value) result }
+    ensures field { IfOk result (IsFieldOf relocation.now) }
+    ensures outcome { (l : KnownLink) (t : Site) → IsSiteAt l section.now entry t → t.relocation ≡ relocation.now → IsOutcome l t (value_of value) result }
     ensures counted { meter.new ≡ raised meter.old Count.Fields 1 }
 {
     let site = SiteKey {
@@ -110,12 +109,12 @@ pub fn evaluate<L: Known>(
     relocation: &Relocation,
     meter: &mut Meter,
 ) -> Result<Patch, Fault>
-    requires values { AreNameValues (L.known link.now) values.now }
     requires evaluated { is_evaluated relocation.now.kind ≡ true }
     requires below { section.now.start + relocation.now.offset < 2 ^ 64 }
-    ensures evaluated { (t : Site) → IsSiteAt (L.known link.now) section.now entry t → t.relocation ≡ relocation.now → IsEvaluated (L.known link.now) t result }
+    ensures field { IfOk result (IsFieldOf relocation.now) }
+    ensures evaluated { (l : KnownLink) → L.knows link.now l → AreNameValues l values.now → (t : Site) → IsSiteAt l section.now entry t → t.relocation ≡ relocation.now → IsEvaluated l t result }
     ensures counted { meter.new ≡ raised meter.old Count.Fields 1 }
 {
     let value = site_value(link, values, section, relocation.symbol);
-    field_with(link, section, entry, relocation, value, meter)
+    field_with(section, entry, relocation, value, meter)
 }

@@ -4,7 +4,7 @@ ghost use Rattle.std.specs.Prelude.{◌≡◌, ℕ, List, Some, IfOk};
 ghost use Rattle.ldmodel.specs.HandedOver.{decision_of, entry_of};
 ghost use Rattle.ldmodel.specs.Layout.{script_value};
 ghost use Rattle.ldmodel.specs.SymbolValues.{decided_value, entry_point, entry_value, own_value, value_or_undefined};
-ghost use Rattle.ldtargets.specs.KnownLink.{AreNameValues, IsEntryCase, IsNameValueOf, common_value, name_of_object};
+ghost use Rattle.ldtargets.specs.KnownLink.{AreNameValues, IsEntryCase, IsNameValueOf, KnownLink, common_value, name_of_object};
 ghost use Rattle.ldtargets.specs.Values.{value_of};
 
 use crate::known::Known;
@@ -19,7 +19,7 @@ use std::alloc::Global;
 /// The value of a symbol of an object by its own entry (gABI, "Symbol Values"): an address in its section, its number,
 /// or 0 for the null entry.
 pub fn own_value<L: Known>(link: &L, object: ObjectKey, symbol: &Symbol) -> SymbolValue
-    ensures { value_of result ≡ own_value (L.known link.now).layout (name_of_object (L.known link.now) object) symbol.now.place symbol.now.value }
+    ensures { (l : KnownLink) → L.knows link.now l → value_of result ≡ own_value l.layout (name_of_object l object) symbol.now.place symbol.now.value }
 {
     match symbol.place {
         SymbolPlace::Section(section) => {
@@ -34,7 +34,7 @@ pub fn own_value<L: Known>(link: &L, object: ObjectKey, symbol: &Symbol) -> Symb
 
 /// The value of the symbol of an entry, if there is such an entry.
 fn entry_value<L: Known>(link: &L, entry: Entry) -> SymbolValue
-    ensures { value_of result ≡ entry_value (L.known link.now).project (L.known link.now).layout (entry_of (L.known link.now).number entry) }
+    ensures { (l : KnownLink) → L.knows link.now l → value_of result ≡ entry_value l.project l.layout (entry_of l.number entry) }
 {
     let key = ObjectKey(entry.key);
     let Some(object) = link.object(key) else {
@@ -48,7 +48,7 @@ fn entry_value<L: Known>(link: &L, entry: Entry) -> SymbolValue
 
 /// The address of the common block that an entry owns.
 fn common_value<L: Known>(link: &L, owner: Entry) -> SymbolValue
-    ensures { value_of result ≡ common_value (L.known link.now) (entry_of (L.known link.now).number owner) }
+    ensures { (l : KnownLink) → L.knows link.now l → value_of result ≡ common_value l (entry_of l.number owner) }
 {
     let object = ObjectKey(owner.key);
     let part = Part::InCommon(SymbolIndex(owner.symbol));
@@ -67,7 +67,7 @@ fn given_value(given: Option<u64>) -> SymbolValue
 
 /// The value of a name, by what it stands for and the value that the script gives it.
 fn decided_value<L: Known>(link: &L, case: Case, given: Option<u64>) -> SymbolValue
-    ensures { (name : List ℕ) → given ≡ script_value (L.known link.now).layout name → value_of result ≡ decided_value (L.known link.now).project (L.known link.now).layout name (decision_of (L.known link.now).number case) }
+    ensures { (l : KnownLink) → L.knows link.now l → (name : List ℕ) → given ≡ script_value l.layout name → value_of result ≡ decided_value l.project l.layout name (decision_of l.number case) }
 {
     match case {
         Case::Strong(entry) | Case::Weak(entry) => entry_value(link, entry),
@@ -80,8 +80,7 @@ fn decided_value<L: Known>(link: &L, case: Case, given: Option<u64>) -> SymbolVa
 /// The value of the entry symbol, `e_entry`: 0 where there is none. It stands for `case`, and the script gives it the
 /// value `given`, if any.
 pub fn entry_point<L: Known>(link: &L, case: Option<Case>, given: Option<u64>) -> SymbolValue
-    requires { IsEntryCase (L.known link.now) case given }
-    ensures { value_of result ≡ entry_point (L.known link.now).project (L.known link.now).layout }
+    ensures { (l : KnownLink) → L.knows link.now l → IsEntryCase l case given → value_of result ≡ entry_point l.project l.layout }
 {
     match case {
         None => SymbolValue::Number(0),
@@ -91,7 +90,7 @@ pub fn entry_point<L: Known>(link: &L, case: Option<Case>, given: Option<u64>) -
 
 /// The value of the name of a key.
 pub fn name_value<L: Known>(link: &L, name: NameKey) -> SymbolValue
-    ensures { IsNameValueOf (L.known link.now) name (value_of result) }
+    ensures { (l : KnownLink) → L.knows link.now l → IsNameValueOf l name (value_of result) }
 {
     match link.case(name) {
         None => SymbolValue::NotDefined,
@@ -101,7 +100,7 @@ pub fn name_value<L: Known>(link: &L, name: NameKey) -> SymbolValue
 
 /// The values of all names, each under its key. What stands under the key of no name says nothing.
 pub fn name_values<L: Known>(alloc: Global, link: &L) -> Result<Vec<SymbolValue>, NoMemory>
-    ensures { IfOk result (λ v. AreNameValues (L.known link.now) v.items) }
+    ensures { IfOk result (λ v. (l : KnownLink) → L.knows link.now l → AreNameValues l v.items) }
 {
     let limit = link.name_limit();
     let mut values = Vec::with_capacity(alloc, limit)?;

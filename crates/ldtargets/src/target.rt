@@ -7,7 +7,7 @@ ghost use Rattle.ldmodel.specs.Project.{NamedObject};
 ghost use Rattle.ldmodel.specs.SymbolValues.{number_or_0};
 ghost use Rattle.ldmodel.specs.Targets.{referenced_value, target_number, target_of};
 ghost use Rattle.ldmodel.specs.Targets as model;
-ghost use Rattle.ldtargets.specs.KnownLink.{AreNameValues, IsSymbolOf, named_target, value_under};
+ghost use Rattle.ldtargets.specs.KnownLink.{AreNameValues, IsSymbolOf, KnownLink, named_target, value_under};
 ghost use Rattle.ldtargets.specs.Values.{value_of};
 
 use crate::known::Known;
@@ -40,7 +40,7 @@ pub fn target_of<L: Known>(
     index: SymbolIndex,
     symbol: &Symbol,
 ) -> Target
-    ensures { (o : NamedObject) (x : NamedSymbol) → IsSymbolOf (L.known link.now) object index symbol.now o x → named_target (L.known link.now) result ≡ Some (target_of o x) }
+    ensures { (l : KnownLink) → L.knows link.now l → (o : NamedObject) (x : NamedSymbol) → IsSymbolOf l object index symbol.now o x → named_target l result ≡ Some (target_of o x) }
 {
     if !is_local(symbol.binding) {
         return Target::Name(link.name_key(object, index));
@@ -65,8 +65,7 @@ fn value_under(values: &[SymbolValue], name: NameKey) -> SymbolValue
 /// `values` are those of all names. While the number of a target stays the same, so do the fields of all relocations
 /// against it.
 pub fn target_number<L: Known>(link: &L, values: &[SymbolValue], target: Target) -> u64
-    requires { AreNameValues (L.known link.now) values.now }
-    ensures { (t : model.Target) → named_target (L.known link.now) target ≡ Some t → result ≡ target_number (L.known link.now).project (L.known link.now).layout t }
+    ensures { (l : KnownLink) → L.knows link.now l → AreNameValues l values.now → (t : model.Target) → named_target l target ≡ Some t → result ≡ target_number l.project l.layout t }
 {
     match target {
         Target::Name(name) => value_under(values, name).number_or_0(),
@@ -86,8 +85,7 @@ pub fn referenced_value<L: Known>(
     index: SymbolIndex,
     symbol: &Symbol,
 ) -> SymbolValue
-    requires { AreNameValues (L.known link.now) values.now }
-    ensures { (o : NamedObject) (x : NamedSymbol) → IsSymbolOf (L.known link.now) object index symbol.now o x → value_of result ≡ referenced_value (L.known link.now).project (L.known link.now).layout o x }
+    ensures { (l : KnownLink) → L.knows link.now l → AreNameValues l values.now → (o : NamedObject) (x : NamedSymbol) → IsSymbolOf l object index symbol.now o x → value_of result ≡ referenced_value l.project l.layout o x }
 {
     if is_local(symbol.binding) {
         return own_value(link, object, symbol);

@@ -5,5 +5,5 @@ use Rattle.ldtargets.proofs.site.evaluate.Goals as goal
 
 pub returns-clause-evaluated : goal.returns-clause-evaluated
 returns-clause-evaluated g c =
-    λ t h is. evaluated (g.L.Known.known c.args.link.now) t _ _
-    (c.site_value-value.ensures t h.site (ap (λ (r : Relocation). r.symbol) is)) (c.field_with.ensures.outcome t h is)
+    λ l k all t h is. evaluated l t _ _
+    (c.site_value-value.ensures l k all t h.site (ap (λ (r : Relocation). r.symbol) is)) (c.field_with.ensures.outcome l t h is)

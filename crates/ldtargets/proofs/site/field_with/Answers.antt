@@ -4,14 +4,14 @@ use Rattle.ldtargets.proofs.Sites.{missing, overflow, undefined}
 use Rattle.ldtargets.proofs.site.field_with.Goals as goal
 
 pub returns-in-NotDefined-clause-outcome : goal.returns-in-NotDefined-clause-outcome
-returns-in-NotDefined-clause-outcome g c =
-    λ t h is. undefined (g.L.Known.known c.args.link.now) c.args.section.now c.args.entry t h _ (ap value_of c.in-NotDefined.is)
+returns-in-NotDefined-clause-outcome c =
+    λ l t h is. undefined l c.args.section.now c.args.entry t h _ (ap value_of c.in-NotDefined.is)
 
 pub returns-in-NotInOutput-clause-outcome : goal.returns-in-NotInOutput-clause-outcome
-returns-in-NotInOutput-clause-outcome g c =
-    λ t h is. missing (g.L.Known.known c.args.link.now) c.args.section.now c.args.entry t h _ (ap value_of c.in-NotInOutput.is)
+returns-in-NotInOutput-clause-outcome c =
+    λ l t h is. missing l c.args.section.now c.args.entry t h _ (ap value_of c.in-NotInOutput.is)
 
 pub returns-in-Err-clause-outcome : goal.returns-in-Err-clause-outcome
-returns-in-Err-clause-outcome g c =
-    λ t h is. overflow (g.L.Known.known c.args.link.now) c.args.section.now c.args.entry t h _ c.in-Number.value c.args.relocation.now
+returns-in-Err-clause-outcome c =
+    λ l t h is. overflow l c.args.section.now c.args.entry t h _ c.in-Number.value c.args.relocation.now
     c.in-Err.overflow (ap value_of c.in-Number.is) is c.in-Err.ensures.field
