@@ -7,3 +7,4 @@ pub mod Bounds
 pub mod Spread
 pub mod FileOrder
 pub mod Outcomes
+pub mod LayoutExamples
