@@ -1,17 +1,20 @@
 //! Small projects, and what the definitions say of them.
 
-ghost use Rattle.std.specs.Prelude.{◌≡◌, ℕ, List, [], ◌∷◌, None, Some, codes, true};
+ghost use Rattle.std.specs.Prelude.{◌≡◌, ℕ, List, [], ◌∷◌, Err, None, Ok, Some, codes, true};
+ghost use Rattle.elfobj.specs.declared.refusal.ObjectRefusal.TheVariants.{Short};
 ghost use Rattle.elfobj.specs.declared.symbol.Binding.TheVariants.{Global, Weak};
 ghost use Rattle.ldtree.specs.declared.input.Sort.TheVariants.{ByName, ByAlignment};
+ghost use Rattle.ldmodel.specs.Edits.{Add, After, InUse, Limit, Move, NotAnObject, PastEnd, Remove, Unknown, early_refusal};
 ghost use Rattle.ldmodel.specs.Live.{live, orphans};
 ghost use Rattle.ldmodel.specs.NameFaults.{ByObject, duplicates};
 ghost use Rattle.ldmodel.specs.Names.{Common, Duplicate, Strong, Weak as WeakCase, decision, provided};
 ghost use Rattle.ldmodel.specs.Rows.{rows};
-ghost use Rattle.ldlaws.specs.ExampleProjects.{both, both_but_b, collected, discarded, has_end, of_symbols, of_two, only_a, only_b, providing, uses_end};
-ghost use Rattle.ldlaws.specs.Examples.{any, common, defined, exactly, from_any, names, section_names, word};
+ghost use Rattle.ldlaws.specs.ExampleProjects.{a_and_b, both, both_but_b, collected, collected_by, discarded, has_end, marker, of_symbols, of_two, only_a, only_b, providing, unaligned, uses_end};
+ghost use Rattle.ldlaws.specs.Examples.{any, common, defined, exactly, from_any, names, reference, section_names, undefined, word};
 
 /// Rows: one statement takes its sections together, object by object; two statements one after the other; a sort orders
-/// the sections of its statement; EXCLUDE_FILE holds for one word.
+/// the sections of its statement, and those with equal keys stand as they did; EXCLUDE_FILE holds for one word; alignments
+/// 0 and 1 are one key.
 pub fn rows_by_example()
     ensures together { names (rows (of_two (both ∷ []))) ≡ ((codes "a.o", codes ".a") ∷ (codes "a.o", codes ".b") ∷ (codes "b.o", codes ".a") ∷ (codes "b.o", codes ".b") ∷ []) ∷ [] }
     ensures apart { names (rows (of_two (only_a ∷ only_b ∷ []))) ≡ ((codes "a.o", codes ".a") ∷ (codes "b.o", codes ".a") ∷ (codes "a.o", codes ".b") ∷ (codes "b.o", codes ".b") ∷ []) ∷ [] }
@@ -19,6 +22,7 @@ pub fn rows_by_example()
     ensures by_alignment { names (rows (of_two (record both { sort = Some ByAlignment } ∷ []))) ≡ ((codes "a.o", codes ".b") ∷ (codes "b.o", codes ".b") ∷ (codes "a.o", codes ".a") ∷ (codes "b.o", codes ".a") ∷ []) ∷ [] }
     ensures excluded { names (rows (of_two (both_but_b ∷ only_a ∷ []))) ≡ ((codes "a.o", codes ".a") ∷ (codes "a.o", codes ".b") ∷ (codes "b.o", codes ".b") ∷ (codes "b.o", codes ".a") ∷ []) ∷ [] }
     ensures orphan { section_names (orphans (of_two (both_but_b ∷ []))) ≡ (codes "b.o", codes ".a") ∷ [] }
+    ensures zero_is_one { names (rows unaligned) ≡ ((codes "a.o", codes ".a") ∷ (codes "a.o", codes ".b") ∷ []) ∷ [] }
 {}
 
 /// Garbage collection: what the entry symbol's section refers to is live, and what a statement under KEEP takes; what
@@ -27,6 +31,8 @@ pub fn live_by_example()
     ensures by_reference { section_names (live (collected (codes "f") (from_any (word any ∷ []) ∷ []))) ≡ (codes "a.o", codes ".text") ∷ (codes "b.o", codes ".text.f") ∷ [] }
     ensures by_keep { section_names (live (collected (codes "g") (record (from_any (word (exactly (codes ".text.f")) ∷ [])) { keep = true } ∷ from_any (word any ∷ []) ∷ []))) ≡ (codes "a.o", codes ".text") ∷ (codes "b.o", codes ".text.f") ∷ (codes "c.o", codes ".text.g") ∷ [] }
     ensures out { section_names (live (discarded (codes "f") (from_any (word any ∷ []) ∷ []))) ≡ (codes "a.o", codes ".text") ∷ [] }
+    ensures by_marker { section_names (live (collected_by (marker 2) (undefined (codes "f")) (defined Weak 1 (codes "f")))) ≡ (codes "a.o", codes ".text") ∷ (codes "b.o", codes ".text.f") ∷ [] }
+    ensures to_common { section_names (live (collected_by (reference 2) (undefined (codes "buf")) (common 4 4 (codes "buf")))) ≡ (codes "a.o", codes ".text") ∷ (codes "b.o", codes "COMMON") ∷ [] }
 {}
 
 /// Names: of common entries the first owns the block, which has the greatest size and alignment; a second global
@@ -40,4 +46,19 @@ pub fn names_by_example()
     ensures not_mentioned { provided (providing []) ≡ [] }
     ensures mentioned { provided (providing (uses_end ∷ [])) ≡ codes "end" ∷ [] }
     ensures given_way { decision (providing (uses_end ∷ has_end ∷ [])) (codes "end") ≡ Common (record { object = 1; symbol = 1 }) 4 4 }
+{}
+
+/// Edits: the first refusal that applies, in the order name in use, name unknown, position past the end, limit, object; a
+/// moved object's place counts in the list without it.
+pub fn edits_by_example()
+    ensures in_use { early_refusal (of_two []) (Add (codes "a.o") 9 []) ≡ Some InUse }
+    ensures past_end { early_refusal (of_two []) (Add (codes "a b") 3 []) ≡ Some PastEnd }
+    ensures limit { early_refusal (of_two []) (Add (codes "a b") 2 []) ≡ Some Limit }
+    ensures unnamed { early_refusal (of_two []) (Add [] 2 []) ≡ Some Limit }
+    ensures short { After (of_two []) (Add (codes "c.o") 2 []) (Err (NotAnObject Short)) }
+    ensures unknown { early_refusal (of_two []) (Move (codes "c.o") 9) ≡ Some Unknown }
+    ensures too_far { early_refusal (of_two []) (Move (codes "a.o") 2) ≡ Some PastEnd }
+    ensures last { After (of_two []) (Move (codes "a.o") 1) (Ok (record (of_two []) { objects = a_and_b (codes "b.o") ∷ a_and_b (codes "a.o") ∷ [] })) }
+    ensures removed { After (of_two []) (Remove (codes "a.o")) (Ok (record (of_two []) { objects = a_and_b (codes "b.o") ∷ [] })) }
+    ensures not_there { early_refusal (of_two []) (Remove (codes "c.o")) ≡ Some Unknown }
 {}
