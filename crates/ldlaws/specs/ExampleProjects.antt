@@ -32,6 +32,13 @@ of_two inputs =
     let objects : List NamedObject = a_and_b (codes "a.o") ∷ a_and_b (codes "b.o") ∷ [] in
     project objects (sections (output (codes ".out") inputs ∷ []) ∷ [])
 
+-- a section of `a.o`, and one of `b.o`, by the names of object and section
+abbrev pub of_a : List ℕ → List ℕ × List ℕ
+of_a section = (codes "a.o", section)
+
+abbrev pub of_b : List ℕ → List ℕ × List ℕ
+of_b section = (codes "b.o", section)
+
 -- `*(.a .b)`
 abbrev pub both : Input
 both = from_any (word (exactly (codes ".a")) ∷ word (exactly (codes ".b")) ∷ [])
@@ -123,8 +130,8 @@ commons_in_bss =
     let objects : List NamedObject = (of_symbols (common 4 8 (codes "buf")) (common 16 4 (codes "buf"))).objects in
     project objects (one_section 0x404004 (codes ".bss") (codes "COMMON"))
 
--- the same as `collected` where `a.o` refers to `f` by a relocation that changes nothing, or to a common `buf`, which is
--- in `b.o` and `c.o`
+-- the same as `collected` where `a.o` refers to `f` by a relocation that changes nothing, or to a common `buf`, which
+-- is in `b.o` and `c.o`
 abbrev pub collected_by : Relocation → NamedSymbol → NamedSymbol → Project
 collected_by r target owned =
     let text : LinkedSection = section 1 (codes ".text") 1 (r ∷ []) in

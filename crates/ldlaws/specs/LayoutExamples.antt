@@ -5,7 +5,6 @@ use Rattle.elfobj.specs.declared.section.SectionKind.TheVariants.{Progbits, Nobi
 use Rattle.ldexpr.specs.Expressions.{Number}
 use Rattle.ldtree.specs.declared.common.DotCommand.{DotCommand}
 use Rattle.ldtree.specs.declared.common.DotCommand.TheVariants.{Set, Add}
-use Rattle.ldtree.specs.declared.input.Input.{Input}
 use Rattle.ldtree.specs.declared.section.BodyCommand.TheVariants as body
 use Rattle.ldtree.specs.declared.section.BodyStatement.{BodyStatement}
 use Rattle.ldtree.specs.declared.section.Load.{Load}
@@ -18,11 +17,10 @@ use Rattle.ldtree.specs.declared.statement.Statement.{Statement}
 use Rattle.ldmodel.specs.Fault.{Fault}
 use Rattle.ldmodel.specs.Layout.{Layout, PlacedPiece, PlacedSection}
 use Rattle.ldmodel.specs.Overlaps.{overlaps}
-use Rattle.ldmodel.specs.Placement.{placement}
-use Rattle.ldmodel.specs.Project.{NamedObject, Project}
+use Rattle.ldmodel.specs.Project.{Project}
 use Rattle.ldmodel.specs.Rows.{Piece}
 use Rattle.ldmodel.specs.declared.sections.Part.TheVariants.{InTable}
-use Rattle.ldlaws.specs.Examples.{any, command, exactly, from_any, item_at, object, section, sections, statement, word}
+use Rattle.ldlaws.specs.Examples.{any, command, from_any, item_at, object, section, sections, statement, word}
 use Rattle.ldlaws.specs.ExampleProjects.{project}
 
 -- the entry of a row: a section of `a.o` that input statement number n takes, with SHF_ALLOC and SHF_WRITE
@@ -99,10 +97,10 @@ abbrev pub rom_and_ram : List Statement
 rom_and_ram =
     command (Memory (region (codes "rom") 0x8000 4096 ∷ region (codes "ram") 0x20000 4096 ∷ []))
     ∷ sections (
-      in_region (codes ".text") (everything ∷ []) (Some (codes "rom")) Unstated
-      ∷ in_region (codes ".data") (everything ∷ []) (Some (codes "ram")) (InRegion (codes "rom"))
-      ∷ in_region (codes ".bss") (everything ∷ []) (Some (codes "ram")) Unstated
-      ∷ []
+    in_region (codes ".text") (everything ∷ []) (Some (codes "rom")) Unstated
+    ∷ in_region (codes ".data") (everything ∷ []) (Some (codes "ram")) (InRegion (codes "rom"))
+    ∷ in_region (codes ".bss") (everything ∷ []) (Some (codes "ram")) Unstated
+    ∷ []
     )
     ∷ []
 
@@ -122,7 +120,10 @@ one_body start ss = sections (at start ∷ plain (codes ".d") (everything ∷ ss
 -- `SECTIONS { . = 0x2000; .d : { *(*) } . = NEXT; .e : { *(*) } }`
 abbrev pub two_at : ℕ → List Statement
 two_at next =
-    sections (at 0x2000 ∷ plain (codes ".d") (everything ∷ []) ∷ at next ∷ plain (codes ".e") (everything ∷ []) ∷ []) ∷ []
+    sections (
+    at 0x2000 ∷ plain (codes ".d") (everything ∷ []) ∷ at next ∷ plain (codes ".e") (everything ∷ []) ∷ []
+    )
+    ∷ []
 
 abbrev pub two_rows : List (List Piece)
 two_rows = (bytes 0 8 1 ∷ []) ∷ (bytes 1 8 1 ∷ []) ∷ []

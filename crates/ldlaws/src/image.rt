@@ -20,9 +20,12 @@ pub fn gap_is_longest_run()
     ensures { (q : PlacedSection) (at : ℕ) → q.start ≤ at → IsBare q at → IsGapStart q at (gap_start q at) }
 {}
 
-/// The fields of an input section share no byte, and each has a byte and ends in the section, where the object reader has
-/// found that of its relocations.
+/// The fields of an input section share no byte, where its relocations do not, as the object reader has found; and each
+/// has a byte and ends in the section, where they do.
 pub fn fields_are_apart()
-    ensures apart { (p : Project) (s : Layout) (o : NamedObject) (x : LinkedSection) (start : ℕ) → object.AreApart x.relocations → patches.AreApart (fields_of p s o x start) }
-    ensures within { (p : Project) (s : Layout) (o : NamedObject) (x : LinkedSection) (start : ℕ) → All (λ (r : Relocation). field_end r ≤ x.size) x.relocations → All (IsWithin x.size) (fields_of p s o x start) }
+    ensures apart { (p : Project) (s : Layout) (o : NamedObject) (x : LinkedSection) (start : ℕ)
+        → object.AreApart x.relocations → patches.AreApart (fields_of p s o x start) }
+    ensures within { (p : Project) (s : Layout) (o : NamedObject) (x : LinkedSection) (start : ℕ)
+        → All (λ (r : Relocation). field_end r ≤ x.size) x.relocations
+        → All (IsWithin x.size) (fields_of p s o x start) }
 {}
