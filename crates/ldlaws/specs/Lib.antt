@@ -8,3 +8,4 @@ pub mod Spread
 pub mod FileOrder
 pub mod Outcomes
 pub mod LayoutExamples
+pub mod ImageBytes
