@@ -1,5 +1,5 @@
 -- Fields of an input section share no byte and lie in it.
-use Rattle.std.proofs.Common.{◌≡◌, ℕ, zero, suc, ◌+◌, ◌<◌, ◌≤◌, Bool, true, false, cond, min, max, nat_lt, List, [], ◌∷◌, length, map, filter, get_or, Option, Some, None, Result, Ok, Err, refl, sym, ap, ◌∙◌, subst, arith, All, AllPairs}
+use Rattle.std.proofs.Common.{◌≡◌, ℕ, zero, suc, ◌<◌, ◌≤◌, Bool, true, false, cond, min, max, nat_lt, List, [], ◌∷◌, length, map, filter, Option, Some, None, Ok, Err, refl, ap, ◌∙◌, subst, arith, All, AllPairs}
 use Rattle.std.specs.List.{filter_map, cons_option}
 use Rattle.byteorder.specs.Endian.{little_bytes}
 use Rattle.elfobj.specs.Profile as object
@@ -12,13 +12,11 @@ use Rattle.elfobj.specs.declared.relocation.RelocationKind.TheVariants as kind
 use Rattle.ldfields.specs.Fields.{field_of, fits, value}
 use Rattle.ldfields.specs.Patches as patches
 use Rattle.ldfields.specs.Patches.{patch_end, IsWithin}
-use Rattle.ldfields.specs.declared.field.Overflow.{Overflow}
 use Rattle.ldfields.specs.declared.patch.Patch.{Patch}
-use Rattle.ldmodel.specs.Fault.{Fault}
 use Rattle.ldmodel.specs.FileLayout.{Each}
 use Rattle.ldmodel.specs.Layout.{Layout}
 use Rattle.ldmodel.specs.Project.{NamedObject, Project}
-use Rattle.ldmodel.specs.Relocations.{Site, is_evaluated, sites_at, site_value, site_place, site_field, field_with, field_or_overflow, patch_of, fields_of}
+use Rattle.ldmodel.specs.Relocations.{Site, is_evaluated, site_value, site_place, site_field, field_with, field_or_overflow, patch_of, fields_of}
 use Rattle.ldmodel.specs.SymbolValues.{SymbolValue, Number, NotDefined, NotInOutput}
 use Rattle.ldlaws.specs.Spread.{EachLater}
 

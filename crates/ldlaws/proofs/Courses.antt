@@ -1,8 +1,8 @@
 -- Edits one after the other lead to one project or to one first refusal.
 use Rattle.std.proofs.Common.{◌≡◌, ◌≢◌, ℕ, suc, List, [], ◌∷◌, Result, Ok, Err, refl, sym, ap, ◌∙◌, subst}
 use Rattle.ldmodel.specs.Edits.{After, AreNamesDistinct, Change, Refusal}
-use Rattle.ldmodel.specs.Link.{Link, link}
-use Rattle.ldmodel.specs.LinkCommand.{Course, ended, refused, accepted, LinkAnswer, Linked, RefusedAt, NoMemory, LinkAnswers, Linking, ObjectFile, RefusedEdit, link_edits}
+use Rattle.ldmodel.specs.Link.{link}
+use Rattle.ldmodel.specs.LinkCommand.{Course, ended, refused, accepted, LinkAnswer, Linked, RefusedAt, NoMemory, LinkAnswers, ObjectFile, RefusedEdit, link_edits}
 use Rattle.ldmodel.specs.Options.{LinkOptions}
 use Rattle.ldmodel.specs.Project.{Project, empty_project}
 

@@ -1,5 +1,5 @@
 -- `.` is kept before each statement of SECTIONS and of a body, once and in their order.
-use Rattle.std.proofs.Common.{◌≡◌, ℕ, suc, ◌+◌, List, [], ◌∷◌, ◌++◌, length, Result, Ok, refl, sym, ap, ◌∙◌, subst, arith, append_assoc, append-nil, length-append}
+use Rattle.std.proofs.Common.{◌≡◌, ℕ, suc, ◌+◌, List, [], ◌∷◌, ◌++◌, length, Ok, refl, sym, ap, ◌∙◌, subst, arith, append_assoc, append-nil, length-append}
 use Rattle.ldtree.specs.Numbering.{items, items_of}
 use Rattle.ldtree.specs.declared.section.BodyStatement.{BodyStatement}
 use Rattle.ldtree.specs.declared.section.OutputSection.{OutputSection}
@@ -10,11 +10,10 @@ use Rattle.ldtree.specs.declared.statement.ItemCommand.{ItemCommand}
 use Rattle.ldtree.specs.declared.statement.ItemCommand.TheVariants as item
 use Rattle.ldtree.specs.declared.statement.Statement.{Statement}
 use Rattle.ldmodel.specs.Body.{Body, body_step}
-use Rattle.ldmodel.specs.Chain.{run}
 use Rattle.ldmodel.specs.Layout.{Layout, noted, nothing_placed}
 use Rattle.ldmodel.specs.Placement.{command_step, item_command_step, item_step, next_row, opened, placement, region_step, statement_step}
 use Rattle.ldmodel.specs.Rows.{Piece}
-use Rattle.ldlaws.specs.Placed.{PieceTo, past_inputs}
+use Rattle.ldlaws.specs.Placed.{PieceTo}
 use Rattle.ldlaws.specs.Spread.{Notes, dots_of, dots_of_all, dots_of_command, dots_in}
 use Rattle.ldlaws.proofs.Effects.{run_by, Kept, kept_same, Quiet, still, renamed, onward, added, named_kept, common_named, free_dot_kept, region_kept, SectionPlaced, section_placed, command_by}
 
@@ -56,8 +55,8 @@ section_notes : (provided : List (List ℕ)) (row : List Piece) (s : Layout) (o 
 section_notes provided row s o t h =
     let dots : List ℕ = s.dots ++ s.dot ∷ [] in
     let last : Grown dots (length o.body) h.last [] =
-        run_by (body_step provided) (Grown dots (length o.body)) (λ b x xs c e g. body_grown provided dots (length o.body) b x xs c e g) o.body (opened (noted s) row h.head) h.last h.body
-            (record { more = []; whole = sym (append-nil dots); count = omega arith }) in
+    run_by (body_step provided) (Grown dots (length o.body)) (λ b x xs c e g. body_grown provided dots (length o.body) b x xs c e g) o.body (opened (noted s) row h.head) h.last h.body
+    (record { more = []; whole = sym (append-nil dots); count = omega arith }) in
     subst (Notes (suc (length o.body)) s) h.after (record {
       more = last.more;
       dots = last.whole ∙ append_assoc s.dots (s.dot ∷ []) last.more;
@@ -105,5 +104,5 @@ module _ (rows : List (List Piece)) (provided : List (List ℕ)) where
   unfolding placement
   script_dots script t e =
       let last : length t.dots + 0 ≡ dots_in script =
-          run_by (statement_step rows provided) (λ u xs. Left (dots_in script) u (items xs)) (λ u x xs v f h. statement_left (dots_in script) x.line u x.command (items xs) v f h) script nothing_placed t e (omega arith) in
+      run_by (statement_step rows provided) (λ u xs. Left (dots_in script) u (items xs)) (λ u x xs v f h. statement_left (dots_in script) x.line u x.command (items xs) v f h) script nothing_placed t e (omega arith) in
       omega (arith, last)

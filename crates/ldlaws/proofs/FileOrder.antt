@@ -1,13 +1,11 @@
 -- Output sections with file bytes do not meet in the image.
 use Rattle.std.proofs.Common.{◌≡◌, ⊎_elim, ℕ, ◌+◌, ◌-◌, ◌<◌, ◌≤◌, ◌==◌, Bool, true, false, cond, not, ◌&&◌, List, [], ◌∷◌, ◌++◌, length, map, filter, flat_map, fold, refl, sym, ap, ◌∙◌, subst, arith}
-use Rattle.std.specs.Bool.{beq}
 use Rattle.std.proofs.Math.Nat.{eq-zero-or-pos}
 use Rattle.std.proofs.lemmas.List.Elements.{filter-append}
 use Rattle.std.proofs.lemmas.Bool.{eqb-true, eq-eqb, false≢true, leb-true}
 use Rattle.ldmodel.specs.FileLayout.{Each, Neighbours, IsTogether, Shares}
 use Rattle.ldmodel.specs.Layout.{PlacedSection}
-use Rattle.ldmodel.specs.SectionHead.{difference_of}
-use Rattle.ldmodel.specs.Segments.{Group, Segment, SectionInFile, in_file, in_segment, has_file_bytes, headers_end, loaded_end, start_of, end_of, reach, file_size, file_end, segments, sections_in, groups, begun, begun_from, nonempty, shares_segment, page_size, congruent}
+use Rattle.ldmodel.specs.Segments.{Group, Segment, SectionInFile, in_file, in_segment, has_file_bytes, headers_end, start_of, end_of, reach, file_size, file_end, segments, sections_in, groups, begun, begun_from, nonempty}
 use Rattle.ldlaws.specs.FileOrder.{with_file_bytes, end_in_file, AreInFileOrder}
 use Rattle.ldlaws.specs.Spread.{EachLater}
 use Rattle.ldlaws.proofs.Grouped.{is_grouping}
@@ -105,9 +103,10 @@ module _ (g : Segment) where
   in_order : (from : ℕ) → base ≤ from → (qs : List PlacedSection) → Ascends from qs → EachLater Before (placed qs)
   in_order from l [] h = tt
   in_order from l (q ∷ qs) h =
-      let up : base ≤ end_of q = omega (arith, l, h.0) in
-      (each_imply (Past (g.offset + (end_of q - base))) (Before (in_segment g q)) (λ x k. omega (arith, k, l, h.0)) (placed qs) (past_all (end_of q) up qs h.1),
-      in_order (end_of q) up qs h.1)
+      let up : base ≤ end_of q = omega (arith, l, h.0) in (
+        each_imply (Past (g.offset + (end_of q - base))) (Before (in_segment g q)) (λ x k. omega (arith, k, l, h.0)) (placed qs) (past_all (end_of q) up qs h.1),
+        in_order (end_of q) up qs h.1,
+      )
 
   abbrev last_reach : ℕ → List PlacedSection → ℕ
   last_reach n qs = fold (λ m (q : PlacedSection). cond (has_file_bytes q) (reach g.group q) m) n qs
@@ -159,10 +158,10 @@ module _ (g : Segment) where
     own_end : (end : ℕ) → Each (EndsBy (file_end end g)) (with_bytes (placed (sections_in g.group)))
     own_end end =
         each_and (EndsBy (g.offset + file_size g.group)) (λ x. (g.offset ≤ x.offset) × (0 < x.section.size)) (EndsBy (file_end end g)) (λ x k l. go (file_size g.group == 0) refl x k l)
-            (with_bytes (placed (sections_in g.group))) (ends_by 0 base (sections_in g.group) (omega arith) (omega arith) all_ascend)
-            (each_and (Past g.offset) (λ x. 0 < x.section.size) (λ x. (g.offset ≤ x.offset) × (0 < x.section.size)) (λ x k l. (k, l)) (with_bytes (placed (sections_in g.group)))
-                (each_filter (Past g.offset) (λ x. has_file_bytes x.section) (placed (sections_in g.group)) own_past)
-                (each_filter (λ x. 0 < x.section.size) (λ x. has_file_bytes x.section) (placed (sections_in g.group)) (sizes (sections_in g.group) some)))
+        (with_bytes (placed (sections_in g.group))) (ends_by 0 base (sections_in g.group) (omega arith) (omega arith) all_ascend)
+        (each_and (Past g.offset) (λ x. 0 < x.section.size) (λ x. (g.offset ≤ x.offset) × (0 < x.section.size)) (λ x k l. (k, l)) (with_bytes (placed (sections_in g.group)))
+        (each_filter (Past g.offset) (λ x. has_file_bytes x.section) (placed (sections_in g.group)) own_past)
+        (each_filter (λ x. 0 < x.section.size) (λ x. has_file_bytes x.section) (placed (sections_in g.group)) (sizes (sections_in g.group) some)))
       where
         go : (b : Bool) → (file_size g.group == 0) ≡ b → (x : SectionInFile) → EndsBy (g.offset + file_size g.group) x → (g.offset ≤ x.offset) × (0 < x.section.size) → EndsBy (cond b end (g.offset + file_size g.group)) x
         go true e x k l = let none : file_size g.group ≡ 0 = eqb-true (file_size g.group) 0 e in absurd (omega (arith, k, none, l.0, l.1))

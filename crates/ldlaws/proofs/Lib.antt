@@ -25,3 +25,5 @@ pub mod FileOrder
 pub mod Apart
 pub mod Total
 pub mod Courses
+pub mod Finding
+pub mod PieceBytes

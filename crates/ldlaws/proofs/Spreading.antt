@@ -1,21 +1,19 @@
 -- Input sections and data commands of a placement do not meet.
-use Rattle.std.proofs.Common.{◌≡◌, ◌⊎◌, inl, inr, ⊎_elim, ℕ, ◌+◌, ◌-◌, ◌≤◌, List, [], ◌∷◌, ◌++◌, length, Result, Ok, refl, sym, ap, ◌∙◌, subst, arith}
+use Rattle.std.proofs.Common.{◌≡◌, inl, inr, ℕ, ◌+◌, ◌-◌, ◌≤◌, List, [], ◌∷◌, ◌++◌, length, Ok, refl, sym, subst, arith}
 use Rattle.ldtree.specs.declared.section.BodyStatement.{BodyStatement}
 use Rattle.ldtree.specs.declared.section.OutputSection.{OutputSection}
 use Rattle.ldtree.specs.declared.statement.Command.{Command}
 use Rattle.ldtree.specs.declared.statement.Command.TheVariants as top
-use Rattle.ldtree.specs.declared.statement.Item.{Item}
 use Rattle.ldtree.specs.declared.statement.ItemCommand.{ItemCommand}
 use Rattle.ldtree.specs.declared.statement.ItemCommand.TheVariants as item
 use Rattle.ldtree.specs.declared.statement.Statement.{Statement}
-use Rattle.ldmodel.specs.Body.{Body, body_step, with_dot, with_data}
-use Rattle.ldmodel.specs.Chain.{run}
+use Rattle.ldmodel.specs.Body.{Body, body_step}
 use Rattle.ldmodel.specs.FileLayout.{Each}
-use Rattle.ldmodel.specs.Layout.{Layout, PlacedSection, PlacedPiece, PlacedData, noted, nothing_placed, with_symbol}
+use Rattle.ldmodel.specs.Layout.{Layout, PlacedSection, PlacedPiece, PlacedData, noted, nothing_placed}
 use Rattle.ldmodel.specs.Placement.{command_step, item_command_step, item_step, next_row, opened, placement, region_step, statement_step}
 use Rattle.ldmodel.specs.Rows.{Piece}
-use Rattle.ldmodel.specs.SectionEnd.{placed_section, with_section}
-use Rattle.ldlaws.specs.Placed.{PieceTo, past_inputs, with_piece}
+use Rattle.ldmodel.specs.SectionEnd.{placed_section}
+use Rattle.ldlaws.specs.Placed.{PieceTo, past_inputs}
 use Rattle.ldlaws.specs.Spread.{AreApart, AreSpread, EachLater, IsSpread, piece_end, data_end}
 use Rattle.ldlaws.proofs.Effects.{run_by, Kept, kept_same, Named, unchanged, named, Quiet, still, renamed, onward, added, named_kept, common_named, free_dot_kept, region_kept, SectionPlaced, section_placed, command_by}
 use Rattle.ldlaws.proofs.RowParts.{each_append}
@@ -119,7 +117,7 @@ module _ (start : ℕ) (sections : List PlacedSection) where
   step_tidy : (provided : List (List ℕ)) (b : Body) (x : BodyStatement) (c : Body) → body_step provided b x ≡ Ok c → Tidy b → Tidy c
   step_tidy provided b x c e h =
       command_by provided Tidy quiet_tidy piece_tidy past_tidy x.line (record b { layout = noted b.layout }) x.command c e
-          (record { spread = h.spread; forward = h.forward; before = h.before })
+      (record { spread = h.spread; forward = h.forward; before = h.before })
 
 -- ---- a script
 
@@ -136,8 +134,8 @@ section_spread provided row s o t h all =
     let b : Body = h.last in
     let q : PlacedSection = placed_section o h.head b in
     let last : Tidy start s.sections b =
-        run_by (body_step provided) (λ c xs. Tidy start s.sections c) (λ c x xs d e i. step_tidy start s.sections provided c x d e i) o.body (opened s row h.head) b h.body
-            (record { spread = record { pieces_inside = tt; data_inside = tt; pieces_ascend = tt; data_ascend = tt; apart = tt }; forward = omega arith; before = refl }) in
+    run_by (body_step provided) (λ c xs. Tidy start s.sections c) (λ c x xs d e i. step_tidy start s.sections provided c x d e i) o.body (opened s row h.head) b h.body
+    (record { spread = record { pieces_inside = tt; data_inside = tt; pieces_ascend = tt; data_ascend = tt; apart = tt }; forward = omega arith; before = refl }) in
     let f : start ≤ b.layout.dot = last.forward in
     let end : b.layout.dot ≡ start + (b.layout.dot - start) = omega (arith, f) in
     let own : IsSpread q = subst (λ n. AreSpread start n b.pieces b.data_commands) end last.spread in

@@ -1,23 +1,22 @@
 -- No edit is without an outcome, and none comes to 'out of memory'.
-use Rattle.std.proofs.Common.{◌≡◌, ◌≢◌, ◌⊎◌, ⊎_elim, inl, inr, ℕ, suc, ◌^◌, ◌<◌, ◌≤◌, Bool, true, false, cond, not, ◌||◌, List, [], ◌∷◌, ◌++◌, length, find, nat_lt, nat_le, Option, Some, None, Result, Ok, Err, refl, sym, ap, ◌∙◌, subst, arith}
-use Rattle.std.proofs.lemmas.Bool.{cases_lt, true≢false, false≢true}
+use Rattle.std.proofs.Common.{◌≡◌, ◌≢◌, ⊎_elim, inl, inr, ℕ, ◌^◌, ◌<◌, ◌≤◌, Bool, true, false, cond, not, ◌||◌, List, [], ◌∷◌, length, find, nat_lt, nat_le, Option, Some, None, Ok, Err, refl, sym, ap, ◌∙◌, subst, arith}
+use Rattle.std.proofs.lemmas.Bool.{cases_lt, true≢false}
 use Rattle.elfobj.specs.Refusal.{object_refusal, holds, refusals}
 use Rattle.elfobj.specs.RefusalNumber as object
 use Rattle.elfobj.specs.declared.refusal.ObjectRefusal.{ObjectRefusal}
 use Rattle.elfobj.specs.declared.refusal.ObjectRefusal.TheVariants as why
 use Rattle.ldtokens.specs.Tokens.{Lexeme}
 use Rattle.ldtokens.specs.Modes.{IsCut}
-use Rattle.ldtokens.specs.Limits.{IsTokens, IsWithinLimits, tokens_of}
+use Rattle.ldtokens.specs.Limits.{IsTokens}
 use Rattle.ldtree.specs.Dots.{has_misplaced_dot}
 use Rattle.ldtree.specs.Mentions.{HasClash}
 use Rattle.ldtree.specs.declared.statement.Statement.{Statement}
-use Rattle.ldscript.specs.Grammar.{script}
 use Rattle.ldscript.specs.RefusalNumber as scripts
 use Rattle.ldscript.specs.Script.{IsTree, IsScript, IsRefusal}
 use Rattle.ldscript.specs.declared.refusal.ScriptRefusal.{ScriptRefusal}
 use Rattle.ldscript.specs.declared.refusal.ScriptRefusal.TheVariants as reader
 use Rattle.ldmodel.specs.Project.{Project}
-use Rattle.ldmodel.specs.Edits.{Change, Add, Replace, Move, Remove, SetScript, Refusal, InUse, Unknown, PastEnd, NotAnObject, NotAScript, Limit, NoMemory, early_refusal, Accepts, Refuses, RefusesObject, RefusesScript, After, RefusedAs, refusal_number, inner_number, is_in_use, is_object_name, is_too_long, is_full, with_objects, named}
+use Rattle.ldmodel.specs.Edits.{Change, Add, Replace, Move, Remove, SetScript, Refusal, InUse, Unknown, PastEnd, NotAnObject, NotAScript, Limit, NoMemory, early_refusal, Accepts, Refuses, RefusesObject, After, refusal_number, is_in_use, is_object_name, is_too_long, is_full}
 use Rattle.ldlaws.specs.Outcomes.{HasOutcome, IsNoScript}
 
 outcome_early : (p : Project) (c : Change) (r : Refusal) → early_refusal p c ≡ Some r → HasOutcome p c
@@ -76,8 +75,8 @@ module _ (text : List ℕ) (no_script : (s : List Statement) → IsScript text s
   none_of_these : ⊥
   none_of_these =
       ⊎_elim (λ (long : 2 ^ 20 < length text). no_refusal reader.Limit (λ e. let none : ⊥ = cc in none) (inl long))
-          (λ (short : length text ≤ 2 ^ 20). no_refusal reader.NotTokens (λ e. let none : ⊥ = cc in none) (short, no_cut short))
-          (cases_lt (2 ^ 20) (length text))
+      (λ (short : length text ≤ 2 ^ 20). no_refusal reader.NotTokens (λ e. let none : ⊥ = cc in none) (short, no_cut short))
+      (cases_lt (2 ^ 20) (length text))
 
 pub some_outcome : (p : Project) (c : Change) → (HasOutcome p c → ⊥) → ⊥
 some_outcome p (SetScript text) n = go (early_refusal p (SetScript text)) refl

@@ -1,20 +1,22 @@
 -- The projects of the examples.
-use Rattle.std.specs.Prelude.{ℕ, true, List, [], ◌∷◌, codes, negsuc}
+use Rattle.std.specs.Prelude.{ℕ, true, List, [], ◌∷◌, Some, codes, negsuc}
 use Rattle.elfobj.specs.Sections.{LinkedSection}
 use Rattle.elfobj.specs.Symbols.{NamedSymbol}
 use Rattle.elfobj.specs.declared.relocation.Relocation.{Relocation}
+use Rattle.elfobj.specs.declared.relocation.RelocationKind.TheVariants as kind
 use Rattle.elfobj.specs.declared.relocation.RelocationKind.TheVariants.{Plt32}
 use Rattle.ldexpr.specs.Expressions.{Number}
 use Rattle.ldtree.specs.declared.common.DotCommand.TheVariants.{Set}
 use Rattle.ldtree.specs.declared.statement.ItemCommand.TheVariants as item
 use Rattle.elfobj.specs.declared.symbol.Binding.TheVariants.{Global}
 use Rattle.ldtree.specs.declared.input.Input.{Input}
+use Rattle.ldtree.specs.declared.input.Sort.TheVariants.{ByAlignment}
 use Rattle.ldtree.specs.declared.input.SectionWord.{SectionWord}
 use Rattle.ldtree.specs.declared.statement.Command.TheVariants.{Entry}
 use Rattle.ldtree.specs.declared.statement.Statement.{Statement}
 use Rattle.ldmodel.specs.Options.{default_options}
 use Rattle.ldmodel.specs.Project.{NamedObject, Project}
-use Rattle.ldlaws.specs.Examples.{object, section, reference, defined, undefined, common, exactly, word, from_any}
+use Rattle.ldlaws.specs.Examples.{object, section, reference, defined, undefined, common, any, exactly, word, from_any}
 use Rattle.ldlaws.specs.Examples.{item_at, output, discard, command, sections, provide}
 
 abbrev pub project : List NamedObject → List Statement → Project
@@ -29,6 +31,13 @@ abbrev pub of_two : List Input → Project
 of_two inputs =
     let objects : List NamedObject = a_and_b (codes "a.o") ∷ a_and_b (codes "b.o") ∷ [] in
     project objects (sections (output (codes ".out") inputs ∷ []) ∷ [])
+
+-- a section of `a.o`, and one of `b.o`, by the names of object and section
+abbrev pub of_a : List ℕ → List ℕ × List ℕ
+of_a section = (codes "a.o", section)
+
+abbrev pub of_b : List ℕ → List ℕ × List ℕ
+of_b section = (codes "b.o", section)
 
 -- `*(.a .b)`
 abbrev pub both : Input
@@ -120,3 +129,30 @@ abbrev pub commons_in_bss : Project
 commons_in_bss =
     let objects : List NamedObject = (of_symbols (common 4 8 (codes "buf")) (common 16 4 (codes "buf"))).objects in
     project objects (one_section 0x404004 (codes ".bss") (codes "COMMON"))
+
+-- the same as `collected` where `a.o` refers to `f` by a relocation that changes nothing, or to a common `buf`, which
+-- is in `b.o` and `c.o`
+abbrev pub collected_by : Relocation → NamedSymbol → NamedSymbol → Project
+collected_by r target owned =
+    let text : LinkedSection = section 1 (codes ".text") 1 (r ∷ []) in
+    let a : NamedObject = object (codes "a.o") (text ∷ []) (defined Global 1 (codes "_start") ∷ target ∷ []) in
+    let b : NamedObject = object (codes "b.o") (section 1 (codes ".text.f") 1 [] ∷ []) (owned ∷ []) in
+    let c : NamedObject = object (codes "c.o") (section 1 (codes ".text.g") 1 [] ∷ []) (owned ∷ []) in
+    record {
+      objects = a ∷ b ∷ c ∷ [];
+      script =
+          command (Entry (codes "_start"))
+          ∷ sections (output (codes ".text") (from_any (word any ∷ []) ∷ []) ∷ []) ∷ [];
+      options = record default_options { gc = true };
+    }
+
+-- a relocation of type NONE against symbol number k
+abbrev pub marker : ℕ → Relocation
+marker k = record (reference k) { kind = kind.None }
+
+-- `a.o` with `.a` of alignment 0 and `.b` of alignment 1, under `*(SORT_BY_ALIGNMENT(.b .a))`
+abbrev pub unaligned : Project
+unaligned =
+    let sorted : Input = record both { sort = Some ByAlignment } in
+    let o : NamedObject = object (codes "a.o") (section 1 (codes ".a") 0 [] ∷ section 2 (codes ".b") 1 [] ∷ []) [] in
+    project (o ∷ []) (sections (output (codes ".out") (sorted ∷ []) ∷ []) ∷ [])

@@ -12,5 +12,7 @@ end_in_file x = x.offset + x.section.size
 
 -- they lie past the headers and up to the end of the loaded part, each past the earlier ones
 pub record AreInFileOrder (gs : List Segment) : Type 0 where
-  pub inside : Each (λ (x : SectionInFile). (headers_end (length gs) ≤ x.offset) × (end_in_file x ≤ loaded_end gs)) (with_file_bytes gs)
+  pub inside :
+      Each (λ (x : SectionInFile). (headers_end (length gs) ≤ x.offset) × (end_in_file x ≤ loaded_end gs))
+      (with_file_bytes gs)
   pub ascend : EachLater (λ (x y : SectionInFile). end_in_file x ≤ y.offset) (with_file_bytes gs)

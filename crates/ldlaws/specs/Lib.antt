@@ -7,3 +7,5 @@ pub mod Bounds
 pub mod Spread
 pub mod FileOrder
 pub mod Outcomes
+pub mod LayoutExamples
+pub mod ImageBytes

@@ -29,8 +29,8 @@ data_end d = d.start + length d.bytes
 abbrev pub AreApart : PlacedPiece → PlacedData → Type 0
 AreApart x d = (piece_end x ≤ d.start) ⊎ (data_end d ≤ x.start)
 
--- input sections and data commands lie from `start` up to `end`, each past the earlier ones of its kind, and none of one
--- kind shares an address with one of the other
+-- input sections and data commands lie from `start` up to `end`, each past the earlier ones of its kind, and none of
+-- one kind shares an address with one of the other
 pub record AreSpread (start end : ℕ) (pieces : List PlacedPiece) (data_commands : List PlacedData) : Type 0 where
   pub pieces_inside : Each (λ (x : PlacedPiece). (start ≤ x.start) × (piece_end x ≤ end)) pieces
   pub data_inside : Each (λ (d : PlacedData). (start ≤ d.start) × (data_end d ≤ end)) data_commands
@@ -56,7 +56,8 @@ dots_of_all (i ∷ is) = dots_of i + dots_of_all is
 abbrev pub dots_in : List Statement → ℕ
 dots_in script = dots_of_all (items script)
 
--- a statement of SECTIONS keeps `.` as it was before it, and then that before each statement of a body: as many as `values`
+-- a statement of SECTIONS keeps `.` as it was before it, and then that before each statement of a body: as many as
+-- `values`
 pub record Notes (values : ℕ) (s t : Layout) : Type 0 where
   pub more : List ℕ
   pub dots : t.dots ≡ s.dots ++ s.dot ∷ more

@@ -5,7 +5,8 @@ ghost use Rattle.elfobj.specs.RefusalNumber as object;
 ghost use Rattle.elfobj.specs.declared.refusal.ObjectRefusal.{ObjectRefusal};
 ghost use Rattle.ldscript.specs.RefusalNumber as script;
 ghost use Rattle.ldscript.specs.declared.refusal.ScriptRefusal.{ScriptRefusal};
-ghost use Rattle.ldmodel.specs.Edits.{After, AreNamesDistinct, Change, NotAScript, NotAnObject, Refusal, refusal_number};
+ghost use Rattle.ldmodel.specs.Edits.{After, AreNamesDistinct, Change, NotAScript, NotAnObject, Refusal};
+ghost use Rattle.ldmodel.specs.Edits.{refusal_number};
 ghost use Rattle.ldmodel.specs.Options.{LinkOptions};
 ghost use Rattle.ldmodel.specs.Project.{Project, empty_project};
 ghost use Rattle.ldlaws.specs.Outcomes.{HasOutcome, IsNoScript};
@@ -24,7 +25,8 @@ pub fn one_outcome()
 /// The names of objects are pairwise different: there are none in the empty project, and no edit makes two alike.
 pub fn names_stay_distinct()
     ensures empty { (options : LinkOptions) → AreNamesDistinct (empty_project options).objects }
-    ensures kept { (p q : Project) (c : Change) → AreNamesDistinct p.objects → After p c (Ok q) → AreNamesDistinct q.objects }
+    ensures kept { (p q : Project) (c : Change) → AreNamesDistinct p.objects → After p c (Ok q)
+        → AreNamesDistinct q.objects }
 {}
 
 /// No edit is without an outcome. That of an edit of objects is at hand; a script's text can't be without one, though
@@ -34,10 +36,12 @@ pub fn some_outcome()
     ensures all { (p : Project) (c : Change) → (HasOutcome p c → ⊥) → ⊥ }
 {}
 
-/// No edit comes to 'out of memory': the definitions refuse an edit with numbers 1 to 6, and with inner numbers 1 to 13 of
-/// an object and 1 to 5 of a script.
+/// No edit comes to 'out of memory': the definitions refuse an edit with numbers 1 to 6, an object with inner numbers 1
+/// to 13 and a script with 1 to 5.
 pub fn memory_is_no_outcome()
     ensures outer { (p : Project) (c : Change) (r : Refusal) → After p c (Err r) → refusal_number r ≤ 6 }
-    ensures object { (p : Project) (c : Change) (w : ObjectRefusal) → After p c (Err (NotAnObject w)) → object.refusal_number w ≤ 13 }
-    ensures script { (p : Project) (c : Change) (w : ScriptRefusal) → After p c (Err (NotAScript w)) → script.refusal_number w ≤ 5 }
+    ensures object { (p : Project) (c : Change) (w : ObjectRefusal) → After p c (Err (NotAnObject w))
+        → object.refusal_number w ≤ 13 }
+    ensures script { (p : Project) (c : Change) (w : ScriptRefusal) → After p c (Err (NotAScript w))
+        → script.refusal_number w ≤ 5 }
 {}

@@ -18,7 +18,9 @@ use ldpattern::law::match_by_splitting;
 /// The input statement that takes a section is the first one of the script that matches it: its file pattern matches
 /// the object's name, and one of its words the section's name and no excluded pattern of that word the object's.
 pub fn first_match_by_splitting()
-    ensures { (script : List Statement) (file section : List ℕ) → MatchOption (first_match script file section) (IsUnmatched script file section) (IsFirstMatch script file section) }
+    ensures { (script : List Statement) (file section : List ℕ)
+        → MatchOption (first_match script file section)
+        (IsUnmatched script file section) (IsFirstMatch script file section) }
 {
     match_by_splitting();
 }
@@ -27,13 +29,15 @@ pub fn first_match_by_splitting()
 /// root, each next one the target of some relocation of the one before; without it, where it is not left out. Live
 /// sections stand in the order of all.
 pub fn live_by_path()
-    ensures collected { (p : Project) (s : InputSection) → p.options.gc ≡ true → Contains (live p) s ↔ Path (is_root p) (refers_to p) (candidates p) s }
+    ensures collected { (p : Project) (s : InputSection) → p.options.gc ≡ true
+        → Contains (live p) s ↔ Path (is_root p) (refers_to p) (candidates p) s }
     ensures all { (p : Project) → p.options.gc ≡ false → live p ≡ candidates p }
     ensures in_order { (p : Project) → (test : InputSection → Bool) × (live p ≡ filter test (candidates p)) }
 {}
 
-/// Pieces, as those that a statement takes, in the order of a sort are the one list that has them ascending by the sort's
-/// key, and those with equal keys in the order that they had.
+/// Pieces, as those that a statement takes, in the order of a sort are the one list that has them ascending by the key
+/// of the sort, and those with equal keys in the order that they had.
 pub fn row_by_order()
-    ensures { (sort : Option Sort) (pieces sorted : List Piece) → IsOrdered (below sort) pieces sorted ↔ sorted ≡ sort_by (below sort) pieces }
+    ensures { (sort : Option Sort) (pieces sorted : List Piece)
+        → IsOrdered (below sort) pieces sorted ↔ sorted ≡ sort_by (below sort) pieces }
 {}

@@ -21,26 +21,33 @@ ghost use Rattle.ldlaws.specs.Spread.{IsSpread, Notes, dots_in, dots_of, entries
 /// moves `.` to its end. A fault is the first exactly where the statements, regions or entries before one, at whatever
 /// depth, lead to a state in which that one has it.
 pub fn placement_by_steps()
-    ensures placed { (script : List Statement) (rows : List (List Piece)) (provided : List (List ℕ)) (s : Layout) → (placement script rows provided ≡ Ok s) ↔ IsPlacement script rows provided s }
-    ensures faulty { (script : List Statement) (rows : List (List Piece)) (provided : List (List ℕ)) (f : Fault) → (placement script rows provided ≡ Err f) ↔ IsFirstFault script rows provided f }
+    ensures placed { (script : List Statement) (rows : List (List Piece)) (provided : List (List ℕ)) (s : Layout)
+        → (placement script rows provided ≡ Ok s) ↔ IsPlacement script rows provided s }
+    ensures faulty { (script : List Statement) (rows : List (List Piece)) (provided : List (List ℕ)) (f : Fault)
+        → (placement script rows provided ≡ Err f) ↔ IsFirstFault script rows provided f }
 {}
 
 /// Each entry of every row is placed once and in the order of the row: what stands in the output sections are the rows.
 pub fn placed_are_rows()
-    ensures { (p : Project) (s : Layout) → placement p.script (rows p) (provided p) ≡ Ok s → map entries_in s.sections ≡ rows p }
+    ensures { (p : Project) (s : Layout)
+        → placement p.script (rows p) (provided p) ≡ Ok s → map entries_in s.sections ≡ rows p }
 {}
 
 /// What a layout keeps of `.` is its value before each statement of SECTIONS and of the body of an output section, one
 /// for each, in the order of the text: a statement of SECTIONS adds the value before itself and then those of its body,
 /// a statement of a body adds the value before itself, and a script has as many as it has such statements.
 pub fn dots_by_statement()
-    ensures counted { (script : List Statement) (rows : List (List Piece)) (provided : List (List ℕ)) (s : Layout) → placement script rows provided ≡ Ok s → length s.dots ≡ dots_in script }
-    ensures of_item { (rows : List (List Piece)) (provided : List (List ℕ)) (s : Layout) (i : Item) (t : Layout) → item_step rows provided s i ≡ Ok t → Notes (dots_of i) s t }
-    ensures of_body { (provided : List (List ℕ)) (b : Body) (x : BodyStatement) (c : Body) → body_step provided b x ≡ Ok c → c.layout.dots ≡ b.layout.dots ++ b.layout.dot ∷ [] }
+    ensures counted { (script : List Statement) (rows : List (List Piece)) (provided : List (List ℕ)) (s : Layout)
+        → placement script rows provided ≡ Ok s → length s.dots ≡ dots_in script }
+    ensures of_item { (rows : List (List Piece)) (provided : List (List ℕ)) (s : Layout) (i : Item) (t : Layout)
+        → item_step rows provided s i ≡ Ok t → Notes (dots_of i) s t }
+    ensures of_body { (provided : List (List ℕ)) (b : Body) (x : BodyStatement) (c : Body)
+        → body_step provided b x ≡ Ok c → c.layout.dots ≡ b.layout.dots ++ b.layout.dot ∷ [] }
 {}
 
 /// In an output section of a placement nothing meets: its input sections and its data commands lie from its start up to
 /// its end, each past the earlier ones of its kind, and none of one kind shares an address with one of the other.
 pub fn nothing_meets()
-    ensures { (script : List Statement) (rows : List (List Piece)) (provided : List (List ℕ)) (s : Layout) → placement script rows provided ≡ Ok s → Each IsSpread s.sections }
+    ensures { (script : List Statement) (rows : List (List Piece)) (provided : List (List ℕ)) (s : Layout)
+        → placement script rows provided ≡ Ok s → Each IsSpread s.sections }
 {}

@@ -6,6 +6,7 @@ pub mod examples;
 pub mod gathering;
 pub mod image;
 pub mod layout;
+pub mod layouts;
 pub mod link_command;
 pub mod links;
 pub mod names;

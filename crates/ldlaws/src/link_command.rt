@@ -10,15 +10,19 @@ use crate::edits::{names_stay_distinct, one_outcome};
 
 /// A link of files has one answer, but for out of memory: one link, or one first refused edit, and never both.
 pub fn one_link_answer()
-    ensures { (options : LinkOptions) (script : List ℕ) (objects : List ObjectFile) (x y : LinkAnswer) → LinkAnswers options script objects x → LinkAnswers options script objects y → x ≢ NoMemory → y ≢ NoMemory → x ≡ y }
+    ensures { (options : LinkOptions) (script : List ℕ) (objects : List ObjectFile) (x y : LinkAnswer)
+        → LinkAnswers options script objects x → LinkAnswers options script objects y
+        → x ≢ NoMemory → y ≢ NoMemory → x ≡ y }
 {
     one_outcome();
 }
 
 /// Edits one after the other lead to one project, or to one first refusal, and keep names distinct.
 pub fn one_course()
-    ensures one { (n : ℕ) (p : Project) (cs : List Change) (x y : Result Project RefusedEdit) → Course n p cs x → Course n p cs y → x ≡ y }
-    ensures distinct { (n : ℕ) (p q : Project) (cs : List Change) → AreNamesDistinct p.objects → Course n p cs (Ok q) → AreNamesDistinct q.objects }
+    ensures one { (n : ℕ) (p : Project) (cs : List Change) (x y : Result Project RefusedEdit)
+        → Course n p cs x → Course n p cs y → x ≡ y }
+    ensures distinct { (n : ℕ) (p q : Project) (cs : List Change)
+        → AreNamesDistinct p.objects → Course n p cs (Ok q) → AreNamesDistinct q.objects }
 {
     one_outcome();
     names_stay_distinct();

@@ -9,11 +9,17 @@ ghost use Rattle.ldlaws.specs.Renumbering.{AreTablesOf, renumbered, renumbered_d
 
 /// What a name stands for doesn't depend on how objects are numbered, by their places or by keys.
 pub fn decided_renumbered()
-    ensures { (number : ℕ → ℕ) (is_assigned is_provided : Bool) (ds : List Declaration) → decided is_assigned is_provided (map (renumbered number) ds) ≡ renumbered_decision number (decided is_assigned is_provided ds) }
+    ensures { (number : ℕ → ℕ) (is_assigned is_provided : Bool) (ds : List Declaration)
+        → decided is_assigned is_provided (map (renumbered number) ds)
+        ≡ renumbered_decision number (decided is_assigned is_provided ds) }
 {}
 
 /// What a name stands for is decided as well over the symbol tables of the objects under keys, in the order of the
 /// objects.
 pub fn decision_by_keys()
-    ensures { (number : ℕ → ℕ) (p : Project) (tables : List (ℕ × List NamedSymbol)) (name : List ℕ) → AreTablesOf number p.objects tables → decision p name ≡ renumbered_decision number (decided (is_assigned p.script name) (is_provided p.script name) (filter (is_of_name name) (declarations_of tables))) }
+    ensures { (number : ℕ → ℕ) (p : Project) (tables : List (ℕ × List NamedSymbol)) (name : List ℕ)
+        → AreTablesOf number p.objects tables
+        → decision p name ≡ renumbered_decision number
+        (decided (is_assigned p.script name) (is_provided p.script name)
+        (filter (is_of_name name) (declarations_of tables))) }
 {}

@@ -11,7 +11,8 @@ ghost use Rattle.ldlaws.specs.FileOrder.{AreInFileOrder};
 /// its address modulo the page size.
 pub fn segments_by_neighbours()
     ensures is { (sections : List PlacedSection) → IsFileLayout sections (segments sections) }
-    ensures one { (sections : List PlacedSection) (gs : List Segment) → IsFileLayout sections gs → gs ≡ segments sections }
+    ensures one { (sections : List PlacedSection) (gs : List Segment)
+        → IsFileLayout sections gs → gs ≡ segments sections }
 {}
 
 /// Output sections with file bytes do not meet in the image: they lie past the headers and up to the end of its loaded

@@ -6,11 +6,14 @@ ghost use Rattle.ldmodel.specs.Commands.{AreCommands, BeginsCommand, Command, Is
 /// No spelling of a command begins another: a text that begins with two commands begins with one, and what follows it
 /// is the same.
 pub fn one_first_command()
-    ensures { (c d : Command) (x y : List ℕ) → IsCommand c → IsCommand d → spelling c ++ x ≡ spelling d ++ y → (c ≡ d) × (x ≡ y) }
+    ensures { (c d : Command) (x y : List ℕ) → IsCommand c → IsCommand d
+        → spelling c ++ x ≡ spelling d ++ y → (c ≡ d) × (x ≡ y) }
 {}
 
 /// No stream is cut into commands in two ways: where no command begins what is left, the commands are the same and so
 /// is what is left.
 pub fn one_cutting()
-    ensures { (cs ds : List Command) (tail rest : List ℕ) → AreCommands cs → AreCommands ds → (BeginsCommand tail → ⊥) → (BeginsCommand rest → ⊥) → flat_map spelling cs ++ tail ≡ flat_map spelling ds ++ rest → (cs ≡ ds) × (tail ≡ rest) }
+    ensures { (cs ds : List Command) (tail rest : List ℕ) → AreCommands cs → AreCommands ds
+        → (BeginsCommand tail → ⊥) → (BeginsCommand rest → ⊥)
+        → flat_map spelling cs ++ tail ≡ flat_map spelling ds ++ rest → (cs ≡ ds) × (tail ≡ rest) }
 {}

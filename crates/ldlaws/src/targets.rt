@@ -11,5 +11,8 @@ ghost use Rattle.ldmodel.specs.Targets.{referenced_value, target_number, target_
 /// that turns on it, where its section is in the output of both: so an index from targets to relocations finds each
 /// relocation whose symbol has another value.
 pub fn target_decides_value()
-    ensures { (p r : Project) (s t : Layout) (o : NamedObject) (x : NamedSymbol) → referenced_value p s o x ≢ NotInOutput → referenced_value r t o x ≢ NotInOutput → target_number p s (target_of o x) ≡ target_number r t (target_of o x) → number_or_0 (referenced_value p s o x) ≡ number_or_0 (referenced_value r t o x) }
+    ensures { (p r : Project) (s t : Layout) (o : NamedObject) (x : NamedSymbol)
+        → referenced_value p s o x ≢ NotInOutput → referenced_value r t o x ≢ NotInOutput
+        → target_number p s (target_of o x) ≡ target_number r t (target_of o x)
+        → number_or_0 (referenced_value p s o x) ≡ number_or_0 (referenced_value r t o x) }
 {}

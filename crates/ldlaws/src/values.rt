@@ -7,5 +7,6 @@ ghost use Rattle.ldlaws.specs.Bounds.{HasSmallNumbers, IsSmallScope};
 
 /// The value of an expression is below 2^64, where its numbers, `.` and the numbers that its scope gives are.
 pub fn value_is_small()
-    ensures { (s : Scope) (dot : ℕ) (e : Expr) (x : ℕ) → IsSmallScope s → dot < 2 ^ 64 → HasSmallNumbers e → value s dot e ≡ Ok x → x < 2 ^ 64 }
+    ensures { (s : Scope) (dot : ℕ) (e : Expr) (x : ℕ) → IsSmallScope s → dot < 2 ^ 64 → HasSmallNumbers e
+        → value s dot e ≡ Ok x → x < 2 ^ 64 }
 {}

@@ -1,4 +1,4 @@
--- Arithmetic of addresses: numbers modulo 2^64, and alignment.
+-- Arithmetic of addresses, which have 64 bits (gABI, "Data Representation"): whole numbers, and numbers modulo 2^64.
 use Rattle.std.specs.Prelude.{ℕ, ◌+◌, ◌-◌, ◌%◌, ◌^◌, Bool, nat_lt}
 
 -- a whole number is the number of an address

@@ -1,4 +1,4 @@
--- A computation in steps, each of which may stop at a fault.
+-- A computation in steps, each of which may stop at a fault (this project's own).
 use Rattle.std.specs.Prelude.{List, [], ◌∷◌, Result, Ok, Err}
 
 -- go on with a value, or stop at the fault

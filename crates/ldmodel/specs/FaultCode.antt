@@ -1,5 +1,5 @@
 -- The faults that the code hands on, which have numbers and keys in place of names, and what they stand for. `number`
--- says which place in the project the object of a key has.
+-- says which place in the project the object of a key has (this project's own).
 use Rattle.std.specs.Prelude.{ℕ, List, [], codes, Option, slice_get, unwrap_or}
 use Rattle.std.specs.Option.{option_map_or, option_and_then}
 use Rattle.elfobj.specs.Sections.{LinkedSection}

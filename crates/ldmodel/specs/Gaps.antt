@@ -1,5 +1,5 @@
--- What a gap of an output section is: a longest run of addresses in it that no input section and no data command
--- covers.
+-- What a gap of an output section is (GNU ld manual, "Output Section Fill"): a longest run of addresses in it that no
+-- input section and no data command covers.
 use Rattle.std.specs.Prelude.{◌≡◌, ℕ, ◌≤◌, None, ◌⊎◌}
 use Rattle.std.specs.List.{Contains}
 use Rattle.ldmodel.specs.Image.{covering_piece, covering_data, ends_in}

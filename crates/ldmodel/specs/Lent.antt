@@ -1,5 +1,5 @@
 -- What a placement lends and the segments that are made of it, as the code hands them on, and the layout that they
--- stand for.
+-- stand for (this project's own).
 use Rattle.std.specs.Prelude.{◌≡◌, ℕ, List, [], map, flat_map, Some, slice_get}
 use Rattle.std.specs.List.{enumerate_from, last_or, AllZip}
 use Rattle.std.specs.Option.{option_map_or}

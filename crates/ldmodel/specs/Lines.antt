@@ -1,4 +1,5 @@
--- Lines of the map text and of the fault text: words separated by one space, and a line feed at the end.
+-- Lines of the map text and of the fault text (this project's own format): words separated by one space, and a line
+-- feed at the end.
 use Rattle.std.specs.Prelude.{ℕ, zero, suc, ◌+◌, ◌/◌, ◌%◌, ◌^◌, List, [], ◌∷◌, ◌++◌, flat_map, nat_lt, if◌then◌else◌}
 
 -- a word, and each further one after a space

@@ -1,6 +1,6 @@
--- What a link of files comes to (GNU ld manual, "Invocation": the files of the command line, and `-T`). The script is set
--- and the objects are added in their order, each under its word, and then the project is linked once; the first of these
--- edits that is refused ends it. That order, the statuses and the texts are the product's own.
+-- What a link of files comes to (GNU ld manual, "Invocation": the files of the command line, and `-T`). The script is
+-- set and the objects are added in their order, each under its word, and then the project is linked once; the first of
+-- these edits that is refused ends it. That order, the statuses and the texts are the product's own.
 use Rattle.std.specs.Prelude.{◌≡◌, ℕ, suc, ◌+◌, List, [], ◌∷◌, ◌++◌, map, Option, Some, None, Result, Ok, Err, codes}
 use Rattle.std.specs.Prelude.{slice_get, unwrap_or}
 use Rattle.ldmodel.specs.Answers.{refused_line}
@@ -23,8 +23,8 @@ additions at (o ∷ os) = Add o.word at o.bytes ∷ additions (at + 1) os
 abbrev pub link_edits : (script : List ℕ) → List ObjectFile → List Change
 link_edits script objects = SetScript script ∷ additions 0 objects
 
--- an edit that is refused: its place among all, from 0, and why. The script's place is 0, that of object number i, from 1,
--- is i
+-- an edit that is refused: its place among all, from 0, and why. The script's place is 0, that of object number i,
+-- from 1, is i
 pub record RefusedEdit : Type 0 where
   pub place : ℕ
   pub why : Refusal
@@ -47,8 +47,8 @@ pub data LinkAnswer : Type 0 where
 abbrev pub Linking : LinkOptions → (script : List ℕ) → List ObjectFile → Result Project RefusedEdit → Type 0
 Linking options script objects r = Course 0 (empty_project options) (link_edits script objects) r
 
--- the link of the project that the edits lead to, or the first refused edit. Out of memory says nothing of the files; that
--- memory is short where this is answered is said by the contracts of the code
+-- the link of the project that the edits lead to, or the first refused edit. Out of memory says nothing of the files;
+-- that memory is short where this is answered is said by the contracts of the code
 abbrev pub LinkAnswers : LinkOptions → (script : List ℕ) → List ObjectFile → LinkAnswer → Type 0
 LinkAnswers options script objects (Linked result) =
     (p : Project) × Linking options script objects (Ok p) × (result ≡ link p)

@@ -1,5 +1,5 @@
--- What can be reached from the starts of a graph. A node can be reached where a path leads to it from a start, by as
--- many steps as the path has; no path needs more than there are nodes.
+-- What can be reached from the starts of a graph (the words of `Live`; this project's own). A node can be reached
+-- where a path leads to it from a start, by as many steps as the path has; no path needs more than there are nodes.
 use Rattle.std.specs.Prelude.{ℕ, zero, suc, List, length, filter, Contains, Bool, ◌||◌, IsTrue}
 use Rattle.std.specs.List.{list_any}
 

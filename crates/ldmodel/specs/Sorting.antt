@@ -1,4 +1,5 @@
--- Lists in the order of a key. Members with equal keys stay in the order that they had: what a stable sort is.
+-- Lists in the order of a key (the words of rows, program headers and names in byte order; this project's own). Members
+-- with equal keys stay in the order that they had: what a stable sort is.
 use Rattle.std.specs.Prelude.{Bool, List, [], ◌∷◌, if◌then◌else◌}
 use Rattle.std.specs.List.Sorted.{IsSortedBy, IsStableBy}
 

@@ -35,3 +35,7 @@ returns-clause-excluded c = refl
 pub returns-clause-orphan : goal.returns-clause-orphan
 unfolding is_match first_match is_out input_sections live target_section entry_section orphans duplicates decided decision declarations_of provided entry_symbol reached rows provided_names sort_by
 returns-clause-orphan c = refl
+
+pub returns-clause-zero_is_one : goal.returns-clause-zero_is_one
+unfolding is_match first_match is_out input_sections live target_section entry_section orphans duplicates decided decision declarations_of provided entry_symbol reached rows provided_names sort_by
+returns-clause-zero_is_one c = refl
