@@ -1,4 +1,6 @@
 pub mod Counting
+pub mod Found
 pub mod Growing
+pub mod InSection
 pub mod Patching
 pub mod Walking

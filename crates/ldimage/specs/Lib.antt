@@ -1,3 +1,4 @@
 pub mod Drawing
 pub mod Grown
+pub mod Reached
 pub mod Stretches
