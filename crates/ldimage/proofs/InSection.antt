@@ -109,6 +109,22 @@ some_bytes Quad = omega arith
 is-full : (n : ℕ) → 0 < n → not (n == 0) ≡ true
 is-full n h = grind (arith, nat_tests)
 
+-- input sections from one of them on start where it starts or later
+pub pieces-from : (x : ImageSection) (k : ℕ) (e : ImagePiece) → IsOrderly x → k < length x.pieces.now → PiecesFrom x k (get_or x.pieces.now k e).start
+pieces-from x k e o l = λ i y a n s. elim (leb_tells (suc k) i) [
+  | inl b ↦ (let h = pieces-order x.start (x.start + x.size) x.pieces.now k i e y o.pieces b.1 n in omega (arith, h))
+  | inr b ↦ (let one = ap (λ (t : ImagePiece). t.start) (same-at x.pieces.now i k y e (omega (arith, b.1)) l) in omega (arith, one))
+]
+
+pub data-from : (x : ImageSection) (j limit : ℕ) (e : PlacedData) → IsOrderly x → j < length x.data_commands.now → limit ≤ (get_or x.data_commands.now j e).start → DataFrom x j limit
+data-from x j limit e o l a = λ i d b n. elim (leb_tells (suc j) i) [
+  | inl c ↦ (let h = data-order x.start (x.start + x.size) x.data_commands.now j i e d o.data_commands c.1 n in omega (arith, h))
+  | inr c ↦ (let one = ap (λ (t : PlacedData). t.start) (same-at x.data_commands.now i j d e (omega (arith, c.1)) l) in omega (arith, one))
+]
+
+pub piece-within : (x : ImageSection) (k : ℕ) (e : ImagePiece) → IsOrderly x → k < length x.pieces.now → piece_end (get_or x.pieces.now k e) ≤ x.start + x.size
+piece-within x k e o l = pieces-high x.start (x.start + x.size) x.pieces.now k e o.pieces l
+
 -- nothing is added yet
 pub reached-none : (x : ImageSection) → IsOrderly x → IsReached x 0 0 x.start
 reached-none x o = record {
@@ -149,10 +165,7 @@ module _ (x : ImageSection) (k j at : ℕ) (e : ImagePiece) (o : IsOrderly x) (r
     start_above = r.pieces_after k e (omega arith) l some
 
     pub pieces_from : PiecesFrom x k piece.start
-    pieces_from = λ i y a n s. elim (leb_tells (suc k) i) [
-      | inl b ↦ (let h = pieces-order x.start (x.start + x.size) x.pieces.now k i e y o.pieces b.1 n in omega (arith, h))
-      | inr b ↦ (let one = ap (λ (t : ImagePiece). t.start) (same-at x.pieces.now i k y e (omega (arith, b.1)) l) in omega (arith, one))
-    ]
+    pieces_from = pieces-from x k e o l
 
     pub end_within : piece_end piece ≤ x.start + x.size
     end_within = pieces-high x.start (x.start + x.size) x.pieces.now k e o.pieces l
@@ -207,10 +220,7 @@ module _ (x : ImageSection) (k j at limit : ℕ) (e : PlacedData) (o : IsOrderly
   pieces_at = λ i y a n s. (let h = ps i y a n s in omega (arith, h, below))
 
   pub data_from : DataFrom x j item.start
-  data_from = λ i d a n. elim (leb_tells (suc j) i) [
-    | inl b ↦ (let h = data-order x.start (x.start + x.size) x.data_commands.now j i e d o.data_commands b.1 n in omega (arith, h))
-    | inr b ↦ (let one = ap (λ (t : PlacedData). t.start) (same-at x.data_commands.now i j d e (omega (arith, b.1)) l) in omega (arith, one))
-  ]
+  data_from = data-from x j item.start e o l (omega arith)
 
   pub data_spot : (a : ℕ) → item.start ≤ a → a < data_end item → section_spot x a ≡ record { byte = data_byte a item; stays = false }
   unfolding section_spot

@@ -1,12 +1,12 @@
-//! The plan of an image: its stretches, one after the other.
+//! Stretches that are added to those before them: a run, an input section, a data command.
 
-ghost use Rattle.std.specs.Prelude.{◌≡◌, ◌≤◌, ◌<◌, ◌+◌, ◌-◌, ◌%◌, ◌^◌, ℕ, IfOk, OnOk, length, slice_index, false, [], ◌∷◌};
-ghost use Rattle.ldimage.specs.Drawing.{IsDrawing, IsFilled, IsOrderly, data_byte, data_end, drawing_end, drawing_spot, piece_byte, piece_end, section_spot};
+ghost use Rattle.std.specs.Prelude.{◌≡◌, ◌≤◌, ◌<◌, ◌+◌, ◌-◌, ◌%◌, OnOk, length, slice_index, false};
 ghost use Rattle.ldtree.specs.Widths.{byte_count};
+ghost use Rattle.ldimage.specs.Drawing.{IsFilled, data_byte, piece_byte};
 ghost use Rattle.ldimage.specs.Grown.{Grown};
 ghost use Rattle.ldimage.specs.Stretches.{Fills, Stand, content_byte};
 
-use crate::section::{Drawing, ImagePart, ImagePiece, ImageSection};
+use crate::section::ImagePiece;
 use crate::stretch::{Content, Stretch};
 use ldmodel::laid::PlacedData;
 use ldmodel::memory::NoMemory;
@@ -16,7 +16,7 @@ use std::alloc::Global;
 const ZERO: [u8; 1] = [0];
 
 /// Adds a stretch from `from`, where those before it end, up to `end`.
-fn add<'a>(
+pub(crate) fn add<'a>(
     out: &mut Vec<Stretch<'a>>,
     from: usize,
     end: usize,
@@ -33,7 +33,7 @@ fn add<'a>(
 }
 
 /// Adds a run of a pattern up to `end`; nothing where it is empty.
-fn add_fill<'a>(
+pub(crate) fn add_fill<'a>(
     out: &mut Vec<Stretch<'a>>,
     from: usize,
     end: usize,
@@ -52,7 +52,7 @@ fn add_fill<'a>(
 }
 
 /// Adds an input section that is not empty.
-fn add_piece<'a>(
+pub(crate) fn add_piece<'a>(
     out: &mut Vec<Stretch<'a>>,
     from: usize,
     end: usize,
@@ -70,7 +70,7 @@ fn add_piece<'a>(
 }
 
 /// Adds a data command.
-fn add_data<'a>(
+pub(crate) fn add_data<'a>(
     out: &mut Vec<Stretch<'a>>,
     from: usize,
     end: usize,
