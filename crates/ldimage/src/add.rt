@@ -13,7 +13,7 @@ use ldmodel::memory::NoMemory;
 use std::alloc::Global;
 
 /// What lies between output sections, and where an input section has no bytes.
-const ZERO: [u8; 1] = [0];
+pub(crate) const ZERO: [u8; 1] = [0];
 
 /// Adds a stretch from `from`, where those before it end, up to `end`.
 pub(crate) fn add<'a>(

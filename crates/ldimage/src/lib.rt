@@ -2,6 +2,7 @@
 #![tactic(auto)]
 
 pub mod commit;
+pub mod plan;
 mod add;
 mod add_section;
 pub mod section;
