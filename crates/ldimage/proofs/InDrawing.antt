@@ -16,7 +16,7 @@ use Rattle.ldimage.proofs.Found.{covered, find-at, find-none, not_covered, same-
 abbrev file_end : ImageSection → ℕ
 file_end x = x.offset + x.size
 
-sections-end : (from : ℕ) (xs : List ImageSection) → AreSections from xs → from ≤ end_of_sections from xs
+pub sections-end : (from : ℕ) (xs : List ImageSection) → AreSections from xs → from ≤ end_of_sections from xs
 sections-end from [] h = omega arith
 sections-end from (y ∷ ys) h = let later = sections-end (file_end y) ys h.2 in omega (arith, h.0)
 

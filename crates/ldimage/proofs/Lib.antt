@@ -5,4 +5,5 @@ pub mod Growing
 pub mod InDrawing
 pub mod InSection
 pub mod Patching
+pub mod Planned
 pub mod Walking
