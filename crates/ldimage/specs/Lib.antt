@@ -1,3 +1,5 @@
 pub mod Drawing
 pub mod Grown
+pub mod Plan
+pub mod Reached
 pub mod Stretches

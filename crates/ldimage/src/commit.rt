@@ -92,7 +92,7 @@ fn write_patches(canvas: &mut Canvas, patches: &[Patch], meter: &mut Meter)
 
 /// Brings the canvas to the image that the stretches, up to `end`, and the patches are a plan for: sets the length,
 /// writes the patches, and then the stretches that don't stay. It takes no memory.
-pub fn write_image(
+pub(crate) fn write_image(
     canvas: &mut Canvas,
     stretches: &[Stretch<'_>],
     end: usize,

@@ -3,5 +3,7 @@
 
 pub mod commit;
 pub mod plan;
+mod add;
+mod add_section;
 pub mod section;
 pub mod stretch;

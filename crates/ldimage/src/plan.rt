@@ -1,84 +1,178 @@
-//! The plan of an image: its stretches, one after the other.
+//! The plan of an image: its stretches, one after the other from its beginning to its end.
 
-ghost use Rattle.std.specs.Prelude.{◌≡◌, ◌≤◌, ◌<◌, ◌+◌, ◌-◌, ◌%◌, ◌^◌, ℕ, IfOk, OnOk, length, slice_index, false, [], ◌∷◌};
-ghost use Rattle.ldimage.specs.Drawing.{IsDrawing, IsFilled, IsOrderly, data_byte, data_end, drawing_end, drawing_spot, piece_byte, piece_end, section_spot};
-ghost use Rattle.ldtree.specs.Widths.{byte_count};
+ghost use Rattle.std.specs.Prelude.{◌≡◌, ◌≤◌, ◌<◌, ◌+◌, ◌^◌, ◌%◌, All, IfOk, OnOk, [], length};
+ghost use Rattle.ldimage.specs.Drawing.{IsDrawing, IsOrderly, drawing_end, drawing_spot, end_of_sections, part_end};
 ghost use Rattle.ldimage.specs.Grown.{Grown};
-ghost use Rattle.ldimage.specs.Stretches.{Fills, Stand, content_byte};
+ghost use Rattle.ldimage.specs.Reached.{after_zeros, part_image, section_image};
+ghost use Rattle.ldimage.specs.Plan.{IsPlanOf};
+ghost use Rattle.ldimage.specs.Stretches.{EndsBy, Stand};
 
-use crate::section::{Drawing, ImagePart, ImagePiece, ImageSection};
+use crate::add::{ZERO, add, add_fill};
+use crate::add_section::add_section;
+use crate::section::{Drawing, ImagePart, ImageSection};
 use crate::stretch::{Content, Stretch};
-use ldmodel::laid::PlacedData;
+use crate::commit::write_image;
+use ldbase::meter::Meter;
+use ldfields::canvas::Canvas;
+use ldfields::patch::Patch;
 use ldmodel::memory::NoMemory;
 use std::alloc::Global;
+use std::marker::Model;
 
-/// What lies between output sections, and where an input section has no bytes.
-const ZERO: [u8; 1] = [0];
-
-/// Adds a stretch from `from`, where those before it end, up to `end`.
-fn add<'a>(
+/// Adds the zeros before an output section, and the section. Returns where it ends.
+fn add_next_section<'a>(
     out: &mut Vec<Stretch<'a>>,
     from: usize,
-    end: usize,
-    stays: bool,
-    content: Content<'a>,
-) -> Result<(), NoMemory>
+    x: &ImageSection<'a>,
+) -> Result<usize, NoMemory>
     requires stand { Stand 0 from out.old.items }
-    requires order { from ≤ end }
-    requires fills { Fills (end - from) content }
-    ensures { OnOk result (Grown out.old.items out.new.items from end (λ o. record { byte = content_byte content.entry (o - from); stays = stays })) }
+    requires order { from ≤ x.now.offset }
+    requires orderly { IsOrderly x.now }
+    ensures end { IfOk result (λ end. end ≡ x.now.offset + x.now.size) }
+    ensures grown { OnOk result (Grown out.old.items out.new.items from (x.now.offset + x.now.size) (after_zeros x.now.offset (section_image x.now))) }
 {
-    out.push(Stretch { end, stays, content })?;
-    Ok(())
+    add_fill(out, from, x.offset as usize, &ZERO)?;
+    add_section(out, x)?;
+    Ok((x.offset + x.size) as usize)
 }
 
-/// Adds a run of a pattern up to `end`; nothing where it is empty.
-fn add_fill<'a>(
-    out: &mut Vec<Stretch<'a>>,
-    from: usize,
-    end: usize,
-    pattern: &'a [u8],
-) -> Result<(), NoMemory>
-    requires stand { Stand 0 from out.old.items }
-    requires order { from ≤ end }
-    requires some { 0 < length pattern.now }
-    requires few { length pattern.now ≤ 8 }
-    ensures { OnOk result (Grown out.old.items out.new.items from end (λ o. record { byte = slice_index pattern.now ((o - from) % length pattern.now); stays = false })) }
+/// Adds the output sections after the headers. Returns where the last one ends.
+fn add_sections<'a>(out: &mut Vec<Stretch<'a>>, d: &Drawing<'a>) -> Result<usize, NoMemory>
+    requires drawing { IsDrawing d.now }
+    requires stand { Stand 0 (length d.now.headers.now) out.old.items }
+    ensures end { IfOk result (λ end. end ≡ end_of_sections (length d.now.headers.now) d.now.sections.now) }
+    ensures grown { OnOk result (Grown out.old.items out.new.items (length d.now.headers.now) (end_of_sections (length d.now.headers.now) d.now.sections.now) (drawing_spot d.now)) }
 {
-    if from == end {
-        return Ok(());
+    let mut at = d.headers.len();
+    for x in d.sections {
+        at = add_next_section(out, at, x)?;
     }
-    add(out, from, end, false, Content::Fill(pattern))
+    Ok(at)
 }
 
-/// Adds an input section that is not empty.
-fn add_piece<'a>(
+/// Adds the zeros before a part of the tail, and the part. Returns where it ends.
+fn add_part<'a>(
     out: &mut Vec<Stretch<'a>>,
     from: usize,
-    end: usize,
-    x: &ImagePiece<'a>,
-) -> Result<(), NoMemory>
+    part: &ImagePart<'a>,
+) -> Result<usize, NoMemory>
     requires stand { Stand 0 from out.old.items }
-    requires end { from + x.now.size ≡ end }
-    requires filled { IsFilled x.now }
-    ensures { OnOk result (Grown out.old.items out.new.items from end (λ o. record { byte = piece_byte (x.now.start + (o - from)) x.now; stays = x.now.stays })) }
+    requires order { from ≤ part.now.offset }
+    requires end { part_end part.now < 2 ^ 64 }
+    ensures end { IfOk result (λ end. end ≡ part_end part.now) }
+    ensures grown { OnOk result (Grown out.old.items out.new.items from (part_end part.now) (after_zeros part.now.offset (part_image part.now))) }
 {
-    if x.bytes.is_empty() {
-        return add(out, from, end, x.stays, Content::Fill(&ZERO));
+    let begin = part.offset as usize;
+    let end = begin + part.bytes.len();
+    add_fill(out, from, begin, &ZERO)?;
+    add(out, begin, end, false, Content::Bytes(part.bytes, &[]))?;
+    Ok(end)
+}
+
+/// Adds the tail. Returns where it ends.
+fn add_tail<'a>(
+    out: &mut Vec<Stretch<'a>>,
+    from: usize,
+    d: &Drawing<'a>,
+) -> Result<usize, NoMemory>
+    requires drawing { IsDrawing d.now }
+    requires from { from ≡ end_of_sections (length d.now.headers.now) d.now.sections.now }
+    requires stand { Stand 0 from out.old.items }
+    ensures end { IfOk result (λ end. end ≡ drawing_end d.now) }
+    ensures grown { OnOk result (Grown out.old.items out.new.items from (drawing_end d.now) (drawing_spot d.now)) }
+{
+    let mut at = from;
+    for part in d.tail {
+        at = add_part(out, at, part)?;
     }
-    add(out, from, end, x.stays, Content::Bytes(x.bytes, x.fields))
+    Ok(at)
 }
 
-/// Adds a data command.
-fn add_data<'a>(
-    out: &mut Vec<Stretch<'a>>,
-    from: usize,
-    end: usize,
-    d: &PlacedData,
-) -> Result<(), NoMemory>
-    requires stand { Stand 0 from out.old.items }
-    requires end { from + byte_count d.now.width ≡ end }
-    ensures { OnOk result (Grown out.old.items out.new.items from end (λ o. record { byte = data_byte (d.now.start + (o - from)) d.now; stays = false })) }
+/// How many stretches an image can have.
+fn most_stretches(d: &Drawing<'_>) -> usize {
+    let mut count: usize = 1;
+    for x in d.sections {
+        let parts = x.pieces.len().saturating_add(x.data_commands.len());
+        count = count.saturating_add(parts.saturating_mul(2)).saturating_add(2);
+    }
+    count.saturating_add(d.tail.len().saturating_mul(2))
+}
+
+/// Adds the stretches of an image to none. Returns where it ends.
+fn add_all<'a>(out: &mut Vec<Stretch<'a>>, d: &Drawing<'a>) -> Result<usize, NoMemory>
+    requires drawing { IsDrawing d.now }
+    requires none { out.old.items ≡ [] }
+    ensures end { IfOk result (λ end. end ≡ drawing_end d.now) }
+    ensures grown { OnOk result (Grown [] out.new.items 0 (drawing_end d.now) (drawing_spot d.now)) }
 {
-    add(out, from, end, false, Content::Number(d.value))
+    add(out, 0, d.headers.len(), false, Content::Bytes(d.headers, &[]))?;
+    let at = add_sections(out, d)?;
+    let end = add_tail(out, at, d)?;
+    Ok(end)
+}
+
+/// What a commit needs: the stretches of an image, where it ends, and patches of what stays.
+#[derive(Drop)]
+pub struct Plan<'a> {
+    stretches: Vec<Stretch<'a>>,
+    end: usize,
+    patches: &'a [Patch],
+}
+
+impl<'a> Model for Plan<'a> {
+    ghost use Rattle.ldimage.specs.Plan.{ImagePlan, IsWhole};
+
+    ghost Value = { ImagePlan };
+
+    ghost view = { λ p. record { stretches = p.stretches.items; end = p.end; patches = p.patches.now } };
+
+    ghost invariant = { λ p. IsWhole (record { stretches = p.stretches.items; end = p.end; patches = p.patches.now }) };
+}
+
+/// The plan of an image that is drawn from these parts, where the bytes that stay are patched by `patches`, whose
+/// offsets are places in the file. It makes every growth that the commit needs, and changes no byte of the canvas.
+///
+/// An error says that there was no memory.
+pub fn plan_image<'a>(
+    alloc: Global,
+    canvas: &mut Canvas,
+    drawing: &Drawing<'a>,
+    patches: &'a [Patch],
+) -> Result<Plan<'a>, NoMemory>
+    requires drawing { IsDrawing drawing.now }
+    requires patches { All (EndsBy (drawing_end drawing.now)) patches.now }
+    ensures plan { IfOk result (λ p. IsPlanOf drawing.now patches.now p) }
+    ensures bytes { canvas.new.bytes ≡ canvas.old.bytes }
+    ensures room { OnOk result (drawing_end drawing.now ≤ canvas.new.room) }
+{
+    let mut stretches = Vec::with_capacity(alloc, most_stretches(drawing))?;
+    let end = add_all(&mut stretches, drawing)?;
+    canvas.reserve(end)?;
+    Ok(Plan {
+        stretches,
+        end,
+        patches,
+    })
+}
+
+impl<'a> Plan<'a> {
+    ghost use Rattle.std.specs.Prelude.{◌≡◌, ◌≤◌, ◌<◌, ◌+◌, ℕ, List, length, slice_index};
+    ghost use Rattle.ldbase.specs.Raised.{raised};
+    ghost use Rattle.ldbase.specs.declared.meter.Count.TheVariants as counts;
+    ghost use Rattle.ldfields.specs.declared.patch.Patch.{Patch as PatchOf};
+    ghost use Rattle.ldimage.specs.Drawing.{drawing_end, drawing_spot};
+    ghost use Rattle.ldimage.specs.Plan.{IsDrawnFor, IsPlanOf, count_unstayed};
+    ghost use Rattle.ldimage.specs.Stretches.{patch_bytes};
+    ghost use Rattle.ldimage.specs.declared.section.Drawing.{Drawing as DrawingOf};
+
+    /// Writes the image of the plan onto the canvas: sets its length, writes the patches, and then each byte that does
+    /// not stay, once. It takes no memory, and counts the bytes that it writes.
+    pub fn commit(&self, canvas: &mut Canvas, meter: &mut Meter)
+        requires { self.now.end ≤ canvas.old.room }
+        ensures len { length canvas.new.bytes ≡ self.now.end }
+        ensures image { (d : DrawingOf) (patches : List PatchOf) (image : ℕ → ℕ) → IsPlanOf d patches self.now → IsDrawnFor image d patches canvas.old.bytes → (o : ℕ) → o < drawing_end d → slice_index canvas.new.bytes o ≡ image o }
+        ensures counted { (d : DrawingOf) (patches : List PatchOf) → IsPlanOf d patches self.now → meter.new ≡ raised meter.old counts.Bytes (patch_bytes patches + count_unstayed (drawing_spot d) (drawing_end d)) }
+    {
+        write_image(canvas, &self.stretches, self.end, self.patches, meter);
+    }
 }
