@@ -1,0 +1,36 @@
+-- What the two tables of names say of each other.
+use Rattle.std.specs.Prelude.{◌≡◌, ◌≢◌, ℕ, List, Option, Some, None, map, ◌++◌, slice_index_or, bytes_eq, Bool, true, false}
+use Rattle.std.specs.List.{All}
+use Rattle.std.specs.Map.{lookup}
+use Rattle.std.proofs.Common.{Vec, Global}
+use Rattle.symres.specs.State.{slot, IsNamed}
+
+-- the known names under their numbers, and each name with its number in the order in which they became known
+pub record KnownNames : Type 0 where
+  pub slots : List (Option (List ℕ))
+  pub order : List (List ℕ × ℕ)
+
+-- the bytes of a slot's name, wherever they lie in memory
+abbrev pub spelled : Option (Vec ℕ Global) → Option (List ℕ)
+spelled None = None
+spelled (Some v) = Some v.items
+
+abbrev pub entry_spelled : Vec ℕ Global × ℕ → List ℕ × ℕ
+entry_spelled e = (e.0.items, e.1)
+
+-- the number of a name
+abbrev pub number_in : List ℕ → List (List ℕ × ℕ) → Option ℕ
+number_in name es = lookup (λ (k : List ℕ). bytes_eq name k) es
+
+-- the two tables say the same
+pub record IsPaired (k : KnownNames) : Type 0 where
+  pub sound : All (λ (e : List ℕ × ℕ). IsNamed k.slots e.1 e.0) k.order
+  pub complete : (n : ℕ) (name : List ℕ) → IsNamed k.slots n name → number_in name k.order ≡ Some n
+
+-- a name stays where its number passes the test, and is dropped else
+abbrev pub IsKeptWhere : (ℕ → Bool) → List (Option (List ℕ)) → List (Option (List ℕ)) → Type 0
+IsKeptWhere keep old new = (n : ℕ) → (keep n ≡ true → slot new n ≡ slot old n) × (keep n ≡ false → slot new n ≡ None)
+
+-- names were only added
+abbrev pub Adds : KnownNames → KnownNames → Type 0
+Adds old new = (more : List (List ℕ × ℕ)) × (new.order ≡ old.order ++ more)

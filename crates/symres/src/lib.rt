@@ -1,0 +1,8 @@
+//! Names: which definition each name stands for, over all entered objects and the script.
+#![tactic(auto)]
+
+mod objects;
+mod places;
+mod rows;
+mod symbol;
+mod tally;
