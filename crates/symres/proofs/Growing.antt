@@ -146,6 +146,10 @@ pub both_ok : {E A B C : Type 0} (r : Result (Unit {0}) E) → OnOk r A → OnOk
 both_ok (Ok x) a b f = f a b
 both_ok (Err e) a b f = tt
 
+pub all_ok : {E A B C D : Type 0} (r : Result (Unit {0}) E) → OnOk r A → OnOk r B → OnOk r C → (A → B → C → D) → OnOk r D
+all_ok (Ok x) a b c f = f a b c
+all_ok (Err e) a b c f = tt
+
 -- what the rows say of the room, the state says
 pub can_enter : (os : List Entered) (rows : List (Vec Declared Global)) (place : List Place) (left free : ℕ) (symbols : List Numbered) → IsKept os rows place → ((v : Vec Declared Global) → vec_len v ≡ length v.items)
     → HasRoom rows symbols → All (HasRow (length rows)) symbols → 0 < left → 0 < free

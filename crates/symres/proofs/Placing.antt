@@ -1,7 +1,9 @@
 -- Places of keys, where an object comes or goes.
-use Rattle.std.proofs.Common.{◌≡◌, ◌≢◌, ◌<◌, ◌≤◌, ◌+◌, ◌-◌, ◌^◌, ℕ, zero, suc, Bool, true, false, not, cond, eqb, ltb, length, get_or, take, drop, Vec, Global, List, [], ◌∷◌, ◌++◌, map, refl, ap, sym, ◌∙◌, subst, ⊎_elim, arith, Option, Some, None}
+use Rattle.std.proofs.Common.{◌≡◌, ◌≢◌, ◌<◌, ◌≤◌, ◌+◌, ◌-◌, ◌^◌, ℕ, zero, suc, Bool, true, false, not, cond, eqb, ltb, length, get_or, take, drop, Vec, Global, List, [], ◌∷◌, ◌++◌, map, refl, ap, sym, ◌∙◌, subst, ⊎_elim, arith, append-nil, Option, Some, None}
 use Rattle.std.specs.List.{All, insert, remove, filter}
 use Rattle.std.specs.Option.{option_or, option_map}
+use Rattle.std.specs.Prelude.{IsSome}
+use Rattle.std.proofs.lemmas.List.{take_all}
 use Rattle.std.specs.Vec.{vec_capacity}
 use Rattle.std.proofs.lemmas.Bool.{cases_eq, cases_lt, lt-ltb, le-ltb, eqb-false, eqb-true, eq-eqb, ne_eqb}
 use Rattle.std.proofs.lemmas.List.{get_or-take, get_or-drop, length-drop, length-take-le, get_or_default, take-append-drop}
@@ -13,7 +15,7 @@ use Rattle.symres.specs.declared.symbol.Numbered.{Numbered}
 use Rattle.symres.specs.Places.{place_of, AreSorted, IsBelow, is_below, up, down, AreMoved}
 use Rattle.symres.specs.Numbers.{Entered, HasRow, IsSplit, IsTable, HasSymbols, without}
 use Rattle.symres.specs.Objects.{IsNumbered, IsKept, HasKey}
-use Rattle.symres.proofs.Finding.{place_none, place_at}
+use Rattle.symres.proofs.Finding.{place_none, place_at, found_here, found_other, found_past}
 
 -- a place found in the first part, or else in the second
 abbrev or : Option ℕ → Option ℕ → Option ℕ
@@ -243,3 +245,167 @@ numbered_after old mid number at new os n m b h f =
 
     object_above : (j : ℕ) (o : Entered) → at ≤ j → j ≢ at → get_or (insert os at new) j o ≡ get_or os (j - 1) o
     object_above j o high ne = let e : j ≡ (j - 1) + 1 = omega (arith, high, ne) in ap (λ q. get_or (insert os at new) q o) e ∙ get_or-insert_above os at new o (j - 1) (omega (arith, high, ne)) h
+
+-- where a sorted list has the place of a key
+pub record At (ps : List Place) (key n j : ℕ) : Type 0 where
+  pub within : n < length ps
+  pub key_is : (d : Place) → (get_or ps n d).key ≡ key
+  pub at_is : (d : Place) → (get_or ps n d).at ≡ j
+
+pub at_number : (ps : List Place) (key n j : ℕ) → AreSorted ps → IsBelow ps key n → place_of ps key ≡ Some j → At ps key n j
+at_number ps key n j s b e = ⊎_elim
+    (λ w. ⊎_elim
+    (λ same. record {
+      within = w;
+      key_is = λ d. ap (λ (p : Place). p.key) (get_or_default ps n d nowhere w) ∙ same;
+      at_is = λ d. ap (λ (p : Place). p.at) (get_or_default ps n d nowhere w) ∙ some (get_or ps n nowhere).at (found_here ps key n (get_or ps n nowhere) b w (get_or_default ps n nowhere (get_or ps n nowhere) w) same ∙ e);
+    })
+    (λ ne. let none = found_other ps key n (get_or ps n nowhere) s b w (get_or_default ps n nowhere (get_or ps n nowhere) w) ne ∙ e in absurd (cc))
+    (cases_eq (get_or ps n nowhere).key key))
+    (λ past. let none = found_past ps key n b past ∙ e in absurd (cc))
+    (cases_lt n (length ps))
+  where
+    nowhere : Place
+    nowhere = record { key = 0; at = 0 }
+
+    some : (a : ℕ) → Some a ≡ Some j → a ≡ j
+    some a h = cc
+
+-- the object of a key
+pub record Here (places : List Place) (os : List Entered) (key at : ℕ) : Type 0 where
+  pub place_is : place_of places key ≡ Some at
+  pub within : at < length os
+  pub key_is : (o : Entered) → (get_or os at o).key ≡ key
+
+pub here_at : (places : List Place) (os : List Entered) (key : ℕ) → IsNumbered places os → (h : HasKey key os) → Here places os key h.0
+here_at places os key n h = record {
+  place_is = ap (place_of places) (sym (h.2 nobody)) ∙ n.at h.0 nobody h.1;
+  within = h.1;
+  key_is = h.2;
+}
+  where
+    nobody : Entered
+    nobody = record { key = 0; symbols = []; room = 0 }
+
+pub is_found : (r : Option ℕ) (j : ℕ) → r ≡ Some j → IsSome r
+is_found None j h = absurd (cc)
+is_found (Some n) j h = refl
+
+-- each other object has another key
+other_key : (places : List Place) (os : List Entered) (key at j : ℕ) (o : Entered) → IsNumbered places os → place_of places key ≡ Some at → j < length os → j ≢ at → (get_or os j o).key ≢ key
+other_key places os key at j o n p h ne e = let is : Some j ≡ Some at = sym (n.at j o h) ∙ ap (place_of places) e ∙ p in let same : j ≡ at = cc in ne same
+
+-- the object of a key has left
+pub numbered_without : (places mid new : List Place) (number key at : ℕ) (p : Place) (os : List Entered) → IsNumbered places os → Here places os key at → number < length places → p ≡ get_or places number p → p.key ≡ key
+    → mid ≡ remove places number → AreMoved (down at) mid new → IsNumbered new (remove os at)
+numbered_without places mid new number key at p os n h w is k e m = record {
+  sorted = sorted_moved (down at) mid new m (subst AreSorted (sym e) (sorted_remove places number n.sorted w));
+  at = λ j o l. ⊎_elim
+      (λ low. let in_os : j < length os = omega (arith, low, h.within) in
+      ap (λ (x : Entered). place_of new x.key) (get_or-remove_below os at o j low h.within)
+      ∙ found (get_or os j o).key j (λ q. other_key places os key at j o n h.place_is in_os (λ same. absurd (omega (arith, low, same))) (sym q)) (n.at j o in_os) ∙ ap Some (down_low at j (omega (arith, low))))
+      (λ high. let in_os : j + 1 < length os = omega (arith, l, length-remove os at h.within) in
+      ap (λ (x : Entered). place_of new x.key) (get_or-remove_above os at o j high h.within)
+      ∙ found (get_or os (j + 1) o).key (j + 1) (λ q. other_key places os key at (j + 1) o n h.place_is in_os (λ same. absurd (omega (arith, high, same))) (sym q)) (n.at (j + 1) o in_os) ∙ ap Some (down_high at (j + 1) (omega (arith, high)) ∙ omega arith))
+      (cases_lt j at);
+  only = λ key' i q.
+      let v = was (down at) (place_of mid key') i (sym (place_moved (down at) mid new key' m) ∙ q) in
+      ⊎_elim
+      (λ mine. let none : Some v.0 ≡ None = sym v.1 ∙ ap (λ l. place_of l key') e ∙ ap (place_of (remove places number)) (mine ∙ sym k) ∙ remove_same places number p n.sorted w is in absurd (cc))
+      (λ ne.
+      let there : place_of places key' ≡ Some v.0 = sym (remove_other places number key' p w is (λ same. ne (sym same ∙ k))) ∙ ap (λ l. place_of l key') (sym e) ∙ v.1 in
+      let o = n.only key' v.0 there in
+      ⊎_elim
+      (λ low.
+      let same : i ≡ v.0 = sym v.2 ∙ down_low at v.0 (omega (arith, low)) in
+      (omega (arith, same, low, length-remove os at h.within, h.within), λ d. ap (λ j. (get_or (remove os at) j d).key) same ∙ ap (λ (x : Entered). x.key) (get_or-remove_below os at d v.0 low h.within) ∙ o.1 d))
+      (λ high.
+      let apart : v.0 ≢ at = λ same. ne (sym (o.1 nobody) ∙ ap (λ j. (get_or os j nobody).key) same ∙ h.key_is nobody) in
+      let more : at < v.0 = omega (arith, high, apart) in
+      let same : i ≡ v.0 - 1 = sym v.2 ∙ down_high at v.0 more in
+      let back : v.0 - 1 + 1 ≡ v.0 = omega (arith, more) in
+      (omega (arith, same, more, o.0, length-remove os at h.within), λ d. ap (λ j. (get_or (remove os at) j d).key) same ∙ ap (λ (x : Entered). x.key) (get_or-remove_above os at d (v.0 - 1) (omega (arith, more)) h.within) ∙ ap (λ j. (get_or os j d).key) back ∙ o.1 d))
+      (cases_lt v.0 at))
+      (cases_eq key' key);
+}
+  where
+    nobody : Entered
+    nobody = record { key = 0; symbols = []; room = 0 }
+
+    found : (key' j : ℕ) → (key ≡ key' → ⊥) → place_of places key' ≡ Some j → place_of new key' ≡ Some (down at j)
+    found key' j ne q =
+        place_moved (down at) mid new key' m
+        ∙ ap (option_map (down at)) (ap (λ l. place_of l key') e ∙ remove_other places number key' p w is (λ same. ne (sym k ∙ same)) ∙ q)
+
+-- of a filter that fails at one place alone
+all_kept : {X : Type 0} (p : X → Bool) (xs : List X) → ((j : ℕ) (d : X) → j < length xs → p (get_or xs j d) ≡ true) → filter p xs ≡ xs
+all_kept p [] h = refl
+all_kept p (x ∷ xs) h = ap (λ b. cond b (x ∷ filter p xs) (filter p xs)) (h 0 x (omega arith)) ∙ ap (λ l. x ∷ l) (all_kept p xs (λ j d l. h (suc j) d (omega (arith, l))))
+
+one_out : {X : Type 0} (p : X → Bool) (xs : List X) (at : ℕ) → at < length xs → ((d : X) → p (get_or xs at d) ≡ false)
+    → ((j : ℕ) (d : X) → j < length xs → j ≢ at → p (get_or xs j d) ≡ true) → filter p xs ≡ remove xs at
+one_out p [] at h f t = absurd (omega (arith, h))
+one_out p (x ∷ xs) zero h f t = ap (λ b. cond b (x ∷ filter p xs) (filter p xs)) (f x) ∙ all_kept p xs (λ j d l. t (suc j) d (omega (arith, l)) (omega arith))
+one_out p (x ∷ xs) (suc n) h f t = ap (λ b. cond b (x ∷ filter p xs) (filter p xs)) (t 0 x (omega arith) (omega arith))
+    ∙ ap (λ l. x ∷ l) (one_out p xs n (omega (arith, h)) f (λ j d l ne. t (suc j) d (omega (arith, l)) (omega (arith, ne))))
+
+pub without_is : (places : List Place) (os : List Entered) (key at : ℕ) → IsNumbered places os → Here places os key at → without key os ≡ remove os at
+without_is places os key at n h = one_out (λ (o : Entered). not (eqb o.key key)) os at h.within
+    (λ d. ap not (eq-eqb _ _ (h.key_is d)))
+    (λ j d l ne. ap not (ne_eqb _ _ (other_key places os key at j d n h.place_is l ne)))
+
+pub has_symbols : (places : List Place) (os : List Entered) (key at : ℕ) (o : Entered) → IsNumbered places os → Here places os key at → o ≡ get_or os at o → HasSymbols key o.symbols os
+has_symbols places os key at o n h e = λ j d l q. ⊎_elim
+    (λ same. ap (λ (x : Entered). x.symbols) (ap (λ i. get_or os i d) same ∙ get_or_default os at d o h.within ∙ sym e))
+    (λ ne. absurd (other_key places os key at j d n h.place_is l ne (eqb-true _ _ q)))
+    (cases_eq j at)
+
+pub rooms : (old new : List (Vec Declared Global)) → length new ≡ length old → ((k : ℕ) (d : Vec Declared Global) → k < length old → vec_capacity (get_or new k d) ≡ vec_capacity (get_or old k d))
+    → map (λ (row : Vec Declared Global). vec_capacity row) new ≡ map (λ (row : Vec Declared Global). vec_capacity row) old
+rooms [] [] e h = refl
+rooms [] (y ∷ new) e h = absurd (omega (arith, e))
+rooms (x ∷ old) [] e h = absurd (omega (arith, e))
+rooms (x ∷ old) (y ∷ new) e h =
+    let here : vec_capacity y ≡ vec_capacity x = h 0 x (omega arith) in
+    let rest = rooms old new (omega (arith, e)) (λ k d l. h (suc k) d (omega (arith, l))) in
+    ap (λ c. c ∷ map (λ (row : Vec Declared Global). vec_capacity row) new) here ∙ ap (λ l. vec_capacity x ∷ l) rest
+
+pub kept_after : (old mid : List Place) (number at : ℕ) (new : Entered) (os : List Entered) (table rows : List (Vec Declared Global)) → IsKept os table old → AreMoved (up at) old mid → IsBelow old new.key number → at ≤ length os
+    → All (λ (o : Entered). eqb o.key new.key ≡ false) os → All (HasRow (length table)) new.symbols → length rows ≡ length table
+    → IsTable rows (insert os at new) → IsKept (insert os at new) rows (insert mid number (record { key = new.key; at = at }))
+kept_after old mid number at new os table rows k m b h f n r t = record {
+  table = t;
+  known = subst (λ c. All (λ (o : Entered). All (HasRow c) o.symbols) (insert os at new)) (sym r)
+      (All-append (λ (o : Entered). All (HasRow (length table)) o.symbols) _ _
+      (All-take (λ (o : Entered). All (HasRow (length table)) o.symbols) at os k.known)
+      (All-cons (λ (o : Entered). All (HasRow (length table)) o.symbols) new (drop at os) n
+      (All-drop (λ (o : Entered). All (HasRow (length table)) o.symbols) at os k.known)));
+  numbered = numbered_after old mid number at new os k.numbered m b h f;
+}
+
+pub all_removed : (P : Entered → Type 0) (os : List Entered) (at : ℕ) → All P os → All P (remove os at)
+all_removed P os at h = All-append P _ _ (All-take P at os h) (All-drop P (suc at) os h)
+
+pub kept_without : (places new : List Place) (os : List Entered) (key at : ℕ) (table rows : List (Vec Declared Global)) → IsKept os table places → Here places os key at
+    → length rows ≡ length table → IsTable rows (without key os) → IsNumbered new (remove os at) → IsKept (remove os at) rows new
+kept_without places new os key at table rows k h r t n = record {
+  table = subst (IsTable rows) (without_is places os key at k.numbered h) t;
+  known = subst (λ c. All (λ (o : Entered). All (HasRow c) o.symbols) (remove os at)) (sym r)
+      (all_removed (λ (o : Entered). All (HasRow (length table)) o.symbols) os at k.known);
+  numbered = n;
+}
+
+drop_all : (n : ℕ) (xs : List Place) → length xs ≡ n → drop n xs ≡ []
+drop_all zero [] h = refl
+drop_all (suc n) [] h = refl
+drop_all zero (x ∷ xs) h = absurd (omega (arith, h))
+drop_all (suc n) (x ∷ xs) h = drop_all n xs (omega (arith, h))
+
+-- a list whose whole was written over
+pub written : (n : ℕ) (xs items : List Place) → length xs ≡ n → length items ≡ n → take n (xs ++ drop (length xs) items) ≡ xs
+written n xs items h k =
+    ap (λ m. take n (xs ++ drop m items)) h ∙ ap (λ l. take n (xs ++ l)) (drop_all n items k) ∙ ap (take n) (append-nil xs) ∙ take_all n xs (omega (arith, h))
+
+-- no place is too great to grow
+pub places_fit : (places : List Place) (os : List Entered) (bound : ℕ) → IsNumbered places os → length os ≤ bound → (k : ℕ) (d : Place) → k < length places → (get_or places k d).at < bound
+places_fit places os bound n h k d l = let o = n.only _ _ (found_at places k d n.sorted l) in omega (arith, o.0, h)

@@ -168,11 +168,9 @@ impl Objects {
         let number = count_below(&self.places, key);
         let place = self.places.remove(number);
         move_down(&mut self.places, place.at);
-        let Placed {
-            key: _key,
-            symbols,
-        } = self.order.remove(place.at);
-        remove_all(&mut self.rows, key, &symbols);
+        let placed = self.order.remove(place.at);
+        remove_all(&mut self.rows, key, &placed.symbols);
+        let Placed { key: _key, symbols } = placed;
         symbols
     }
 }
