@@ -5,3 +5,5 @@ pub mod Adding
 pub mod Cleared
 pub mod Growing
 pub mod Placing
+pub mod Pairs
+pub mod Forgetting
