@@ -7,3 +7,4 @@ pub mod Growing
 pub mod Placing
 pub mod Pairs
 pub mod Forgetting
+pub mod Cutting

@@ -1,5 +1,5 @@
 -- What the two tables of names say of each other.
-use Rattle.std.specs.Prelude.{◌≡◌, ℕ, List, Option, Some, None, map, ◌++◌, slice_index_or, bytes_eq, Bool, true, false}
+use Rattle.std.specs.Prelude.{◌≡◌, ◌==◌, if◌then◌else◌, ℕ, List, Option, Some, None, map, ◌++◌, slice_index_or, bytes_eq, Bool, true, false}
 use Rattle.std.specs.List.{All}
 use Rattle.std.specs.Map.{lookup}
 use Rattle.std.proofs.Common.{Vec, Global}
@@ -25,6 +25,16 @@ IsSpelled slots n name = spelled (slice_index_or slots n None) ≡ Some name
 -- the number of a name among the entries
 abbrev pub number_in : List ℕ → List (Vec ℕ Global × ℕ) → Option ℕ
 number_in name es = lookup (λ (k : Vec ℕ Global). bytes_eq name k.items) es
+
+-- the number is this one
+abbrev pub is_number : ℕ → Option ℕ → Bool
+is_number n None = false
+is_number n (Some m) = m == n
+
+-- a name that passes the test
+abbrev pub kept_if : (Vec ℕ Global → Bool) → Option (Vec ℕ Global) → Option (Vec ℕ Global)
+kept_if test None = None
+kept_if test (Some v) = if test v then Some v else None
 
 -- the two tables say the same
 pub record IsPaired (es : List (Vec ℕ Global × ℕ)) (slots : List (Option (Vec ℕ Global))) : Type 0 where

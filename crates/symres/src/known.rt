@@ -1,8 +1,9 @@
 //! Numbers of names. A name keeps its number until it is forgotten.
 
 ghost use Rattle.std.specs.Prelude.{◌≡◌, ◌≢◌, ◌==◌, ℕ, List, [], IfOk, Some, None, MatchOption, length, take, map, is_some, if◌then◌else◌};
+ghost use Rattle.std.proofs.Common.{Vec, Global};
 ghost use Rattle.slab.specs.Slab.{get};
-ghost use Rattle.symres.specs.Known.{AddsNames, IsConsistent, IsKeptWhere, KnownNames, number_in};
+ghost use Rattle.symres.specs.Known.{AddsNames, is_number, IsConsistent, IsKeptWhere, kept_if, number_in};
 ghost use Rattle.symres.specs.Numbers.{is_used};
 ghost use Rattle.symres.specs.State.{slot, AreDistinct, IsNamed, KeepsNames, SameNames};
 
@@ -41,6 +42,24 @@ fn drop_unused(names: &mut Slab<Vec<u8>>, objects: &Objects)
     ensures { (n : ℕ) → get names.new n ≡ (if is_used n objects.now.objects then get names.old n else None) }
 {
     names.retain(|number, _name| objects.is_used(number));
+}
+
+fn is_numbered(numbers: &IndexMap<Vec<u8>, usize, RandomState>, number: usize, name: &[u8]) -> bool
+    ensures { result ≡ is_number number (number_in name.now numbers.now.entries) }
+{
+    match numbers.get(name) {
+        Some(found) => *found == number,
+        None => false,
+    }
+}
+
+fn drop_unnumbered(
+    names: &mut Slab<Vec<u8>>,
+    numbers: &IndexMap<Vec<u8>, usize, RandomState>,
+)
+    ensures { (n : ℕ) → get names.new n ≡ kept_if (λ (v : Vec ℕ Global). is_number n (number_in v.items numbers.now.entries)) (get names.old n) }
+{
+    names.retain(|number, name| is_numbered(numbers, number, name.as_slice()));
 }
 
 impl Known {
@@ -101,6 +120,14 @@ impl Known {
         let names = &self.names;
         self.numbers
             .retain(|_name, number| has_name(names, *number));
+    }
+
+    /// Forgets the names that are not among the first `count` to become known. The others keep their numbers.
+    pub fn drop_newer(&mut self, count: usize)
+        ensures { self.new.order ≡ take count self.old.order }
+    {
+        self.numbers.truncate(count);
+        drop_unnumbered(&mut self.names, &self.numbers);
     }
 
     fn insert(&mut self, name: &[u8]) -> Result<usize, AllocError>
