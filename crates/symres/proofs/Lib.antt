@@ -8,3 +8,5 @@ pub mod Placing
 pub mod Pairs
 pub mod Forgetting
 pub mod Cutting
+pub mod Parked
+pub mod Spelling

@@ -1,5 +1,5 @@
 -- The symbol tables that numbers of names stand for.
-use Rattle.std.specs.Prelude.{ℕ, suc, ◌≡◌, ◌+◌, ◌≤◌, List, [], ◌∷◌, Option, Some, None, false, length, map, if◌then◌else◌}
+use Rattle.std.specs.Prelude.{ℕ, ◌≡◌, ◌+◌, ◌≤◌, List, [], ◌∷◌, Option, Some, None, Bool, true, false, not, length, map, filter, if◌then◌else◌}
 use Rattle.std.specs.List.{All}
 use Rattle.elfobj.specs.Symbols.{NamedSymbol}
 use Rattle.ldmodel.specs.Names.{is_local}
@@ -27,7 +27,7 @@ HasName names s = is_local s.symbol.binding ≡ false → (name : List ℕ) × I
 -- the symbols are numbered from n on
 abbrev pub AreCounted : ℕ → List Numbered → Type 0
 AreCounted n [] = Unit {0}
-AreCounted n (s ∷ ss) = (s.number ≡ n) × AreCounted (suc n) ss
+AreCounted n (s ∷ ss) = (s.number ≡ n) × AreCounted (n + 1) ss
 
 -- the numbers stand for names, and the symbols are numbered in their order
 pub record IsSpellable (names : List (Option (List ℕ))) (ss : List Numbered) : Type 0 where
@@ -39,6 +39,16 @@ pub record Spells (names : List (Option (List ℕ))) (ss : List Numbered) (symbo
   pub spelled : map (spell_symbol names) ss ≡ symbols
   pub well : IsSpellable names ss
 
+-- a symbol that other objects see
+abbrev pub is_seen : NamedSymbol → Bool
+is_seen s = not (is_local s.symbol.binding)
+
+-- the numbers stand for those of these symbols that other objects see
+pub record SpellsSeen (names : List (Option (List ℕ))) (ss : List Numbered) (symbols : List NamedSymbol) : Type 0 where
+  pub spelled : map (spell_symbol names) ss ≡ filter is_seen symbols
+  pub named : All (HasName names) ss
+  pub seen : All (λ (s : Numbered). not (is_local s.symbol.binding) ≡ true) ss
+
 -- what holds between the names, the objects and the lists
 pub record IsJoined (names : List (Option (List ℕ))) (os : List Entered) (parked room : ℕ) : Type 0 where
   pub named : All (λ (o : Entered). IsSpellable names o.symbols) os
@@ -46,4 +56,4 @@ pub record IsJoined (names : List (Option (List ℕ))) (os : List Entered) (park
 
 -- the symbols have numbers with room
 abbrev pub IsReady : List (Option (List ℕ)) → ObjectsState → List NamedSymbol → Type 0
-IsReady names s symbols = (ss : List Numbered) × Spells names ss symbols × CanEnter s ss
+IsReady names s symbols = (ss : List Numbered) × SpellsSeen names ss symbols × CanEnter s ss

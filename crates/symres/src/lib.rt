@@ -2,6 +2,7 @@
 #![tactic(auto)]
 
 mod known;
+mod lists;
 mod objects;
 mod places;
 mod rows;
