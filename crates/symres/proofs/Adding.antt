@@ -1,8 +1,8 @@
-use Rattle.std.proofs.Common.{◌≡◌, ◌≢◌, ◌<◌, ◌+◌, ◌-◌, ℕ, Bool, true, false, cond, eqb, ◌||◌, length, get_or, set, take, drop, Vec, Global, List, [], ◌∷◌, ◌++◌, map, refl, ap, sym, ◌∙◌, subst, ⊎_elim, arith, append_assoc, append-nil, length-append, get_or-set_same, get_or-set_other}
-use Rattle.std.specs.List.{filter, All, insert}
+use Rattle.std.proofs.Common.{◌≡◌, ◌<◌, ◌+◌, ◌-◌, ℕ, Bool, true, false, eqb, ◌||◌, length, get_or, set, take, drop, Vec, Global, List, [], ◌∷◌, ◌++◌, map, refl, ap, sym, ◌∙◌, subst, ⊎_elim, arith, append_assoc, append-nil, length-append, get_or-set_same, get_or-set_other}
+use Rattle.std.specs.List.{All, insert}
 use Rattle.std.specs.Vec.{vec_len, vec_capacity}
 use Rattle.std.proofs.Math.ListN.{length-set}
-use Rattle.std.proofs.lemmas.Bool.{cases_eq, cases_lt, eq-eqb, ne_eqb, false≢true}
+use Rattle.std.proofs.lemmas.Bool.{cases_eq, cases_lt, eq-eqb, false≢true}
 use Rattle.std.proofs.lemmas.List.{get_or_default, take-append-drop, get_or_append_left, get_or-append_right, take_more}
 use Rattle.std.proofs.lemmas.List.Edits.{insert_end, insert-append_left}
 use Rattle.std.proofs.lemmas.List.Elements.{filter-append, All-map, All-append, All-nil, All-head, All-tail}

@@ -1,14 +1,13 @@
 use Rattle.std.proofs.Common.{◌≡◌, ◌<◌, ℕ, Bool, true, false, cond, eqb, not, ◌||◌, length, get_or, set, Vec, Global, List, [], ◌∷◌, ◌++◌, map, refl, ap, sym, ◌∙◌, ⊎_elim, arith, get_or-set_same, get_or-set_other}
-use Rattle.std.specs.List.{list_any}
 use Rattle.std.specs.Vec.{vec_capacity}
 use Rattle.std.proofs.Math.ListN.{length-set}
-use Rattle.std.proofs.lemmas.Bool.{cases_eq, eq-eqb, ne_eqb, false≢true}
+use Rattle.std.proofs.lemmas.Bool.{cases_eq, false≢true}
 use Rattle.std.proofs.lemmas.List.{get_or_default}
 use Rattle.std.proofs.lemmas.List.Elements.{filter-append, All-head, All-tail}
 use Rattle.symres.specs.declared.symbol.Declared.{Declared}
 use Rattle.symres.specs.declared.symbol.Numbered.{Numbered}
 use Rattle.ldmodel.specs.Names.{is_local}
-use Rattle.symres.specs.Numbers.{Entered, declared, own, entries, IsTable, is_named, named, others, without, KeepsRoom, HasSymbols}
+use Rattle.symres.specs.Numbers.{Entered, declared, own, entries, IsTable, is_named, named, others, without, HasSymbols}
 use Rattle.symres.specs.Steps.{cleared, has_name, Cleared}
 use Rattle.symres.proofs.Naming.{named_yes, named_no, named_local}
 

@@ -1,19 +1,18 @@
-use Rattle.std.proofs.Common.{◌≡◌, ◌<◌, ◌+◌, ℕ, zero, suc, Bool, true, false, cond, eqb, nat_lt, length, get_or, Vec, Global, List, [], ◌∷◌, map, filter, refl, ap, sym, ◌∙◌, subst, arith, Option, Some, None, length-append}
+use Rattle.std.proofs.Common.{◌≡◌, ◌<◌, ◌+◌, ℕ, zero, suc, Bool, true, false, cond, nat_lt, length, get_or, Vec, Global, List, [], ◌∷◌, map, filter, refl, ap, sym, ◌∙◌, subst, arith, Option, Some, None, length-append}
 use Rattle.std.specs.Prelude.{is_some, bytes_eq}
 use Rattle.std.specs.List.{All}
 use Rattle.std.specs.Map.{lookup}
 use Rattle.std.specs.Borrow.{MutBor}
-use Rattle.std.proofs.lemmas.Bool.{eq-eqb, true≢false, lt-ltb}
+use Rattle.std.proofs.lemmas.Bool.{true≢false, lt-ltb}
 use Rattle.std.proofs.lemmas.List.{length-map}
 use Rattle.std.proofs.lemmas.List.Elements.{All-cons, All-nil, All-head, All-tail}
 use Rattle.symres.specs.declared.symbol.Declared.{Declared}
 use Rattle.slab.specs.Slab.{RetainsFrom, CalledAt}
 use Rattle.symres.specs.declared.symbol.Numbered.{Numbered}
-use Rattle.ldmodel.specs.Names.{is_local}
 use Rattle.symres.specs.Known.{spelled, IsSpelled, IsPaired, IsKeptWhere}
 use Rattle.symres.specs.State.{IsNamed, KeepsNames}
 use Rattle.symres.specs.Numbers.{Entered, declared, own, is_named, named, entries, is_used}
-use Rattle.symres.specs.Spelled.{HasName, IsSpellable}
+use Rattle.symres.specs.Spelled.{IsSpellable}
 use Rattle.symres.proofs.Pairs.{slot_spelled}
 use Rattle.symres.proofs.Naming.{named_yes}
 

@@ -1,5 +1,5 @@
 -- A pass over the entries of a name, one entry more.
-use Rattle.std.proofs.Common.{◌≡◌, ℕ, ◌+◌, List, [], ◌∷◌, ◌++◌, append-nil, arith, refl, ap, sym, ◌∙◌, Bool, true, false, cond, ◌||◌, ◌&&◌, length, nat_lt, filter, Option, Some, None, length-append}
+use Rattle.std.proofs.Common.{◌≡◌, ℕ, List, [], ◌∷◌, ◌++◌, append-nil, arith, refl, ap, sym, ◌∙◌, Bool, true, false, cond, ◌||◌, ◌&&◌, length, nat_lt, filter, Option, Some, None, length-append}
 use Rattle.std.specs.Prelude.{max, is_none, is_some}
 use Rattle.std.specs.List.{list_any}
 use Rattle.std.proofs.lemmas.Bool.{false≢true, lt-ltb}

@@ -1,12 +1,12 @@
-use Rattle.std.proofs.Common.{◌≡◌, ◌<◌, ◌≤◌, ◌+◌, ℕ, zero, suc, Bool, true, false, cond, eqb, not, ◌&&◌, length, get_or, set, take, Vec, Global, List, [], ◌∷◌, ◌++◌, map, filter, refl, ap, sym, ◌∙◌, subst, ⊎_elim, arith, Result, Ok, Err, OnOk}
+use Rattle.std.proofs.Common.{◌≡◌, ◌<◌, ◌≤◌, ◌+◌, ℕ, zero, suc, Bool, true, false, cond, eqb, not, ◌&&◌, length, get_or, set, Vec, Global, List, [], ◌∷◌, ◌++◌, map, filter, refl, ap, sym, ◌∙◌, subst, ⊎_elim, arith, Result, Ok, Err, OnOk}
 use Rattle.std.specs.Prelude.{count_by}
 use Rattle.std.specs.List.{All, remove}
 use Rattle.std.specs.Vec.{vec_len, vec_capacity}
 use Rattle.std.proofs.Math.ListN.{length-set}
 use Rattle.std.proofs.Common.{get_or-set_same, get_or-set_other, length-append}
-use Rattle.std.proofs.lemmas.Bool.{cases_eq, cases_lt, ne_eqb}
+use Rattle.std.proofs.lemmas.Bool.{cases_eq, cases_lt}
 use Rattle.std.proofs.lemmas.List.{get_or_default, get_or_append_left, get_or-map, length-map}
-use Rattle.std.proofs.lemmas.List.Sums.{count_by_more_yes, count_by_more_no, length-filter}
+use Rattle.std.proofs.lemmas.List.Sums.{length-filter}
 use Rattle.std.proofs.lemmas.List.Elements.{All-head, All-tail}
 use Rattle.symres.specs.declared.symbol.Declared.{Declared}
 use Rattle.symres.specs.declared.symbol.Numbered.{Numbered}
@@ -14,9 +14,9 @@ use Rattle.symres.specs.Numbers.{Entered, declared, own, is_named, named, entrie
 use Rattle.ldmodel.specs.Names.{is_local}
 use Rattle.symres.specs.declared.places.Place.{Place}
 use Rattle.symres.specs.Steps.{has_name}
-use Rattle.symres.specs.Objects.{IsKept, IsNumbered, CanEnter, ObjectsState}
+use Rattle.symres.specs.Objects.{IsKept, CanEnter}
 use Rattle.symres.proofs.Cleared.{named_now, unnamed}
-use Rattle.symres.proofs.Naming.{named_yes, named_no, named_past}
+use Rattle.symres.proofs.Naming.{named_no, named_past}
 
 -- a name that no symbol has
 pub named_none : (k : ℕ) (ss : List Numbered) → All (λ (s : Numbered). is_named k s ≡ false) ss → named k ss ≡ []

@@ -10,3 +10,5 @@ pub mod Forgetting
 pub mod Cutting
 pub mod Parked
 pub mod Spelling
+pub mod Ready
+pub mod Joined

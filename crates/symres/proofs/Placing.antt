@@ -1,7 +1,7 @@
 -- Places of keys, where an object comes or goes.
-use Rattle.std.proofs.Common.{◌≡◌, ◌≢◌, ◌<◌, ◌≤◌, ◌+◌, ◌-◌, ◌^◌, ℕ, zero, suc, Bool, true, false, not, cond, eqb, ltb, length, get_or, take, drop, Vec, Global, List, [], ◌∷◌, ◌++◌, map, refl, ap, sym, ◌∙◌, subst, ⊎_elim, arith, append-nil, Option, Some, None}
+use Rattle.std.proofs.Common.{◌≡◌, ◌≢◌, ◌<◌, ◌≤◌, ◌+◌, ◌-◌, ℕ, zero, suc, Bool, true, false, not, cond, eqb, length, get_or, take, drop, Vec, Global, List, [], ◌∷◌, ◌++◌, map, refl, ap, sym, ◌∙◌, subst, ⊎_elim, arith, append-nil, Option, Some, None}
 use Rattle.std.specs.List.{All, insert, remove, filter}
-use Rattle.std.specs.Option.{option_or, option_map}
+use Rattle.std.specs.Option.{option_map}
 use Rattle.std.specs.Prelude.{IsSome}
 use Rattle.std.proofs.lemmas.List.{take_all}
 use Rattle.std.specs.Vec.{vec_capacity}
@@ -11,7 +11,6 @@ use Rattle.std.proofs.lemmas.List.Edits.{length-remove, get_or-remove_below, get
 use Rattle.std.proofs.lemmas.List.Elements.{All-append, All-cons, All-take, All-drop}
 use Rattle.symres.specs.declared.places.Place.{Place}
 use Rattle.symres.specs.declared.symbol.Declared.{Declared}
-use Rattle.symres.specs.declared.symbol.Numbered.{Numbered}
 use Rattle.symres.specs.Places.{place_of, AreSorted, IsBelow, is_below, up, down, AreMoved}
 use Rattle.symres.specs.Numbers.{Entered, HasRow, IsSplit, IsTable, HasSymbols, without}
 use Rattle.symres.specs.Objects.{IsNumbered, IsKept, HasKey}

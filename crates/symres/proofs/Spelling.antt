@@ -1,11 +1,11 @@
 -- Symbol tables as numbers of names spell them.
-use Rattle.std.proofs.Common.{◌≡◌, ◌≢◌, ◌<◌, ◌+◌, ℕ, suc, Bool, true, false, not, ◌&&◌, cond, eqb, length, get_or, take, List, [], ◌∷◌, ◌++◌, map, filter, refl, ap, sym, ◌∙◌, subst, ⊎_elim, arith, append-nil, append_assoc, Option, Some, None, slice_get, inl, inr}
+use Rattle.std.proofs.Common.{◌≡◌, ◌≢◌, ◌<◌, ◌+◌, ℕ, Bool, true, false, not, ◌&&◌, cond, eqb, length, get_or, List, [], ◌∷◌, ◌++◌, map, filter, refl, ap, sym, ◌∙◌, subst, ⊎_elim, arith, append-nil, append_assoc, Option, Some, slice_get, inl, inr}
 use Rattle.std.specs.Prelude.{bytes_eq}
 use Rattle.std.specs.List.{All, enumerate_from}
 use Rattle.std.proofs.lemmas.Bool.{cases_eq, eq-eqb, ne_eqb, true≢false}
 use Rattle.std.proofs.lemmas.Slice.Eq.{bytes_eq-Decides}
 use Rattle.std.proofs.lemmas.Option.{slice_get_cases}
-use Rattle.std.proofs.lemmas.List.{length-map, map-append, take_more, get_or_default, get_or-map}
+use Rattle.std.proofs.lemmas.List.{length-map, map-append, get_or_default, get_or-map}
 use Rattle.std.proofs.lemmas.List.Elements.{filter-append, All-append, All-cons, All-nil, All-head, All-tail}
 use Rattle.elfobj.specs.Profile.{IsNameOf}
 use Rattle.elfobj.specs.Symbols.{NamedSymbol}
@@ -19,7 +19,7 @@ use Rattle.symres.specs.Numbers.{Entered, declared, own, is_named, named, entrie
 use Rattle.symres.specs.Spelled.{text, spell_symbol, spell, HasName, AreCounted, IsSpellable, is_seen, Spells, SpellsSeen}
 use Rattle.symres.specs.State.{slot, IsNamed, KeepsNames, AreDistinct, entries_of, naming}
 use Rattle.symres.specs.Tally.{declaration_of}
-use Rattle.symres.proofs.Naming.{nothing, named_local, and_false}
+use Rattle.symres.proofs.Naming.{nothing, named_local}
 
 abbrev Names : Type 0
 Names = List (Option (List ℕ))
@@ -238,9 +238,9 @@ local_name Weak name e h = absurd (true≢false (sym e))
 
 pub got : {X : Type 0} (xs : List X) (k : ℕ) (d x : X) → slice_get xs k ≡ Some x → get_or xs k d ≡ x
 got xs k d x e = elim (slice_get_cases xs k).1 [
-    | inl h ↦ let same : x ≡ h.0 = cc in get_or_default xs k d h.0 h.1 ∙ h.3 ∙ sym same
-    | inr h ↦ absurd (cc)
-  ]
+  | inl h ↦ let same : x ≡ h.0 = cc in get_or_default xs k d h.0 h.1 ∙ h.3 ∙ sym same
+  | inr h ↦ absurd (cc)
+]
 
 pub symbol_is : (symbols : List Symbol) (xs : List NamedSymbol) (k : ℕ) (y : Symbol) (d : NamedSymbol) → symbols ≡ map (λ (s : NamedSymbol). s.symbol) xs → k < length xs → get_or symbols k y ≡ (get_or xs k d).symbol
 symbol_is symbols xs k y d e h = ap (λ l. get_or l k y) e ∙ get_or-map (λ (s : NamedSymbol). s.symbol) xs k d y h

@@ -1,5 +1,5 @@
 -- What the two tables of names say of each other.
-use Rattle.std.specs.Prelude.{◌≡◌, ◌==◌, if◌then◌else◌, ℕ, List, Option, Some, None, map, ◌++◌, slice_index_or, bytes_eq, Bool, true, false}
+use Rattle.std.specs.Prelude.{◌≡◌, ◌==◌, if◌then◌else◌, ℕ, List, Option, Some, None, ◌++◌, slice_index_or, bytes_eq, Bool, true, false}
 use Rattle.std.specs.List.{All}
 use Rattle.std.specs.Map.{lookup}
 use Rattle.std.proofs.Common.{Vec, Global}

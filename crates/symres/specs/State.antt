@@ -1,6 +1,6 @@
 -- A table of names as callers see it (this project's own): the entered objects by their symbol tables, and what is
 -- reserved. What the entries of a table declare is in `ldmodel`.
-use Rattle.std.specs.Prelude.{◌≡◌, ℕ, ◌+◌, ◌<◌, ◌≤◌, ◌==◌, ◌&&◌, List, [], ◌∷◌, ◌++◌, Option, Some, None, Bool, false, not, length, filter, slice_index_or, bytes_eq, insert, remove, nat_lt, if◌then◌else◌}
+use Rattle.std.specs.Prelude.{◌≡◌, ℕ, ◌+◌, ◌<◌, ◌≤◌, ◌==◌, ◌&&◌, List, [], ◌∷◌, ◌++◌, Option, Some, None, false, not, length, filter, slice_index_or, slice_get, true, bytes_eq, insert, remove, nat_lt, if◌then◌else◌}
 use Rattle.std.specs.List.{All}
 use Rattle.elfobj.specs.Symbols.{NamedSymbol}
 use Rattle.ldmodel.specs.Names.{Declaration, declarations_of, is_of_name, is_local}
@@ -56,6 +56,26 @@ SameNames old new = (n : ℕ) → slot new n ≡ slot old n
 -- no two keys have one name
 abbrev pub AreDistinct : List (Option (List ℕ)) → Type 0
 AreDistinct names = (m n : ℕ) (name : List ℕ) → IsNamed names m name → IsNamed names n name → m ≡ n
+
+-- the key has a name
+abbrev pub HasName : List (Option (List ℕ)) → ℕ → Type 0
+HasName names n = (name : List ℕ) × IsNamed names n name
+
+abbrev pub IsSeenOr : Option NamedSymbol → Type 0
+IsSeenOr None = ⊥
+IsSeenOr (Some s) = is_local s.symbol.binding ≡ false
+
+-- the object of the key has a symbol of this number that isn't local
+abbrev pub HasSymbol : ℕ → ℕ → List (ℕ × List NamedSymbol) → Type 0
+HasSymbol key number tables = All (λ (t : ℕ × List NamedSymbol). (t.0 == key) ≡ true → IsSeenOr (slice_get t.1 number)) tables
+
+abbrev pub IsNamedOr : List (Option (List ℕ)) → ℕ → Option NamedSymbol → Type 0
+IsNamedOr names n None = ⊥
+IsNamedOr names n (Some s) = IsNamed names n s.name
+
+-- the key is that of the name of this symbol of the object of the key
+abbrev pub IsNameOfSymbol : List (Option (List ℕ)) → ℕ → ℕ → List (ℕ × List NamedSymbol) → ℕ → Type 0
+IsNameOfSymbol names key number tables n = All (λ (t : ℕ × List NamedSymbol). (t.0 == key) ≡ true → IsNamedOr names n (slice_get t.1 number)) tables
 
 -- a list set aside has memory for so many symbols
 abbrev pub HasList : List ℕ → ℕ → Type 0

@@ -1,5 +1,5 @@
 -- How far the rows are, where some of an object's symbols were taken.
-use Rattle.std.specs.Prelude.{ℕ, ◌≡◌, ◌+◌, ◌<◌, ◌≤◌, Bool, true, false, not, List, [], ◌∷◌, ◌++◌, length, slice_index_or, if◌then◌else◌}
+use Rattle.std.specs.Prelude.{ℕ, ◌≡◌, ◌<◌, Bool, false, List, ◌++◌, length, slice_index_or, if◌then◌else◌}
 use Rattle.std.specs.List.{list_any}
 use Rattle.std.specs.Vec.{vec_len, vec_capacity}
 use Rattle.std.proofs.Common.{Vec, Global}
@@ -7,7 +7,7 @@ use Rattle.ldmodel.specs.Names.{is_local}
 use Rattle.symres.specs.declared.places.Place.{Place}
 use Rattle.symres.specs.declared.symbol.Declared.{Declared}
 use Rattle.symres.specs.declared.symbol.Numbered.{Numbered}
-use Rattle.symres.specs.Numbers.{Entered, IsSplit, IsTable, KeepsRoom, entries, is_named, named, others, own}
+use Rattle.symres.specs.Numbers.{Entered, IsSplit, IsTable, KeepsRoom, entries, is_named, others, own}
 
 -- the rows have so many of the object's symbols, after those of the objects in front
 pub record Rows (places : List Place) (at key : ℕ) (ss : List Numbered) (old new : List (Vec Declared Global)) : Type 0 where

@@ -53,10 +53,7 @@ fn is_numbered(numbers: &IndexMap<Vec<u8>, usize, RandomState>, number: usize, n
     }
 }
 
-fn drop_unnumbered(
-    names: &mut Slab<Vec<u8>>,
-    numbers: &IndexMap<Vec<u8>, usize, RandomState>,
-)
+fn drop_unnumbered(names: &mut Slab<Vec<u8>>, numbers: &IndexMap<Vec<u8>, usize, RandomState>)
     ensures { (n : ℕ) → get names.new n ≡ kept_if (λ (v : Vec ℕ Global). is_number n (number_in v.items numbers.now.entries)) (get names.old n) }
 {
     names.retain(|number, name| is_numbered(numbers, number, name.as_slice()));

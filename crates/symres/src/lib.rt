@@ -3,6 +3,7 @@
 
 mod known;
 mod lists;
+pub mod names;
 mod objects;
 mod places;
 mod rows;

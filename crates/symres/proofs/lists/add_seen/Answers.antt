@@ -1,9 +1,8 @@
-use Rattle.std.proofs.Common.{◌≡◌, ◌∙◌, ◌<◌, ◌+◌, ◌++◌, ◌∷◌, [], ℕ, List, Bool, true, false, not, length, map, ap, sym, subst, arith, take, get_or, Some, refl}
-use Rattle.std.proofs.lemmas.List.{take_more, get_or_default}
-use Rattle.elfobj.specs.Symbols.{NamedSymbol}
+use Rattle.std.proofs.Common.{◌≡◌, ◌∙◌, ◌+◌, ◌++◌, ◌∷◌, [], true, false, not, ap, sym, subst, take, get_or, Some}
+use Rattle.std.proofs.lemmas.List.{take_more}
 use Rattle.elfobj.specs.declared.symbol.Symbol.{Symbol}
 use Rattle.ldmodel.specs.Names.{is_local}
-use Rattle.symres.specs.State.{slot, IsNamed}
+use Rattle.symres.specs.State.{IsNamed}
 use Rattle.symres.specs.declared.symbol.Numbered.{Numbered}
 use Rattle.symres.specs.Spelled.{SpellsSeen, is_seen}
 use Rattle.symres.proofs.Naming.{nothing, visible_is}

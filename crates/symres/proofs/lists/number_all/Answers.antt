@@ -1,10 +1,6 @@
-use Rattle.std.proofs.Common.{◌≡◌, ◌∙◌, ◌<◌, ◌+◌, ◌++◌, ◌∷◌, [], ℕ, List, Bool, true, false, not, length, map, ap, sym, subst, arith, take, get_or, Some, refl}
+use Rattle.std.proofs.Common.{◌∙◌, ◌<◌, ◌+◌, length, ap, arith, take, get_or}
 use Rattle.std.proofs.lemmas.List.{take_more, length-map}
 use Rattle.elfobj.specs.Symbols.{NamedSymbol}
-use Rattle.elfobj.specs.declared.symbol.Symbol.{Symbol}
-use Rattle.ldmodel.specs.Names.{is_local}
-use Rattle.symres.specs.State.{slot, IsNamed}
-use Rattle.symres.specs.declared.symbol.Numbered.{Numbered}
 use Rattle.symres.proofs.Spelling.{spells_push, no_symbol}
 use Rattle.symres.proofs.lists.number_all.Goals as goal
 

@@ -1,10 +1,6 @@
-use Rattle.std.proofs.Common.{◌≡◌, ◌∙◌, ◌<◌, ◌+◌, ◌++◌, ◌∷◌, [], ℕ, List, Bool, true, false, not, length, map, ap, sym, subst, arith, take, get_or, Some, refl}
-use Rattle.std.proofs.lemmas.List.{take_more, get_or_default}
-use Rattle.elfobj.specs.Symbols.{NamedSymbol}
+use Rattle.std.proofs.Common.{◌≡◌, ◌∙◌, false, ap, sym, get_or, Some}
 use Rattle.elfobj.specs.declared.symbol.Symbol.{Symbol}
 use Rattle.ldmodel.specs.Names.{is_local}
-use Rattle.symres.specs.State.{slot, IsNamed}
-use Rattle.symres.specs.declared.symbol.Numbered.{Numbered}
 use Rattle.symres.proofs.Naming.{nothing, visible_is}
 use Rattle.symres.proofs.Spelling.{symbol_is, name_is, spelled_seen, no_symbol}
 use Rattle.symres.proofs.lists.numbered.Goals as goal

@@ -1,4 +1,4 @@
-use Rattle.std.proofs.Common.{◌≡◌, ◌<◌, ◌≤◌, ◌+◌, ◌-◌, ◌/◌, ℕ, length, get_or, arith, ap}
+use Rattle.std.proofs.Common.{◌<◌, ◌+◌, ◌-◌, ◌/◌, ℕ, length, arith, ap}
 use Rattle.std.proofs.lemmas.List.{get_or_default}
 use Rattle.symres.specs.declared.places.Place.{Place}
 use Rattle.symres.proofs.Finding.{below_middle, above_middle}

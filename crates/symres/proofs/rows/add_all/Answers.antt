@@ -1,6 +1,5 @@
-use Rattle.std.proofs.Common.{◌≡◌, ◌<◌, take, arith, subst, get_or, sym, length}
+use Rattle.std.proofs.Common.{◌≡◌, take, arith, subst, get_or, sym}
 use Rattle.std.proofs.lemmas.List.{take_more, take_all, get_or_default}
-use Rattle.symres.specs.declared.symbol.Numbered.{Numbered}
 use Rattle.symres.specs.Numbers.{Grows}
 use Rattle.symres.specs.Steps.{Rows}
 use Rattle.symres.proofs.Adding.{rows_start, grows_start, room_left, rows_end}

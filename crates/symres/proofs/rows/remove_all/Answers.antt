@@ -1,4 +1,4 @@
-use Rattle.std.proofs.Common.{◌≡◌, take, arith, subst, sym}
+use Rattle.std.proofs.Common.{◌≡◌, take, subst, sym}
 use Rattle.std.proofs.lemmas.List.{take_more, take_all}
 use Rattle.symres.specs.Steps.{Cleared}
 use Rattle.symres.proofs.Cleared.{cleared_start, cleared_end}

@@ -1,6 +1,5 @@
 use Rattle.std.proofs.Common.{◌≡◌, ◌<◌, ◌∙◌, take, arith, subst, ap, length, get_or, unwrap_or, ◌+◌, false, sym}
 use Rattle.std.proofs.lemmas.List.{take_more, take_all}
-use Rattle.symres.specs.declared.symbol.Numbered.{Numbered}
 use Rattle.symres.specs.Numbers.{named}
 use Rattle.symres.proofs.Growing.{Roomy, grow_set, roomy_step, roomy_end, count_named}
 use Rattle.symres.proofs.Naming.{nothing, visible_is}

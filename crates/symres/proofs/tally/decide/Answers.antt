@@ -1,6 +1,5 @@
-use Rattle.std.proofs.Common.{◌≡◌, ◌∙◌, ◌+◌, ◌++◌, ◌∷◌, [], ap, sym, map, take, get_or}
+use Rattle.std.proofs.Common.{◌∙◌, ap, sym, map, take}
 use Rattle.std.proofs.lemmas.List.{take_more, map-append}
-use Rattle.symres.specs.declared.symbol.Declared.{Declared}
 use Rattle.symres.specs.Tally.{declaration_of, tally_of}
 use Rattle.symres.proofs.tally.decide.Goals as goal
 

@@ -1,4 +1,4 @@
-use Rattle.std.proofs.Common.{◌∙◌, ap, sym, take, map}
+use Rattle.std.proofs.Common.{◌∙◌, ap, take, map}
 use Rattle.symres.specs.Known.{KnownNames, entry_spelled}
 use Rattle.symres.proofs.Cutting.{paired_cut, map_take}
 use Rattle.symres.proofs.known.Known.drop_newer.Goals as goal

@@ -44,6 +44,8 @@ returns-clause-added c =
     let key = c.in_ok-key.key in
     let n = c.vacant_key.result in
     let absent : number_in c.args.name.now a.numbers.entries ≡ None = none_found a.numbers.entries a.names.slots c.args.name.now c.self.invariant (rw (← c.self.view_is) at c.requires) in
-    let absent' : number_in key.items a.numbers.entries ≡ None = ap (λ l. number_in l a.numbers.entries) c.in_ok-key.ensures.items ∙ absent in
-    (entry_spelled (key, n) ∷ [], ap (map entry_spelled) (c.in_ok-insert.ensures.entries ∙ insert_entry-new (λ (x y : Vec ℕ Global). bytes_eq x.items y.items) a.numbers key n absent')
-    ∙ map-append entry_spelled a.numbers.entries ((key, n) ∷ []) ∙ ap (λ (k : KnownNames). k.order ++ entry_spelled (key, n) ∷ []) c.self.view_is)
+    let absent' : number_in key.items a.numbers.entries ≡ None = ap (λ l. number_in l a.numbers.entries) c.in_ok-key.ensures.items ∙ absent in (
+      entry_spelled (key, n) ∷ [],
+      ap (map entry_spelled) (c.in_ok-insert.ensures.entries ∙ insert_entry-new (λ (x y : Vec ℕ Global). bytes_eq x.items y.items) a.numbers key n absent')
+          ∙ map-append entry_spelled a.numbers.entries ((key, n) ∷ []) ∙ ap (λ (k : KnownNames). k.order ++ entry_spelled (key, n) ∷ []) c.self.view_is,
+    )

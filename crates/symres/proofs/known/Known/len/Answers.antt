@@ -1,6 +1,5 @@
-use Rattle.std.proofs.Common.{subst, length, map, ap, ◌∙◌, sym}
-use Rattle.std.proofs.lemmas.List.{length-map}
-use Rattle.symres.specs.Known.{KnownNames, entry_spelled, IsConsistent}
+use Rattle.std.proofs.Common.{subst}
+use Rattle.symres.specs.Known.{KnownNames, IsConsistent}
 use Rattle.symres.specs.State.{AreDistinct}
 use Rattle.symres.proofs.Pairs.{distinct_law, consistent}
 use Rattle.symres.proofs.known.Known.len.Goals as goal

@@ -1,9 +1,8 @@
-use Rattle.std.proofs.Common.{◌≡◌, ◌<◌, ◌≤◌, ◌∙◌, ap, sym, subst, length, arith, Vec, Global, take, drop, eqb, false, ◌++◌}
+use Rattle.std.proofs.Common.{◌≡◌, ◌≤◌, ◌∙◌, ap, sym, subst, length, arith, Vec, Global, take, drop, eqb, false, ◌++◌}
 use Rattle.std.specs.List.{All, insert}
 use Rattle.std.specs.Vec.{vec_capacity}
 use Rattle.std.proofs.lemmas.List.{length-map, take-append-drop}
 use Rattle.symres.specs.declared.symbol.Declared.{Declared}
-use Rattle.symres.specs.declared.symbol.Numbered.{Numbered}
 use Rattle.symres.specs.Numbers.{Entered, IsTable, HasRow}
 use Rattle.symres.specs.Objects.{ObjectsState, IsKept}
 use Rattle.symres.proofs.Placing.{split_at, kept_after, rooms, places_fit, written}

@@ -1,9 +1,8 @@
-use Rattle.std.proofs.Common.{◌<◌, length, ap, arith, Vec, Global}
+use Rattle.std.proofs.Common.{length, ap, arith, Vec, Global}
 use Rattle.std.specs.List.{All}
 use Rattle.std.specs.Vec.{vec_capacity}
 use Rattle.std.proofs.lemmas.List.{length-map}
 use Rattle.symres.specs.declared.symbol.Declared.{Declared}
-use Rattle.symres.specs.declared.symbol.Numbered.{Numbered}
 use Rattle.symres.specs.Numbers.{HasRow}
 use Rattle.symres.specs.Objects.{ObjectsState, IsKept}
 use Rattle.symres.proofs.Growing.{kept_grown, room_grown, all_ok, can_enter}

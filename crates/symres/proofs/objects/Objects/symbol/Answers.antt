@@ -1,9 +1,7 @@
-use Rattle.std.proofs.Common.{◌≡◌, ◌∙◌, ap, sym, arith, slice_get, Some, Option, None}
-use Rattle.std.specs.Prelude.{IsSome}
-use Rattle.symres.specs.Numbers.{Entered}
+use Rattle.std.proofs.Common.{◌∙◌, ap}
 use Rattle.symres.specs.Objects.{HasKey}
 use Rattle.symres.specs.Places.{place_of}
-use Rattle.symres.proofs.Placing.{Here, here_at, has_symbols, is_found}
+use Rattle.symres.proofs.Placing.{here_at, is_found}
 use Rattle.symres.proofs.objects.Objects.symbol.Goals as goal
 
 pub unwrap-at-requires : goal.unwrap-at-requires
