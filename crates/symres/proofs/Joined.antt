@@ -255,3 +255,12 @@ take_first (x ∷ xs) ys = ap (λ l. x ∷ l) (take_first xs ys)
 
 pub one_name : (names : Names) (n : ℕ) (a b : List ℕ) → IsNamed names n a → IsNamed names n b → a ≡ b
 one_name names n a b h k = let same : Some a ≡ Some b = sym h ∙ k in cc
+
+pub has_object : (names : Names) (os : List Entered) (key : ℕ) → HasKey key os → HasObject key (map (spell names) os)
+has_object names os key h =
+    (h.0, omega (arith, h.1, length-map os (spell names)), λ t. ap (λ (x : Table). x.0) (get_or-map (spell names) os h.0 nobody t h.1) ∙ h.2 nobody)
+
+pub fresh_object : (names : Names) (os : List Entered) (key : ℕ) → All (λ (o : Entered). eqb o.key key ≡ false) os → IsFresh key (map (spell names) os)
+fresh_object names os key h = λ j t l.
+    let lt : j < length os = omega (arith, l, length-map os (spell names)) in
+    ap (λ (x : Table). eqb x.0 key) (get_or-map (spell names) os j nobody t lt) ∙ h j nobody lt

@@ -408,3 +408,9 @@ written n xs items h k =
 -- no place is too great to grow
 pub places_fit : (places : List Place) (os : List Entered) (bound : ℕ) → IsNumbered places os → length os ≤ bound → (k : ℕ) (d : Place) → k < length places → (get_or places k d).at < bound
 places_fit places os bound n h k d l = let o = n.only _ _ (found_at places k d n.sorted l) in omega (arith, o.0, h)
+
+pub is_fresh : (places : List Place) (os : List Entered) (key : ℕ) → IsNumbered places os → place_of places key ≡ None → All (λ (o : Entered). eqb o.key key ≡ false) os
+is_fresh places os key n e j o l = ne_eqb _ _ (λ same. let there : Some j ≡ None = sym (n.at j o l) ∙ ap (place_of places) same ∙ e in absurd (cc))
+
+pub is_entered : (places : List Place) (os : List Entered) (key j : ℕ) → IsNumbered places os → place_of places key ≡ Some j → HasKey key os
+is_entered places os key j n e = let o = n.only key j e in (j, o.0, o.1)

@@ -172,6 +172,21 @@ impl Names {
         }
     }
 
+    /// How many objects are entered.
+    pub fn len(&self) -> usize
+        ensures { result ≡ length self.now.objects }
+    {
+        self.objects.len()
+    }
+
+    /// Whether the object of a key is entered.
+    pub fn contains(&self, object: ObjectKey) -> bool
+        ensures entered { result ≡ true → HasObject object.0 self.now.objects }
+        ensures fresh { result ≡ false → IsFresh object.0 self.now.objects }
+    {
+        self.objects.contains(object.0)
+    }
+
     /// Decides a name over the entries of all entered objects and the script, and counts it. It takes no memory.
     pub fn decide(&self, script: &Script, name: &[u8], meter: &mut Meter) -> Decision
         ensures case { decision_of (λ key. key) result ≡ decided (is_assigned script.now name.now) (is_provided script.now name.now) (entries_of name.now self.now.objects) }

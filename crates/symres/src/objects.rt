@@ -93,6 +93,17 @@ impl Objects {
         self.order.len()
     }
 
+    /// Whether the object of a key is entered.
+    pub fn contains(&self, key: usize) -> bool
+        ensures entered { result ≡ true → HasKey key self.now.objects }
+        ensures fresh { result ≡ false → All (λ (o : Entered). (o.key == key) ≡ false) self.now.objects }
+    {
+        match find(&self.places, key) {
+            Some(_) => true,
+            None => false,
+        }
+    }
+
     /// The entries of a name, in object order and then symbol order. A number past the rows has none.
     pub fn row(&self, name: usize) -> &[Declared]
         ensures { result.now ≡ entries name self.now.objects }
