@@ -1,0 +1,14 @@
+pub mod Greatest
+pub mod Finding
+pub mod Naming
+pub mod Adding
+pub mod Cleared
+pub mod Growing
+pub mod Placing
+pub mod Pairs
+pub mod Forgetting
+pub mod Cutting
+pub mod Parked
+pub mod Spelling
+pub mod Ready
+pub mod Joined

@@ -1,0 +1,17 @@
+use Rattle.std.proofs.Common.{ℕ, map}
+use Rattle.symres.specs.Numbers.{Entered}
+use Rattle.symres.specs.Lists.{rooms}
+use Rattle.symres.proofs.Joined.{forgets}
+use Rattle.symres.proofs.Forgetting.{named_used}
+use Rattle.symres.proofs.names.Names.forget.Goals as goal
+
+abbrev room_in : Entered → ℕ
+room_in o = o.room
+
+pub invariant_of-self : goal.invariant_of-self
+invariant_of-self c = record { named = named_used c.self.inside.known.slots c.forget_unused.new.self.slots c.self.inside.objects.objects c.forget_unused.ensures c.self.invariant.named; lists = c.self.invariant.lists }
+
+pub returns : goal.returns
+returns c =
+    let a = c.self.inside in
+    rw (← c.self.view_is) (forgets a.known.slots c.forget_unused.new.self.slots a.objects (rooms a.spare.items) (map room_in a.objects.objects) c.len-known.ensures.distinct c.self.invariant.named c.forget_unused.ensures)

@@ -1,0 +1,32 @@
+use Rattle.std.proofs.Common.{◌∙◌, length, map, ap, sym, subst, arith}
+use Rattle.symres.specs.Lists.{rooms}
+use Rattle.symres.specs.Spelled.{spell}
+use Rattle.symres.specs.State.{State}
+use Rattle.symres.proofs.Spelling.{AllSpellable, same_objects, spellable_kept}
+use Rattle.symres.proofs.Growing.{both_ok}
+use Rattle.symres.proofs.Joined.{may_enter}
+use Rattle.symres.proofs.names.Names.reserve.Goals as goal
+
+pub invariant_of-self : goal.invariant_of-self
+invariant_of-self c =
+    let a = c.self.inside in
+    let e = c.reserve_fields-reserved.ensures in
+    record {
+      named = subst (AllSpellable c.reserve_fields-reserved.new.known.slots) (sym e.same.objects) (spellable_kept a.known.slots c.reserve_fields-reserved.new.known.slots a.objects.objects e.kept c.self.invariant.named);
+      lists = omega (arith, e.room, ap length e.same.objects);
+    }
+
+pub returns-clause-objects : goal.returns-clause-objects
+returns-clause-objects c =
+    let a = c.self.inside in
+    let e = c.reserve_fields-reserved.ensures in
+    let new = c.reserve_fields-reserved.new.known.slots in
+    ap (map (spell new)) e.same.objects ∙ sym (same_objects a.known.slots new a.objects.objects e.kept c.self.invariant.named) ∙ ap (λ (s : State). s.objects) c.self.view_is
+
+pub returns-clause-ok : goal.returns-clause-ok
+returns-clause-ok c =
+    let a = c.self.inside in
+    let e = c.reserve_fields-reserved.ensures in
+    let new = c.reserve_fields-reserved.new.known.slots in
+    let named : AllSpellable new c.reserve_fields-reserved.new.objects.objects = subst (AllSpellable new) (sym e.same.objects) (spellable_kept a.known.slots new a.objects.objects e.kept c.self.invariant.named) in
+    both_ok c.reserve_fields-reserved.result e.ok e.list (λ r l. may_enter new c.reserve_fields-reserved.new.objects (rooms c.reserve_fields-reserved.new.spare.items) _ c.args.object.now.symbols c.len-known.ensures.distinct named r l)

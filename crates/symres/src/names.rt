@@ -1,0 +1,294 @@
+//! The names of entered objects: which definition each stands for.
+
+ghost use Rattle.std.specs.Prelude.{◌≡◌, ◌≤◌, ◌<◌, ◌+◌, ◌==◌, ℕ, List, [], length, insert, true, false, not, vec_len, vec_capacity, OnOk, OnErr, MatchOption};
+ghost use Rattle.std.specs.List.{All};
+ghost use Rattle.ldbase.specs.Raised.{raised};
+ghost use Rattle.ldbase.specs.declared.meter.Count.TheVariants as counts;
+ghost use Rattle.elfobj.specs.Symbols.{NamedSymbol};
+ghost use Rattle.ldmodel.specs.HandedOver.{decision_of};
+ghost use Rattle.ldmodel.specs.Names.{decided, is_local};
+ghost use Rattle.ldmodel.specs.ScriptNames.{is_assigned, is_provided};
+ghost use Rattle.symres.specs.Known.{AddsNames};
+ghost use Rattle.symres.specs.Lists.{rooms, Adds};
+ghost use Rattle.symres.specs.Objects.{GrowsRoom};
+ghost use Rattle.symres.specs.Spelled.{IsReady};
+ghost use Rattle.symres.specs.State.{entries_of, Forgets, HasList, HasName, HasObject, HasSymbol, IsFresh, IsMore, IsNamed, IsNameOfSymbol, IsSameBut, KeepsNames, MayEnter, ParksList, SameNames, TakesList, without};
+ghost use Rattle.symres.specs.declared.symbol.Numbered.{Numbered};
+
+use crate::known::Known;
+use crate::lists::{number_all, number_new, park, take_list};
+use crate::objects::Objects;
+use crate::symbol::Numbered;
+use crate::tally::decide;
+use elfobj::object::Object;
+use elfobj::relocation::SymbolIndex;
+use ldbase::memory::NoMemory;
+use ldbase::meter::{Count, Meter};
+use ldmodel::names::{Case, NameKey, ObjectKey};
+use ldscript::script::Script;
+use std::alloc::Global;
+use std::hash::RandomState;
+use std::marker::Model;
+
+/// What a name stands for. Only `Names` makes one, and counts it.
+#[derive(Drop)]
+pub struct Decision {
+    case: Case,
+}
+
+impl Model for Decision {
+    ghost use Rattle.ldmodel.specs.declared.names.Case.{Case};
+
+    ghost Value = { Case };
+
+    ghost view = { λ d. d.case };
+}
+
+impl Decision {
+    /// The case, with the caller's keys of objects.
+    pub fn case(&self) -> &Case
+        ensures { result.now ≡ self.now }
+    {
+        &self.case
+    }
+}
+
+/// The names of entered objects. Each has a key while it is known, and its entries stand in object order, so that a
+/// decision is one pass over them.
+#[derive(Drop)]
+pub struct Names {
+    known: Known,
+    objects: Objects,
+    spare: Vec<Vec<Numbered>>,
+}
+
+impl Model for Names {
+    ghost use Rattle.std.specs.Prelude.{map, vec_len, vec_capacity};
+    ghost use Rattle.symres.specs.Lists.{rooms};
+    ghost use Rattle.symres.specs.Numbers.{Entered};
+    ghost use Rattle.symres.specs.Spelled.{spell, IsJoined};
+    ghost use Rattle.symres.specs.State.{State};
+
+    ghost Value = { State };
+
+    ghost view = { λ a. record {
+      objects = map (spell a.known.slots) a.objects.objects;
+      names = a.known.slots;
+      room = a.objects.room;
+      order_room = a.objects.order_room;
+      place_room = a.objects.place_room;
+      spare = rooms a.spare.items;
+      held = map (λ (o : Entered). o.room) a.objects.objects;
+    } };
+
+    ghost invariant = { λ a. IsJoined a.known.slots a.objects.objects (vec_len a.spare) (vec_capacity a.spare) };
+}
+
+/// Makes rows for the names of these symbols.
+#[tactic(auto, using(crate::proofs::Ready::grows_refl, crate::proofs::Ready::grows_trans))]
+fn grow_rows(objects: &mut Objects, symbols: &[Numbered]) -> Result<(), NoMemory>
+    ensures same { GrowsRoom objects.old objects.new }
+    ensures ok { OnOk result (All (λ (s : Numbered). s.name < length objects.new.room) symbols.now) }
+{
+    for symbol in symbols {
+        objects.grow(symbol.name)?;
+    }
+    Ok(())
+}
+
+/// Makes the names of an object known, and room for its entries.
+#[tactic(auto, using(crate::proofs::Ready::grows_refl, crate::proofs::Ready::grows_trans))]
+fn make_ready(
+    alloc: Global,
+    known: &mut Known,
+    objects: &mut Objects,
+    object: &Object,
+) -> Result<(), NoMemory>
+    ensures kept { KeepsNames known.old.slots known.new.slots }
+    ensures added { AddsNames known.old known.new }
+    ensures same { GrowsRoom objects.old objects.new }
+    ensures ok { OnOk result (IsReady known.new.slots objects.new object.now.symbols) }
+{
+    let mut list = Vec::with_capacity(alloc, object.symbols().len())?;
+    number_new(known, object, &mut list)?;
+    grow_rows(objects, &list)?;
+    objects.reserve(&list)
+}
+
+/// The same, where names that it made known are dropped again if memory is refused.
+#[tactic(auto, using(crate::proofs::Ready::grows_refl))]
+fn make_ready_or_not(
+    alloc: Global,
+    known: &mut Known,
+    objects: &mut Objects,
+    object: &Object,
+) -> Result<(), NoMemory>
+    ensures kept { KeepsNames known.old.slots known.new.slots }
+    ensures refused { OnErr result (SameNames known.old.slots known.new.slots) }
+    ensures same { GrowsRoom objects.old objects.new }
+    ensures ok { OnOk result (IsReady known.new.slots objects.new object.now.symbols) }
+{
+    let count = known.len();
+    match make_ready(alloc, known, objects, object) {
+        Ok(()) => Ok(()),
+        Err(refused) => {
+            known.drop_newer(count);
+            let _known = known.len();
+            Err(refused)
+        }
+    }
+}
+
+#[tactic(auto, using(crate::proofs::Ready::grows_refl))]
+fn reserve_fields(
+    known: &mut Known,
+    objects: &mut Objects,
+    spare: &mut Vec<Vec<Numbered>>,
+    object: &Object,
+) -> Result<(), NoMemory>
+    requires { vec_len spare.old + length objects.old.objects ≤ vec_capacity spare.old }
+    ensures kept { KeepsNames known.old.slots known.new.slots }
+    ensures refused { OnErr result (SameNames known.old.slots known.new.slots) }
+    ensures same { GrowsRoom objects.old objects.new }
+    ensures ok { OnOk result (IsReady known.new.slots objects.new object.now.symbols) }
+    ensures room { vec_len spare.new + length objects.old.objects ≤ vec_capacity spare.new }
+    ensures lists { Adds (rooms spare.old.items) (rooms spare.new.items) }
+    ensures list { OnOk result (HasList (rooms spare.new.items) (length object.now.symbols)) }
+{
+    park(spare, object.symbols().len(), objects.len())?;
+    make_ready_or_not(*spare.allocator(), known, objects, object)
+}
+
+impl Names {
+    /// A table of no objects, which hashes names by `seed`: whoever picks names can't make them collide.
+    pub fn new(alloc: Global, seed: RandomState) -> Names
+        ensures objects { result.objects ≡ [] }
+        ensures names { result.names ≡ [] }
+    {
+        Names {
+            known: Known::new(alloc, seed),
+            objects: Objects::new(alloc),
+            spare: Vec::new(alloc),
+        }
+    }
+
+    /// How many objects are entered.
+    pub fn len(&self) -> usize
+        ensures { result ≡ length self.now.objects }
+    {
+        self.objects.len()
+    }
+
+    /// Whether the object of a key is entered.
+    pub fn contains(&self, object: ObjectKey) -> bool
+        ensures entered { result ≡ true → HasObject object.0 self.now.objects }
+        ensures fresh { result ≡ false → IsFresh object.0 self.now.objects }
+    {
+        self.objects.contains(object.0)
+    }
+
+    /// Decides a name over the entries of all entered objects and the script, and counts it. It takes no memory.
+    pub fn decide(&self, script: &Script, name: &[u8], meter: &mut Meter) -> Decision
+        ensures case { decision_of (λ key. key) result ≡ decided (is_assigned script.now name.now) (is_provided script.now name.now) (entries_of name.now self.now.objects) }
+        ensures counted { meter.new ≡ raised meter.old counts.Names 1 }
+    {
+        meter.raise(Count::Names, 1);
+        let given = script.given(name);
+        match self.known.number_of(name) {
+            Some(number) => Decision {
+                case: decide(given, self.objects.row(number)),
+            },
+            None => Decision {
+                case: decide(given, &[]),
+            },
+        }
+    }
+
+    /// The same by the key of the name, without hashing.
+    pub fn decide_key(&self, script: &Script, name: NameKey, meter: &mut Meter) -> Decision
+        requires { HasName self.now.names name.0 }
+        ensures case { (bytes : List ℕ) → IsNamed self.now.names name.0 bytes → decision_of (λ key. key) result ≡ decided (is_assigned script.now bytes) (is_provided script.now bytes) (entries_of bytes self.now.objects) }
+        ensures counted { meter.new ≡ raised meter.old counts.Names 1 }
+    {
+        meter.raise(Count::Names, 1);
+        let _known = self.known.len();
+        let given = script.given(self.known.name_of(name.0).unwrap());
+        Decision {
+            case: decide(given, self.objects.row(name.0)),
+        }
+    }
+
+    /// The name of a key, while it is known.
+    pub fn name_of(&self, name: NameKey) -> Option<&[u8]>
+        ensures { MatchOption result ((bytes : List ℕ) → IsNamed self.now.names name.0 bytes → ⊥) (λ bytes. IsNamed self.now.names name.0 bytes.now) }
+    {
+        self.known.name_of(name.0)
+    }
+
+    /// The key of the name of a symbol that isn't local, of an entered object. Nothing is hashed: the time is logarithmic
+    /// in the number of objects.
+    pub fn key_of(&self, object: ObjectKey, symbol: SymbolIndex) -> NameKey
+        requires entered { HasObject object.0 self.now.objects }
+        requires symbol { HasSymbol object.0 symbol.0 self.now.objects }
+        ensures { IsNameOfSymbol self.now.names object.0 symbol.0 self.now.objects result.0 }
+    {
+        match self.objects.symbol(object.0, symbol.0 as usize) {
+            Some(symbol) => NameKey(symbol.name),
+            None => unreachable!(),
+        }
+    }
+
+    /// Takes all memory that entering an object needs: its names are known from then on, and there is room for its
+    /// entries. Where memory is refused, the names that it made known are dropped again.
+    pub fn reserve(&mut self, object: &Object) -> Result<(), NoMemory>
+        ensures objects { self.new.objects ≡ self.old.objects }
+        ensures ok { OnOk result (MayEnter self.new object.now.symbols) }
+        ensures more { IsMore self.old self.new }
+        ensures refused { OnErr result (SameNames self.old.names self.new.names) }
+    {
+        let reserved = reserve_fields(&mut self.known, &mut self.objects, &mut self.spare, object);
+        let _known = self.known.len();
+        reserved
+    }
+
+    /// Enters an object at a place among the entered ones, from 0. It takes no memory.
+    pub fn enter(&mut self, key: ObjectKey, at: usize, object: &Object)
+        requires at { at ≤ length self.old.objects }
+        requires fresh { IsFresh key.0 self.old.objects }
+        requires room { MayEnter self.old object.now.symbols }
+        ensures objects { self.new.objects ≡ insert self.old.objects at (key.0, object.now.symbols) }
+        ensures same { IsSameBut self.old self.new }
+        ensures order { self.new.order_room + 1 ≡ self.old.order_room }
+        ensures places { self.new.place_room + 1 ≡ self.old.place_room }
+        ensures list { TakesList self.old self.new at (length object.now.symbols) }
+    {
+        let _known = self.known.len();
+        let mut list = take_list(&mut self.spare, object.symbols().len());
+        number_all(&self.known, object, &mut list);
+        self.objects.enter(key.0, at, list);
+    }
+
+    /// Takes an object out. Its names stay known and its room reserved. It takes no memory.
+    pub fn withdraw(&mut self, key: ObjectKey)
+        requires { HasObject key.0 self.old.objects }
+        ensures objects { self.new.objects ≡ without key.0 self.old.objects }
+        ensures same { IsSameBut self.old self.new }
+        ensures order { self.new.order_room ≡ self.old.order_room + 1 }
+        ensures places { self.new.place_room ≡ self.old.place_room + 1 }
+        ensures list { ParksList self.old self.new key.0 }
+        ensures again { All (λ (t : ℕ × List NamedSymbol). (t.0 == key.0) ≡ true → MayEnter self.new t.1) self.old.objects }
+        ensures others { (symbols : List NamedSymbol) → MayEnter self.old symbols → MayEnter self.new symbols }
+    {
+        let _known = self.known.len();
+        let list = self.objects.withdraw(key.0);
+        self.spare.push_reserved(list);
+    }
+
+    /// Forgets the names that have no entries. The others keep their keys. It takes no memory.
+    pub fn forget(&mut self)
+        ensures { Forgets self.old self.new }
+    {
+        let _known = self.known.len();
+        self.known.forget_unused(&self.objects);
+    }
+}

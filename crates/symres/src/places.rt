@@ -1,0 +1,84 @@
+//! Where the object of a key stands among the entered ones.
+
+ghost use Rattle.std.specs.Prelude.{◌≡◌, ◌<◌, ◌≤◌, ◌^◌, ◌-◌, length};
+ghost use Rattle.std.specs.List.{All};
+
+/// The key of an entered object, and its place in the project, from 0.
+#[derive(Clone, Copy, Debug, PartialEq, Eq)]
+pub struct Place {
+    pub key: usize,
+    pub at: usize,
+}
+
+ghost use Rattle.symres.specs.Places.{AreSorted, IsBelow, place_of, is_below, up, down, AreMoved};
+ghost use Rattle.symres.specs.declared.places.Place.{Place};
+
+/// The number of places whose key is below this one.
+pub fn count_below(places: &[Place], key: usize) -> usize
+    requires { AreSorted places.now }
+    ensures { IsBelow places.now key result }
+{
+    let mut low = 0;
+    let mut high = places.len();
+    while low < high {
+        let middle = low + (high - low) / 2;
+        if places[middle].key < key {
+            low = middle + 1;
+        } else {
+            high = middle;
+        }
+    }
+    low
+}
+
+/// The place of the object of a key.
+pub fn find(places: &[Place], key: usize) -> Option<usize>
+    requires { AreSorted places.now }
+    ensures { result ≡ place_of places.now key }
+{
+    let number = count_below(places, key);
+    match places.get(number) {
+        Some(place) => {
+            if place.key == key {
+                Some(place.at)
+            } else {
+                None
+            }
+        }
+        None => None,
+    }
+}
+
+/// Whether the object of a key stands in front of `at`.
+pub fn is_in_front(places: &[Place], at: usize, key: usize) -> bool
+    requires { AreSorted places.now }
+    ensures { result ≡ is_below at (place_of places.now key) }
+{
+    match find(places, key) {
+        Some(place) => place < at,
+        None => false,
+    }
+}
+
+/// Makes a gap at `at` in the places of objects.
+pub fn move_up(places: &mut [Place], at: usize)
+    requires { All (λ (p : Place). p.at < 2 ^ 64 - 1) places.old }
+    ensures { AreMoved (up at) places.old places.new }
+{
+    for place in places.iter_mut() {
+        if place.at >= at {
+            place.at += 1;
+        }
+    }
+}
+
+/// Closes the gap at `at`.
+pub fn move_down(places: &mut [Place], at: usize)
+    ensures { AreMoved (down at) places.old places.new }
+{
+    for place in places.iter_mut() {
+        if place.at > at {
+            place.at -= 1;
+        }
+    }
+}
