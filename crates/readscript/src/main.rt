@@ -30,7 +30,7 @@
 //! is `*` alone, which every name matches; or the one name that matches it, with `\` before each byte that would not be
 //! plain in a pattern; or `~`, which stands for any other pattern. Where an `EXCLUDE_FILE` belongs to a PATTERN,
 //! `exclude(PATTERN PATTERN) ` stands before it. A refused text has `refused N` in place of a tree, with the reader's
-//! number.
+//! number, and under it the line and the reason, for people.
 //!
 //! For `numbers` it prints the same of the text, the name of `ENTRY`, and then by their numbers, each with its line,
 //! the memory regions, the output sections, the input statements with their places, and the assignments, `PROVIDE`s

@@ -3,6 +3,7 @@
 use crate::statement::push_statement;
 use crate::text::{is_shown, push_text};
 use ldscript::script::Script;
+use scriptwhy::explain::explain;
 use std::alloc::{AllocError, Global};
 use std::fmt::Write;
 
@@ -23,6 +24,9 @@ pub fn push_script(alloc: Global, out: &mut String, text: &[u8]) -> Result<(), A
         Err(refusal) => {
             let number = refusal.number();
             writeln!(out, "refused {number}")?;
+            if let Some(explanation) = explain(alloc, text)? {
+                writeln!(out, "  {explanation}")?;
+            }
         }
     }
     Ok(())

@@ -1,0 +1,13 @@
+//! Why a text is no script, for people: on which line, and what is wrong there. It walks over the tokens once more with
+//! the rules of the grammar, and nothing but its safety is proved.
+#![tactic(auto)]
+
+mod body;
+mod clash;
+pub mod explain;
+mod input;
+mod lines;
+pub mod reason;
+mod section;
+mod statement;
+mod walk;
