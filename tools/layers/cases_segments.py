@@ -1,5 +1,7 @@
 """Cases for `trysegments`: which sections share a segment, where segments stand, padding past 2^64, the length of the
-image, and sections that meet. What is wanted comes from the calculator; numbers that stand here were worked out by hand.
+image, and sections that meet.
+
+What is wanted comes from the calculator; numbers that stand here were worked out by hand.
 """
 import random
 from collections import namedtuple
@@ -59,9 +61,9 @@ class Wanted:
         self.stream.line("segments")
         for one in found:
             flags = "r" + "w" * bool(one.flags & elf.PF_W) + "x" * bool(one.flags & elf.PF_X)
-            self.lines.append(f"{one.offset:#x} at {one.address:#x} (load {one.load:#x}), {one.file_size:#x} in the file, "
-                              f"{one.memory_size:#x} in memory, {flags}: sections {one.sections[0].number} "
-                              f"to {one.sections[-1].number}")
+            self.lines.append(f"{one.offset:#x} at {one.address:#x} (load {one.load:#x}), "
+                              f"{one.file_size:#x} in the file, {one.memory_size:#x} in memory, "
+                              f"{flags}: sections {one.sections[0].number} to {one.sections[-1].number}")
         if by_hand:
             seen = [(one.offset, one.file_size, one.memory_size, one.sections[0].number, one.sections[-1].number)
                     for one in found]
@@ -114,15 +116,18 @@ def shared(wanted):
     wanted.length(0, 1, 33)
     for title, at, first, second, count in (
             ("a page past the end", 0x2010, "-", "-", 2), ("less than a page past the end", 0x200f, "-", "-", 1),
-            ("at the end", 0x1010, "-", "-", 1), ("before the end", 0x100f, "-", "-", 2), ("before the start", 0x800, "-", "-", 2),
+            ("at the end", 0x1010, "-", "-", 1), ("before the end", 0x100f, "-", "-", 2),
+            ("before the start", 0x800, "-", "-", 2),
             ("one may be written", 0x1010, "-", "w", 2), ("both may be written", 0x1010, "w", "w", 1),
-            ("one holds code", 0x1010, "x", "-", 2), ("code and data", 0x1010, "x", "w", 2), ("both flags", 0x1010, "wx", "wx", 1)):
+            ("one holds code", 0x1010, "x", "-", 2), ("code and data", 0x1010, "x", "w", 2),
+            ("both flags", 0x1010, "wx", "wx", 1)):
         wanted.case(title)
         wanted.section(0x1000, 0x10, flags=first)
         wanted.section(at, 0x10, flags=second)
         wanted.segments()
         assert len(file_layout(wanted.placement).segments) == count, title
-    for title, loads, count in (("loaded elsewhere, as far", (0x8000, 0x8010), 1), ("loaded elsewhere, not as far", (0x8000, 0x8020), 2),
+    for title, loads, count in (("loaded elsewhere, as far", (0x8000, 0x8010), 1),
+                                ("loaded elsewhere, not as far", (0x8000, 0x8020), 2),
                                 ("the distance is modulo 2^64", (0xfffffffffffff000, 0xfffffffffffff010), 1),
                                 ("the distance wraps", (0x8000, 0xfffffffffffffff0), 2)):
         wanted.case(title)
@@ -155,7 +160,7 @@ def in_the_file(wanted):
     wanted.section(0x402000, 8, flags="w")
     wanted.section(0x400010, 8)
     wanted.section(0x4010a8 - 8, 1, flags="wx")
-    wanted.segments((0xff8 if 0xff8 >= 64 + 56 * 4 else 0, 8, 8, 0, 0), (0x1000, 8, 8, 1, 1), (0x1010, 8, 8, 2, 2), (0x10a0, 1, 1, 3, 3))
+    wanted.segments((0xff8, 8, 8, 0, 0), (0x1000, 8, 8, 1, 1), (0x1010, 8, 8, 2, 2), (0x10a0, 1, 1, 3, 3))
     wanted.case("right past the headers")
     wanted.section(0x400000 + 64 + 56, 4)
     wanted.segments((120, 4, 4, 0, 0))
@@ -235,7 +240,8 @@ def at_random(wanted):
             at = max(0, at + choose.choice((0, 0, 1, 8, 16, 0x800, 0x1000, 0x1008, -16, -0x400)))
             size = choose.choice((0, 1, 8, 8, 16, 0x123))
             load = choose.choice((None, None, None, at + 0x100000, choose.randrange(0x2000)))
-            wanted.section(at, size, load=load, loaded=choose.random() < 0.75, flags=choose.choice(("-", "-", "w", "x")))
+            flags = choose.choice(("-", "-", "w", "x"))
+            wanted.section(at, size, load=load, loaded=choose.random() < 0.75, flags=flags)
             at += size
         wanted.segments()
         wanted.length(choose.randrange(9), choose.randrange(200), choose.randrange(200))

@@ -11,39 +11,51 @@ HALF = 2 ** 63
 # an expression and its value; None where it has none
 ARITHMETIC = [
     ("0", 0), ("0xffffffffffffffff", TOP), ("1K", 1024), ("1M", 2 ** 20),
-    ("0xffffffffffffffff + 1", 0), ("0xffffffffffffffff + 0xffffffffffffffff", TOP - 1), ("0 - 1", TOP), ("5 - 7", TOP - 1),
+    ("0xffffffffffffffff + 1", 0), ("0xffffffffffffffff + 0xffffffffffffffff", TOP - 1), ("0 - 1", TOP),
+    ("5 - 7", TOP - 1),
     ("3 - 3", 0), ("0xffffffffffffffff * 0xffffffffffffffff", 1), ("0x100000000 * 0x100000000", 0), ("6 * 7", 42),
-    ("7 / 2", 3), ("7 % 2", 1), ("0xffffffffffffffff / 1", TOP), ("0 / 5", 0), ("5 / 0", None), ("5 % 0", None), ("0 / 0", None),
+    ("7 / 2", 3), ("7 % 2", 1), ("0xffffffffffffffff / 1", TOP), ("0 / 5", 0), ("5 / 0", None), ("5 % 0", None),
+    ("0 / 0", None),
     ("0 % 0", None), ("(0 - 7) / 2", (TOP - 6) // 2), ("(0 - 7) % 5", (TOP - 6) % 5),
     ("1 + 2 * 3", 7), ("8 - 4 - 2", 2), ("64 / 8 / 2", 4), ("100 % 30 % 7", 3), ("(1 + 2) * 3", 9),
 ]
 BITS = [
     ("1 << 0", 1), ("1 << 63", HALF), ("1 << 64", 0), ("1 << 65", 0), ("1 << 0xffffffffffffffff", 0), ("3 << 63", HALF),
     ("0xffffffffffffffff << 4", TOP - 15), ("0xffffffffffffffff >> 63", 1), ("0xffffffffffffffff >> 64", 0),
-    ("0xffffffffffffffff >> 65", 0), ("5 >> 0", 5), ("1 << 0x100000000", 0), ("1 >> 0x100000000", 0), ("1 << 2 << 3", 32),
+    ("0xffffffffffffffff >> 65", 0), ("5 >> 0", 5), ("1 << 0x100000000", 0), ("1 >> 0x100000000", 0),
+    ("1 << 2 << 3", 32),
     ("0xf0 & 0x3c", 0x30), ("0xf0 | 0x0f", 0xff), ("0xffffffffffffffff & 0", 0), ("6 | 1 & 2", 6),
-    ("~0", TOP), ("~0xffffffffffffffff", 0), ("~1", TOP - 1), ("-1", TOP), ("-0", 0), ("--5", 5), ("-0x8000000000000000", HALF),
+    ("~0", TOP), ("~0xffffffffffffffff", 0), ("~1", TOP - 1), ("-1", TOP), ("-0", 0), ("--5", 5),
+    ("-0x8000000000000000", HALF),
     ("!0", 1), ("!1", 0), ("!5", 0), ("!!5", 1), ("~~9", 9), ("-~0", 1), ("!-0", 1),
 ]
 COMPARISONS = [
-    ("1 < 2", 1), ("2 < 1", 0), ("1 < 1", 0), ("0 - 1 < 1", 0), ("1 <= 1", 1), ("2 <= 1", 0), ("1 > 1", 0), ("2 > 1", 1),
-    ("0xffffffffffffffff > 0", 1), ("1 >= 1", 1), ("0 >= 1", 0), ("1 == 1", 1), ("1 == 2", 0), ("1 != 1", 0), ("1 != 2", 1),
+    ("1 < 2", 1), ("2 < 1", 0), ("1 < 1", 0), ("0 - 1 < 1", 0), ("1 <= 1", 1), ("2 <= 1", 0), ("1 > 1", 0),
+    ("2 > 1", 1),
+    ("0xffffffffffffffff > 0", 1), ("1 >= 1", 1), ("0 >= 1", 0), ("1 == 1", 1), ("1 == 2", 0), ("1 != 1", 0),
+    ("1 != 2", 1),
     ("1 < 2 < 2", 1), ("3 > 2 == 1", 1), ("1 == 1 == 1", 1),
 ]
 CHOICES = [
-    ("0 && 0", 0), ("0 && 5", 0), ("5 && 0", 0), ("5 && 7", 1), ("0 || 0", 0), ("0 || 5", 1), ("5 || 0", 1), ("5 || 7", 1),
-    ("0 && 1 / 0", 0), ("1 && 1 / 0", None), ("1 || 1 / 0", 1), ("0 || 1 / 0", None), ("0 && gone", 0), ("7 || gone", 1),
-    ("1 ? 2 : 3", 2), ("0 ? 2 : 3", 3), ("5 ? 2 : 1 / 0", 2), ("0 ? 1 / 0 : 3", 3), ("1 ? 2 : gone", 2), ("0 ? gone : 3", 3),
-    ("1 ? 0 ? 4 : 5 : 6", 5), ("0 ? 1 : 0 ? 2 : 3", 3), ("1 / 0 ? 2 : 3", None), ("1 || 0 && 0", 1), ("(1 / 0) && 0", None),
+    ("0 && 0", 0), ("0 && 5", 0), ("5 && 0", 0), ("5 && 7", 1), ("0 || 0", 0), ("0 || 5", 1), ("5 || 0", 1),
+    ("5 || 7", 1),
+    ("0 && 1 / 0", 0), ("1 && 1 / 0", None), ("1 || 1 / 0", 1), ("0 || 1 / 0", None), ("0 && gone", 0),
+    ("7 || gone", 1),
+    ("1 ? 2 : 3", 2), ("0 ? 2 : 3", 3), ("5 ? 2 : 1 / 0", 2), ("0 ? 1 / 0 : 3", 3), ("1 ? 2 : gone", 2),
+    ("0 ? gone : 3", 3),
+    ("1 ? 0 ? 4 : 5 : 6", 5), ("0 ? 1 : 0 ? 2 : 3", 3), ("1 / 0 ? 2 : 3", None), ("1 || 0 && 0", 1),
+    ("(1 / 0) && 0", None),
     ("1 / 0 || 1", None), ("2 == 2 && 3 == 3", 1),
 ]
 ALIGNMENTS = [
     ("ALIGN(0, 0)", None), ("ALIGN(5, 0)", None), ("ALIGN(5, 3)", None), ("ALIGN(5, 1)", 5), ("ALIGN(5, 4)", 8),
     ("ALIGN(8, 4)", 8), ("ALIGN(0, 0x8000000000000000)", 0), ("ALIGN(1, 0x8000000000000000)", HALF),
     ("ALIGN(0x8000000000000001, 0x8000000000000000)", 0), ("ALIGN(0xffffffffffffffff, 2)", 0),
-    ("ALIGN(0xffffffffffffffff, 1)", TOP), ("ALIGN(0xfffffffffffff001, 4096)", 0), ("ALIGN(0)", None), ("ALIGN(3)", None),
+    ("ALIGN(0xffffffffffffffff, 1)", TOP), ("ALIGN(0xfffffffffffff001, 4096)", 0), ("ALIGN(0)", None),
+    ("ALIGN(3)", None),
     ("ALIGN(1)", 0x1234), ("ALIGN(16)", 0x1240), ("ALIGN(4096)", 0x2000), ("ALIGN(ALIGN(1), 16)", 0x1240),
-    ("ALIGN(1 / 0, 0)", None), ("ALIGN(1, 1 / 0)", None), (".", 0x1234), (". + ALIGN(0x1000)", 0x3234), ("ALIGN(. - 0x234, 4096)", 0x1000),
+    ("ALIGN(1 / 0, 0)", None), ("ALIGN(1, 1 / 0)", None), (".", 0x1234), (". + ALIGN(0x1000)", 0x3234),
+    ("ALIGN(. - 0x234, 4096)", 0x1000),
 ]
 # x is 10, z is 0, .text is 0x400 bytes at 0x1000 (loaded at 0x8000), ram is 0x10000 bytes from 0x20000
 NAMES = [
@@ -51,10 +63,13 @@ NAMES = [
     ("ADDR(.text) + SIZEOF(.text)", 0x1400), ("ORIGIN(ram)", 0x20000), ("LENGTH(ram)", 0x10000), ("x / z", None),
     ("x % z", None), ("ALIGN(x, z)", None), ("ALIGN(x, x)", None), ("z && gone", 0), ("x || SIZEOF(.gone)", 1),
 ]
-MISSING = ["gone", "x + gone", "gone + x", "gone + other", "other + gone", "1 / 0 + gone", "gone + 1 / 0", "ADDR(.gone)",
-           "LOADADDR(.gone)", "SIZEOF(.gone)", "SIZEOF(.gone) + gone", "-gone", "!gone", "gone ? 1 : 2", "1 ? gone : 2", "0 ? 2 : gone",
-           "x && gone", "gone && x", "z || gone", "ALIGN(gone)", "ALIGN(gone, 0)", "ALIGN(x, gone)", "ALIGN(0, gone)",
-           "x + x + gone", "gone << gone", "gone == gone", "text", "ADDR(x)", "LENGTH(rom)", "ORIGIN(rom) + gone"]
+MISSING = [
+    "gone", "x + gone", "gone + x", "gone + other", "other + gone", "1 / 0 + gone", "gone + 1 / 0", "ADDR(.gone)",
+    "LOADADDR(.gone)", "SIZEOF(.gone)", "SIZEOF(.gone) + gone", "-gone", "!gone", "gone ? 1 : 2", "1 ? gone : 2",
+    "0 ? 2 : gone", "x && gone", "gone && x", "z || gone", "ALIGN(gone)", "ALIGN(gone, 0)", "ALIGN(x, gone)",
+    "ALIGN(0, gone)", "x + x + gone", "gone << gone", "gone == gone", "text", "ADDR(x)", "LENGTH(rom)",
+    "ORIGIN(rom) + gone",
+]
 
 
 class Scope:
@@ -160,7 +175,8 @@ def cases(stream):
     wanted.case("where names are mentioned")
     wanted.keep("ENTRY(start) MEMORY { ram : ORIGIN = a, LENGTH = b + c } top = d; PROVIDE(p = e ? f : g);"
                 " SECTIONS { . = h; .text ADDR(.i) : AT(j) ALIGN(k) { *(.text) . += l; m = n; QUAD(SIZEOF(.o)) } >ram"
-                " /DISCARD/ : { *(.x) } .data : { . = q; ASSERT(r && !s, \"t\") PROVIDE(u = ORIGIN(ram)); } ASSERT(v, \"w\") }"
+                " /DISCARD/ : { *(.x) } .data : { . = q; ASSERT(r && !s, \"t\") PROVIDE(u = ORIGIN(ram)); }"
+                " ASSERT(v, \"w\") }"
                 " last = a;")
     wanted.mentions()
     wanted.values(0)

@@ -1,6 +1,7 @@
 -- The faults by numbers are those of the definition by names.
 use Rattle.std.proofs.Common.{◌≡◌, ◌∙◌, sym, refl, ap, subst, ℕ, ◌+◌, List, [], ◌∷◌, ◌++◌, length, map, append_assoc}
-use Rattle.std.proofs.Common.{Bool, Option, Some, None, find, position, slice_get, unwrap_or, suc, zero, cond, nat_lt, get_or, not, inl, inr}
+use Rattle.std.proofs.Common.{Bool, Option, Some, None, find, position, slice_get, unwrap_or, suc, zero, cond, nat_lt}
+use Rattle.std.proofs.Common.{get_or, not, inl, inr}
 use Rattle.std.specs.List.{position_or_len}
 use Rattle.std.specs.Option.{option_map, option_map_or}
 use Rattle.std.proofs.lemmas.Bool.{cases_lt, le-ltb, lt-ltb}

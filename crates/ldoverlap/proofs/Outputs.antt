@@ -1,5 +1,6 @@
 -- A layout has the output sections of its script, in the order of the text.
-use Rattle.std.proofs.Common.{◌≡◌, ◌∙◌, sym, refl, ap, subst, ℕ, ◌+◌, List, [], ◌∷◌, ◌++◌, map, append_assoc, Option, Some, None, Result, Ok, Err}
+use Rattle.std.proofs.Common.{◌≡◌, ◌∙◌, sym, refl, ap, subst, ℕ, ◌+◌, List, [], ◌∷◌, ◌++◌, map, append_assoc, Option}
+use Rattle.std.proofs.Common.{Some, None, Result, Ok, Err}
 use Rattle.std.proofs.Common.{Bool, true, false, ◌==◌, nat_lt, bytes_eq, if◌then◌else◌}
 use Rattle.std.proofs.lemmas.List.{append-nil, map-append}
 use Rattle.std.specs.Bool.{⊤}
@@ -24,11 +25,13 @@ use Rattle.ldtree.specs.declared.statement.ItemCommand.{ItemCommand}
 use Rattle.ldtree.specs.declared.statement.ItemCommand.TheVariants as item
 use Rattle.ldtree.specs.declared.statement.Region.{Region}
 use Rattle.ldmodel.specs.Assigning.{assigned, common_step}
-use Rattle.ldmodel.specs.Body.{Body, body_command_step, body_step, dot_step, moved, piece_placed, piece_start, pieces_placed, set_to, with_data, with_dot}
+use Rattle.ldmodel.specs.Body.{Body, body_command_step, body_step, dot_step, moved, piece_placed, piece_start}
+use Rattle.ldmodel.specs.Body.{pieces_placed, set_to, with_data, with_dot}
 use Rattle.ldmodel.specs.Chain.{and_then, run}
 use Rattle.ldmodel.specs.Fault.{Fault, MovedBack}
 use Rattle.ldmodel.specs.Layout.{Layout, PlacedSection, address, noted, nothing_placed, number}
-use Rattle.ldmodel.specs.Placement.{command_step, free_dot_step, item_command_step, item_step, next_row, opened, placement, region_step, section_step, statement_step}
+use Rattle.ldmodel.specs.Placement.{command_step, free_dot_step, item_command_step, item_step, next_row, opened}
+use Rattle.ldmodel.specs.Placement.{placement, region_step, section_step, statement_step}
 use Rattle.ldmodel.specs.Project.{Project}
 use Rattle.ldmodel.specs.Rows.{Piece}
 use Rattle.ldmodel.specs.SectionEnd.{find_region, load_region, placed_section, section_end, with_room, with_section}

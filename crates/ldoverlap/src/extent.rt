@@ -28,8 +28,8 @@ impl Extent {
     }
 }
 
-/// Whether each range, in this order, begins at or past the end of all before it; ranges of size 0 do not count. Then no
-/// address is in two of them.
+/// Whether each range, in this order, begins at or past the end of all before it; ranges of size 0 do not count. Then
+/// no address is in two of them.
 pub(crate) fn are_ascending(extents: &[Extent]) -> bool
     ensures { IsTrue result → (address : ℕ) → cover address extents.now ≤ 1 }
 {

@@ -80,7 +80,8 @@ fn push_meeting(
     earlier: &[Extent],
     extent: &Extent,
 ) -> Result<(), NoMemory>
-    ensures { OnOk result (faults.new.items ≡ faults.old.items ++ fault_with space (length earlier.now) (first_met earlier.now extent.now)) }
+    ensures { OnOk result (faults.new.items
+        ≡ faults.old.items ++ fault_with space (length earlier.now) (first_met earlier.now extent.now)) }
 {
     let Some(met) = first_met(earlier, extent) else {
         return Ok(());

@@ -1,5 +1,6 @@
 -- Where segments stand in the file.
-use Rattle.std.proofs.Common.{◌≡◌, ◌∙◌, sym, refl, ap, ℕ, ◌+◌, ◌-◌, ◌*◌, ◌%◌, ◌≤◌, ◌<◌, ◌^◌, List, [], ◌∷◌, ◌++◌, length, fold, drop, get_or, append_assoc, drop-cons, add-one, min, subst, suc}
+use Rattle.std.proofs.Common.{◌≡◌, ◌∙◌, sym, refl, ap, ℕ, ◌+◌, ◌-◌, ◌*◌, ◌%◌, ◌≤◌, ◌<◌, ◌^◌, List, [], ◌∷◌, ◌++◌}
+use Rattle.std.proofs.Common.{length, fold, drop, get_or, append_assoc, drop-cons, add-one, min, subst, suc}
 use Rattle.std.proofs.lemmas.List.{append-nil, drop_all}
 use Rattle.std.proofs.Common.{◌==◌, arith, if◌then◌else◌}
 use Rattle.std.proofs.Math.Nat.{min-eq_left}
@@ -7,7 +8,8 @@ use Rattle.std.proofs.lemmas.Nat.{mod_below}
 use Rattle.std.specs.List.{AllZip}
 use Rattle.ldmodel.specs.Layout.{PlacedSection}
 use Rattle.ldmodel.specs.Lent.{IsSegment}
-use Rattle.ldmodel.specs.Segments.{Group, Segment, begun, begun_from, congruent, file_end, file_size, groups, headers_end, nonempty, segments}
+use Rattle.ldmodel.specs.Segments.{Group, Segment, begun, begun_from, congruent, file_end, file_size, groups}
+use Rattle.ldmodel.specs.Segments.{headers_end, nonempty, segments}
 use Rattle.ldmodel.specs.declared.segment.Segment as code
 use Rattle.ldsegments.specs.declared.group.Group as code_group
 use Rattle.ldsegments.specs.Grouping.{IsGroup}

@@ -1,6 +1,8 @@
 -- One more output section for the groups so far.
-use Rattle.std.proofs.Common.{◌≡◌, ◌∙◌, sym, refl, ap, subst, ℕ, ◌+◌, ◌-◌, List, [], ◌∷◌, ◌++◌, append_assoc, drop, map, add-one}
-use Rattle.std.proofs.Common.{Option, Some, None, zero, suc, length, get_or, ◌<◌, ◌≤◌, Bool, true, false, ◌==◌, arith, slice_get, if◌then◌else◌, not}
+use Rattle.std.proofs.Common.{◌≡◌, ◌∙◌, sym, refl, ap, subst, ℕ, ◌+◌, ◌-◌, List, [], ◌∷◌, ◌++◌, append_assoc, drop}
+use Rattle.std.proofs.Common.{map, add-one}
+use Rattle.std.proofs.Common.{Option, Some, None, zero, suc, length, get_or, ◌<◌, ◌≤◌, Bool, true, false, ◌==◌, arith}
+use Rattle.std.proofs.Common.{slice_get, if◌then◌else◌, not}
 use Rattle.std.proofs.lemmas.Grind.{fold-append}
 use Rattle.std.proofs.lemmas.Bool.{false_from_ne_true}
 use Rattle.std.proofs.lemmas.Bool.Decides.{Decides-eqb}
@@ -13,7 +15,8 @@ use Rattle.ldmodel.specs.declared.laid.OutputIndex.{OutputIndex}
 use Rattle.ldmodel.specs.declared.laid.Placed.{Placed}
 use Rattle.ldsegments.specs.declared.group.Group as code
 use Rattle.ldsegments.specs.declared.group.Running.{Running}
-use Rattle.ldsegments.specs.Grouping.{IsGroup, Current, IsRunning, Grouped, Takes, bare, begun, joined, single, extended, groups_after, groups_from}
+use Rattle.ldsegments.specs.Grouping.{IsGroup, Current, IsRunning, Grouped, Takes, bare, begun, joined, single}
+use Rattle.ldsegments.specs.Grouping.{extended, groups_after, groups_from}
 use Rattle.ldsegments.proofs.Grouped.{from_none}
 
 pub zip_more : {A B : Type 0} (R : A → B → Type 0) (xs : List A) (ys : List B) (x : A) (y : B) → AllZip R xs ys → R x y

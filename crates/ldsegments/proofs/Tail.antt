@@ -9,7 +9,8 @@ use Rattle.ldmodel.specs.Lent.{AreSegments, IsSegment}
 use Rattle.ldmodel.specs.Project.{Project}
 use Rattle.ldmodel.specs.SectionHeaders.{SectionHeader, header_bytes, header_name_table, header_names, header_part}
 use Rattle.ldmodel.specs.SectionHeaders.{image_length, output_header, section_headers, table_headers, tables}
-use Rattle.ldmodel.specs.Segments.{begun_from, file_end, headers_end, loaded_end, segments, Group, Segment, begun, groups, nonempty}
+use Rattle.ldmodel.specs.Segments.{begun_from, file_end, headers_end, loaded_end, segments, Group, Segment, begun}
+use Rattle.ldmodel.specs.Segments.{groups, nonempty}
 use Rattle.ldmodel.specs.Tail.{SymbolEntry, symbol_bytes, symbol_entry, symbol_name_table, symbol_table, table_symbols}
 use Rattle.ldmodel.specs.declared.segment.Segment as code
 use Rattle.ldsegments.specs.Placing.{Follow, past}

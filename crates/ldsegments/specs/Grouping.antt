@@ -101,7 +101,8 @@ IsRunning sections (Some c) (Some x) = IsCurrent sections c x
 IsRunning sections _ _ = ⊥
 
 -- the groups so far, where the output sections that are left are these
-pub record Grouped (sections rest : List PlacedSection) (done : List code.Group) (running : Option Running) : Type 0 where
+pub record Grouped (sections rest : List PlacedSection) (done : List code.Group) (running : Option Running)
+    : Type 0 where
   pub complete : List Group
   pub current : Option Current
   pub are : AllZip (IsGroup sections) complete done
@@ -109,7 +110,7 @@ pub record Grouped (sections rest : List PlacedSection) (done : List code.Group)
   pub same : groups (nonempty sections) ≡ complete ++ groups_from current (nonempty rest)
 
 -- the step over output section number k
-pub record Takes (done : List code.Group) (running : Option Running) (k : ℕ) (placed : Placed) (new_done : List code.Group)
-    (new_running : Option Running) : Type 0 where
+pub record Takes (done : List code.Group) (running : Option Running) (k : ℕ) (placed : Placed)
+    (new_done : List code.Group) (new_running : Option Running) : Type 0 where
   pub at : (sections rest : List PlacedSection) (q : PlacedSection) → slice_get sections k ≡ Some q
       → placed_of q ≡ placed → Grouped sections (q ∷ rest) done running → Grouped sections rest new_done new_running

@@ -116,7 +116,8 @@ impl Grouping {
     /// One more output section.
     fn take(&mut self, number: usize, section: &Placed) -> Result<(), NoMemory>
         requires { section.now.start + section.now.size < 2 ^ 64 }
-        ensures { OnOk result (Takes self.old.done.items self.old.running number section.now self.new.done.items self.new.running) }
+        ensures { OnOk result (Takes self.old.done.items self.old.running number section.now
+            self.new.done.items self.new.running) }
     {
         if section.size == 0 {
             return Ok(());

@@ -1,6 +1,7 @@
 //! The length of the image.
 
-ghost use Rattle.std.specs.Prelude.{◌≡◌, ℕ, ◌+◌, ◌*◌, ◌≤◌, ◌<◌, ◌^◌, List, fold, length, nat_lt, Option, Some, None, if◌then◌else◌};
+ghost use Rattle.std.specs.Prelude.{◌≡◌, ℕ, ◌+◌, ◌*◌, ◌≤◌, ◌<◌, ◌^◌, List, fold, length, nat_lt, Option, Some, None};
+ghost use Rattle.std.specs.Prelude.{if◌then◌else◌};
 ghost use Rattle.std.specs.Int.{next_multiple_of};
 ghost use Rattle.ldmodel.specs.Link.{max_image_length};
 ghost use Rattle.ldmodel.specs.declared.fault.Fault.TheVariants.{ImageTooLong};
@@ -49,7 +50,8 @@ const FAR: u128 = 3 << 126;
 
 /// Where the loaded part of the file ends: at the end of the last file bytes, or of the headers.
 fn loaded_end(segments: &[Segment]) -> u128
-    ensures exact { Follow (headers_end (length segments.now)) segments.now → result ≡ fold past (headers_end (length segments.now)) segments.now }
+    ensures exact { Follow (headers_end (length segments.now)) segments.now
+        → result ≡ fold past (headers_end (length segments.now)) segments.now }
     ensures far { result ≤ 3 * 2 ^ 126 }
 {
     let mut end = header_length(count(segments));

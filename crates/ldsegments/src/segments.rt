@@ -48,7 +48,8 @@ fn place_segment(end: u128, group: &Group) -> Segment
 pub(crate) fn end_after(end: u128, segment: Segment) -> u128
     ensures value { segment.offset + segment.file_size < 2 ^ 128 → result ≡ past end segment }
     ensures near { segment.offset ≤ end + 4096 → result ≤ end + 4096 + 2 ^ 64 }
-    ensures fits { end + 4096 + 2 ^ 64 < 2 ^ 128 → segment.offset ≤ end + 4096 → segment.offset + segment.file_size < 2 ^ 128 }
+    ensures fits { end + 4096 + 2 ^ 64 < 2 ^ 128 → segment.offset ≤ end + 4096
+        → segment.offset + segment.file_size < 2 ^ 128 }
 {
     if segment.file_size == 0 {
         end

@@ -2,7 +2,8 @@
 
 ghost use Rattle.std.specs.Prelude.{◌≡◌, [], ◌∷◌, ◌++◌, OnOk, IfOk, IfSome, IfNone, ℕ, ◌≤◌, ◌^◌, Some, slice_get};
 ghost use Rattle.ldexpr.specs.Expressions.{expr_of};
-ghost use Rattle.ldmodel.specs.Mentioned.{in_expression, in_optional, in_common, in_dot_command, in_body_command, in_section, in_item, in_command, mentioned_names};
+ghost use Rattle.ldmodel.specs.Mentioned.{in_expression, in_optional, in_common, in_dot_command, in_body_command};
+ghost use Rattle.ldmodel.specs.Mentioned.{in_section, in_item, in_command, mentioned_names};
 ghost use Rattle.ldvalue.specs.Mentions.{Adds, in_load, in_body, in_items, in_regions, shown_names};
 
 use ldmodel::fault::MentionIndex;

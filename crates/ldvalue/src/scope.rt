@@ -7,8 +7,8 @@ ghost use Rattle.ldvalue.specs.Scopes.{section_numbers, region_numbers};
 
 use ldmodel::laid::{Placed, PlacedRegion};
 
-/// What an expression may name where it stands: symbols, output sections and memory regions, each by its name. A look-up
-/// answers `None` for a name that stands for nothing there.
+/// What an expression may name where it stands: symbols, output sections and memory regions, each by its name. A
+/// look-up answers `None` for a name that stands for nothing there.
 pub trait Scope {
     /// When names can be looked up: what the tables of an implementation must agree on.
     ghost can_look_up: { Self → Type 0 };

@@ -69,7 +69,8 @@ fn value_of_section<'e, S: Scope>(
     name: &'e [u8],
 ) -> Result<u64, ValueFault<'e>>
     requires { S.can_look_up scope.now }
-    ensures { outcome_of result ≡ named name.now (option_map (asked_of_section query) ((S.meaning scope.now).section name.now)) }
+    ensures { outcome_of result
+        ≡ named name.now (option_map (asked_of_section query) ((S.meaning scope.now).section name.now)) }
 {
     match scope.section(name) {
         Some(section) => Ok(ask_section(query, &section)),
@@ -84,7 +85,8 @@ fn value_of_region<'e, S: Scope>(
     name: &'e [u8],
 ) -> Result<u64, ValueFault<'e>>
     requires { S.can_look_up scope.now }
-    ensures { outcome_of result ≡ named name.now (option_map (asked_of_region query) ((S.meaning scope.now).region name.now)) }
+    ensures { outcome_of result
+        ≡ named name.now (option_map (asked_of_region query) ((S.meaning scope.now).region name.now)) }
 {
     match scope.region(name) {
         Some(region) => Ok(ask_region(query, &region)),

@@ -1,5 +1,5 @@
-//! `trysegments`: tries the crates `ldsegments` (segments, the length of the image) and `ldoverlap` (output sections that
-//! meet) on a stream of commands (`trystream`). Its own commands:
+//! `trysegments`: tries the crates `ldsegments` (segments, the length of the image) and `ldoverlap` (output sections
+//! that meet) on a stream of commands (`trystream`). Its own commands:
 //!
 //!     section START SIZE LOAD LOADSIZE FLAGS          one more output section; FLAGS are `-`, or `w` and `x`
 //!     segments                                        the segments

@@ -1,9 +1,10 @@
-//! `tryvalue`: tries the crate `ldvalue` (values of expressions) on a stream of commands (`trystream`). Its own commands:
+//! `tryvalue`: tries the crate `ldvalue` (values of expressions) on a stream of commands (`trystream`). Its own
+//! commands:
 //!
 //!     symbol NAME VALUE                 a symbol is in scope
 //!     section NAME START LOAD SIZE      an output section is in scope
 //!     region NAME ORIGIN LENGTH         a memory region is in scope
-//!     values DOT                        the value of each assignment, PROVIDE and ASSERT of the script, with `.` at DOT
+//!     values DOT                        the value of each assignment, PROVIDE and ASSERT, with `.` at DOT
 //!     mentions                          the names that the script's expressions mention, with their numbers
 #![tactic(auto)]
 

@@ -4,7 +4,8 @@ use Rattle.std.specs.List.{AllZip}
 use Rattle.ldmodel.specs.Lent.{AreSegments}
 use Rattle.ldmodel.specs.Segments.{groups, nonempty, segments}
 use Rattle.ldsegments.specs.Grouping.{IsGroup}
-use Rattle.ldsegments.proofs.Offsets.{congruent_near, Placing, placing_all, placing_more, placing_none, room, segments_are}
+use Rattle.ldsegments.proofs.Offsets.{congruent_near, Placing, placing_all, placing_more, placing_none, room}
+use Rattle.ldsegments.proofs.Offsets.{segments_are}
 use Rattle.ldsegments.proofs.segments.segments.Goals as goal
 
 pub loop-group-init : goal.loop-group-init
