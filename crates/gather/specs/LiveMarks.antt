@@ -1,5 +1,5 @@
 -- What marks beside the input sections of a project say, and which graphs are those of a project.
-use Rattle.std.specs.Prelude.{ℕ, ◌≡◌, ◌↔◌, Bool, true, false, List, [], ◌∷◌, map, Some, slice_get, if◌then◌else◌, Contains, IsTrue}
+use Rattle.std.specs.Prelude.{ℕ, ◌≡◌, ◌↔◌, Bool, false, List, [], ◌∷◌, map, Some, slice_get, if◌then◌else◌, Contains, IsTrue}
 use Rattle.ldmodel.specs.Gathering.{is_out}
 use Rattle.ldmodel.specs.InputSections.{input_sections}
 use Rattle.ldmodel.specs.Live.{is_root, refers_to}
