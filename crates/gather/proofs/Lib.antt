@@ -7,3 +7,4 @@ pub mod Sorts
 pub mod RowSteps
 pub mod GatheredLists
 pub mod MemberFacts
+pub mod KeptNumbers

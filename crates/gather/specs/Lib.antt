@@ -7,3 +7,4 @@ pub mod RowPieces
 pub mod Gathered
 pub mod LeftOut
 pub mod Members
+pub mod Roots

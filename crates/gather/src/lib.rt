@@ -8,6 +8,7 @@ pub mod live_sections;
 pub mod marking;
 pub mod matcher;
 pub mod member;
+pub mod roots;
 pub mod rows;
 mod sorting;
 mod word;
