@@ -8,3 +8,4 @@ pub mod RowSteps
 pub mod GatheredLists
 pub mod MemberFacts
 pub mod KeptNumbers
+pub mod Ascending

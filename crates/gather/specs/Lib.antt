@@ -8,3 +8,4 @@ pub mod Gathered
 pub mod LeftOut
 pub mod Members
 pub mod Roots
+pub mod Apart

@@ -3,6 +3,7 @@
 #![tactic(auto)]
 
 pub mod gathered;
+pub mod law;
 pub mod left_out;
 pub mod live_sections;
 pub mod marking;
