@@ -1,5 +1,5 @@
 -- The order of the linked sections of objects.
-use Rattle.std.specs.Prelude.{◌<◌, List, map, All}
+use Rattle.std.specs.Prelude.{◌<◌, map, All}
 use Rattle.std.specs.List.{AllPairs}
 use Rattle.elfobj.specs.Sections.{section_of}
 use Rattle.elfdefs.specs.declared.section.Section.{Section}
