@@ -56,7 +56,8 @@ def word_rows():
             ("b.o(.a) *(.a) *(*)", two), ("*(EXCLUDE_FILE(b*.o) .a) *(.a)", three),
             ("*(EXCLUDE_FILE(b.o) .a .b) *(.a)", two), ("*(EXCLUDE_FILE(b.o) .a .b)", two),
             ("*(EXCLUDE_FILE(b.o a.o) .a EXCLUDE_FILE(c*) .?)", three), ("*(EXCLUDE_FILE(*) .a .a)", two)):
-        yield Given(inside, body(inside), members, asked=[("a.o", ".a"), ("b.o", ".a"), ("c.o", ".b"), ("b.o", "COMMON")])
+        yield Given(inside, body(inside), members,
+                    asked=[("a.o", ".a"), ("b.o", ".a"), ("c.o", ".b"), ("b.o", "COMMON")])
     yield Given("keys out of order", body("*(.b) *(.a)"), two, keys=[9, 4])
 
 
@@ -98,15 +99,16 @@ def collected_rows():
                  [Sym("s", 1), Sym("v", 3)], [Rel(1, 0, 0, "v")])
     whole = body("*(.t) *(.u) *(.v)")
     yield Given("a section that only a NONE relocation reaches", "ENTRY(s) " + whole, [("a.o", none)], on)
-    yield Given("KEEP under /DISCARD/", "SECTIONS { .a : { *(.v) *(.u) } /DISCARD/ : { KEEP(*(.t)) } }", [("a.o", none)], on)
+    yield Given("KEEP under /DISCARD/", "SECTIONS { .a : { *(.v) *(.u) } /DISCARD/ : { KEEP(*(.t)) } }",
+                [("a.o", none)], on)
     yield Given("an orphan that isn't live", "ENTRY(v) " + body("*(.v)"), [("a.o", none)], on)
     yield Given("an orphan that is", "ENTRY(s) " + body("*(.v)"), [("a.o", none)], on)
     ring = build([Sec(".a", bytes(8), DATA), Sec(".b", bytes(8), DATA), Sec(".c", bytes(8), DATA)],
                  [Sym("a", 1), Sym("b", 2), Sym("c", 3)], [Rel(1, 0, 1, "b"), Rel(2, 0, 1, "a"), Rel(3, 0, 1, "c")])
     yield Given("cycles that no root reaches", "ENTRY(c) " + body("*(.?)"), [("a.o", ring)], on)
     yield Given("a cycle that a root reaches", "ENTRY(b) " + body("*(.?)"), [("a.o", ring)], on)
-    block = build([Sec(".a", bytes(8), DATA), Sec(".b", bytes(8), DATA)], [Sym("a", 1), Sym("z", COMMON, 4, 4), Sym("b", 2)],
-                  [Rel(1, 0, 1, "z")])
+    block = build([Sec(".a", bytes(8), DATA), Sec(".b", bytes(8), DATA)],
+                  [Sym("a", 1), Sym("z", COMMON, 4, 4), Sym("b", 2)], [Rel(1, 0, 1, "z")])
     yield Given("a common block as a target", "ENTRY(a) " + body("*(*)"), [("a.o", block), ("b.o", block)], on)
     parts = [("a.o", build([Sec(".a", b"\1", DATA), Sec(".e", b"", DATA), Sec(".n", b"", DATA, elf.SHT_NOBITS, 1, 4)]))]
     for orphans in ("error", "discard"):
@@ -127,11 +129,13 @@ def random_rows():
         members = []
         for name in dice.sample(["a.o", "b.o", "c.o", "d.o", "ab.o"], dice.randrange(1, 5)):
             count = dice.randrange(1, 6)
-            sections = [Sec(dice.choice(section_names), bytes(dice.choice((0, 8, 16, 24))), dice.choice((CODE, DATA, READ_ONLY)),
-                            alignment=dice.choice((0, 1, 2, 4, 8, 16))) for _ in range(count)]
+            sections = [Sec(dice.choice(section_names), bytes(dice.choice((0, 8, 16, 24))),
+                            dice.choice((CODE, DATA, READ_ONLY)), alignment=dice.choice((0, 1, 2, 4, 8, 16)))
+                        for _ in range(count)]
             symbols = [Sym(f"l{k}", 1 + k % count, binding=elf.STB_LOCAL) for k in range(2)]
-            symbols += [Sym(f"s{k}", dice.choice((0, COMMON, 1 + dice.randrange(count))), dice.choice((1, 4, 8)), dice.randrange(9),
-                            dice.choice((elf.STB_GLOBAL, elf.STB_WEAK))) for k in dice.sample(range(7), dice.randrange(5))]
+            symbols += [Sym(f"s{k}", dice.choice((0, COMMON, 1 + dice.randrange(count))), dice.choice((1, 4, 8)),
+                            dice.randrange(9), dice.choice((elf.STB_GLOBAL, elf.STB_WEAK)))
+                        for k in dice.sample(range(7), dice.randrange(5))]
             symbols = [symbol if symbol.section != COMMON else Sym(symbol.name, COMMON, symbol.value, symbol.size)
                        for symbol in symbols]
             relocations = [Rel(1 + at, 8 * place, dice.choice((0, 1)), 1 + dice.randrange(len(symbols)))
@@ -145,13 +149,15 @@ def random_rows():
             if sort:
                 text = f"{dice.choice(files)}({sort}({' '.join(some)}))"
             else:
-                spelled = [f"EXCLUDE_FILE({dice.choice(files)}) {word}" if dice.random() < 0.3 else word for word in some]
+                spelled = [f"EXCLUDE_FILE({dice.choice(files)}) {word}" if dice.random() < 0.3 else word
+                           for word in some]
                 text = f"{dice.choice(files)}({' '.join(spelled)})"
             statements.append(f"KEEP({text})" if dice.random() < 0.2 else text)
         cut = dice.randrange(len(statements) + 1)
         holder = dice.choice((".two", ".two", "/DISCARD/"))
         text = f"SECTIONS {{ .one : {{ {' '.join(statements[:cut])} }} {holder} : {{ {' '.join(statements[cut:])} }} }}"
-        options = Options(gc=dice.random() < 0.6, entry=dice.choice((None, "s1", "s2")), orphans=dice.choice(("error", "discard")))
+        options = Options(gc=dice.random() < 0.6, entry=dice.choice((None, "s1", "s2")),
+                          orphans=dice.choice(("error", "discard")))
         yield Given(f"by chance {number}", text, members, options, keys=dice.sample(range(12), len(members)))
 
 

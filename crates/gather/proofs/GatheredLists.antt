@@ -1,5 +1,5 @@
 -- What holds of gathered sections, as of the input sections that they stand for.
-use Rattle.std.proofs.Common.{◌≡◌, ◌<◌, ◌+◌, ℕ, Bool, true, false, cond, not, ◌||◌, List, [], ◌∷◌, ◌++◌, length, filter, map, get_or, drop, ltb, refl, ap, sym, ◌∙◌, subst, arith, Option, Some, None, ◌≤◌, zero, suc, append_assoc, append-nil, ⊎_elim}
+use Rattle.std.proofs.Common.{◌≡◌, ◌<◌, ◌+◌, ℕ, Bool, true, false, cond, List, [], ◌∷◌, ◌++◌, length, filter, map, get_or, drop, ltb, refl, ap, sym, ◌∙◌, subst, arith, Option, Some, None, ◌≤◌, zero, suc, append_assoc, append-nil, ⊎_elim}
 use Rattle.std.specs.Prelude.{slice_get, option_and_then}
 use Rattle.std.specs.List.{All, filter_map, cons_option, position, position_or_len}
 use Rattle.std.specs.Option.{option_map, is_none}
@@ -15,8 +15,7 @@ use Rattle.ldmodel.specs.InputSections.{input_sections}
 use Rattle.ldmodel.specs.Live.{live, orphans}
 use Rattle.ldmodel.specs.Project.{Project}
 use Rattle.ldmodel.specs.Rows.{Piece, piece_of}
-use Rattle.ldmodel.specs.Sections.{InputSection, SectionId}
-use Rattle.ldmodel.specs.declared.options.Orphans.{Orphans}
+use Rattle.ldmodel.specs.Sections.{InputSection}
 use Rattle.ldmodel.specs.declared.rows.InputIndex.{InputIndex}
 use Rattle.ldmodel.specs.declared.sections.SectionKey.{SectionKey}
 use Rattle.gather.specs.Gathered.{AreGathered, Facts, IsNamedSection, Keys, facts, named_piece, shown_facts, taken_named, untaken, untaken_by_none}

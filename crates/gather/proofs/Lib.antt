@@ -7,3 +7,5 @@ pub mod Sorts
 pub mod RowSteps
 pub mod GatheredLists
 pub mod MemberFacts
+pub mod KeptNumbers
+pub mod Ascending

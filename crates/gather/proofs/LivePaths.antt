@@ -1,6 +1,6 @@
 -- The sections that are reached in the graph of a project are the live ones.
 use Rattle.std.proofs.Common.{◌≡◌, ◌<◌, ◌↔◌, ℕ, Bool, true, false, not, ◌&&◌, List, length, filter, get_or, refl, ap, sym, ◌∙◌, subst, arith, Some, Result, Ok, Err, IfOk, cond, map, [], ◌∷◌}
-use Rattle.std.specs.Prelude.{slice_get, slice_index_or}
+use Rattle.std.specs.Prelude.{slice_index_or}
 use Rattle.std.specs.List.{Contains}
 use Rattle.std.proofs.lemmas.Bool.{and_parts, and_from, not-true}
 use Rattle.std.proofs.lemmas.List.{get_or-map, length-map}
@@ -11,7 +11,7 @@ use Rattle.ldmodel.specs.Live.{is_root, live, refers_to}
 use Rattle.ldmodel.specs.Project.{Project}
 use Rattle.ldmodel.specs.Reach.{Path, start, step}
 use Rattle.ldmodel.specs.Sections.{InputSection}
-use Rattle.gather.specs.Graphs.{Graph, IsIn, IsLive, IsMarked, LeadsTo, from_root, from_live}
+use Rattle.gather.specs.Graphs.{Graph, IsIn, IsLive, IsMarked, from_root, from_live}
 use Rattle.gather.specs.LiveMarks.{IsGraphOf, IsSectionAt, marked}
 use Rattle.gather.proofs.Members.{in_filter, filter_in, filter_twice, same_test, marked_filter}
 

@@ -1,6 +1,6 @@
 -- The sections of objects, as the input sections of their project.
-use Rattle.std.proofs.Common.{◌≡◌, ◌<◌, ◌≤◌, ◌+◌, ⊎_elim, ℕ, zero, suc, List, [], ◌∷◌, ◌++◌, length, map, get_or, drop, refl, ap, sym, ◌∙◌, subst, arith, Option, Some, None, append_assoc, append-nil}
-use Rattle.std.specs.Prelude.{slice_get, flat_map, codes}
+use Rattle.std.proofs.Common.{◌≡◌, ◌<◌, ◌≤◌, ◌+◌, ⊎_elim, ℕ, zero, suc, List, [], ◌∷◌, ◌++◌, length, map, get_or, drop, refl, ap, sym, ◌∙◌, arith, Option, Some, None, append_assoc}
+use Rattle.std.specs.Prelude.{slice_get, flat_map}
 use Rattle.std.specs.List.{All, AllZip, Contains, enumerate_from}
 use Rattle.std.proofs.lemmas.Bool.{cases_lt}
 use Rattle.std.proofs.lemmas.List.{drop_all, drop_more, get_or_past, map-append}
@@ -18,7 +18,7 @@ use Rattle.ldmodel.specs.declared.sections.Part.TheVariants.{InTable, InCommon}
 use Rattle.ldmodel.specs.declared.sections.SectionKey.{SectionKey}
 use Rattle.gather.specs.Gathered.{AreGathered, Facts, IsNamedSection, Keys, facts, shown_facts}
 use Rattle.gather.specs.Matches.{matches_of, number_of}
-use Rattle.gather.specs.Members.{AreMembers, IsMember, NamesSections, beside, block_facts, block_of, facts_of_linked, linked_facts, member_facts}
+use Rattle.gather.specs.Members.{AreMembers, IsMember, NamesSections, beside, block_facts, block_of, facts_of_linked, member_facts}
 use Rattle.gather.specs.declared.gathered.Gathered.{Gathered}
 use Rattle.gather.specs.declared.member.CommonBlock.{CommonBlock}
 use Rattle.gather.specs.declared.member.Member.{Member}

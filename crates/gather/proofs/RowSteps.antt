@@ -1,5 +1,5 @@
 -- How rows grow, and that they are those of the project in the end.
-use Rattle.std.proofs.Common.{◌≡◌, ◌≢◌, ◌<◌, ◌≤◌, ◌+◌, ℕ, zero, suc, Bool, true, false, cond, List, [], ◌∷◌, ◌++◌, length, filter, map, get_or, set, drop, eqb, refl, ap, sym, ◌∙◌, subst, ⊎_elim, arith, Option, Some, None, Vec, Global, append-nil, append_assoc, get_or-set_same, get_or-set_other}
+use Rattle.std.proofs.Common.{◌≡◌, ◌<◌, ◌+◌, ℕ, suc, Bool, true, false, cond, List, [], ◌∷◌, ◌++◌, length, filter, map, get_or, set, eqb, refl, ap, sym, ◌∙◌, subst, ⊎_elim, arith, Option, Some, None, Vec, Global, append-nil, append_assoc, get_or-set_same, get_or-set_other}
 use Rattle.std.specs.Prelude.{flat_map}
 use Rattle.std.specs.List.{All, enumerate_from, filter_map, range_with_len, cons_option}
 use Rattle.std.specs.Option.{option_map, option_map_or}
@@ -10,8 +10,7 @@ use Rattle.std.proofs.lemmas.List.Concat.{flat_map-cons}
 use Rattle.std.proofs.lemmas.List.Elements.{All-filter}
 use Rattle.ldtree.specs.Numbering.{InputStatementAt, input_statements, output_sections}
 use Rattle.ldtree.specs.declared.input.Sort.{Sort}
-use Rattle.ldtree.specs.declared.place.InputPlace.{InputPlace}
-use Rattle.ldtree.specs.declared.place.InputPlace.TheVariants.{InSection, InDiscard}
+use Rattle.ldtree.specs.declared.place.InputPlace.TheVariants.{InSection}
 use Rattle.ldtree.specs.declared.statement.Statement.{Statement}
 use Rattle.ldmodel.specs.FirstMatch.{first_match}
 use Rattle.ldmodel.specs.Live.{live}

@@ -1,5 +1,5 @@
 -- What a stable sort of named pieces makes of the pieces that they stand for.
-use Rattle.std.proofs.Common.{◌≡◌, ◌<◌, ◌≤◌, ◌+◌, ℕ, Bool, true, false, cond, not, ◌&&◌, List, [], ◌∷◌, length, filter, map, max, get_or, refl, ap, sym, ◌∙◌, ◌↔◌, subst, arith, Option, Some, None, Result, Ok, Err, Bor, OnOk}
+use Rattle.std.proofs.Common.{◌≡◌, ◌<◌, ◌+◌, ℕ, Bool, true, false, cond, List, [], ◌∷◌, length, filter, map, max, get_or, refl, ap, sym, ◌∙◌, ◌↔◌, arith, Option, Some, None, Result, Ok, Err, Bor, OnOk}
 use Rattle.std.specs.List.{All}
 use Rattle.std.specs.List.Sorted.{IsPermutation, IsSortedBy, IsStableBy, IsSortedByClosure, IsStableByClosure, ties}
 use Rattle.std.specs.Prelude.{nat_lt}

@@ -1,6 +1,6 @@
 -- Input sections as the code gathers them.
-use Rattle.std.specs.Prelude.{ℕ, ◌≡◌, List, map, Option, Some, None, All, length}
-use Rattle.std.specs.Option.{option_map, is_none}
+use Rattle.std.specs.Prelude.{ℕ, ◌≡◌, List, map, Option, Some, None, All}
+use Rattle.std.specs.Option.{option_map}
 use Rattle.elfobj.specs.declared.section.SectionKind.{SectionKind}
 use Rattle.ldmodel.specs.FirstMatch.{first_match}
 use Rattle.ldmodel.specs.HandedOver.{section_id}

@@ -7,3 +7,5 @@ pub mod RowPieces
 pub mod Gathered
 pub mod LeftOut
 pub mod Members
+pub mod Roots
+pub mod Apart

@@ -1,5 +1,5 @@
 -- What marks beside the input sections of a project say, and which graphs are those of a project.
-use Rattle.std.specs.Prelude.{ℕ, ◌≡◌, ◌↔◌, Bool, true, false, List, [], ◌∷◌, map, Some, slice_get, if◌then◌else◌, Contains, IsTrue}
+use Rattle.std.specs.Prelude.{ℕ, ◌≡◌, ◌↔◌, Bool, false, List, [], ◌∷◌, map, Some, slice_get, if◌then◌else◌, Contains, IsTrue}
 use Rattle.ldmodel.specs.Gathering.{is_out}
 use Rattle.ldmodel.specs.InputSections.{input_sections}
 use Rattle.ldmodel.specs.Live.{is_root, refers_to}
@@ -17,8 +17,8 @@ marked (b ∷ bs) (x ∷ xs) = if b then x ∷ marked bs xs else marked bs xs
 abbrev pub IsSectionAt : Project → ℕ → InputSection → Type 0
 IsSectionAt p k s = slice_get (input_sections p) k ≡ Some s
 
--- the graph is that of the project's input sections, numbered from 0 in their order. Of sections that are left out it may
--- say anything else
+-- the graph is that of the project's input sections, numbered from 0 in their order; of sections that are left out it
+-- may say anything else
 pub record IsGraphOf (p : Project) (g : Graph) : Type 0 where
   pub out : g.out ≡ map (is_out p) (input_sections p)
   pub roots : (k : ℕ) (s : InputSection) → IsSectionAt p k s → is_out p s ≡ false → IsTrue (is_root p s) ↔ Contains g.roots k

@@ -1,5 +1,5 @@
 -- Objects of a project, as the code has them, and their input sections.
-use Rattle.std.specs.Prelude.{ℕ, ◌≡◌, ◌<◌, List, [], ◌∷◌, ◌++◌, map, length, Some, None, slice_get, slice_index_or, Option, Contains, codes, bit_or}
+use Rattle.std.specs.Prelude.{ℕ, ◌≡◌, List, [], ◌∷◌, ◌++◌, map, Some, None, slice_get, slice_index_or, Option, Contains, codes, bit_or}
 use Rattle.std.specs.List.{AllZip, enumerate_from}
 use Rattle.elfobj.specs.Sections.{LinkedSection}
 use Rattle.elfdefs.specs.declared.constants.TheConstants.{SHF_ALLOC, SHF_WRITE}

@@ -1,5 +1,5 @@
 -- What rows are made of, and what they are.
-use Rattle.std.specs.Prelude.{ℕ, ◌≡◌, ◌<◌, ◌==◌, Bool, List, [], ◌++◌, length, map, filter, Option, Some, if◌then◌else◌, slice_index_or, All}
+use Rattle.std.specs.Prelude.{ℕ, ◌≡◌, ◌<◌, ◌==◌, List, [], ◌++◌, length, map, filter, Option, if◌then◌else◌, slice_index_or, All}
 use Rattle.std.proofs.Common.{Vec, Global}
 use Rattle.std.specs.List.{filter_map}
 use Rattle.std.specs.Option.{option_map}

@@ -17,8 +17,8 @@ use ldscript::script::Script;
 use ldscript::tree::{InputPlace, InputStatementAt};
 use std::alloc::Global;
 
-/// Whether a section is left out: one that `/DISCARD/` takes; and of those that no statement takes the empty ones, and all
-/// where orphans are discarded.
+/// Whether a section is left out: one that `/DISCARD/` takes; and of those that no statement takes the empty ones,
+/// and all where orphans are discarded.
 pub fn is_out(statements: &[InputStatementAt<'_>], orphans: Orphans, section: &Gathered<'_>) -> bool
     ensures { result ≡ is_out_of (shown_inputs statements.now) orphans section.now.size (number_of section.now.statement) }
 {

@@ -3,11 +3,13 @@
 #![tactic(auto)]
 
 pub mod gathered;
+pub mod law;
 pub mod left_out;
 pub mod live_sections;
 pub mod marking;
 pub mod matcher;
 pub mod member;
+pub mod roots;
 pub mod rows;
 mod sorting;
 mod word;

@@ -19,8 +19,8 @@ use ldmodel::memory::NoMemory;
 use ldmodel::sections::SectionKey;
 use std::alloc::Global;
 
-/// The sections without those that are left out: the live ones where nothing is collected. An error says that memory ran
-/// out.
+/// The sections without those that are left out: the live ones where nothing is collected. An error says that memory
+/// ran out.
 pub fn not_out(alloc: Global, out: &[bool]) -> Result<Vec<bool>, NoMemory>
     ensures marks { IfOk result (λ marks. marks.items ≡ map not out.now) }
     ensures live { IfOk result (λ marks. (p : Project) → p.options.gc ≡ false → out.now ≡ map (is_out p) (input_sections p) → marked marks.items (input_sections p) ≡ live p) }
@@ -74,8 +74,8 @@ fn add_untaken(
     }
 }
 
-/// The live sections that statements take, as pieces of these, in their order. `marks` says of each section whether it is
-/// live. An error says that memory ran out.
+/// The live sections that statements take, as pieces of these, in their order. `marks` says of each section whether
+/// it is live. An error says that memory ran out.
 pub fn taken<'a>(
     alloc: Global,
     sections: &[Gathered<'a>],
@@ -90,8 +90,8 @@ pub fn taken<'a>(
     Ok(pieces)
 }
 
-/// The live sections that no statement takes, each of them a fault, in their order. `marks` says of each section whether it
-/// is live. An error says that memory ran out.
+/// The live sections that no statement takes, each of them a fault, in their order. `marks` says of each section
+/// whether it is live. An error says that memory ran out.
 pub fn orphans(
     alloc: Global,
     sections: &[Gathered<'_>],

@@ -75,10 +75,10 @@ fn reach(
     Ok(live)
 }
 
-/// The live sections under garbage collection, of sections that are known by their numbers, from 0 in object order. `out`
-/// says of each whether it is left out; the sections that number `a` refers to are
-/// `targets[starts[a]..starts[a + 1]]`. The time grows with the number of sections and references, each section is
-/// expanded at most once, and nothing is recursive. An error says that memory ran out.
+/// The live sections under garbage collection, of sections that are known by their numbers, from 0 in object order.
+/// `out` says of each whether it is left out; the sections that number `a` refers to are `targets[starts[a]..starts[a
+/// + 1]]`. The time grows with the number of sections and references, each section is expanded at most once, and
+/// nothing is recursive. An error says that memory ran out.
 pub fn mark(
     alloc: Global,
     out: &[bool],

@@ -17,8 +17,9 @@ use ldscript::tree::InputStatementAt;
 use std::alloc::{AllocError, Global};
 use std::marker::Model;
 
-/// A script, prepared for finding the statements that take sections. The time for one section grows with the number of
-/// words that have pattern signs, and with the logarithm of the number of the others.
+/// A script, prepared for finding the statements that take sections. The time for one section grows with the number
+/// of words that have pattern signs, with that of the words that are its very name, and with the logarithm of the
+/// number of all others.
 #[derive(Drop)]
 pub struct Matcher<'a> {
     script: &'a Script,
@@ -42,7 +43,8 @@ impl<'a> Model for Matcher<'a> {
     ghost invariant = { λ m. IsTableOf m.words (input_statements m.script.now) };
 }
 
-/// The table of the words of these statements, which have the numbers from 0 on. Numbers that don't fit are an error too.
+/// The table of the words of these statements, which have the numbers from 0 on. More than 2^32 of them are an error
+/// too.
 fn table_of<'a>(
     alloc: Global,
     statements: &[InputStatementAt<'a>],
@@ -60,7 +62,8 @@ fn table_of<'a>(
 }
 
 impl<'a> Matcher<'a> {
-    /// Prepares a script. An error says that memory ran out.
+    /// Prepares a script. An error says that memory ran out, or that it has more than 2^32 input statements, which no
+    /// script that was read has.
     pub fn new(alloc: Global, script: &'a Script) -> Result<Matcher<'a>, NoMemory>
         ensures { IfOk result (λ m. m ≡ script.now) }
     {
@@ -70,7 +73,8 @@ impl<'a> Matcher<'a> {
     }
 
     /// The input statement that takes the sections of this name in the file of this name: the first one of the script
-    /// whose file pattern matches the file and one of whose words takes the section. A common block has the name `COMMON`.
+    /// whose file pattern matches the file and one of whose words takes the section. A common block has the name
+    /// `COMMON`.
     pub fn first_match(&self, file: &[u8], section: &[u8]) -> Option<InputIndex>
         ensures { number_of result ≡ first_match self.now file.now section.now }
     {

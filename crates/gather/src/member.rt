@@ -103,8 +103,8 @@ impl<'a> Member<'a> {
     }
 }
 
-/// The input sections of a project, of which these are the objects in their order: of each object its linked sections and
-/// then the common blocks that it owns. An error says that memory ran out.
+/// The input sections of a project, of which these are the objects in their order: of each object its linked sections
+/// and then the common blocks that it owns. An error says that memory ran out.
 pub fn input_sections<'a>(
     alloc: Global,
     members: &[Member<'a>],

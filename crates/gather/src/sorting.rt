@@ -37,8 +37,8 @@ fn order_by(pieces: &mut Vec<NamedPiece<'_>>, sort: Sort) -> Result<(), NoMemory
     }
 }
 
-/// Puts pieces in the order of a statement's sort: by name, byte by byte, or by alignment, the greatest first. Those with
-/// equal keys stay as they were, and so do all without a sort.
+/// Puts pieces in the order of a statement's sort: by name, byte by byte, or by alignment, the greatest first. Those
+/// with equal keys stay as they were, and so do all without a sort.
 pub fn order(pieces: &mut Vec<NamedPiece<'_>>, sort: Option<Sort>) -> Result<(), NoMemory>
     ensures { OnOk result (Orders sort pieces.old.items pieces.new.items) }
 {

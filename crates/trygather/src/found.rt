@@ -10,10 +10,10 @@ use gather::live_sections::{not_out, orphans, taken};
 use gather::marking::mark;
 use gather::matcher::Matcher;
 use gather::member::{CommonBlock, Member, input_sections};
+use gather::roots::roots;
 use gather::rows::rows;
 use ldmodel::rows::{InputIndex, Piece};
 use ldmodel::sections::{Part, SectionKey};
-use ldscript::script::Script;
 use std::alloc::{AllocError, Global};
 use trystream::state::{KeptObject, State};
 
@@ -181,23 +181,6 @@ fn add_targets(
     Ok(Some(()))
 }
 
-/// Whether a statement under KEEP takes it.
-fn is_kept(keeps: &[bool], section: &Gathered<'_>) -> bool {
-    match section.statement {
-        Some(number) => keeps.get(number.0 as usize).copied().unwrap_or(false),
-        None => false,
-    }
-}
-
-/// Of each input statement whether it stands under KEEP.
-fn keeps_of(alloc: Global, script: &Script) -> Result<Vec<bool>, AllocError> {
-    let mut keeps = Vec::new(alloc);
-    for statement in &script.input_statements(alloc)? {
-        keeps.push(statement.input.keep)?;
-    }
-    Ok(keeps)
-}
-
 /// The live sections under garbage collection.
 fn collect(
     alloc: Global,
@@ -206,15 +189,15 @@ fn collect(
     sections: &[Gathered<'_>],
     out: &[bool],
 ) -> Result<Vec<bool>, AllocError> {
-    let keeps = keeps_of(alloc, &state.script)?;
     let places = starts_of(alloc, state, sections)?;
-    let mut roots = Vec::new(alloc);
+    let entry = match given.entry {
+        Some(key) => number_of(state, &places, sections, key),
+        None => None,
+    };
+    let roots = roots(alloc, &state.script, sections, entry)?;
     let mut starts = Vec::with_capacity(alloc, sections.len())?;
     let mut targets = Vec::new(alloc);
-    for (number, section) in sections.iter().enumerate() {
-        if is_kept(&keeps, section) || given.entry == Some(section.section) {
-            roots.push(number)?;
-        }
+    for section in sections {
         starts.push(targets.len())?;
         let _added = add_targets(
             state,

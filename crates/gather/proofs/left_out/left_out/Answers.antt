@@ -4,7 +4,7 @@ use Rattle.ldtree.specs.Numbering.{InputStatementAt, input_statements}
 use Rattle.ldtree.specs.Numbered.{shown_inputs}
 use Rattle.ldmodel.specs.Project.{Project}
 use Rattle.ldmodel.specs.declared.options.Orphans.{Orphans}
-use Rattle.gather.specs.Gathered.{AreGathered, Keys}
+use Rattle.gather.specs.Gathered.{Keys}
 use Rattle.gather.specs.LeftOut.{is_out_of}
 use Rattle.gather.specs.Matches.{number_of}
 use Rattle.gather.specs.declared.gathered.Gathered.{Gathered}

@@ -1,8 +1,8 @@
-use Rattle.std.proofs.Common.{◌≡◌, ◌<◌, ℕ, ◌+◌, length, get_or, arith, below_more, sym, ◌∙◌, rules, refl, subst, List, [], ◌∷◌}
+use Rattle.std.proofs.Common.{◌≡◌, ◌<◌, length, get_or, arith, below_more, ◌∙◌, refl, subst, []}
 use Rattle.std.specs.List.{Contains}
-use Rattle.std.proofs.lemmas.List.Elements.{Contains-push, All-contains, Contains-get_or}
+use Rattle.std.proofs.lemmas.List.Elements.{Contains-push, Contains-get_or}
 use Rattle.gather.specs.Graphs.{Graph, graph, IsIn, IsLive, IsMarked, from_root, from_live}
-use Rattle.gather.proofs.Marks.{marks_start, visited, Visited, marks_pop, marks_done, marks_end, marked_within, leads_in, leads_out, Marks, empty_length, each_contained}
+use Rattle.gather.proofs.Marks.{visited, Visited, marks_pop, marks_done, marks_end, marked_within, leads_in, leads_out, Marks, empty_length, each_contained}
 use Rattle.gather.proofs.marking.reach.Goals as goal
 
 pub loop-root-preserved : goal.loop-root-preserved

@@ -1,6 +1,6 @@
-use Rattle.std.proofs.Common.{◌≡◌, ◌<◌, ℕ, length, get_or, slice_index}
+use Rattle.std.proofs.Common.{◌≡◌, ◌<◌, ℕ, length, slice_index}
 use Rattle.std.specs.List.{Contains}
-use Rattle.gather.specs.Graphs.{Graph, graph, IsIn, IsLive, IsMarked}
+use Rattle.gather.specs.Graphs.{Graph, graph, IsIn, IsMarked}
 use Rattle.gather.proofs.Marks.{Marks, work}
 use Rattle.gather.proofs.marking.reach.Given as goal
 

@@ -1,8 +1,7 @@
-use Rattle.std.proofs.Common.{ap, sym, ◌∙◌, subst, ◌≡◌, filter}
+use Rattle.std.proofs.Common.{ap, ◌∙◌, subst, ◌≡◌, filter}
 use Rattle.ldtree.specs.Numbering.{input_statements}
 use Rattle.ldmodel.specs.FirstMatch.{first_match}
 use Rattle.gather.specs.Words.{first_taker, is_named, lesser, shown_words, words_from}
-use Rattle.gather.specs.WordTables.{shown_listed}
 use Rattle.gather.specs.Matches.{number_of}
 use Rattle.gather.proofs.FirstTakers.{first_match_by_words}
 use Rattle.gather.proofs.matcher.Matcher.first_match.Goals as goal

@@ -1,4 +1,4 @@
-use Rattle.std.proofs.Common.{◌≡◌, ◌<◌, length, arith, ap}
+use Rattle.std.proofs.Common.{◌<◌, length, arith, ap}
 use Rattle.std.proofs.lemmas.List.{length-map}
 use Rattle.elfobj.specs.Sections.{section_of}
 use Rattle.gather.proofs.MemberFacts.{linked_step, there}

@@ -1,0 +1,10 @@
+-- The order of the linked sections of objects.
+use Rattle.std.specs.Prelude.{◌<◌, map, All}
+use Rattle.std.specs.List.{AllPairs}
+use Rattle.elfobj.specs.Sections.{section_of}
+use Rattle.elfdefs.specs.declared.section.Section.{Section}
+use Rattle.ldmodel.specs.Project.{NamedObject, Project}
+
+-- the header numbers of the linked sections of each object ascend, as `Object::sections` says of an object
+abbrev pub AscendingSections : Project → Type 0
+AscendingSections p = All (λ (o : NamedObject). AllPairs (λ (s t : Section). s.number.0 < t.number.0) (map section_of o.object.sections)) p.objects

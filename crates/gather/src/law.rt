@@ -1,0 +1,14 @@
+//! What holds of the definitions themselves.
+
+ghost use Rattle.std.specs.Prelude.{◌≡◌, ℕ};
+ghost use Rattle.ldmodel.specs.Project.{Project};
+ghost use Rattle.ldmodel.specs.Sections.{InputSection};
+ghost use Rattle.gather.specs.Apart.{AscendingSections};
+ghost use Rattle.gather.specs.LiveMarks.{IsSectionAt};
+
+/// No two input sections of a project are the same: where the header numbers of the linked sections of each object
+/// ascend, as those of every object that was read do, what tells input sections apart tells their places apart.
+#[tactic(auto, using(crate::proofs::Ascending::sections_apart))]
+pub fn sections_apart()
+    ensures { (p : Project) → AscendingSections p → (a b : ℕ) (s t : InputSection) → IsSectionAt p a s → IsSectionAt p b t → s.id ≡ t.id → a ≡ b }
+{}
