@@ -27,3 +27,4 @@ pub mod Total
 pub mod Courses
 pub mod Finding
 pub mod PieceBytes
+pub mod Untouched

@@ -9,3 +9,4 @@ pub mod FileOrder
 pub mod Outcomes
 pub mod LayoutExamples
 pub mod ImageBytes
+pub mod Untouched

@@ -42,5 +42,5 @@ pub fn byte_of_piece()
         → Each IsSpread s.sections → AreNamed s.sections
         → Contains s.sections q → has_file_bytes q ≡ true → Contains q.pieces x → i < x.piece.size
         → byte_at p s (offset_in_file (segments s.sections) q x + i)
-            ≡ part_byte p s x.piece.object x.piece.part x.start i }
+        ≡ part_byte p s x.piece.object x.piece.part x.start i }
 {}
