@@ -1,6 +1,6 @@
 -- The one member of a list that passes a test is the one that is found.
-use Rattle.std.proofs.Common.{◌≡◌, ◌⊎◌, inl, inr, ⊎_elim, Bool, true, false, cond, ◌&&◌, List, [], ◌∷◌, ◌++◌, map, filter, find, flat_map, Some, refl, sym, ap, ◌∙◌, subst}
-use Rattle.std.specs.List.{Contains}
+use Rattle.std.proofs.Common.{◌≡◌, ◌⊎◌, inl, inr, ⊎_elim, Bool, true, false, cond, ◌&&◌, List, [], ◌∷◌, ◌++◌, map, filter, find, flat_map, Option, Some, None, refl, sym, ap, ◌∙◌, subst}
+use Rattle.std.specs.List.{Contains, cons_option, filter_map}
 use Rattle.ldmodel.specs.FileLayout.{Each}
 use Rattle.ldlaws.specs.Spread.{EachLater}
 use Rattle.ldlaws.proofs.Members.{here, later, first_or_later, none_in_nil}
@@ -96,3 +96,20 @@ pub flat_map_in : {X Y : Type 0} (f : X → List Y) (xs : List X) (x : X) (y : Y
 flat_map_in f [] x y c d = absurd (none_in_nil x c)
 flat_map_in f (z ∷ zs) x y c d =
     ⊎_elim (λ same. in_front (f z) (flat_map f zs) y (subst (λ w. Contains (f w) y) (sym same) d)) (λ in_rest. in_append (f z) (flat_map f zs) y (flat_map_in f zs x y in_rest d)) (first_or_later z zs x c)
+
+-- what a member of a filtered and mapped list comes of
+pub record ComesSome {X Y : Type 0} (f : X → Option Y) (xs : List X) (y : Y) : Type 0 where
+  pub origin : X
+  pub among : Contains xs origin
+  pub gives : f origin ≡ Some y
+
+pub in_filter_map : {X Y : Type 0} (f : X → Option Y) (xs : List X) (y : Y) → Contains (filter_map f xs) y → ComesSome f xs y
+in_filter_map f [] y c = absurd (none_in_nil y c)
+in_filter_map {X} {Y} f (x ∷ xs) y c = go (f x) refl c (in_filter_map f xs y)
+  where
+    go : (m : Option Y) → f x ≡ m → Contains (cons_option m (filter_map f xs)) y → (Contains (filter_map f xs) y → ComesSome f xs y) → ComesSome f (x ∷ xs) y
+    go None e d rest = let k = rest d in record { origin = k.origin; among = later x xs k.origin k.among; gives = k.gives }
+    go (Some z) e d rest =
+        ⊎_elim (λ is. record { origin = x; among = here x xs; gives = e ∙ ap Some is })
+        (λ in_rest. let k = rest in_rest in record { origin = k.origin; among = later x xs k.origin k.among; gives = k.gives })
+        (first_or_later z (filter_map f xs) y d)

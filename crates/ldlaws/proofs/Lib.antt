@@ -28,3 +28,6 @@ pub mod Courses
 pub mod Finding
 pub mod PieceBytes
 pub mod Untouched
+pub mod Once
+pub mod OnceInRows
+pub mod Goodness

@@ -82,7 +82,7 @@ unfolding segments
 all_sections sections = sections_of (headers_end (length (groups (nonempty sections)))) (groups (nonempty sections)) ∙ (is_grouping (nonempty sections)).parts
 
 -- members of a mapped list that differ come of members that do
-later_of_map : {X Y : Type 0} (f : X → Y) (R : Y → Y → Type 0) (xs : List X) → EachLater R (map f xs) → EachLater (λ x y. R (f x) (f y)) xs
+pub later_of_map : {X Y : Type 0} (f : X → Y) (R : Y → Y → Type 0) (xs : List X) → EachLater R (map f xs) → EachLater (λ x y. R (f x) (f y)) xs
 later_of_map f R [] h = tt
 later_of_map {X} f R (x ∷ xs) h = (each xs h.0, later_of_map f R xs h.1)
   where
@@ -90,7 +90,7 @@ later_of_map {X} f R (x ∷ xs) h = (each xs h.0, later_of_map f R xs h.1)
     each [] k = tt
     each (y ∷ ys) k = (k.0, each ys k.1)
 
-later_filtered : {X : Type 0} (R : X → X → Type 0) (test : X → Bool) (xs : List X) → EachLater R xs → EachLater R (filter test xs)
+pub later_filtered : {X : Type 0} (R : X → X → Type 0) (test : X → Bool) (xs : List X) → EachLater R xs → EachLater R (filter test xs)
 later_filtered R test [] h = tt
 later_filtered {X} R test (x ∷ xs) h = go (test x) (later_filtered R test xs h.1)
   where
@@ -104,7 +104,7 @@ pub both_of : (a b : Bool) → a && b ≡ true → (a ≡ true) × (b ≡ true)
 both_of true b e = (refl, e)
 both_of false b e = absurd (false≢true e)
 
-of_both : (a b : Bool) → a ≡ true → b ≡ true → (a && b) ≡ true
+pub of_both : (a b : Bool) → a ≡ true → b ≡ true → (a && b) ≡ true
 of_both a b e f = ap (λ x. x && b) e ∙ f
 
 covered : (a n o : ℕ) → covers a n o ≡ true → (a ≤ o) × (o < a + n)

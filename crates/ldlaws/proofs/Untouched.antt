@@ -26,7 +26,7 @@ use Rattle.ldmodel.specs.SymbolValues.{SymbolValue, Number, NotDefined, NotInOut
 use Rattle.ldmodel.specs.Targets.{referenced_value, target_number, target_of}
 use Rattle.ldmodel.specs.declared.sections.Part.{Part}
 use Rattle.ldmodel.specs.declared.sections.Part.TheVariants.{InTable, InCommon}
-use Rattle.ldlaws.specs.Untouched.{HasField, IsGood, IsOutside}
+use Rattle.ldlaws.specs.Untouched.{AreRead, HasField, IsGood, IsOutside}
 use Rattle.ldlaws.proofs.Apart.{Stands, stands}
 use Rattle.ldlaws.proofs.Finding.{Comes, flat_map_in, in_flat_map, in_map, member_of, each_member}
 use Rattle.ldlaws.proofs.Members.{Passes, here, later, in_any, in_filter, filter_in}
@@ -77,7 +77,7 @@ record SamePiece (x y : LinkedPiece) : Type 0 where
   pub offset : x.range.offset ≡ y.range.offset
   pub length : x.range.length ≡ y.range.length
 
-same_part : (a b : Part) → is_same_part a b ≡ true → a ≡ b
+pub same_part : (a b : Part) → is_same_part a b ≡ true → a ≡ b
 same_part (InTable k) (InTable n) e = ap (λ m. InTable (record { 0 = m })) (eqb-true (k.0) (n.0) e)
 same_part (InCommon k) (InCommon n) e = ap (λ m. InCommon (record { 0 = m })) (eqb-true (k.0) (n.0) e)
 same_part (InTable k) (InCommon n) e = absurd (false≢true e)
@@ -169,7 +169,7 @@ wide p s o x start r field e f =
 
 -- ---- objects
 
-object_found : (p : Project) (name : List ℕ) (o : NamedObject) → object_named p name ≡ Some o → (o.name ≡ name) × Contains p.objects o
+pub object_found : (p : Project) (name : List ℕ) (o : NamedObject) → object_named p name ≡ Some o → (o.name ≡ name) × Contains p.objects o
 object_found p name o e = go p.objects e
   where
     go : (os : List NamedObject) → find (λ (y : NamedObject). bytes_eq y.name name) os ≡ Some o → (o.name ≡ name) × Contains os o
@@ -196,9 +196,6 @@ abbrev IsBare : Option NamedObject → Type 0
 IsBare None = Unit {0}
 IsBare (Some o) = o.object.sections ≡ []
 
-abbrev AreRead : Project → Type 0
-AreRead p = Each (λ (o : NamedObject). o.object ≡ object_of o.object.text) p.objects
-
 read_object : (p : Project) (name : List ℕ) (o : NamedObject) → AreRead p → object_named p name ≡ Some o → o.object ≡ object_of o.object.text
 read_object p name o h e = member_of (λ (y : NamedObject). y.object ≡ object_of y.object.text) p.objects o h (object_found p name o e).1
 
@@ -223,11 +220,11 @@ same_object p r name g h e = go (object_named p name) (object_named r name) refl
 
 -- ---- the sites of a linked piece, by its parts
 
-abbrev by_section : NamedObject → ℕ → Option LinkedSection → List Site
+abbrev pub by_section : NamedObject → ℕ → Option LinkedSection → List Site
 by_section o start None = []
 by_section o start (Some z) = sites_at o z start
 
-abbrev by_object : ℕ → Part → Option NamedObject → List Site
+abbrev pub by_object : ℕ → Part → Option NamedObject → List Site
 by_object start (InTable k) m = option_map_or (λ o. by_section o start (section_numbered o k)) m []
 by_object start (InCommon k) m = []
 
@@ -243,7 +240,7 @@ by_part : (p : Project) (x : LinkedPiece) (part : Part) → sites_in_part p x pa
 by_part p x (InTable k) = in_object x k (object_named p x.object)
 by_part p x (InCommon k) = refl
 
-sites_by : (p : Project) (x : LinkedPiece) → sites_in p x ≡ by_object x.start x.part (object_named p x.object)
+pub sites_by : (p : Project) (x : LinkedPiece) → sites_in p x ≡ by_object x.start x.part (object_named p x.object)
 sites_by p x = by_part p x x.part
 
 unmoved : (a b : ℕ) → not (a == b) ≡ false → a ≡ b

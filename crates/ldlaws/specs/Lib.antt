@@ -10,3 +10,4 @@ pub mod Outcomes
 pub mod LayoutExamples
 pub mod ImageBytes
 pub mod Untouched
+pub mod PlacedOnce

@@ -34,9 +34,9 @@ pub fn fields_are_apart()
         → All (IsWithin x.size) (fields_of p s o x start) }
 {}
 
-/// The image has the bytes of an input section where it stands in the file, in an output section with file bytes: each is
-/// that of the field that covers it, else its own. Output sections have different names, as the script reader has found,
-/// and nothing in them meets (`layout::nothing_meets`).
+/// The image has the bytes of an input section where it stands in the file, in an output section with file bytes: each
+/// is that of the field that covers it, else its own. Output sections have different names, as the script reader has
+/// found, and nothing in them meets (`layout::nothing_meets`).
 pub fn byte_of_piece()
     ensures { (p : Project) (s : Layout) (q : PlacedSection) (x : PlacedPiece) (i : ℕ)
         → Each IsSpread s.sections → AreNamed s.sections

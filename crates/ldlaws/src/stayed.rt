@@ -6,7 +6,7 @@ ghost use Rattle.ldmodel.specs.Image.{byte_at};
 ghost use Rattle.ldmodel.specs.Relocations.{Site, site_symbol};
 ghost use Rattle.ldmodel.specs.Stayed.{GoodLink, LinkedPiece, retargeted, sites_in, stayed};
 ghost use Rattle.ldmodel.specs.Targets.{target_number, target_of};
-ghost use Rattle.ldlaws.specs.Untouched.{IsGood, IsOutside};
+ghost use Rattle.ldlaws.specs.Untouched.{IsFaultless, IsGood, IsOutside};
 
 /// Untouched bytes: a byte of an input section that stayed, outside the fields of its sites whose symbol has another
 /// value, is the same in both images.
@@ -17,11 +17,16 @@ pub fn untouched_bytes()
         → byte_at old.project old.layout (x.range.offset + i) ≡ byte_at new.project new.layout (x.range.offset + i) }
 {}
 
-/// Retargeted sites are found: a site in an input section that stayed whose symbol has another value names a target whose
-/// number is another in the two links; so an index from targets to sites has it under such a target.
+/// Retargeted sites are found: a site in an input section that stayed whose symbol has another value names a target
+/// whose number is another in the two links; so an index from targets to sites has it under such a target.
 pub fn retargeted_by_target()
     ensures { (old new : GoodLink) → IsGood old → IsGood new
         → (t : Site) (a : NamedSymbol) → Contains (retargeted old new) t → site_symbol t ≡ Some a
         → target_number old.project old.layout (target_of t.object a)
         ≢ target_number new.project new.layout (target_of t.object a) }
+{}
+
+/// A link without faults is good: what `untouched_bytes` and `retargeted_by_target` ask of it holds.
+pub fn faultless_is_good()
+    ensures { (l : GoodLink) → IsFaultless l → IsGood l }
 {}
