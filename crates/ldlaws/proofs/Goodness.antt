@@ -1,14 +1,12 @@
 -- A link without faults is good: its layout is spread, and each of its sites has a field.
-use Rattle.std.proofs.Common.{◌≡◌, ◌⊎◌, inl, inr, ℕ, ◌^◌, ◌==◌, nat_lt, Bool, true, false, cond, ◌&&◌, List, [], ◌∷◌, ◌++◌, map, flat_map, filter, find, Option, Some, None, Result, Ok, Err, refl, sym, ap, ◌∙◌, subst, bytes_eq}
+use Rattle.std.proofs.Common.{◌≡◌, ◌⊎◌, inl, inr, ℕ, ◌^◌, ◌==◌, nat_lt, Bool, true, false, cond, ◌&&◌, List, [], ◌∷◌, ◌++◌, map, flat_map, find, Option, Some, None, Result, Ok, Err, refl, sym, ap, ◌∙◌, subst, bytes_eq}
 use Rattle.std.specs.List.{Contains, cons_option, filter_map}
 use Rattle.std.specs.Option.{option_map_or}
 use Rattle.std.specs.Result.{result_err}
 use Rattle.std.proofs.lemmas.Bool.{true≢false, eqb-true}
 use Rattle.std.proofs.lemmas.Slice.Eq.{bytes_eq-Decides}
-use Rattle.elfobj.specs.Object.{object_of}
 use Rattle.elfobj.specs.Sections.{LinkedSection}
 use Rattle.elfobj.specs.declared.section.SectionIndex.{SectionIndex}
-use Rattle.ldmodel.specs.Edits.{AreNamesDistinct}
 use Rattle.ldmodel.specs.Fault.{Fault, ImageTooLong}
 use Rattle.ldmodel.specs.FileLayout.{Each}
 use Rattle.ldmodel.specs.Image.{object_named, section_numbered}
@@ -27,13 +25,12 @@ use Rattle.ldmodel.specs.Stayed.{GoodLink, LinkedPiece, linked_piece, linked_pie
 use Rattle.ldmodel.specs.SymbolValues.{entry_point, is_part, placed_part, placed_pieces}
 use Rattle.ldmodel.specs.declared.sections.Part.{Part}
 use Rattle.ldmodel.specs.declared.sections.Part.TheVariants.{InTable, InCommon}
-use Rattle.ldlaws.specs.ImageBytes.{AreNamed}
-use Rattle.ldlaws.specs.PlacedOnce.{AreNumbered, Differ}
-use Rattle.ldlaws.specs.Spread.{EachLater, IsSpread, entries_in}
-use Rattle.ldlaws.specs.Untouched.{AreRead, HasField, IsFaultless, IsGood}
-use Rattle.ldlaws.proofs.Finding.{NotBoth, each_member, find_only, flat_map_in, in_flat_map, in_map, later_imply, member_of}
+use Rattle.ldlaws.specs.PlacedOnce.{Differ}
+use Rattle.ldlaws.specs.Spread.{EachLater, entries_in}
+use Rattle.ldlaws.specs.Untouched.{HasField, IsFaultless, IsGood}
+use Rattle.ldlaws.proofs.Finding.{NotBoth, each_member, find_only, flat_map_in, in_flat_map, in_map, later_imply}
 use Rattle.ldlaws.proofs.Members.{first_or_later, here, later, none_in_nil}
-use Rattle.ldlaws.proofs.OnceInRows.{is_one, joined_map, once_in_rows, own_part}
+use Rattle.ldlaws.proofs.OnceInRows.{is_one, once_in_rows, own_part}
 use Rattle.ldlaws.proofs.OwnRows.{placed_are_rows}
 use Rattle.ldlaws.proofs.PieceBytes.{both_of, later_of_map, of_both}
 use Rattle.ldlaws.proofs.Spreading.{script_spread}

@@ -1,33 +1,27 @@
 -- Each input section stands in the rows once.
-use Rattle.std.proofs.Common.{◌≡◌, ◌≢◌, ◌⊎◌, inl, inr, ⊎_elim, ℕ, suc, ◌+◌, ◌<◌, ◌≤◌, ◌==◌, Bool, true, false, cond, not, ◌&&◌, List, [], ◌∷◌, ◌++◌, length, map, filter, flat_map, count_by, Option, Some, None, refl, sym, ap, ◌∙◌, subst, arith, bytes_eq}
-use Rattle.std.specs.List.{Contains, enumerate_from, filter_map, cons_option, range_with_len}
-use Rattle.std.proofs.lemmas.Bool.{true≢false, false≢true, eqb-true, eq-eqb}
+use Rattle.std.proofs.Common.{◌≡◌, ◌⊎◌, inl, inr, ⊎_elim, ℕ, ◌+◌, ◌<◌, ◌≤◌, ◌==◌, Bool, true, false, cond, not, ◌&&◌, List, [], ◌∷◌, map, flat_map, count_by, Option, Some, None, refl, sym, ap, ◌∙◌, subst, arith, bytes_eq}
+use Rattle.std.specs.List.{Contains, enumerate_from, filter_map, cons_option}
+use Rattle.std.proofs.lemmas.Bool.{false≢true, eqb-true}
 use Rattle.std.proofs.lemmas.Slice.Eq.{bytes_eq-Decides}
 use Rattle.elfobj.specs.Sections.{LinkedSection}
 use Rattle.elfobj.specs.Symbols.{NamedSymbol}
-use Rattle.ldtree.specs.Numbering.{InputStatementAt, input_statements, output_sections}
-use Rattle.ldtree.specs.declared.place.InputPlace.{InputPlace}
-use Rattle.ldtree.specs.declared.place.InputPlace.TheVariants.{InSection, InDiscard}
 use Rattle.ldmodel.specs.Edits.{AreNamesDistinct, has_name}
 use Rattle.ldmodel.specs.FileLayout.{Each}
-use Rattle.ldmodel.specs.FirstMatch.{first_match}
 use Rattle.ldmodel.specs.Gathering.{candidates, is_out}
 use Rattle.ldmodel.specs.InputSections.{block_at, block_of, common_block, common_blocks, input_sections, is_same_entry, linked_section, sections_of}
 use Rattle.ldmodel.specs.Live.{live}
-use Rattle.ldmodel.specs.Names.{Decision, Strong, Script, Common, Weak, Provided, Undefined, Duplicate, Entry, decision}
+use Rattle.ldmodel.specs.Names.{Decision, Strong, Script, Common, Weak, Provided, Undefined, Duplicate, decision}
 use Rattle.ldmodel.specs.Project.{NamedObject, Project}
-use Rattle.ldmodel.specs.Rows.{Piece, below, is_in_section, is_taken_by, piece_of, pieces_in, row, rows, sorted_pieces, taken}
 use Rattle.ldmodel.specs.Sections.{InputSection, is_same_part}
 use Rattle.ldmodel.specs.Sorting.{insert_by, sort_by}
-use Rattle.ldmodel.specs.declared.sections.Part.{Part}
 use Rattle.ldmodel.specs.declared.sections.Part.TheVariants.{InTable, InCommon}
-use Rattle.ldlaws.specs.PlacedOnce.{AreNumbered, Differ}
+use Rattle.ldlaws.specs.PlacedOnce.{AreNumbered}
 use Rattle.ldlaws.specs.Spread.{EachLater}
 use Rattle.ldlaws.proofs.FileOrder.{later_both}
 use Rattle.std.proofs.lemmas.List.Sums.{sum_by-cons}
-use Rattle.ldlaws.proofs.Finding.{Comes, ComesOf, each_member, in_either, in_filter_map, in_flat_map, in_map, later_imply, member_of}
+use Rattle.ldlaws.proofs.Finding.{ComesOf, each_member, in_either, in_filter_map, in_flat_map, in_map, later_imply, member_of}
 use Rattle.ldlaws.proofs.Liveness.{in_order}
-use Rattle.ldlaws.proofs.Members.{here, later, first_or_later, none_in_nil, in_filter}
+use Rattle.ldlaws.proofs.Members.{here, later, first_or_later, none_in_nil}
 use Rattle.ldlaws.proofs.PieceBytes.{later_filtered}
 
 -- ---- lists

@@ -1,5 +1,5 @@
 -- No two entries of the rows are of one input section.
-use Rattle.std.proofs.Common.{◌≡◌, ◌⊎◌, inl, inr, ⊎_elim, ℕ, zero, suc, ◌+◌, ◌<◌, ◌≤◌, ◌==◌, Bool, true, false, cond, ◌&&◌, List, [], ◌∷◌, ◌++◌, length, map, filter, flat_map, Option, Some, None, refl, sym, ap, ◌∙◌, subst, arith, bytes_eq}
+use Rattle.std.proofs.Common.{◌≡◌, ◌⊎◌, inl, inr, ℕ, zero, suc, ◌+◌, ◌<◌, ◌≤◌, ◌==◌, Bool, true, false, cond, ◌&&◌, List, [], ◌∷◌, ◌++◌, length, map, filter, flat_map, Option, Some, None, refl, sym, ap, ◌∙◌, subst, arith, bytes_eq}
 use Rattle.std.specs.List.{Contains, enumerate_from, range_with_len}
 use Rattle.std.specs.Option.{option_map_or}
 use Rattle.std.proofs.lemmas.Bool.{true≢false, eqb-true, eq-eqb}
@@ -18,7 +18,7 @@ use Rattle.ldmodel.specs.declared.sections.Part.{Part}
 use Rattle.ldmodel.specs.declared.sections.Part.TheVariants.{InTable, InCommon}
 use Rattle.ldlaws.specs.PlacedOnce.{AreNumbered, Differ}
 use Rattle.ldlaws.specs.Spread.{EachLater}
-use Rattle.ldlaws.proofs.Finding.{Comes, ComesOf, each_member, in_flat_map, in_map, later_imply, member_of}
+use Rattle.ldlaws.proofs.Finding.{each_member, in_flat_map, in_map, later_imply, member_of}
 use Rattle.ldlaws.proofs.Members.{first_or_later, in_filter, none_in_nil}
 use Rattle.ldlaws.proofs.Once.{Apart, later_flat_map, later_map, live_apart, rising, sorted, sorted_in}
 use Rattle.ldlaws.proofs.PieceBytes.{both_of, later_filtered, of_both}

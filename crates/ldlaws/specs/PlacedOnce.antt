@@ -1,5 +1,5 @@
 -- Input sections that differ, and stand in rows once.
-use Rattle.std.specs.Prelude.{◌≡◌, List, false, ◌&&◌, ◌==◌, bytes_eq}
+use Rattle.std.specs.Prelude.{◌≡◌, false, ◌&&◌, ◌==◌, bytes_eq}
 use Rattle.elfobj.specs.Sections.{LinkedSection}
 use Rattle.ldmodel.specs.FileLayout.{Each}
 use Rattle.ldmodel.specs.Project.{NamedObject, Project}

@@ -28,8 +28,8 @@ pub record IsGood (l : GoodLink) : Type 0 where
   pub read : AreRead l.project
   pub fields : (x : LinkedPiece) → Contains (pieces_in l) x → Each (HasField l) (sites_in l.project x)
 
--- a link without faults of layout and relocation, of a project whose objects and script were read and whose objects have
--- different names
+-- a link without faults of layout and relocation, of a project whose objects and script were read and whose objects
+-- have different names
 pub record IsFaultless (l : GoodLink) : Type 0 where
   pub layout : layout l.project ≡ Ok l.layout
   pub relocated : relocation_faults l.project l.layout ≡ []

@@ -1,7 +1,6 @@
 //! Laws of gathering: which statement takes a section, which sections are live, and their order in a row.
 
-ghost use Rattle.std.specs.Prelude.{◌≡◌, ◌↔◌, ℕ, Bool, true, false, Contains, List, MatchOption, Option, filter};
-ghost use Rattle.std.specs.Prelude.{flat_map};
+ghost use Rattle.std.specs.Prelude.{◌≡◌, ◌↔◌, ℕ, Bool, true, false, Contains, List, MatchOption, Option, filter, flat_map};
 ghost use Rattle.ldtree.specs.declared.input.Sort.{Sort};
 ghost use Rattle.ldtree.specs.declared.statement.Statement.{Statement};
 ghost use Rattle.ldmodel.specs.Edits.{AreNamesDistinct};
@@ -50,5 +49,6 @@ pub fn row_by_order()
 /// part of one object. The names of objects are distinct (`edits::names_stay_distinct`), and the sections of each have
 /// different numbers, as the object reader gives them.
 pub fn once_in_rows()
-    ensures { (p : Project) → AreNamesDistinct p.objects → AreNumbered p → EachLater Differ (flat_map (λ r. r) (rows p)) }
+    ensures { (p : Project) → AreNamesDistinct p.objects → AreNumbered p
+        → EachLater Differ (flat_map (λ r. r) (rows p)) }
 {}
