@@ -42,7 +42,7 @@ pairs_of_later R (x ∷ xs) h zero (suc j) d k l = all_of_each (R x) xs h.0 j d 
 pairs_of_later R (x ∷ xs) h (suc i) (suc j) d k l = pairs_of_later R xs h.1 i j d (omega (arith, k)) (omega (arith, l))
 
 -- where a field stands
-record Stands (r : Relocation) (a : Patch) : Type 0 where
+pub record Stands (r : Relocation) (a : Patch) : Type 0 where
   pub offset : a.offset ≡ r.offset
   pub wide : length a.field ≡ width r.kind
   pub some : 0 < width r.kind
@@ -101,7 +101,7 @@ module _ (p : Project) (s : Layout) (o : NamedObject) (x : LinkedSection) (start
   abbrev fields : List Relocation → List Patch
   fields rs = filter_map patch (map site (filter (λ (r : Relocation). is_evaluated r.kind) rs))
 
-  stands : (r : Relocation) (a : Patch) → is_evaluated r.kind ≡ true → patch (site r) ≡ Some a → Stands r a
+  pub stands : (r : Relocation) (a : Patch) → is_evaluated r.kind ≡ true → patch (site r) ≡ Some a → Stands r a
   unfolding site_field
   stands r a e k = site_stands (site r) (site_value p s (site r)) a (some_width r.kind e) k
 

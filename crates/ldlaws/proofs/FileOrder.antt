@@ -52,7 +52,7 @@ later_filter R test (x ∷ xs) h = go (test x) (later_filter R test xs h.1)
     go true rest = (each_filter (R x) test xs h.0, rest)
     go false rest = rest
 
-later_both : {X : Type 0} (R : X → X → Type 0) (xs ys : List X) → EachLater R xs → EachLater R ys → Each (λ x. Each (R x) ys) xs → EachLater R (xs ++ ys)
+pub later_both : {X : Type 0} (R : X → X → Type 0) (xs ys : List X) → EachLater R xs → EachLater R ys → Each (λ x. Each (R x) ys) xs → EachLater R (xs ++ ys)
 later_both R [] ys h k l = k
 later_both R (x ∷ xs) ys h k l = (each_append (R x) xs ys h.0 l.0, later_both R xs ys h.1 k l.1)
 

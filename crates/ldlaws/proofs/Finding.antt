@@ -1,7 +1,6 @@
 -- The one member of a list that passes a test is the one that is found.
-use Rattle.std.proofs.Common.{◌≡◌, ◌⊎◌, inl, inr, ⊎_elim, ℕ, Bool, true, false, cond, not, ◌&&◌, List, [], ◌∷◌, ◌++◌, length, map, filter, find, flat_map, Option, Some, None, refl, sym, ap, ◌∙◌, subst}
-use Rattle.std.proofs.lemmas.Bool.{true≢false}
-use Rattle.std.specs.List.{Contains}
+use Rattle.std.proofs.Common.{◌≡◌, ◌⊎◌, inl, inr, ⊎_elim, Bool, true, false, cond, ◌&&◌, List, [], ◌∷◌, ◌++◌, map, filter, find, flat_map, Option, Some, None, refl, sym, ap, ◌∙◌, subst}
+use Rattle.std.specs.List.{Contains, cons_option, filter_map}
 use Rattle.ldmodel.specs.FileLayout.{Each}
 use Rattle.ldlaws.specs.Spread.{EachLater}
 use Rattle.ldlaws.proofs.Members.{here, later, first_or_later, none_in_nil}
@@ -60,7 +59,7 @@ pub in_either : {X : Type 0} (xs ys : List X) (x : X) → Contains (xs ++ ys) x 
 in_either [] ys x c = inr c
 in_either (y ∷ xs) ys x c =
     ⊎_elim (λ same. inl (subst (λ z. Contains (y ∷ xs) z) same (here y xs)))
-        (λ in_rest. ⊎_elim (λ l. inl (later y xs x l)) (λ r. inr r) (in_either xs ys x in_rest)) (first_or_later y (xs ++ ys) x c)
+    (λ in_rest. ⊎_elim (λ l. inl (later y xs x l)) (λ r. inr r) (in_either xs ys x in_rest)) (first_or_later y (xs ++ ys) x c)
 
 -- what a member of a mapped list comes of
 pub record Comes {X Y : Type 0} (f : X → Y) (xs : List X) (y : Y) : Type 0 where
@@ -72,8 +71,8 @@ pub in_map : {X Y : Type 0} (f : X → Y) (xs : List X) (y : Y) → Contains (ma
 in_map f [] y c = absurd (none_in_nil y c)
 in_map f (x ∷ xs) y c =
     ⊎_elim (λ same. record { origin = x; among = here x xs; gives = same })
-        (λ in_rest. let k = in_map f xs y in_rest in record { origin = k.origin; among = later x xs k.origin k.among; gives = k.gives })
-        (first_or_later (f x) (map f xs) y c)
+    (λ in_rest. let k = in_map f xs y in_rest in record { origin = k.origin; among = later x xs k.origin k.among; gives = k.gives })
+    (first_or_later (f x) (map f xs) y c)
 
 pub map_in : {X Y : Type 0} (f : X → Y) (xs : List X) (x : X) → Contains xs x → Contains (map f xs) (f x)
 map_in f [] x c = absurd (none_in_nil x c)
@@ -90,10 +89,27 @@ pub in_flat_map : {X Y : Type 0} (f : X → List Y) (xs : List X) (y : Y) → Co
 in_flat_map f [] y c = absurd (none_in_nil y c)
 in_flat_map f (x ∷ xs) y c =
     ⊎_elim (λ own. record { origin = x; among = here x xs; gives = own })
-        (λ in_rest. let k = in_flat_map f xs y in_rest in record { origin = k.origin; among = later x xs k.origin k.among; gives = k.gives })
-        (in_either (f x) (flat_map f xs) y c)
+    (λ in_rest. let k = in_flat_map f xs y in_rest in record { origin = k.origin; among = later x xs k.origin k.among; gives = k.gives })
+    (in_either (f x) (flat_map f xs) y c)
 
 pub flat_map_in : {X Y : Type 0} (f : X → List Y) (xs : List X) (x : X) (y : Y) → Contains xs x → Contains (f x) y → Contains (flat_map f xs) y
 flat_map_in f [] x y c d = absurd (none_in_nil x c)
 flat_map_in f (z ∷ zs) x y c d =
     ⊎_elim (λ same. in_front (f z) (flat_map f zs) y (subst (λ w. Contains (f w) y) (sym same) d)) (λ in_rest. in_append (f z) (flat_map f zs) y (flat_map_in f zs x y in_rest d)) (first_or_later z zs x c)
+
+-- what a member of a filtered and mapped list comes of
+pub record ComesSome {X Y : Type 0} (f : X → Option Y) (xs : List X) (y : Y) : Type 0 where
+  pub origin : X
+  pub among : Contains xs origin
+  pub gives : f origin ≡ Some y
+
+pub in_filter_map : {X Y : Type 0} (f : X → Option Y) (xs : List X) (y : Y) → Contains (filter_map f xs) y → ComesSome f xs y
+in_filter_map f [] y c = absurd (none_in_nil y c)
+in_filter_map {X} {Y} f (x ∷ xs) y c = go (f x) refl c (in_filter_map f xs y)
+  where
+    go : (m : Option Y) → f x ≡ m → Contains (cons_option m (filter_map f xs)) y → (Contains (filter_map f xs) y → ComesSome f xs y) → ComesSome f (x ∷ xs) y
+    go None e d rest = let k = rest d in record { origin = k.origin; among = later x xs k.origin k.among; gives = k.gives }
+    go (Some z) e d rest =
+        ⊎_elim (λ is. record { origin = x; among = here x xs; gives = e ∙ ap Some is })
+        (λ in_rest. let k = rest in_rest in record { origin = k.origin; among = later x xs k.origin k.among; gives = k.gives })
+        (first_or_later z (filter_map f xs) y d)

@@ -27,3 +27,7 @@ pub mod Total
 pub mod Courses
 pub mod Finding
 pub mod PieceBytes
+pub mod Untouched
+pub mod Once
+pub mod OnceInRows
+pub mod Goodness

@@ -1,5 +1,5 @@
 -- The byte of the image in an input section with file bytes.
-use Rattle.std.proofs.Common.{◌≡◌, ⊎_elim, ℕ, suc, ◌+◌, ◌-◌, ◌*◌, ◌<◌, ◌≤◌, ◌==◌, nat_lt, nat_le, Bool, true, false, cond, not, ◌&&◌, List, [], ◌∷◌, ◌++◌, length, map, filter, find, flat_map, slice_index, Some, refl, sym, ap, ◌∙◌, subst, arith, bytes_eq, length-append}
+use Rattle.std.proofs.Common.{◌≡◌, ℕ, suc, ◌+◌, ◌-◌, ◌*◌, ◌<◌, ◌≤◌, ◌==◌, nat_lt, nat_le, Bool, true, false, cond, not, ◌&&◌, List, [], ◌∷◌, ◌++◌, length, map, filter, find, flat_map, slice_index, Some, refl, sym, ap, ◌∙◌, subst, arith, bytes_eq, length-append}
 use Rattle.std.specs.List.{Contains}
 use Rattle.std.specs.Option.{option_map_or}
 use Rattle.std.proofs.lemmas.Bool.{true≢false, false≢true, lt-ltb, le-leb, le-ltb, ltb-true, leb-true, eqb-true}
@@ -7,10 +7,9 @@ use Rattle.std.proofs.lemmas.Slice.Eq.{bytes_eq-Decides}
 use Rattle.ldmodel.specs.FileLayout.{Each}
 use Rattle.ldmodel.specs.Headers.{elf_header, program_header, program_headers, ascending}
 use Rattle.ldmodel.specs.Image.{byte_at, byte_past_headers, covering_data, covering_piece, covers, headers, output_byte, part_byte, section_at, tail_at, byte_among}
-use Rattle.ldmodel.specs.Layout.{Layout, PlacedData, PlacedPiece, PlacedSection}
+use Rattle.ldmodel.specs.Layout.{Layout, PlacedPiece, PlacedSection}
 use Rattle.ldmodel.specs.Project.{Project}
-use Rattle.ldmodel.specs.SectionHeaders.{FilePart}
-use Rattle.ldmodel.specs.Segments.{Group, Segment, SectionInFile, file_offset, groups, has_file_bytes, headers_end, in_file, in_segment, loaded_end, begun, begun_from, file_end, nonempty, sections_in, segments, start_of}
+use Rattle.ldmodel.specs.Segments.{Group, Segment, SectionInFile, file_offset, groups, has_file_bytes, headers_end, in_file, in_segment, loaded_end, begun, begun_from, file_end, nonempty, sections_in, segments}
 use Rattle.ldmodel.specs.Sorting.{insert_by, sort_by}
 use Rattle.ldlaws.specs.FileOrder.{AreInFileOrder, end_in_file}
 use Rattle.ldlaws.specs.ImageBytes.{AreNamed, offset_in_file}
@@ -83,7 +82,7 @@ unfolding segments
 all_sections sections = sections_of (headers_end (length (groups (nonempty sections)))) (groups (nonempty sections)) ∙ (is_grouping (nonempty sections)).parts
 
 -- members of a mapped list that differ come of members that do
-later_of_map : {X Y : Type 0} (f : X → Y) (R : Y → Y → Type 0) (xs : List X) → EachLater R (map f xs) → EachLater (λ x y. R (f x) (f y)) xs
+pub later_of_map : {X Y : Type 0} (f : X → Y) (R : Y → Y → Type 0) (xs : List X) → EachLater R (map f xs) → EachLater (λ x y. R (f x) (f y)) xs
 later_of_map f R [] h = tt
 later_of_map {X} f R (x ∷ xs) h = (each xs h.0, later_of_map f R xs h.1)
   where
@@ -91,7 +90,7 @@ later_of_map {X} f R (x ∷ xs) h = (each xs h.0, later_of_map f R xs h.1)
     each [] k = tt
     each (y ∷ ys) k = (k.0, each ys k.1)
 
-later_filtered : {X : Type 0} (R : X → X → Type 0) (test : X → Bool) (xs : List X) → EachLater R xs → EachLater R (filter test xs)
+pub later_filtered : {X : Type 0} (R : X → X → Type 0) (test : X → Bool) (xs : List X) → EachLater R xs → EachLater R (filter test xs)
 later_filtered R test [] h = tt
 later_filtered {X} R test (x ∷ xs) h = go (test x) (later_filtered R test xs h.1)
   where
@@ -101,11 +100,11 @@ later_filtered {X} R test (x ∷ xs) h = go (test x) (later_filtered R test xs h
 
 -- ---- ranges
 
-both_of : (a b : Bool) → a && b ≡ true → (a ≡ true) × (b ≡ true)
+pub both_of : (a b : Bool) → a && b ≡ true → (a ≡ true) × (b ≡ true)
 both_of true b e = (refl, e)
 both_of false b e = absurd (false≢true e)
 
-of_both : (a b : Bool) → a ≡ true → b ≡ true → (a && b) ≡ true
+pub of_both : (a b : Bool) → a ≡ true → b ≡ true → (a && b) ≡ true
 of_both a b e f = ap (λ x. x && b) e ∙ f
 
 covered : (a n o : ℕ) → covers a n o ≡ true → (a ≤ o) × (o < a + n)
@@ -159,15 +158,15 @@ module _ (sections : List PlacedSection) (named : AreNamed sections) (q : Placed
   names_differ : EachLater (λ (x y : SectionInFile). bytes_eq x.section.name y.section.name ≡ false) fs
   names_differ =
       later_of_map section_in (λ (r t : PlacedSection). bytes_eq r.name t.name ≡ false) fs
-          (subst (EachLater (λ (r t : PlacedSection). bytes_eq r.name t.name ≡ false)) (sym (all_sections sections))
-              (later_filtered (λ (r t : PlacedSection). bytes_eq r.name t.name ≡ false) (λ (r : PlacedSection). not (r.size == 0)) sections named))
+      (subst (EachLater (λ (r t : PlacedSection). bytes_eq r.name t.name ≡ false)) (sym (all_sections sections))
+      (later_filtered (λ (r t : PlacedSection). bytes_eq r.name t.name ≡ false) (λ (r : PlacedSection). not (r.size == 0)) sections named))
 
   own_offset : file_offset gs q ≡ own.offset
   own_offset =
       ap (λ m. option_map_or (λ (x : SectionInFile). x.offset) m 0)
       (find_only (λ (x : SectionInFile). bytes_eq x.section.name q.name) fs own
-          (later_imply (λ (x y : SectionInFile). bytes_eq x.section.name y.section.name ≡ false) (NotBoth (λ (x : SectionInFile). bytes_eq x.section.name q.name)) (λ x y h. one_name x.section.name y.section.name q.name h) fs names_differ)
-          found.among (ap (λ (r : PlacedSection). bytes_eq r.name q.name) found.gives ∙ same_name q.name))
+      (later_imply (λ (x y : SectionInFile). bytes_eq x.section.name y.section.name ≡ false) (NotBoth (λ (x : SectionInFile). bytes_eq x.section.name q.name)) (λ x y h. one_name x.section.name y.section.name q.name h) fs names_differ)
+      found.among (ap (λ (r : PlacedSection). bytes_eq r.name q.name) found.gives ∙ same_name q.name))
 
   module _ (bytes : has_file_bytes q ≡ true) where
     in_bytes : Contains (filter (λ (x : SectionInFile). has_file_bytes x.section) fs) own
@@ -185,9 +184,9 @@ module _ (sections : List PlacedSection) (named : AreNamed sections) (q : Placed
     finds at low high =
         find_filter (λ (x : SectionInFile). has_file_bytes x.section) (λ (x : SectionInFile). covers x.offset x.section.size at) fs
         ∙ find_only (λ (x : SectionInFile). covers x.offset x.section.size at) (filter (λ (x : SectionInFile). has_file_bytes x.section) fs) own
-            (later_imply (λ (x y : SectionInFile). end_in_file x ≤ y.offset) (NotBoth (λ (x : SectionInFile). covers x.offset x.section.size at))
-                (λ x y h. apart x.offset x.section.size y.offset y.section.size at h) _ order.ascend)
-            in_bytes (ap (λ (r : PlacedSection). covers own.offset r.size at) found.gives ∙ covering own.offset q.size at low high)
+        (later_imply (λ (x y : SectionInFile). end_in_file x ≤ y.offset) (NotBoth (λ (x : SectionInFile). covers x.offset x.section.size at))
+        (λ x y h. apart x.offset x.section.size y.offset y.section.size at h) _ order.ascend)
+        in_bytes (ap (λ (r : PlacedSection). covers own.offset r.size at) found.gives ∙ covering own.offset q.size at low high)
 
 -- ---- the byte
 
@@ -224,9 +223,9 @@ module _ (p : Project) (s : Layout) (q : PlacedSection) (x : PlacedPiece) (i : �
   piece_found : covering_piece q (x.start + i) ≡ Some x
   piece_found =
       find_only (λ (y : PlacedPiece). covers y.start y.piece.size (x.start + i)) q.pieces x
-          (later_imply (λ (y z : PlacedPiece). piece_end y ≤ z.start) (NotBoth (λ (y : PlacedPiece). covers y.start y.piece.size (x.start + i)))
-              (λ y z h. apart y.start y.piece.size z.start z.piece.size (x.start + i) h) q.pieces own_spread.pieces_ascend)
-          among (covering x.start x.piece.size (x.start + i) (omega arith) (omega (arith, low)))
+      (later_imply (λ (y z : PlacedPiece). piece_end y ≤ z.start) (NotBoth (λ (y : PlacedPiece). covers y.start y.piece.size (x.start + i)))
+      (λ y z h. apart y.start y.piece.size z.start z.piece.size (x.start + i) h) q.pieces own_spread.pieces_ascend)
+      among (covering x.start x.piece.size (x.start + i) (omega arith) (omega (arith, low)))
 
   pub byte_of_piece : byte_at p s at ≡ part_byte p s x.piece.object x.piece.part x.start i
   unfolding byte_at

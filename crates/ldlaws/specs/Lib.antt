@@ -9,3 +9,5 @@ pub mod FileOrder
 pub mod Outcomes
 pub mod LayoutExamples
 pub mod ImageBytes
+pub mod Untouched
+pub mod PlacedOnce

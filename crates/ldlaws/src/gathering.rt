@@ -1,17 +1,20 @@
 //! Laws of gathering: which statement takes a section, which sections are live, and their order in a row.
 
-ghost use Rattle.std.specs.Prelude.{◌≡◌, ◌↔◌, ℕ, Bool, true, false, Contains, List, MatchOption, Option, filter};
+ghost use Rattle.std.specs.Prelude.{◌≡◌, ◌↔◌, ℕ, Bool, true, false, Contains, List, MatchOption, Option, filter, flat_map};
 ghost use Rattle.ldtree.specs.declared.input.Sort.{Sort};
 ghost use Rattle.ldtree.specs.declared.statement.Statement.{Statement};
+ghost use Rattle.ldmodel.specs.Edits.{AreNamesDistinct};
 ghost use Rattle.ldmodel.specs.FirstMatch.{first_match};
 ghost use Rattle.ldmodel.specs.Gathering.{candidates};
 ghost use Rattle.ldmodel.specs.Live.{is_root, live, refers_to};
 ghost use Rattle.ldmodel.specs.Project.{Project};
 ghost use Rattle.ldmodel.specs.Reach.{Path};
-ghost use Rattle.ldmodel.specs.Rows.{Piece, below};
+ghost use Rattle.ldmodel.specs.Rows.{Piece, below, rows};
 ghost use Rattle.ldmodel.specs.Sections.{InputSection};
 ghost use Rattle.ldmodel.specs.Sorting.{IsOrdered, sort_by};
 ghost use Rattle.ldlaws.specs.FirstMatches.{IsFirstMatch, IsUnmatched};
+ghost use Rattle.ldlaws.specs.PlacedOnce.{AreNumbered, Differ};
+ghost use Rattle.ldlaws.specs.Spread.{EachLater};
 
 use ldpattern::law::match_by_splitting;
 
@@ -40,4 +43,12 @@ pub fn live_by_path()
 pub fn row_by_order()
     ensures { (sort : Option Sort) (pieces sorted : List Piece)
         → IsOrdered (below sort) pieces sorted ↔ sorted ≡ sort_by (below sort) pieces }
+{}
+
+/// No input section stands in the rows twice, neither in one row nor in two: no two of all their entries are of one
+/// part of one object. The names of objects are distinct (`edits::names_stay_distinct`), and the sections of each have
+/// different numbers, as the object reader gives them.
+pub fn once_in_rows()
+    ensures { (p : Project) → AreNamesDistinct p.objects → AreNumbered p
+        → EachLater Differ (flat_map (λ r. r) (rows p)) }
 {}

@@ -34,13 +34,13 @@ pub fn fields_are_apart()
         → All (IsWithin x.size) (fields_of p s o x start) }
 {}
 
-/// The image has the bytes of an input section where it stands in the file, in an output section with file bytes: each is
-/// that of the field that covers it, else its own. Output sections have different names, as the script reader has found,
-/// and nothing in them meets (`layout::nothing_meets`).
+/// The image has the bytes of an input section where it stands in the file, in an output section with file bytes: each
+/// is that of the field that covers it, else its own. Output sections have different names, as the script reader has
+/// found, and nothing in them meets (`layout::nothing_meets`).
 pub fn byte_of_piece()
     ensures { (p : Project) (s : Layout) (q : PlacedSection) (x : PlacedPiece) (i : ℕ)
         → Each IsSpread s.sections → AreNamed s.sections
         → Contains s.sections q → has_file_bytes q ≡ true → Contains q.pieces x → i < x.piece.size
         → byte_at p s (offset_in_file (segments s.sections) q x + i)
-            ≡ part_byte p s x.piece.object x.piece.part x.start i }
+        ≡ part_byte p s x.piece.object x.piece.part x.start i }
 {}

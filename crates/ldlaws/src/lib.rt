@@ -11,6 +11,7 @@ pub mod link_command;
 pub mod links;
 pub mod names;
 pub mod segments;
+pub mod stayed;
 pub mod streams;
 pub mod targets;
 pub mod values;
