@@ -1,5 +1,5 @@
 -- Sites that were evaluated one after another.
-use Rattle.std.proofs.Common.{◌≡◌, ◌<◌, ◌≤◌, ◌^◌, ℕ, ◌+◌, ◌-◌, suc, List, [], ◌∷◌, ◌++◌, length, map, filter, take, get_or, false, min, refl, ap, sym, ◌∙◌, arith, add-one, append_assoc, append-nil, length-append, subst, take-suc}
+use Rattle.std.proofs.Common.{◌≡◌, ◌<◌, ◌≤◌, ◌^◌, ℕ, ◌+◌, List, [], ◌∷◌, ◌++◌, length, map, filter, take, get_or, false, ap, sym, ◌∙◌, arith, add-one, append_assoc, append-nil, length-append, subst, take-suc}
 use Rattle.std.proofs.Math.Seq.{take-length}
 use Rattle.std.specs.List.{All, filter_map}
 use Rattle.std.proofs.lemmas.List.{map-append}

@@ -1,5 +1,5 @@
 -- The fields of input sections, one after another.
-use Rattle.std.proofs.Common.{◌≡◌, ◌<◌, ◌≤◌, ◌^◌, ◌-◌, ℕ, ◌+◌, zero, suc, List, [], ◌∷◌, ◌++◌, length, map, take, get_or, Option, Some, None, refl, ap, sym, ◌∙◌, arith, add-one, append-nil, append_assoc, length-append, subst, take-suc}
+use Rattle.std.proofs.Common.{◌≡◌, ◌<◌, ◌≤◌, ◌^◌, ◌-◌, ℕ, ◌+◌, List, [], ◌∷◌, ◌++◌, length, take, Option, Some, None, refl, ap, sym, ◌∙◌, arith, add-one, append-nil, append_assoc, length-append, subst, take-suc}
 use Rattle.std.specs.Prelude.{flat_map, slice_get}
 use Rattle.std.specs.List.{AllZip}
 use Rattle.std.specs.Option.{option_map, option_map_or}
@@ -22,7 +22,7 @@ use Rattle.ldmodel.specs.declared.names.ObjectKey.{ObjectKey}
 use Rattle.ldmodel.specs.declared.sections.Part.TheVariants.{InTable}
 use Rattle.ldtargets.specs.Fields.{IsAdded, IsCounted, IsRun}
 use Rattle.ldtargets.specs.Filled.{AreFilled, EndBelow, IsOrder, IsRunAdded, IsRunAt, IsRunOf, ObjectSection, ends_of, sections_in, sections_of, sites_in}
-use Rattle.ldtargets.specs.KnownLink.{KnownLink, name_of_object, named_object, object_of, start_of}
+use Rattle.ldtargets.specs.KnownLink.{KnownLink, named_object, object_of, start_of}
 use Rattle.ldtargets.proofs.Added.{counted_more, tried_nothing}
 use Rattle.ldtargets.proofs.Found.{there}
 

@@ -1,5 +1,5 @@
 -- Relocations of input sections in the output, as the code hands them on.
-use Rattle.std.specs.Prelude.{◌≡◌, ℕ, List, map, Option, Some, Result, Ok, Err, length, slice_get, true, find, ◌==◌}
+use Rattle.std.specs.Prelude.{◌≡◌, ℕ, map, Some, Result, Ok, Err, length, slice_get, true, find, ◌==◌}
 use Rattle.elfobj.specs.Object.{ObjectData}
 use Rattle.elfobj.specs.RelocationKinds.{width}
 use Rattle.elfobj.specs.Sections.{LinkedSection}
