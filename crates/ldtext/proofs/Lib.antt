@@ -1,0 +1,9 @@
+-- Lemmas of the crate.
+pub mod Draftings
+pub mod Spelling
+pub mod FoundSections
+pub mod Merging
+pub mod SideBySide
+pub mod Mapped
+pub mod ByteOrder
+pub mod MergedNames

@@ -1,0 +1,23 @@
+-- What is left of a table, entry by entry.
+use Rattle.std.proofs.Common.{◌≡◌, ◌<◌, ◌≤◌, ◌+◌, ℕ, zero, suc, List, [], ◌∷◌, length, map, drop, get_or, refl, ap, sym, ◌∙◌, arith}
+
+pub some_left : {X Y : Type 0} (f : X → Y) (xs : List X) (k : ℕ) (x : X) → k < length xs → x ≡ get_or xs k x → drop k (map f xs) ≡ f x ∷ drop (k + 1) (map f xs)
+some_left f [] k x h e = absurd (omega (arith, h))
+some_left f (y ∷ ys) zero x h e = ap (λ z. f z ∷ map f ys) (sym e)
+some_left f (y ∷ ys) (suc k) x h e =
+    let n : suc (k + 1) ≡ suc k + 1 = omega arith in
+    some_left f ys k x (omega (arith, h)) e ∙ ap (λ m. f x ∷ drop m (map f (y ∷ ys))) n
+
+pub none_left : {X Y : Type 0} (f : X → Y) (xs : List X) (k : ℕ) → length xs ≤ k → drop k (map f xs) ≡ []
+none_left f [] zero h = refl
+none_left f [] (suc k) h = refl
+none_left f (x ∷ xs) zero h = absurd (omega (arith, h))
+none_left f (x ∷ xs) (suc k) h = none_left f xs k (omega (arith, h))
+
+pub next_left : {X : Type 0} (xs : List X) (i : ℕ) (y : X) (ys : List X) → drop i xs ≡ y ∷ ys → drop (i + 1) xs ≡ ys
+next_left [] zero y ys e = cc
+next_left [] (suc i) y ys e = cc
+next_left (x ∷ xs) zero y ys e = cc
+next_left (x ∷ xs) (suc i) y ys e =
+    let n : suc i + 1 ≡ suc (i + 1) = omega arith in
+    ap (λ m. drop m (x ∷ xs)) n ∙ next_left xs i y ys e

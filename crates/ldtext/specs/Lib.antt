@@ -1,0 +1,6 @@
+-- What the texts of a link need besides the definitions of ldmodel.
+pub mod Drafts
+pub mod LineWords
+pub mod Naming
+pub mod ShownMap
+pub mod MapOf

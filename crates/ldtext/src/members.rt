@@ -1,0 +1,26 @@
+//! What finds the objects of a project by their keys.
+
+use elfobj::object::Object;
+use ldmodel::names::ObjectKey;
+
+/// What finds the objects of a project by their keys: that of a linker, or a table made for one link.
+pub trait Members {
+    ghost use Rattle.std.specs.Prelude.{◌≡◌, ℕ, slice_get};
+    ghost use Rattle.std.specs.Option.{option_map};
+    ghost use Rattle.ldmodel.specs.NameFaults.{object_name};
+    ghost use Rattle.ldmodel.specs.Project.{NamedObject, Project};
+
+    /// The project.
+    ghost project: { Self → Project };
+
+    /// The place in the project of the object of a key; for a key of none, a number that is no place.
+    ghost number: { Self → ℕ → ℕ };
+
+    /// The name of the object of a key; no bytes for a key of none.
+    fn name(&self, key: ObjectKey) -> &[u8]
+        ensures { result.now ≡ object_name (project self.now) (number self.now key.0) };
+
+    /// The object of a key.
+    fn object(&self, key: ObjectKey) -> Option<&Object>
+        ensures { option_map (λ o. o.now) result ≡ option_map (λ (o : NamedObject). o.object) (slice_get (project self.now).objects (number self.now key.0)) };
+}

@@ -1,0 +1,2 @@
+-- What the kept objects are to the layer.
+pub mod Kept
