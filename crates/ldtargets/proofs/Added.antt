@@ -1,5 +1,5 @@
 -- Sites that were evaluated one after another.
-use Rattle.std.proofs.Common.{◌≡◌, ◌<◌, ◌≤◌, ◌^◌, ℕ, ◌+◌, ◌-◌, suc, List, [], ◌∷◌, ◌++◌, length, map, filter, take, get_or, false, min, refl, ap, sym, ◌∙◌, arith, add-one, append_assoc, append-nil, length-append, subst, take-suc}
+use Rattle.std.proofs.Common.{◌≡◌, ◌<◌, ◌≤◌, ◌^◌, ℕ, ◌+◌, List, [], ◌∷◌, ◌++◌, length, map, filter, take, get_or, false, ap, sym, ◌∙◌, arith, add-one, append_assoc, append-nil, length-append, subst, take-suc}
 use Rattle.std.proofs.Math.Seq.{take-length}
 use Rattle.std.specs.List.{All, filter_map}
 use Rattle.std.proofs.lemmas.List.{map-append}
@@ -43,7 +43,7 @@ module _ (l : KnownLink) where
   tried_none o x start r fs gs m e h = rw e (tried_nothing fs gs m h)
 
   -- first some sites, then others
-  counted_more : (a b : List Site) (g0 g1 g2 : List code.Fault) (m0 m1 m2 : Counts) → IsCounted l a g0 g1 m0 m1 → IsCounted l b g1 g2 m1 m2 → IsCounted l (a ++ b) g0 g2 m0 m2
+  pub counted_more : (a b : List Site) (g0 g1 g2 : List code.Fault) (m0 m1 m2 : Counts) → IsCounted l a g0 g1 m0 m1 → IsCounted l b g1 g2 m1 m2 → IsCounted l (a ++ b) g0 g2 m0 m2
   counted_more a b g0 g1 g2 m0 m1 m2 p q = record {
     faults =
         q.faults ∙ ap (λ fs. fs ++ filter_map (fault_at l) b) p.faults

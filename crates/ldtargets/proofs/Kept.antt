@@ -1,11 +1,11 @@
 -- An index to which a site is added.
-use Rattle.std.proofs.Common.{◌≡◌, ◌≢◌, ◌⊎◌, inl, inr, ◌<◌, ◌≤◌, ℕ, ◌+◌, ◌-◌, zero, suc, List, [], ◌∷◌, ◌++◌, length, map, filter, set, get_or, Bool, true, false, cond, ◌||◌, ◌&&◌, nat_eq, Option, Some, None, refl, ap, sym, ◌∙◌, arith, if◌then◌else◌, add-one, append-nil, append_assoc, count_by, drop, subst, take}
+use Rattle.std.proofs.Common.{◌≡◌, ◌≢◌, inl, inr, ◌<◌, ◌≤◌, ℕ, ◌+◌, zero, suc, List, [], ◌∷◌, ◌++◌, length, map, filter, set, get_or, Bool, true, false, cond, ◌||◌, ◌&&◌, nat_eq, Option, Some, None, refl, ap, sym, ◌∙◌, arith, if◌then◌else◌, add-one, append-nil, append_assoc, count_by, drop, subst, take}
 use Rattle.std.proofs.Math.Seq.{drop-cons, take-suc}
 use Rattle.std.proofs.lemmas.List.Elements.{filter-append}
 use Rattle.std.proofs.lemmas.List.Sums.{sum_by-cons}
 use Rattle.std.specs.List.{cons_option, filter_map, list_any}
 use Rattle.std.specs.List.Sorted.{IsPermutation}
-use Rattle.std.proofs.lemmas.Bool.{cases_eq, eq-eqb, eqb-true, eqb-false, ne_eqb}
+use Rattle.std.proofs.lemmas.Bool.{cases_eq, eq-eqb, eqb-true, ne_eqb}
 use Rattle.std.proofs.lemmas.List.{get_or-set_same, get_or-set_other, map-append}
 use Rattle.std.proofs.lemmas.List.Sorted.{IsPermutation-cons, IsPermutation-insert, IsPermutation-refl, IsPermutation-to_front}
 use Rattle.std.proofs.lemmas.List.Sorted.{IsPermutation-trans}

@@ -4,3 +4,5 @@ mod Runs
 mod Added
 mod Places
 mod Kept
+mod Found
+mod Filling

@@ -1,12 +1,12 @@
 -- An index: what is known of its places while sites are added and taken out.
-use Rattle.std.proofs.Common.{◌≡◌, ◌≢◌, ◌⊎◌, inl, inr, ◌<◌, ◌≤◌, ℕ, ◌+◌, zero, suc, List, [], ◌∷◌, ◌++◌, length, map, filter, take, set, get_or, Bool, true, false, not, cond, ◌||◌, ◌&&◌, nat_eq, Option, Some, None, refl, ap, sym, ◌∙◌, arith, add-one, if◌then◌else◌}
-use Rattle.std.specs.List.{cons_option, filter_map, list_any}
-use Rattle.std.proofs.lemmas.Bool.{cases_eq, eq-eqb, eqb-true, ne_eqb}
+use Rattle.std.proofs.Common.{◌≡◌, ◌≢◌, inl, inr, ◌<◌, ◌≤◌, ℕ, ◌+◌, zero, suc, List, [], ◌∷◌, length, map, filter, set, get_or, Bool, true, false, not, nat_eq, Option, Some, None, refl, ap, sym, ◌∙◌, arith, if◌then◌else◌}
+use Rattle.std.specs.List.{cons_option, filter_map}
+use Rattle.std.proofs.lemmas.Bool.{cases_eq, eqb-true, ne_eqb}
 use Rattle.std.proofs.lemmas.List.{get_or-map, get_or-set_other, get_or-set_same, get_or_past, length-map, set-get_or}
-use Rattle.slab.specs.Slab.{Slab, Updates, entries_from, get, values}
+use Rattle.slab.specs.Slab.{entries_from, values}
 use Rattle.ldmodel.specs.declared.fault.SiteKey.{SiteKey}
 use Rattle.ldmodel.specs.declared.names.ObjectKey.{ObjectKey}
-use Rattle.ldtargets.specs.Index.{IsSound, cleared, cleared_one, has_spot, is_of_object, is_owner, is_spot, no_bucket, room_at, room_of, slot, slots_at}
+use Rattle.ldtargets.specs.Index.{IsSound, cleared, has_spot, is_of_object, is_owner, room_at, room_of, slot, slots_at}
 use Rattle.ldtargets.specs.declared.bucket.Bucket.{Bucket}
 use Rattle.ldtargets.specs.declared.index.Spot.{Spot}
 

@@ -1,5 +1,5 @@
 -- Fields of relocations that share no byte share none.
-use Rattle.std.proofs.Common.{◌≡◌, ◌⊎◌, inl, inr, ◌<◌, ◌≤◌, ℕ, ◌+◌, zero, suc, List, [], ◌∷◌, ◌++◌, length, Option, Some, true, false, refl, ap, sym, ◌∙◌, arith, get_or, max, min, nat_lt, subst}
+use Rattle.std.proofs.Common.{◌≡◌, inl, inr, ◌<◌, ◌≤◌, ℕ, ◌+◌, List, [], ◌∷◌, ◌++◌, length, Some, true, false, ap, ◌∙◌, arith, get_or, subst}
 use Rattle.std.specs.Prelude.{slice_get}
 use Rattle.std.specs.List.{All, AllPairs}
 use Rattle.std.proofs.lemmas.Bool.{cases_eq}
@@ -13,7 +13,7 @@ use Rattle.elfobj.specs.Relocations.{field_end}
 use Rattle.elfobj.specs.declared.relocation.Relocation.{Relocation}
 use Rattle.elfobj.specs.declared.relocation.RelocationKind.{RelocationKind}
 use Rattle.elfobj.specs.declared.relocation.RelocationKind.TheVariants as kind
-use Rattle.ldfields.specs.Patches.{AreApart, IsWithin, meets, patch_end}
+use Rattle.ldfields.specs.Patches.{IsWithin, meets}
 use Rattle.ldfields.specs.declared.patch.Patch.{Patch}
 use Rattle.ldmodel.specs.Relocations.{is_evaluated}
 use Rattle.ldtargets.specs.Fields.{AreFieldsOf, IsAmong, IsNext}

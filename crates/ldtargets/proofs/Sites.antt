@@ -1,18 +1,12 @@
 -- Relocations and their faults.
-use Rattle.std.proofs.Common.{◌≡◌, ℕ, ◌+◌, List, [], Option, Some, None, Result, Ok, Err, refl, ap, sym, ◌∙◌}
+use Rattle.std.proofs.Common.{◌≡◌, ℕ, ◌+◌, Some, Result, Ok, Err, refl, ap, sym, ◌∙◌}
 use Rattle.std.specs.Prelude.{slice_get}
-use Rattle.std.specs.Option.{option_map_or, option_and_then}
-use Rattle.elfobj.specs.Sections.{LinkedSection}
-use Rattle.elfobj.specs.Symbols.{NamedSymbol}
 use Rattle.elfobj.specs.declared.relocation.Relocation.{Relocation}
 use Rattle.ldfields.specs.Fields.{field_of}
 use Rattle.ldfields.specs.declared.field.Overflow.{Overflow}
 use Rattle.ldfields.specs.declared.patch.Patch.{Patch}
-use Rattle.ldmodel.specs.FaultCode.{fault_of, relocation_at, section_at}
-use Rattle.ldmodel.specs.Image.{section_numbered}
-use Rattle.ldmodel.specs.Live.{symbol_at}
-use Rattle.ldmodel.specs.Project.{NamedObject}
-use Rattle.ldmodel.specs.Relocations.{Site, field_with, field_or_overflow, site_field, site_value}
+use Rattle.ldmodel.specs.FaultCode.{fault_of}
+use Rattle.ldmodel.specs.Relocations.{Site, field_with, site_field, site_value}
 use Rattle.ldmodel.specs.SymbolValues.{SymbolValue, Number, NotDefined, NotInOutput}
 use Rattle.ldmodel.specs.declared.fault.Fault as code
 use Rattle.ldmodel.specs.declared.fault.Fault.TheVariants as variant

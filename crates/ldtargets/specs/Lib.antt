@@ -3,3 +3,4 @@ pub mod KnownLink
 pub mod Sites
 pub mod Fields
 pub mod Index
+pub mod Filled

@@ -1,5 +1,6 @@
 -- Relocations of input sections in the output, as the code hands them on.
-use Rattle.std.specs.Prelude.{◌≡◌, ℕ, List, map, Option, Some, Result, Ok, Err, length, slice_get, true}
+use Rattle.std.specs.Prelude.{◌≡◌, ℕ, map, Some, Result, Ok, Err, length, slice_get, true, find, ◌==◌}
+use Rattle.elfobj.specs.Object.{ObjectData}
 use Rattle.elfobj.specs.RelocationKinds.{width}
 use Rattle.elfobj.specs.Sections.{LinkedSection}
 use Rattle.elfobj.specs.Symbols.{NamedSymbol}
@@ -11,6 +12,7 @@ use Rattle.ldmodel.specs.Project.{NamedObject}
 use Rattle.ldmodel.specs.Relocations.{Site, field_with, is_evaluated, site_field}
 use Rattle.ldmodel.specs.SymbolValues.{SymbolValue}
 use Rattle.ldmodel.specs.declared.fault.Fault as code
+use Rattle.ldmodel.specs.declared.names.ObjectKey.{ObjectKey}
 use Rattle.ldtargets.specs.KnownLink.{KnownLink, named_object}
 use Rattle.ldtargets.specs.declared.site.PlacedSection.{PlacedSection}
 
@@ -19,6 +21,13 @@ pub record IsPlaced (l : KnownLink) (m : PlacedSection) (o : NamedObject) (x : L
   pub object_is : named_object l m.object ≡ Some o
   pub section_is : section_numbered o m.section ≡ Some x
   pub symbols_are : m.symbols.now ≡ map (λ (y : NamedSymbol). y.symbol) o.object.symbols
+  pub relocations_are : m.relocations.now ≡ x.relocations
+
+-- the same by what was read of the object
+pub record IsSectionOf (o : ObjectData) (x : LinkedSection) (key : ObjectKey) (m : PlacedSection) : Type 0 where
+  pub key_is : m.object ≡ key
+  pub number_is : find (λ (y : LinkedSection). y.number.0 == m.section.0) o.sections ≡ Some x
+  pub symbols_are : m.symbols.now ≡ map (λ (y : NamedSymbol). y.symbol) o.symbols
   pub relocations_are : m.relocations.now ≡ x.relocations
 
 -- a site of it

@@ -1,6 +1,7 @@
 //! Values of symbols in the output, and the fields of relocations against them.
 #![tactic(auto)]
 
+pub mod all_fields;
 mod bucket;
 pub mod fields;
 pub mod index;
@@ -8,4 +9,6 @@ pub mod known;
 pub mod site;
 pub mod symbol;
 pub mod target;
+#[cfg(test)]
+mod tests;
 pub mod value;

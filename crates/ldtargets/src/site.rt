@@ -1,17 +1,21 @@
 //! Relocations of an input section in the output: each one's field, or its fault.
 
-ghost use Rattle.std.specs.Prelude.{◌≡◌, IfOk, ◌+◌, ◌<◌, ◌^◌, Some, length, option_copied, slice_get, true};
+ghost use Rattle.std.specs.Prelude.{◌≡◌, ◌≤◌, All, IfOk, ◌+◌, ◌<◌, ◌^◌, Some, length, option_copied, slice_get, true};
 ghost use Rattle.ldbase.specs.Raised.{raised};
+ghost use Rattle.elfobj.specs.Profile.{AreApart};
+ghost use Rattle.elfobj.specs.Relocations.{field_end};
+ghost use Rattle.elfobj.specs.Sections.{LinkedSection};
 ghost use Rattle.ldmodel.specs.Relocations.{Site, is_evaluated, site_value};
 ghost use Rattle.ldtargets.specs.KnownLink.{AreNameValues, KnownLink};
-ghost use Rattle.ldtargets.specs.Sites.{IsEvaluated, IsFieldOf, IsOutcome, IsSite, IsSiteAt};
+ghost use Rattle.ldtargets.specs.Sites.{IsEvaluated, IsFieldOf, IsSectionOf, IsOutcome, IsSite, IsSiteAt};
 ghost use Rattle.ldtargets.specs.Values.{value_of};
 
 use crate::known::Known;
 use crate::target::referenced_value;
 use crate::value::SymbolValue;
+use elfobj::object::Object;
 use elfobj::relocation::{Relocation, RelocationKind, SymbolIndex};
-use elfobj::section::SectionIndex;
+use elfobj::section::{LinkedIndex, SectionIndex};
 use elfobj::symbol::Symbol;
 use ldfields::field::evaluate::field;
 use ldfields::patch::Patch;
@@ -32,6 +36,31 @@ pub struct PlacedSection<'a> {
     pub symbols: &'a [Symbol],
     /// Its relocations, in the order of their table.
     pub relocations: &'a [Relocation],
+}
+
+impl<'a> PlacedSection<'a> {
+    /// A section of an object that starts at an address.
+    pub fn new(
+        key: ObjectKey,
+        object: &'a Object,
+        index: LinkedIndex,
+        start: u64,
+    ) -> PlacedSection<'a>
+        requires { index.0 < length object.now.sections }
+        ensures start { result.start ≡ start }
+        ensures section { (x : LinkedSection) → slice_get object.now.sections index.0 ≡ Some x → IsSectionOf object.now x key result }
+        ensures apart { AreApart result.relocations.now }
+        ensures ends { (x : LinkedSection) → slice_get object.now.sections index.0 ≡ Some x → All (λ r. field_end r ≤ x.size) result.relocations.now }
+    {
+        let section = object.sections()[index.0];
+        PlacedSection {
+            object: key,
+            section: section.number,
+            start,
+            symbols: object.symbols(),
+            relocations: object.relocations(index),
+        }
+    }
 }
 
 /// Whether a relocation of this kind is evaluated: `NONE` is not.

@@ -1,8 +1,11 @@
 //! Values of symbols: of a local one by its own entry, of another by what its name stands for.
 
-ghost use Rattle.std.specs.Prelude.{◌≡◌, ℕ, List, Some, IfOk};
+ghost use Rattle.std.specs.Prelude.{◌≡◌, ℕ, List, Some, IfOk, option_to_list};
+ghost use Rattle.std.specs.Option.{option_map};
+ghost use Rattle.ldmodel.specs.FaultCode.{fault_of};
 ghost use Rattle.ldmodel.specs.HandedOver.{decision_of, entry_of};
 ghost use Rattle.ldmodel.specs.Layout.{script_value};
+ghost use Rattle.ldmodel.specs.Relocations.{entry_fault};
 ghost use Rattle.ldmodel.specs.SymbolValues.{decided_value, entry_point, entry_value, own_value, value_or_undefined};
 ghost use Rattle.ldtargets.specs.KnownLink.{AreNameValues, IsEntryCase, IsNameValueOf, KnownLink, common_value, name_of_object};
 ghost use Rattle.ldtargets.specs.Values.{value_of};
@@ -11,6 +14,7 @@ use crate::known::Known;
 use crate::value::{SymbolValue, address_from};
 use elfobj::relocation::SymbolIndex;
 use elfobj::symbol::{Symbol, SymbolPlace};
+use ldmodel::fault::Fault;
 use ldmodel::memory::NoMemory;
 use ldmodel::names::{Case, Entry, NameKey, ObjectKey};
 use ldmodel::sections::{Part, SectionKey};
@@ -85,6 +89,17 @@ pub fn entry_point<L: Known>(link: &L, case: Option<Case>, given: Option<u64>) -
     match case {
         None => SymbolValue::Number(0),
         Some(case) => decided_value(link, case, given),
+    }
+}
+
+/// The fault of an entry symbol of a value: its section is not in the output.
+#[tactic(auto, unfolding(ldmodel::specs::FaultCode::fault_of))]
+pub fn entry_fault(value: SymbolValue) -> Option<Fault>
+    ensures { (l : KnownLink) → option_to_list (option_map (fault_of l.project l.number) result) ≡ entry_fault (value_of value) }
+{
+    match value {
+        SymbolValue::NotInOutput => Some(Fault::EntryNotInOutput),
+        SymbolValue::Number(_) | SymbolValue::NotDefined => None,
     }
 }
 

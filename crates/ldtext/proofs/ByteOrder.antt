@@ -110,6 +110,7 @@ same_list (x ∷ xs) (y ∷ ys) s t f g =
         let f2 : (z : Name) → In z xs → In z ys = rest_of x xs ys s.0 (λ z i. ⊎_elim (λ d. inl (d ∙ sym e)) (λ j. inr j) (f z (inr i))) in
         let g2 : (z : Name) → In z ys → In z xs = rest_of y ys xs t.0 (λ z i. ⊎_elim (λ d. inl (d ∙ e)) (λ j. inr j) (g z (inr i))) in
         ap (λ w. w ∷ xs) e ∙ ap (λ zs. y ∷ zs) (rest f2 g2)
+
     both : (((z : Name) → In z xs → In z ys) → ((z : Name) → In z ys → In z xs) → xs ≡ ys) → (x ≡ y) ⊎ In x ys → x ∷ xs ≡ y ∷ ys
     both rest (inl e) = here rest e
     both rest (inr i) = ⊎_elim (λ e. here rest (sym e)) (λ j. absurd (lt_one_way x y (below_in x y xs s.0 j) (below_in y x ys t.0 i))) (g y (inl refl))
@@ -259,9 +260,9 @@ pub append_asc : (xs : List Name) (m : Name) (ys : List Name) → Asc xs → ((z
 append_asc [] m ys s h t = t
 append_asc (x ∷ xs) m ys s h t = (
   below_all x (xs ++ m ∷ ys)
-  (λ z i. ⊎_elim (λ j. below_in x z xs s.0 j)
-    (λ j. ⊎_elim (λ e. subst (λ w. Lt x w) (sym e) (h x (inl refl))) (λ k. lt_trans x m z (h x (inl refl)) (below_in m z ys t.0 k)) j)
-    (in_append z xs (m ∷ ys) i)),
+      (λ z i. ⊎_elim (λ j. below_in x z xs s.0 j)
+      (λ j. ⊎_elim (λ e. subst (λ w. Lt x w) (sym e) (h x (inl refl))) (λ k. lt_trans x m z (h x (inl refl)) (below_in m z ys t.0 k)) j)
+      (in_append z xs (m ∷ ys) i)),
   append_asc xs m ys s.1 (λ z i. h z (inr i)) t,
 )
 

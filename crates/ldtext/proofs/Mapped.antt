@@ -121,8 +121,7 @@ names_once p = distinct_once _
 
 -- the names that stand for something are the same ones
 module _ (p : Project) (number : ℕ → ℕ) (s : Layout) (xs ys : List MapSymbol) (h : AreSymbolsOf p number s xs) (k : AreSymbolsOf p number s ys)
-  (all : (name : List ℕ) → Contains (declared_names p) name → is_defined (decision p name) ≡ true → Contains (symbol_names (xs ++ ys)) name) where
-
+    (all : (name : List ℕ) → Contains (declared_names p) name → is_defined (decision p name) ≡ true → Contains (symbol_names (xs ++ ys)) name) where
   abbrev both : List Name
   both = symbol_names (merged xs ys)
 

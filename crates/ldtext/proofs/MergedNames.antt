@@ -80,7 +80,7 @@ pub in_merged : (xs ys : List MapSymbol) (z : Name) → In z (symbol_names (merg
 in_merged [] ys z i = inr i
 in_merged (x ∷ xs) ys z i =
     let split = in_append z (symbol_names (before x ys)) (n x ∷ symbol_names (merged xs (after x ys)))
-        (subst (λ l. In z l) (names_append (before x ys) (x ∷ merged xs (after x ys))) i) in
+    (subst (λ l. In z l) (names_append (before x ys) (x ∷ merged xs (after x ys))) i) in
     ⊎_elim (λ j. inr (in_before x ys z j).0)
     (λ j. ⊎_elim (λ d. inl (inl d)) (λ k. ⊎_elim (λ l. inl (inr l)) (λ l. inr (in_after x ys z l)) (in_merged xs (after x ys) z k)) j)
     split
@@ -103,9 +103,10 @@ merged_asc [] ys s t = t
 merged_asc (x ∷ xs) ys s t =
     let later = merged xs (after x ys) in
     subst Asc (sym (names_append (before x ys) (x ∷ later)))
-    (append_asc (symbol_names (before x ys)) (n x) (symbol_names later) (before_asc x ys t) (λ z i. (in_before x ys z i).1)
-    (below_all (n x) (symbol_names later) (λ z i. ⊎_elim (λ j. below_in (n x) z (symbol_names xs) s.0 j) (λ j. above_after x ys z t j) (in_merged xs (after x ys) z i)),
-      merged_asc xs (after x ys) s.1 (after_asc x ys t)))
+    (append_asc (symbol_names (before x ys)) (n x) (symbol_names later) (before_asc x ys t) (λ z i. (in_before x ys z i).1) (
+      below_all (n x) (symbol_names later) (λ z i. ⊎_elim (λ j. below_in (n x) z (symbol_names xs) s.0 j) (λ j. above_after x ys z t j) (in_merged xs (after x ys) z i)),
+      merged_asc xs (after x ys) s.1 (after_asc x ys t),
+    ))
 
 -- ---- what holds of each
 

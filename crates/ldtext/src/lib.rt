@@ -13,3 +13,5 @@ pub mod members;
 mod named;
 pub mod script_names;
 pub mod symbols;
+#[cfg(test)]
+mod tests;

@@ -28,7 +28,7 @@ pub struct ScriptNames<'a> {
 
 impl<'a> ScriptNames<'a> {
     /// The name of an output section; no bytes for a number of none.
-    pub fn section(&self, number: OutputIndex) -> &'a [u8]
+    pub(crate) fn section(&self, number: OutputIndex) -> &'a [u8]
         ensures { result.now ≡ section_name (slice_get (shown_sections self.now.sections.now) number.0) }
     {
         match self.sections.get(number.0 as usize) {
@@ -38,7 +38,7 @@ impl<'a> ScriptNames<'a> {
     }
 
     /// The name of a memory region; no bytes for a number of none.
-    pub fn region(&self, number: RegionIndex) -> &'a [u8]
+    pub(crate) fn region(&self, number: RegionIndex) -> &'a [u8]
         ensures { result.now ≡ region_name (slice_get (shown_regions self.now.regions.now) number.0) }
     {
         match self.regions.get(number.0 as usize) {
@@ -48,7 +48,7 @@ impl<'a> ScriptNames<'a> {
     }
 
     /// A name that an expression mentions; no bytes for a number of none.
-    pub fn mentioned(&self, number: MentionIndex) -> &'a [u8]
+    pub(crate) fn mentioned(&self, number: MentionIndex) -> &'a [u8]
         ensures { result.now ≡ unwrap_or (slice_get (shown_names self.now.mentioned.now) number.0) [] }
     {
         match self.mentioned.get(number.0 as usize) {
@@ -58,7 +58,7 @@ impl<'a> ScriptNames<'a> {
     }
 
     /// The name of the entry symbol; no bytes where the link has none.
-    pub fn entry(&self) -> &'a [u8]
+    pub(crate) fn entry(&self) -> &'a [u8]
         ensures { result.now ≡ unwrap_or (option_map (λ (n : Bor (List ℕ)). n.now) self.now.entry) [] }
     {
         match self.entry {
@@ -68,7 +68,7 @@ impl<'a> ScriptNames<'a> {
     }
 
     /// The line of an ASSERT and its message; 0 and no bytes for a number of none.
-    pub fn assertion(&self, number: AssertionIndex) -> (u32, &'a [u8])
+    pub(crate) fn assertion(&self, number: AssertionIndex) -> (u32, &'a [u8])
         ensures line { result.0 ≡ assertion_line (slice_get (shown_assertions self.now.assertions.now) number.0) }
         ensures message { result.1.now ≡ assertion_message (slice_get (shown_assertions self.now.assertions.now) number.0) }
     {

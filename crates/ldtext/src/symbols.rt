@@ -133,7 +133,7 @@ fn put_before<M: Members>(
 
 /// The lines of two lists of symbols, each in byte order of names, as one in that order. Of a name that both have, the
 /// line is that of `named`.
-pub fn put_symbols<M: Members>(
+pub(crate) fn put_symbols<M: Members>(
     draft: &mut Draft,
     members: &M,
     named: &[MapSymbol<'_>],

@@ -1,4 +1,4 @@
-use Rattle.std.proofs.Common.{arith, inl, refl, sym, ◌∙◌}
+use Rattle.std.proofs.Common.{arith, sym, ◌∙◌}
 use Rattle.ldtargets.proofs.Added.{tried_none}
 use Rattle.ldtargets.proofs.fields.add_site.Goals as goal
 

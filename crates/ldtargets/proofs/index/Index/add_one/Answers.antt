@@ -1,6 +1,6 @@
-use Rattle.std.proofs.Common.{◌≡◌, ◌<◌, ◌-◌, [], ap, arith, length, map, refl, sym, vec_capacity, vec_len, ◌∙◌}
+use Rattle.std.proofs.Common.{◌<◌, ◌-◌, [], arith, length, map, refl, vec_capacity, vec_len}
 use Rattle.std.proofs.lemmas.List.{length-map}
-use Rattle.slab.specs.Slab.{slab_len, values}
+use Rattle.slab.specs.Slab.{values}
 use Rattle.ldtargets.specs.Index.{room_of}
 use Rattle.ldtargets.specs.declared.bucket.Bucket.{Bucket}
 use Rattle.ldtargets.proofs.Kept.{added_sound, filled_bucket, in_range}

@@ -1,4 +1,4 @@
-use Rattle.std.proofs.Common.{◌+◌, arith, drop, length, length-drop, slice_index}
+use Rattle.std.proofs.Common.{◌+◌, arith, length-drop, slice_index}
 use Rattle.ldtargets.specs.Index.{site_of, sites_at}
 use Rattle.ldtargets.proofs.Kept.{rooms_left, sites_added}
 use Rattle.ldtargets.proofs.index.Index.add_reserved.Goals as goal

@@ -1,4 +1,4 @@
-use Rattle.std.proofs.Common.{[], ◌≡◌, ◌<◌, ℕ, ap, arith, length, map, sym, ◌∙◌}
+use Rattle.std.proofs.Common.{[], ◌<◌, ap, arith, length, map, sym, ◌∙◌}
 use Rattle.std.proofs.lemmas.List.{length-map}
 use Rattle.ldtargets.specs.Index.{cleared, slot}
 use Rattle.ldtargets.proofs.Places.{dropped_sites, dropped_sound, mapped_at, mapped_set, nothing_dropped}
