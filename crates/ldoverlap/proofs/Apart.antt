@@ -81,7 +81,8 @@ pub apart_are : (space : Space) (earlier rest : List Extent) → ((address : ℕ
 unfolding met_after
 apart_are space earlier [] apart = refl
 apart_are space earlier (e ∷ es) apart =
-    ap (λ m. fault_with space (length earlier) m ++ met_after space (earlier ++ e ∷ []) es) (meets_none earlier es e apart)
+    ap (λ m. fault_with space (length earlier) m ++ met_after space (earlier ++ e ∷ []) es)
+    (meets_none earlier es e apart)
     ∙ apart_are space (earlier ++ e ∷ []) es
     (λ a. subst (λ l. cover a l ≤ 1) (sym (append_assoc earlier (e ∷ []) es)) (apart a))
 

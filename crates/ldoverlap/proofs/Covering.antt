@@ -20,7 +20,8 @@ pub data In (address : ℕ) (e : Extent) : Type 0 where
 
 pub is_in : (address : ℕ) (e : Extent) → In address e
 is_in address e = elim (cases_lt address e.start) [
-  | inl before ↦ outside (ap (λ b. if b && nat_lt address (e.start + e.size) then 1 else 0) (leb_past e.start address before))
+  | inl before ↦ outside
+      (ap (λ b. if b && nat_lt address (e.start + e.size) then 1 else 0) (leb_past e.start address before))
   | inr from ↦ elim (cases_lt address (e.start + e.size)) [
     | inl within ↦ inside
         (ap (λ b. if b && nat_lt address (e.start + e.size) then 1 else 0) (leb_within e.start address from)

@@ -26,7 +26,8 @@ found_more space extents k d old new all below same h =
     ∙ ap (λ l. old ++ met_after space (take k extents) l) (sym (drop-cons extents k d below))
     ∙ h
 
-pub found_all : (space : Space) (extents earlier : List Extent) (k : ℕ) (found all : List code.Fault) → length extents ≤ k
+pub found_all : (space : Space) (extents earlier : List Extent) (k : ℕ) (found all : List code.Fault)
+    → length extents ≤ k
     → found ++ met_after space earlier (drop k extents) ≡ all → found ≡ all
 unfolding met_after
 found_all space extents earlier k found all past h =

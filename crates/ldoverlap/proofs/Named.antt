@@ -59,7 +59,8 @@ position_is : {A B : Type 0} (f : A → B) (p : B → Bool) (xs : List A)
     → position p (map f xs) ≡ position (λ x. p (f x)) xs
 position_is f p xs =
     ap (λ n. cond (nat_lt n (length (map f xs))) (Some n) None) (place_is f p xs)
-    ∙ ap (λ n. cond (nat_lt (position_or_len (λ x. p (f x)) xs) n) (Some (position_or_len (λ x. p (f x)) xs)) None) (length-map xs f)
+    ∙ ap (λ n. cond (nat_lt (position_or_len (λ x. p (f x)) xs) n) (Some (position_or_len (λ x. p (f x)) xs)) None)
+    (length-map xs f)
 
 mapped_or : {A B : Type 0} (f : A → B) (o : Option A) (d : B) → option_map_or f o d ≡ unwrap_or (option_map f o) d
 mapped_or f None d = refl
@@ -95,13 +96,15 @@ met_is p number space earlier rest q names = elim (cases_lt i (length earlier)) 
   | inl within ↦
       let x : PlacedSection = get_or earlier i q in
       let at : slice_get earlier i ≡ Some x = slice_get-get_or earlier i q within in
-      ap (λ o. map (fault_of p number) (fault_with space (length earlier) o)) (ap (λ b. cond b (Some i) None) (lt-ltb i (length earlier) within))
+      ap (λ o. map (fault_of p number) (fault_with space (length earlier) o))
+      (ap (λ b. cond b (Some i) None) (lt-ltb i (length earlier) within))
       ∙ ap (λ f. f ∷ []) (fault_is p number space (length earlier) i)
       ∙ ap (λ n. fault_named space n (name_of_output p i) ∷ []) (names (length earlier) q (get_middle earlier rest q))
       ∙ ap (λ n. fault_named space q.name n ∷ []) (names i x (get_left earlier (q ∷ rest) i x at))
       ∙ ap (met (fault_named space) q) (sym (find_at (meets_in space q) earlier ∙ at))
   | inr past ↦
-      ap (λ o. map (fault_of p number) (fault_with space (length earlier) o)) (ap (λ b. cond b (Some i) None) (le-ltb i (length earlier) past))
+      ap (λ o. map (fault_of p number) (fault_with space (length earlier) o))
+      (ap (λ b. cond b (Some i) None) (le-ltb i (length earlier) past))
       ∙ ap (met (fault_named space) q) (sym (find_at (meets_in space q) earlier ∙ slice_get_past earlier i past))
 ] where
   i : ℕ
@@ -118,12 +121,15 @@ all_met p number space earlier (q ∷ qs) names =
     let later : List code.Fault = met_after space (before ++ extent_of space q ∷ []) (map (extent_of space) qs) in
     map-append (fault_of p number) (fault_with space (length before) (first_met before (extent_of space q))) later
     ∙ ap (λ l. l ++ map (fault_of p number) later)
-    (ap (λ n. map (fault_of p number) (fault_with space n (first_met before (extent_of space q)))) (length-map earlier (extent_of space))
+    (ap (λ n. map (fault_of p number) (fault_with space n (first_met before (extent_of space q))))
+    (length-map earlier (extent_of space))
     ∙ ap (λ o. map (fault_of p number) (fault_with space (length earlier) o))
-    (position_is (extent_of space) (meet (extent_of space q)) earlier ∙ ap (λ t. position t earlier) (meets_are space q))
+    (position_is (extent_of space) (meet (extent_of space q)) earlier
+    ∙ ap (λ t. position t earlier) (meets_are space q))
     ∙ met_is p number space earlier qs q names)
     ∙ ap (λ l. met (fault_named space) q (find (meets_in space q) earlier) ++ l)
-    (ap (λ l. map (fault_of p number) (met_after space l (map (extent_of space) qs))) (sym (map-append (extent_of space) earlier (q ∷ [])))
+    (ap (λ l. map (fault_of p number) (met_after space l (map (extent_of space) qs)))
+    (sym (map-append (extent_of space) earlier (q ∷ [])))
     ∙ all_met p number space (earlier ++ q ∷ []) qs
     (subst (NamesStand p) (sym (append_assoc earlier (q ∷ []) qs)) names))
 
@@ -134,12 +140,14 @@ pub both_met : (placed : List Placed) (faults : List code.Fault)
 unfolding overlaps
 both_met placed faults found p number s same outputs =
     let names : NamesStand p s = names_stand p s outputs in
-    let stands : (space : Space) → map (fault_of p number) (met_before space (extents_in space placed)) ≡ meetings (meets_in space) (fault_named space) [] s =
+    let stands : (space : Space) → map (fault_of p number) (met_before space (extents_in space placed))
+    ≡ meetings (meets_in space) (fault_named space) [] s =
     λ space.
     ap (λ l. map (fault_of p number) (met_before space l))
     (ap (extents_in space) (sym same) ∙ map-map (extent_in space) placed_of s)
     ∙ all_met p number space [] s names in
     ap (map (fault_of p number)) found
-    ∙ map-append (fault_of p number) (met_before Memory (extents_in Memory placed)) (met_before Load (extents_in Load placed))
+    ∙ map-append (fault_of p number) (met_before Memory (extents_in Memory placed))
+    (met_before Load (extents_in Load placed))
     ∙ ap (λ l. l ++ map (fault_of p number) (met_before Load (extents_in Load placed))) (stands Memory)
     ∙ ap (λ l. meetings addresses_meet fault.AddressesMeet [] s ++ l) (stands Load)

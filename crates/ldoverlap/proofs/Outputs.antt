@@ -63,7 +63,8 @@ run_by : {S X F : Type 0} (step : S → X → Result S F) (I : S → List X → 
 unfolding run
 run_by step I each [] s h = h
 run_by step I each (x ∷ xs) s h =
-    chain_by (step s x) (λ t. run step t xs) (λ t. I t xs) (λ t. I t []) (each s x xs h) (λ t k. run_by step I each xs t k)
+    chain_by (step s x) (λ t. run step t xs) (λ t. I t xs) (λ t. I t []) (each s x xs h) (λ t k.
+    run_by step I each xs t k)
 
 -- the output sections stay
 abbrev Stay : Layout → Layout → Type 0
@@ -104,7 +105,8 @@ moved_stays line b to = by_case (nat_lt to b.layout.dot) where
 
 set_stays : (line : ℕ) (b : Body) (form : Option DotForm) → Gives (set_to line b form) (StayIn b)
 set_stays line b None = refl
-set_stays line b (Some (Advance e)) = chain (number b.layout line e) _ (StayIn b) (λ x. moved_stays line b (b.layout.dot + x))
+set_stays line b (Some (Advance e)) =
+    chain (number b.layout line e) _ (StayIn b) (λ x. moved_stays line b (b.layout.dot + x))
 set_stays line b (Some (Align e)) = chain (number b.layout line _) _ (StayIn b) (λ x. moved_stays line b x)
 set_stays line b (Some (Offset e)) = chain (number b.layout line e) _ (StayIn b) (λ x. moved_stays line b (b.start + x))
 
@@ -121,7 +123,11 @@ pieces_stay line n b (p ∷ rest) = by_case (λ c. pieces_stay line n c rest) (p
   by_case later true =
       chain_by (piece_placed line b p rest) (λ c. pieces_placed line n c rest) (StayIn b) (StayIn b)
       (chain (address line (piece_start b.layout.dot p + p.size))
-      (λ end. Ok (record (with_dot b end) { rest = rest; pieces = b.pieces ++ record { start = piece_start b.layout.dot p; piece = p } ∷ [] }))
+      (λ end. Ok (record (with_dot b end) {
+        rest = rest;
+        pieces = b.pieces
+            ++ record { start = piece_start b.layout.dot p; piece = p } ∷ [];
+      }))
       (StayIn b) (λ end. refl))
       (λ c same. weaker (pieces_placed line n c rest) (StayIn c) (StayIn b) (later c) (λ d next. next ∙ same))
   by_case later false = refl
@@ -135,7 +141,8 @@ command_stays provided line b (body.Common c) =
     (λ s same. same)
 command_stays provided line b (body.Data w e) =
     chain (number b.layout line e)
-    (λ x. and_then (address line (b.layout.dot + byte_count w)) (λ end. Ok (with_dot (with_data b (little_bytes (byte_count w) x)) end)))
+    (λ x. and_then (address line (b.layout.dot + byte_count w)) (λ end.
+    Ok (with_dot (with_data b (little_bytes (byte_count w) x)) end)))
     (StayIn b)
     (λ x. chain (address line (b.layout.dot + byte_count w))
     (λ end. Ok (with_dot (with_data b (little_bytes (byte_count w) x)) end)) (StayIn b) (λ end. refl))
@@ -175,7 +182,8 @@ ended_adds s line o h b same =
     let within : PlacedSection → Result Layout Fault =
     λ _. and_then (with_room (find_region b.layout (load_region o.load)) q.load q.load_size q) loaded in
     chain (with_room (find_region b.layout o.region) q.start q.size q) within (Adds s (o.name ∷ [])) (λ one.
-    chain (with_room (find_region b.layout (load_region o.load)) q.load q.load_size q) loaded (Adds s (o.name ∷ [])) (λ other.
+    chain (with_room (find_region b.layout (load_region o.load)) q.load q.load_size q) loaded (Adds s (o.name ∷ []))
+    (λ other.
     chain (address line (q.load + q.load_size)) past (Adds s (o.name ∷ [])) (λ end.
     map-append (λ (x : PlacedSection). x.name) b.layout.sections (q ∷ [])
     ∙ ap (λ l. map (λ (x : PlacedSection). x.name) l ++ o.name ∷ []) same)))
@@ -209,7 +217,8 @@ abbrev Whole : List (List ℕ) → Layout → List Item → Type 0
 Whole all s is = names s ++ names_of (sections_in is) ≡ all
 
 stay_whole : (all : List (List ℕ)) (is : List Item) (s t : Layout) → Whole all s is → Stay s t → Whole all t is
-stay_whole all is s t whole same = ap (λ l. map (λ (q : PlacedSection). q.name) l ++ names_of (sections_in is)) same ∙ whole
+stay_whole all is s t whole same = ap (λ l. map (λ (q : PlacedSection). q.name) l ++ names_of (sections_in is)) same
+    ∙ whole
 
 item_whole : (rows : List (List Piece)) (provided all : List (List ℕ)) (s : Layout) (i : Item) (is : List Item)
     → Whole all s (i ∷ is) → Gives (item_step rows provided s i) (λ t. Whole all t is)
@@ -224,7 +233,8 @@ item_whole rows provided all s i is whole =
     ∙ whole)
 
 command_whole : (rows : List (List Piece)) (provided all : List (List ℕ)) (line : ℕ) (s : Layout) (c : Command)
-    (is : List Item) → Whole all s (items_of c ++ is) → Gives (command_step rows provided line s c) (λ t. Whole all t is)
+    (is : List Item) → Whole all s (items_of c ++ is)
+    → Gives (command_step rows provided line s c) (λ t. Whole all t is)
 unfolding command_step
 command_whole rows provided all line s (top.Entry name) is whole = whole
 command_whole rows provided all line s (top.Common c) is whole =
@@ -232,7 +242,8 @@ command_whole rows provided all line s (top.Common c) is whole =
     (λ t same. stay_whole all is s t whole same)
 command_whole rows provided all line s (top.Memory rs) is whole =
     run_by region_step (λ t xs. Whole all t is)
-    (λ t r xs h. weaker (region_step t r) (Stay t) (λ u. Whole all u is) (region_stays t r) (λ u same. stay_whole all is t u h same))
+    (λ t r xs h. weaker (region_step t r) (Stay t) (λ u. Whole all u is) (region_stays t r) (λ u same.
+    stay_whole all is t u h same))
     rs s whole
 command_whole rows provided all line s (top.Sections js) is whole =
     run_by (item_step rows provided) (λ t xs. Whole all t (xs ++ is))

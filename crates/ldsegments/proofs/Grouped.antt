@@ -9,7 +9,11 @@ use Rattle.ldsegments.specs.Grouping.{Current, single, extended, groups_after, g
 abbrev continue : Current → List Group → List Group
 continue c [] = c.group ∷ []
 continue c (g ∷ gs) =
-    if shares_segment c.last g.first then record { first = c.group.first; others = c.group.others ++ sections_in g } ∷ gs
+    if shares_segment c.last g.first then record {
+      first = c.group.first;
+      others = c.group.others
+          ++ sections_in g;
+    } ∷ gs
     else (c.group ∷ g ∷ gs)
 
 abbrev joint : PlacedSection → Group → Group
@@ -24,10 +28,16 @@ over_front c q [] = refl
 over_front c q (g ∷ gs) = by_case (shares_segment q g.first) where
   by_case : (b : Bool) → continue c (if b then joint q g ∷ gs else (single q ∷ g ∷ gs))
       ≡ (if shares_segment c.last q
-      then (if b then record { first = c.group.first; others = (c.group.others ++ q ∷ []) ++ sections_in g } ∷ gs else (extended c.group q ∷ g ∷ gs))
+      then (if b then record { first = c.group.first; others = (c.group.others ++ q ∷ []) ++ sections_in g } ∷ gs else
+      (extended c.group q ∷ g ∷ gs))
       else (c.group ∷ (if b then joint q g ∷ gs else (single q ∷ g ∷ gs))))
   by_case true =
-      ap (λ (o : List PlacedSection). if shares_segment c.last q then record { first = c.group.first; others = o } ∷ gs else (c.group ∷ joint q g ∷ gs))
+      ap (λ (o : List PlacedSection).
+      if shares_segment c.last q then record {
+        first = c.group.first;
+        others =
+            o;
+      } ∷ gs else (c.group ∷ joint q g ∷ gs))
       (sym (append_assoc c.group.others (q ∷ []) (sections_in g)))
   by_case false = refl
 
@@ -35,9 +45,12 @@ pub after_is : (c : Current) (qs : List PlacedSection) → groups_after c qs ≡
 unfolding groups_after groups
 after_is c [] = refl
 after_is c (q ∷ qs) =
-    ap (λ (x : List Group). if shares_segment c.last q then x else (c.group ∷ groups_after (record { group = single q; last = q }) qs))
+    ap (λ (x : List Group).
+    if shares_segment c.last q then x else (c.group ∷ groups_after (record { group = single q; last = q }) qs))
     (after_is (record { group = extended c.group q; last = q }) qs)
-    ∙ ap (λ (x : List Group). if shares_segment c.last q then continue (record { group = extended c.group q; last = q }) (groups qs) else (c.group ∷ x))
+    ∙ ap (λ (x : List Group).
+    if shares_segment c.last q then continue (record { group = extended c.group q; last = q }) (groups qs) else
+    (c.group ∷ x))
     (after_is (record { group = single q; last = q }) qs)
     ∙ sym (over_front c q (groups qs))
 

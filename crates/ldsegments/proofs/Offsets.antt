@@ -75,7 +75,8 @@ front_is : (all : List code_group.Group) (k : ℕ) (d : code_group.Group) → k 
     → drop k all ≡ get_or all k d ∷ drop (k + 1) all
 front_is all k d below = drop-cons all k d below ∙ ap (λ n. get_or all k d ∷ drop n all) (sym (add-one k))
 
-pub placing_more : (all : List code_group.Group) (k : ℕ) (d : code_group.Group) (done : List code.Segment) (end next : ℕ)
+pub placing_more : (all : List code_group.Group) (k : ℕ) (d : code_group.Group) (done : List code.Segment)
+    (end next : ℕ)
     (x : code.Segment) → Placing all (drop k all) done end k → k < length all → x ≡ segment_at end (get_or all k d)
     → next ≡ past end x → next ≤ end + 4096 + 2 ^ 64
     → Placing all (drop (k + 1) all) (done ++ x ∷ []) next (k + 1)
@@ -102,7 +103,8 @@ pub segments_are : (s : List PlacedSection) (xs : List code_group.Group)
     → AllZip (IsSegment s) (segments s) (segments_from (headers_end (length xs)) xs)
 unfolding segments
 segments_are s xs are =
-    subst (λ n. AllZip (IsSegment s) (begun_from (headers_end n) (groups (nonempty s))) (segments_from (headers_end (length xs)) xs))
+    subst (λ n. AllZip (IsSegment s) (begun_from (headers_end n) (groups (nonempty s)))
+    (segments_from (headers_end (length xs)) xs))
     (sym (zip_long (IsGroup s) (groups (nonempty s)) xs are))
     (placed_are s (headers_end (length xs)) (groups (nonempty s)) xs are)
 
@@ -169,9 +171,10 @@ reached_more all k d end next h below same near =
       near = omega (arith, near, h.near);
     }
 
--- no file of so many segments reaches the cap
+-- no file of this number of segments reaches the cap
 pub reached_all : (all : List code.Segment) (k end : ℕ) → Reached all (drop k all) end k → length all ≤ k
     → k ≤ length all → length all < 2 ^ 63 → min end (3 * 2 ^ 126) ≡ fold past (headers_end (length all)) all
 reached_all all k end h past_all within small =
-    let last : fold past (headers_end (length all)) all ≡ end = h.same ∙ ap (λ l. fold past end l) (drop_all k all past_all) in
+    let last : fold past (headers_end (length all)) all ≡ end = h.same
+    ∙ ap (λ l. fold past end l) (drop_all k all past_all) in
     min-eq_left {n = end} {m = 3 * 2 ^ 126} (omega (arith, h.near, within, small)) ∙ sym last

@@ -82,7 +82,8 @@ skips s rest q done running empty h = record {
   current = h.current;
   are = h.are;
   is = h.is;
-  same = h.same ∙ ap (λ b. h.complete ++ groups_from h.current (if not b then q ∷ nonempty rest else nonempty rest)) empty;
+  same = h.same ∙ ap (λ b. h.complete ++ groups_from h.current (if not b then q ∷ nonempty rest else nonempty rest))
+      empty;
 }
 
 -- a section of nonzero size is the first of those left
@@ -109,7 +110,8 @@ begins s rest q number done at filled h = with_none h.current h.is h.same where
   with_none (Some c) is same = absurd is
 
 -- a group goes on
-pub goes_on : (s rest : List PlacedSection) (q : PlacedSection) (number : OutputIndex) (done : List code.Group) (x : Running)
+pub goes_on : (s rest : List PlacedSection) (q : PlacedSection) (number : OutputIndex) (done : List code.Group)
+    (x : Running)
     → slice_get s number.0 ≡ Some q → (q.size == 0) ≡ false → Grouped s (q ∷ rest) done (Some x)
     → ((p : PlacedSection) → placed_of p ≡ x.last → shares_segment p q ≡ true)
     → Grouped s rest done (Some (record { group = joined x.group number (placed_of q); last = placed_of q }))
@@ -126,13 +128,15 @@ goes_on s rest q number done x at filled h shared = with_some h.current h.is h.s
     is = record { group = joined_is s c.group x.group q number at is.group; last = refl };
     same =
         same ∙ ap (λ l. h.complete ++ groups_after c l) (filled_is q rest filled)
-        ∙ ap (λ b. h.complete ++ (if b then groups_after (record { group = extended c.group q; last = q }) (nonempty rest)
+        ∙ ap (λ b. h.complete
+        ++ (if b then groups_after (record { group = extended c.group q; last = q }) (nonempty rest)
         else (c.group ∷ groups_after (record { group = single q; last = q }) (nonempty rest))))
         (shared c.last is.last);
   }
 
 -- a group ends, and the next one begins
-pub ends : (s rest : List PlacedSection) (q : PlacedSection) (number : OutputIndex) (done : List code.Group) (x : Running)
+pub ends : (s rest : List PlacedSection) (q : PlacedSection) (number : OutputIndex) (done : List code.Group)
+    (x : Running)
     → slice_get s number.0 ≡ Some q → (q.size == 0) ≡ false → Grouped s (q ∷ rest) done (Some x)
     → ((p : PlacedSection) → placed_of p ≡ x.last → shares_segment p q ≡ false)
     → Grouped s rest (done ++ x.group ∷ []) (Some (record { group = begun number (placed_of q); last = placed_of q }))
@@ -151,7 +155,8 @@ ends s rest q number done x at filled h apart = with_some h.current h.is h.same 
         is = record { group = begun_is s q number at; last = refl };
         same =
             same ∙ ap (λ l. h.complete ++ groups_after c l) (filled_is q rest filled)
-            ∙ ap (λ b. h.complete ++ (if b then groups_after (record { group = extended c.group q; last = q }) (nonempty rest)
+            ∙ ap (λ b. h.complete
+            ++ (if b then groups_after (record { group = extended c.group q; last = q }) (nonempty rest)
             else (c.group ∷ next)))
             (apart c.last is.last)
             ∙ sym (append_assoc h.complete (c.group ∷ []) next);
@@ -191,7 +196,8 @@ shared_by_numbers p q x y b px qy same =
 no_zero : (n : ℕ) → (n ≡ 0 → ⊥) → (n == 0) ≡ false
 no_zero n other = false_from_ne_true (n == 0) (λ t. other ((Decides-eqb n 0).0 t))
 
-pub take_skips : (done : List code.Group) (running : Option Running) (k : ℕ) (placed : Placed) → (placed.size == 0) ≡ true
+pub take_skips : (done : List code.Group) (running : Option Running) (k : ℕ) (placed : Placed) → (placed.size == 0)
+    ≡ true
     → Takes done running k placed done running
 take_skips done running k placed empty = record {
   at = λ s rest q at is h. skips s rest q done running (ap (λ (x : Placed). x.size == 0) is ∙ empty) h;
@@ -204,10 +210,12 @@ take_begins done k placed number g same filled made = record {
   at = λ s rest q at is h.
       subst (λ r. Grouped s rest done (Some r))
       (ap (λ (x : Placed). running_at (begun number x) x) is ∙ ap (λ x. running_at x placed) (sym made))
-      (begins s rest q number done (ap (λ n. slice_get s n) same ∙ at) (ap (λ (x : Placed). x.size == 0) is ∙ no_zero placed.size filled) h);
+      (begins s rest q number done (ap (λ n. slice_get s n) same ∙ at) (ap (λ (x : Placed). x.size == 0) is
+      ∙ no_zero placed.size filled) h);
 }
 
-pub take_goes_on : (done : List code.Group) (x : Running) (k : ℕ) (placed : Placed) (number : OutputIndex) (g : code.Group)
+pub take_goes_on : (done : List code.Group) (x : Running) (k : ℕ) (placed : Placed) (number : OutputIndex)
+    (g : code.Group)
     → number.0 ≡ k → (placed.size ≡ 0 → ⊥) → g ≡ joined x.group number placed
     → shares_segment (bare x.last) (bare placed) ≡ true
     → Takes done (Some x) k placed done (Some (record { group = g; last = placed }))
@@ -215,7 +223,8 @@ take_goes_on done x k placed number g same filled made shared = record {
   at = λ s rest q at is h.
       subst (λ r. Grouped s rest done (Some r))
       (ap (λ (y : Placed). running_at (joined x.group number y) y) is ∙ ap (λ y. running_at y placed) (sym made))
-      (goes_on s rest q number done x (ap (λ n. slice_get s n) same ∙ at) (ap (λ (y : Placed). y.size == 0) is ∙ no_zero placed.size filled) h
+      (goes_on s rest q number done x (ap (λ n. slice_get s n) same ∙ at) (ap (λ (y : Placed). y.size == 0) is
+      ∙ no_zero placed.size filled) h
       (λ p px. shared_by_numbers p q x.last placed true px is shared));
 }
 
@@ -227,7 +236,8 @@ take_ends done x k placed number g same filled made apart = record {
   at = λ s rest q at is h.
       subst (λ r. Grouped s rest (done ++ x.group ∷ []) (Some r))
       (ap (λ (y : Placed). running_at (begun number y) y) is ∙ ap (λ y. running_at y placed) (sym made))
-      (ends s rest q number done x (ap (λ n. slice_get s n) same ∙ at) (ap (λ (y : Placed). y.size == 0) is ∙ no_zero placed.size filled) h
+      (ends s rest q number done x (ap (λ n. slice_get s n) same ∙ at) (ap (λ (y : Placed). y.size == 0) is
+      ∙ no_zero placed.size filled) h
       (λ p px. shared_by_numbers p q x.last placed false px is apart));
 }
 
@@ -238,7 +248,8 @@ pub record At (s : List PlacedSection) (k : ℕ) (placed : Placed) : Type 0 wher
   pub numbers : placed_of section ≡ placed
   pub front : drop k s ≡ section ∷ drop (suc k) s
 
-at_next : (q : PlacedSection) (s : List PlacedSection) (k : ℕ) (placed : Placed) → At s k placed → At (q ∷ s) (suc k) placed
+at_next : (q : PlacedSection) (s : List PlacedSection) (k : ℕ) (placed : Placed) → At s k placed
+    → At (q ∷ s) (suc k) placed
 at_next q s k placed h = record {
   section = h.section;
   at = h.at;
@@ -266,7 +277,8 @@ take_at s sections k d done new_done running new_running same below takes h =
     (subst (λ l. Grouped s l done running) here.front h))
 
 -- after the last one no section is left
-pub at_end : (s : List PlacedSection) (sections : List Placed) (k : ℕ) (done : List code.Group) (running : Option Running)
+pub at_end : (s : List PlacedSection) (sections : List Placed) (k : ℕ) (done : List code.Group)
+    (running : Option Running)
     → map placed_of s ≡ sections → length sections ≤ k → Grouped s (drop k s) done running → Grouped s [] done running
 at_end s sections k done running same past h =
     let long : length s ≤ k =

@@ -42,7 +42,8 @@ headers_length p s =
     let those : length (flat_map (λ x. header_bytes (output_header s gs x)) (enumerate_from 0 s.sections))
     ≡ length (enumerate_from 0 s.sections) * 64 =
     length_flat (λ x. header_bytes (output_header s gs x)) 64 (λ x. refl) (enumerate_from 0 s.sections) in
-    let of_tables : length (flat_map header_bytes (table_headers (length s.sections) (header_names s) (tables p s))) ≡ 192 =
+    let of_tables : length (flat_map header_bytes (table_headers (length s.sections) (header_names s) (tables p s)))
+    ≡ 192 =
     length_flat header_bytes 64 (λ h. refl) (table_headers (length s.sections) (header_names s) (tables p s)) in
     omega (
       arith,
@@ -64,7 +65,8 @@ unfolding segments
 follow_all sections xs are =
     let gs : List Group = groups (nonempty sections) in
     let long : length gs ≡ length xs =
-    sym (begun_length (headers_end (length gs)) gs) ∙ zip_long (IsSegment sections) (begun_from (headers_end (length gs)) gs) xs are in
+    sym (begun_length (headers_end (length gs)) gs)
+    ∙ zip_long (IsSegment sections) (begun_from (headers_end (length gs)) gs) xs are in
     subst (λ n. Follow (headers_end n) xs) long (follow_are sections (headers_end (length gs)) gs xs are)
 
 -- their file bytes end where the loaded part of the file does
@@ -72,9 +74,11 @@ pub loaded_is : (sections : List PlacedSection) (xs : List code.Segment) → Are
     → fold past (headers_end (length xs)) xs ≡ loaded_end (segments sections)
 loaded_is sections xs are =
     ends_are sections (headers_end (length xs)) (segments sections) xs are
-    ∙ ap (λ n. fold file_end (headers_end n) (segments sections)) (sym (zip_long (IsSegment sections) (segments sections) xs are))
+    ∙ ap (λ n. fold file_end (headers_end n) (segments sections))
+    (sym (zip_long (IsSegment sections) (segments sections) xs are))
 
-tables_add : (x y count n t names m header_names k : ℕ) → x ≡ y → count ≡ n → t ≡ 24 * (n + 1) → names ≡ m → header_names ≡ k
+tables_add : (x y count n t names m header_names k : ℕ) → x ≡ y → count ≡ n → t ≡ 24 * (n + 1) → names ≡ m
+    → header_names ≡ k
     → ((x + 24 * (count + 1)) + names) + header_names ≡ ((y + t) + m) + k
 tables_add x y count n t names m header_names k at of_symbols table of_names of_headers =
     omega (arith, at, of_symbols, table, of_names, of_headers)
@@ -92,7 +96,8 @@ pub sum_is : (p : Project) (s : Layout) (loaded symbols count names header_names
 unfolding image_length header_part tables
 sum_is p s loaded symbols count names header_names sections headers l a n1 n2 n3 n4 h =
     let tables_end : ((symbols + 24 * (count + 1)) + names) + header_names
-    ≡ ((next_multiple_of (loaded_end (segments s.sections)) 8 + length (symbol_table p s)) + length (symbol_name_table p s))
+    ≡ ((next_multiple_of (loaded_end (segments s.sections)) 8 + length (symbol_table p s)) + length
+    (symbol_name_table p s))
     + length (header_name_table s) =
     tables_add _ _ _ _ _ _ _ _ _ (a ∙ ap (λ n. next_multiple_of n 8) l) n1 (symbol_table_length p s) n2 n3 in
     headers_add _ _ _ _ _ (h ∙ ap (λ n. next_multiple_of n 8) tables_end) n4 (headers_length p s)

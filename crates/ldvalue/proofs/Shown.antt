@@ -31,7 +31,8 @@ none_more names k d name below other before j past here = elim (cases_lt j k) [
   | inl earlier ↦ before j earlier here
   | inr late ↦
       let at : j ≡ k = omega (arith, past, late) in
-      let met : slice_get (shown_names names) k ≡ Some name = ap (λ i. slice_get (shown_names names) i) (sym at) ∙ here in
+      let met : slice_get (shown_names names) k ≡ Some name = ap (λ i. slice_get (shown_names names) i) (sym at)
+      ∙ here in
       let same : (get_or names k d).now ≡ name =
       sym (get_or_from_slice_get (shown_names names) k ((get_or names k d).now) [] (shown_at names k d below))
       ∙ get_or_from_slice_get (shown_names names) k name [] met in
@@ -41,7 +42,8 @@ none_more names k d name below other before j past here = elim (cases_lt j k) [
 -- one stands at or past a number that none stands before
 pub stands_past : (names : List (Bor (List ℕ))) (name : List ℕ) (n j : ℕ) → NoneBefore names name n
     → slice_get (shown_names names) j ≡ Some name → n ≤ j
-stands_past names name n j before here = elim (cases_lt j n) [ inl earlier ↦ absurd (before j earlier here) | inr there ↦ there ]
+stands_past names name n j before here =
+    elim (cases_lt j n) [ inl earlier ↦ absurd (before j earlier here) | inr there ↦ there ]
 
 -- where none stands before the end, none stands at all
 pub stands_nowhere : (names : List (Bor (List ℕ))) (name : List ℕ) (n j bound : ℕ) → NoneBefore names name n

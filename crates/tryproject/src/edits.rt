@@ -76,7 +76,12 @@ impl Edits {
     fn edit<W: Write>(&mut self, edit: Edit<'_>, out: &mut W) -> io::Result<()> {
         let mut meter = Meter::new();
         match self.project.stage(edit, &mut meter) {
-            Err(refusal) => writeln!(out, "refused {} {}", refusal.number(), refusal.inner_number()),
+            Err(refusal) => writeln!(
+                out,
+                "refused {} {}",
+                refusal.number(),
+                refusal.inner_number()
+            ),
             Ok(staged) => {
                 print_next(&self.project.next(&staged), out)?;
                 if self.made {

@@ -1,4 +1,5 @@
-//! `tryproject`: tries the crate `ldproject` (edits of a project) on a stream of commands (`trystream`). Its own commands:
+//! `tryproject`: tries the crate `ldproject` (edits of a project) on a stream of commands (`trystream`). Its own
+//! commands:
 //!
 //!     add NAME AT +LEN        adds an object
 //!     replace NAME +LEN       puts another in its place

@@ -9,4 +9,5 @@ loop-k-preserved c =
 
 pub returns : goal.returns
 returns c =
-    found_all c.args.space c.args.extents.now _ c.loop-k.k c.loop-k.faults.items _ c.loop-k-test.false c.loop-k.invariant
+    found_all c.args.space c.args.extents.now _ c.loop-k.k c.loop-k.faults.items _ c.loop-k-test.false
+    c.loop-k.invariant

@@ -15,5 +15,6 @@ returns-then-are_ascending c =
     c.sort_unstable_by_key.ensures.permutation in
     let apart : (address : ℕ) → cover address c.sort_unstable_by_key.new.self.items ≤ 1 =
     λ a. subst (λ l. cover a l ≤ 1) c.deref-2.ensures.value (c.are_ascending.ensures c.if-are_ascending.true a) in
-    sym (ap (λ l. c.args.faults.now.items ++ l) (apart_in_order c.args.space all c.sort_unstable_by_key.new.self.items moved apart)
+    sym (ap (λ l. c.args.faults.now.items
+    ++ l) (apart_in_order c.args.space all c.sort_unstable_by_key.new.self.items moved apart)
     ∙ append-nil c.args.faults.now.items)

@@ -12,14 +12,18 @@ loop-segment-init c follow =
 pub loop-segment-preserved : goal.loop-segment-preserved
 loop-segment-preserved c follow =
     let h = c.loop-segment.invariant follow in
-    let wide = room (length c.args.segments.now) c.loop-segment.segment-index c.loop-segment.end (length c.args.segments.now)
+    let wide = room (length c.args.segments.now) c.loop-segment.segment-index c.loop-segment.end
+    (length c.args.segments.now)
     h.near c.loop-segment-test.true (omega arith) (omega (arith, c.count.ensures.value, c.count.ensures.small)) in
-    let near = reached_near c.args.segments.now c.loop-segment.segment-index _ c.loop-segment.end h c.loop-segment-test.true in
+    let near = reached_near c.args.segments.now c.loop-segment.segment-index _ c.loop-segment.end h
+    c.loop-segment-test.true in
     reached_more c.args.segments.now c.loop-segment.segment-index _ c.loop-segment.end c.end_after-end.result h
-    c.loop-segment-test.true (c.end_after-end.ensures.value (c.end_after-end.ensures.fits wide near)) (c.end_after-end.ensures.near near)
+    c.loop-segment-test.true (c.end_after-end.ensures.value (c.end_after-end.ensures.fits wide near))
+    (c.end_after-end.ensures.near near)
 
 pub returns-clause-exact : goal.returns-clause-exact
 returns-clause-exact c follow =
     c.min.ensures
     ∙ reached_all c.args.segments.now c.loop-segment.segment-index c.loop-segment.end (c.loop-segment.invariant follow)
-    c.loop-segment-test.false c.loop-segment.auto.segment-index-end (omega (arith, c.count.ensures.value, c.count.ensures.small))
+    c.loop-segment-test.false c.loop-segment.auto.segment-index-end
+    (omega (arith, c.count.ensures.value, c.count.ensures.small))

@@ -5,4 +5,5 @@ use Rattle.ldmodel.specs.Mentioned.{mentioned_names}
 use Rattle.ldvalue.proofs.mentioned.mentioned_names.Given as goal
 
 abbrev pub invariant-loop-statement : goal.invariant-loop-statement
-invariant-loop-statement l = shown_names l.names.items ++ mentioned_names (drop l.statement-index l.statements) ≡ shown_names l.initial.names.items ++ mentioned_names l.statements
+invariant-loop-statement l = shown_names l.names.items ++ mentioned_names (drop l.statement-index l.statements)
+    ≡ shown_names l.initial.names.items ++ mentioned_names l.statements

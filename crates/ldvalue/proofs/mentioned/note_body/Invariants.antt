@@ -4,4 +4,5 @@ use Rattle.ldvalue.specs.Mentions.{in_body, shown_names}
 use Rattle.ldvalue.proofs.mentioned.note_body.Given as goal
 
 abbrev pub invariant-loop-statement : goal.invariant-loop-statement
-invariant-loop-statement l = shown_names l.names.items ++ in_body (drop l.statement-index l.body) ≡ shown_names l.initial.names.items ++ in_body l.body
+invariant-loop-statement l = shown_names l.names.items ++ in_body (drop l.statement-index l.body)
+    ≡ shown_names l.initial.names.items ++ in_body l.body

@@ -4,4 +4,5 @@ use Rattle.ldvalue.specs.Mentions.{in_items, shown_names}
 use Rattle.ldvalue.proofs.mentioned.note_items.Given as goal
 
 abbrev pub invariant-loop-item : goal.invariant-loop-item
-invariant-loop-item l = shown_names l.names.items ++ in_items (drop l.item-index l.items) ≡ shown_names l.initial.names.items ++ in_items l.items
+invariant-loop-item l = shown_names l.names.items ++ in_items (drop l.item-index l.items)
+    ≡ shown_names l.initial.names.items ++ in_items l.items

@@ -4,4 +4,5 @@ use Rattle.ldvalue.specs.Mentions.{in_regions, shown_names}
 use Rattle.ldvalue.proofs.mentioned.note_regions.Given as goal
 
 abbrev pub invariant-loop-region : goal.invariant-loop-region
-invariant-loop-region l = shown_names l.names.items ++ in_regions (drop l.region-index l.regions) ≡ shown_names l.initial.names.items ++ in_regions l.regions
+invariant-loop-region l = shown_names l.names.items ++ in_regions (drop l.region-index l.regions)
+    ≡ shown_names l.initial.names.items ++ in_regions l.regions
