@@ -133,7 +133,7 @@ module _ (l : GoodLink) (h : IsFaultless l) where
   differ : EachLater (λ (x y : PlacedPiece). Differ x.piece y.piece) (placed_pieces s)
   differ =
       later_of_map entry Differ (placed_pieces s)
-      (subst (EachLater Differ) (sym (entries_joined s.sections ∙ ap (flat_map (λ r. r)) (placed_are_rows p s placed))) (once_in_rows p h.names h.numbers))
+      (subst (EachLater Differ) (sym (entries_joined s.sections ∙ ap (flat_map (λ r. r)) (placed_are_rows p (provided p) s placed))) (once_in_rows p h.names h.numbers))
 
   part_found : (w : PlacedPiece) → Contains (placed_pieces s) w → placed_part s w.piece.object w.piece.part ≡ Some w
   part_found w c =

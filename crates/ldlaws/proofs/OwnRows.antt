@@ -9,7 +9,6 @@ use Rattle.ldtree.specs.declared.statement.ItemCommand.{ItemCommand}
 use Rattle.ldtree.specs.declared.statement.ItemCommand.TheVariants as item
 use Rattle.ldmodel.specs.FileLayout.{Each}
 use Rattle.ldmodel.specs.Layout.{Layout}
-use Rattle.ldmodel.specs.Names.{provided}
 use Rattle.ldmodel.specs.Placement.{placement}
 use Rattle.ldmodel.specs.Project.{Project}
 use Rattle.ldmodel.specs.Rows.{Piece, sorted_pieces, taken, below, piece_of, rows}
@@ -105,5 +104,5 @@ module _ (p : Project) where
   unfolding rows
   own_rows = all_coming (sorted_pieces p) marked 0 0 (items p.script)
 
-pub placed_are_rows : (p : Project) (s : Layout) → placement p.script (rows p) (provided p) ≡ Ok s → map entries_in s.sections ≡ rows p
-placed_are_rows p s e = all_placed (sorted_pieces p) (marked p) (rows p) (provided p) p.script s e (own_rows p)
+pub placed_are_rows : (p : Project) (provided : List (List ℕ)) (s : Layout) → placement p.script (rows p) provided ≡ Ok s → map entries_in s.sections ≡ rows p
+placed_are_rows p provided s e = all_placed (sorted_pieces p) (marked p) (rows p) provided p.script s e (own_rows p)

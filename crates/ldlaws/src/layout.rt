@@ -8,7 +8,6 @@ ghost use Rattle.ldmodel.specs.Body.{Body, body_step};
 ghost use Rattle.ldmodel.specs.Fault.{Fault};
 ghost use Rattle.ldmodel.specs.FileLayout.{Each};
 ghost use Rattle.ldmodel.specs.Layout.{Layout};
-ghost use Rattle.ldmodel.specs.Names.{provided};
 ghost use Rattle.ldmodel.specs.Placement.{item_step, placement};
 ghost use Rattle.ldmodel.specs.Project.{Project};
 ghost use Rattle.ldmodel.specs.Rows.{Piece, rows};
@@ -27,10 +26,11 @@ pub fn placement_by_steps()
         → (placement script rows provided ≡ Err f) ↔ IsFirstFault script rows provided f }
 {}
 
-/// Each entry of every row is placed once and in the order of the row: what stands in the output sections are the rows.
+/// Each entry of every row is placed once and in the order of the row, whichever PROVIDEs are in force: what stands in
+/// the output sections are the rows.
 pub fn placed_are_rows()
-    ensures { (p : Project) (s : Layout)
-        → placement p.script (rows p) (provided p) ≡ Ok s → map entries_in s.sections ≡ rows p }
+    ensures { (p : Project) (provided : List (List ℕ)) (s : Layout)
+        → placement p.script (rows p) provided ≡ Ok s → map entries_in s.sections ≡ rows p }
 {}
 
 /// What a layout keeps of `.` is its value before each statement of SECTIONS and of the body of an output section, one
