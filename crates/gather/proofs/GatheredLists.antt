@@ -1,5 +1,7 @@
 -- What holds of gathered sections, as of the input sections that they stand for.
-use Rattle.std.proofs.Common.{◌≡◌, ◌<◌, ◌+◌, ℕ, Bool, true, false, cond, List, [], ◌∷◌, ◌++◌, length, filter, map, get_or, drop, ltb, refl, ap, sym, ◌∙◌, subst, arith, Option, Some, None, ◌≤◌, zero, suc, append_assoc, append-nil, ⊎_elim}
+use Rattle.std.proofs.Common.{◌≡◌, ◌<◌, ◌+◌, ℕ, Bool, true, false, cond, List, [], ◌∷◌, ◌++◌, length, filter, map}
+use Rattle.std.proofs.Common.{get_or, drop, ltb, refl, ap, sym, ◌∙◌, subst, arith, Option, Some, None, ◌≤◌, zero, suc}
+use Rattle.std.proofs.Common.{append_assoc, append-nil, ⊎_elim}
 use Rattle.std.specs.Prelude.{slice_get, option_and_then}
 use Rattle.std.specs.List.{All, filter_map, cons_option, position, position_or_len}
 use Rattle.std.specs.Option.{option_map, is_none}
@@ -18,7 +20,8 @@ use Rattle.ldmodel.specs.Rows.{Piece, piece_of}
 use Rattle.ldmodel.specs.Sections.{InputSection}
 use Rattle.ldmodel.specs.declared.rows.InputIndex.{InputIndex}
 use Rattle.ldmodel.specs.declared.sections.SectionKey.{SectionKey}
-use Rattle.gather.specs.Gathered.{AreGathered, Facts, IsNamedSection, Keys, facts, named_piece, shown_facts, taken_named, untaken, untaken_by_none}
+use Rattle.gather.specs.Gathered.{AreGathered, Facts, IsNamedSection, Keys, facts, named_piece, shown_facts}
+use Rattle.gather.specs.Gathered.{taken_named, untaken, untaken_by_none}
 use Rattle.gather.specs.LeftOut.{is_out_by, is_out_of}
 use Rattle.gather.specs.LiveMarks.{marked}
 use Rattle.gather.specs.Matches.{number_of}
@@ -31,26 +34,34 @@ map_again g f [] = refl
 map_again g f (x ∷ xs) = ap (λ l. g (f x) ∷ l) (map_again g f xs)
 
 -- left out, by the facts
-out_under : (p : Project) (s : InputSection) (o : Option InputStatementAt) → is_out_by p.options.orphans s.size o ≡ is_out_under p s o
+out_under : (p : Project) (s : InputSection) (o : Option InputStatementAt) → is_out_by p.options.orphans s.size o
+    ≡ is_out_under p s o
 out_under p s None = refl
 out_under p s (Some i) = refl
 
 out_by_facts : Project → Facts → Bool
 out_by_facts p f = is_out_of (input_statements p.script) p.options.orphans f.size f.statement
 
-out_is : (p : Project) (ss : List InputSection) → map (λ s. is_out_of (input_statements p.script) p.options.orphans s.size (first_match p.script s.object s.name)) ss ≡ map (is_out p) ss
+out_is : (p : Project) (ss : List InputSection)
+    → map (λ s. is_out_of (input_statements p.script) p.options.orphans s.size (first_match p.script s.object s.name))
+    ss ≡ map (is_out p) ss
 unfolding is_out
 out_is p [] = refl
 out_is p (s ∷ ss) =
-    ap (λ b. b ∷ map (λ s. is_out_of (input_statements p.script) p.options.orphans s.size (first_match p.script s.object s.name)) ss) (out_under p s (taken_by p s))
+    ap (λ b. b ∷ map (λ s.
+    is_out_of (input_statements p.script) p.options.orphans s.size (first_match p.script s.object s.name)) ss)
+    (out_under p s (taken_by p s))
     ∙ ap (λ l. is_out p s ∷ l) (out_is p ss)
 
 pub out_are : (p : Project) (keys : Keys) (xs : List Gathered) → AreGathered p keys xs
-    → map (λ (x : Gathered). is_out_of (input_statements p.script) p.options.orphans x.size (number_of x.statement)) xs ≡ map (is_out p) (input_sections p)
+    → map (λ (x : Gathered). is_out_of (input_statements p.script) p.options.orphans x.size (number_of x.statement)) xs
+    ≡ map (is_out p) (input_sections p)
 out_are p keys xs a =
-    map_again (λ (f : Facts). is_out_of (input_statements p.script) p.options.orphans f.size f.statement) (shown_facts keys) xs
+    map_again (λ (f : Facts). is_out_of (input_statements p.script) p.options.orphans f.size f.statement)
+    (shown_facts keys) xs
     ∙ ap (map (λ (f : Facts). is_out_of (input_statements p.script) p.options.orphans f.size f.statement)) a.facts
-    ∙ sym (map_again (λ (f : Facts). is_out_of (input_statements p.script) p.options.orphans f.size f.statement) (facts p) (input_sections p))
+    ∙ sym (map_again (λ (f : Facts). is_out_of (input_statements p.script) p.options.orphans f.size f.statement)
+    (facts p) (input_sections p))
     ∙ out_is p (input_sections p)
 
 marked_nil : {X : Type 0} (marks : List Bool) → marked {X = X} marks [] ≡ []
@@ -59,25 +70,44 @@ marked_nil (b ∷ bs) = refl
 
 -- the marked members from a place on
 pub marked_more : {X : Type 0} (marks : List Bool) (xs : List X) (i : ℕ) (x : X) → i < length xs → x ≡ get_or xs i x
-    → marked (drop i marks) (drop i xs) ≡ cond (get_or marks i false) (x ∷ marked (drop (i + 1) marks) (drop (i + 1) xs)) (marked (drop (i + 1) marks) (drop (i + 1) xs))
+    → marked (drop i marks) (drop i xs)
+    ≡ cond (get_or marks i false) (x ∷ marked (drop (i + 1) marks) (drop (i + 1) xs))
+    (marked (drop (i + 1) marks) (drop (i + 1) xs))
 marked_more marks xs i x h is = ⊎_elim inside past (cases_lt i (length marks))
   where
-    inside : i < length marks → marked (drop i marks) (drop i xs) ≡ cond (get_or marks i false) (x ∷ marked (drop (i + 1) marks) (drop (i + 1) xs)) (marked (drop (i + 1) marks) (drop (i + 1) xs))
+    inside : i < length marks → marked (drop i marks) (drop i xs)
+        ≡ cond (get_or marks i false) (x ∷ marked (drop (i + 1) marks) (drop (i + 1) xs))
+        (marked (drop (i + 1) marks) (drop (i + 1) xs))
     inside within =
         ap (λ l. marked l (drop i xs)) (drop_more marks i false within)
-        ∙ ap (marked (get_or marks i false ∷ drop (i + 1) marks)) (drop_more xs i x h ∙ ap (λ y. y ∷ drop (i + 1) xs) (sym is))
+        ∙ ap (marked (get_or marks i false ∷ drop (i + 1) marks)) (drop_more xs i x h
+        ∙ ap (λ y. y ∷ drop (i + 1) xs) (sym is))
 
-    past : length marks ≤ i → marked (drop i marks) (drop i xs) ≡ cond (get_or marks i false) (x ∷ marked (drop (i + 1) marks) (drop (i + 1) xs)) (marked (drop (i + 1) marks) (drop (i + 1) xs))
+    past : length marks ≤ i → marked (drop i marks) (drop i xs)
+        ≡ cond (get_or marks i false) (x ∷ marked (drop (i + 1) marks) (drop (i + 1) xs))
+        (marked (drop (i + 1) marks) (drop (i + 1) xs))
     past l =
         ap (λ bs. marked bs (drop i xs)) (drop_all i marks l)
         ∙ ap (λ bs. marked bs (drop (i + 1) xs)) (sym (drop_all (i + 1) marks (omega (arith, l))))
-        ∙ ap (λ b. cond b (x ∷ marked (drop (i + 1) marks) (drop (i + 1) xs)) (marked (drop (i + 1) marks) (drop (i + 1) xs))) (sym (get_or_past marks i false l))
+        ∙ ap (λ b. cond b (x ∷ marked (drop (i + 1) marks) (drop (i + 1) xs))
+        (marked (drop (i + 1) marks) (drop (i + 1) xs))) (sym (get_or_past marks i false l))
 
 -- a piece, by the facts
 piece_by : ℕ → Facts → Piece
-piece_by n f = record { statement = n; object = f.object; part = f.id.part; name = f.name; kind = f.kind; flags = f.flags; size = f.size; alignment = f.alignment }
+piece_by n f = record {
+  statement = n;
+  object = f.object;
+  part = f.id.part;
+  name = f.name;
+  kind = f.kind;
+  flags =
+      f.flags;
+  size = f.size;
+  alignment = f.alignment;
+}
 
-same_piece : (keys : Keys) (x : Gathered) (n : InputIndex) → IsNamedSection keys x → shown_named keys.naming (named_piece x n) ≡ piece_by n.0 (shown_facts keys x)
+same_piece : (keys : Keys) (x : Gathered) (n : InputIndex) → IsNamedSection keys x
+    → shown_named keys.naming (named_piece x n) ≡ piece_by n.0 (shown_facts keys x)
 unfolding piece_by
 same_piece keys x n e = ap (λ name. record {
   statement = n.0;
@@ -95,8 +125,10 @@ unfolding piece_by
 of_section p s n = refl
 
 -- the pieces of the marked sections
-pieces_are : (p : Project) (keys : Keys) (marks : List Bool) (xs : List Gathered) (ss : List InputSection) → map (shown_facts keys) xs ≡ map (facts p) ss → All (IsNamedSection keys) xs
-    → map (shown_named keys.naming) (filter_map taken_named (marked marks xs)) ≡ filter_map (taken_piece p) (marked marks ss)
+pieces_are : (p : Project) (keys : Keys) (marks : List Bool) (xs : List Gathered) (ss : List InputSection)
+    → map (shown_facts keys) xs ≡ map (facts p) ss → All (IsNamedSection keys) xs
+    → map (shown_named keys.naming) (filter_map taken_named (marked marks xs))
+    ≡ filter_map (taken_piece p) (marked marks ss)
 pieces_are p keys [] xs ss e a = refl
 pieces_are p keys (b ∷ bs) [] [] e a = refl
 pieces_are p keys (b ∷ bs) [] (s ∷ ss) e a = absurd (cc)
@@ -104,43 +136,57 @@ pieces_are p keys (b ∷ bs) (x ∷ xs) [] e a = absurd (cc)
 pieces_are p keys (b ∷ bs) (x ∷ xs) (s ∷ ss) e a =
     let head : shown_facts keys x ≡ facts p s = cc in
     let tail : map (shown_facts keys) xs ≡ map (facts p) ss = cc in
-    go b (marked bs xs) (marked bs ss) head (All-head (IsNamedSection keys) x xs a) (pieces_are p keys bs xs ss tail (All-tail (IsNamedSection keys) x xs a))
+    go b (marked bs xs) (marked bs ss) head (All-head (IsNamedSection keys) x xs a)
+    (pieces_are p keys bs xs ss tail (All-tail (IsNamedSection keys) x xs a))
   where
-    one : (o : Option InputIndex) (m : Option ℕ) (l : List Gathered) (r : List InputSection) → number_of o ≡ m → shown_facts keys x ≡ facts p s → IsNamedSection keys x
+    one : (o : Option InputIndex) (m : Option ℕ) (l : List Gathered) (r : List InputSection) → number_of o ≡ m
+        → shown_facts keys x ≡ facts p s → IsNamedSection keys x
         → map (shown_named keys.naming) (filter_map taken_named l) ≡ filter_map (taken_piece p) r
-        → map (shown_named keys.naming) (cons_option (option_map (named_piece x) o) (filter_map taken_named l)) ≡ cons_option (option_map (λ n. piece_of n s) m) (filter_map (taken_piece p) r)
+        → map (shown_named keys.naming) (cons_option (option_map (named_piece x) o) (filter_map taken_named l))
+        ≡ cons_option (option_map (λ n. piece_of n s) m) (filter_map (taken_piece p) r)
     one None None l r e h n rest = rest
     one None (Some m) l r e h n rest = absurd (cc)
     one (Some k) None l r e h n rest = absurd (cc)
     one (Some k) (Some m) l r e h n rest =
         let same : k.0 ≡ m = cc in
-        ap (λ y. y ∷ map (shown_named keys.naming) (filter_map taken_named l)) (same_piece keys x k n ∙ ap (piece_by k.0) h ∙ of_section p s k.0 ∙ ap (λ j. piece_of j s) same)
+        ap (λ y. y ∷ map (shown_named keys.naming) (filter_map taken_named l)) (same_piece keys x k n
+        ∙ ap (piece_by k.0) h ∙ of_section p s k.0 ∙ ap (λ j. piece_of j s) same)
         ∙ ap (λ t. piece_of m s ∷ t) rest
 
     go : (b : Bool) (l : List Gathered) (r : List InputSection) → shown_facts keys x ≡ facts p s → IsNamedSection keys x
         → map (shown_named keys.naming) (filter_map taken_named l) ≡ filter_map (taken_piece p) r
-        → map (shown_named keys.naming) (filter_map taken_named (cond b (x ∷ l) l)) ≡ filter_map (taken_piece p) (cond b (s ∷ r) r)
+        → map (shown_named keys.naming) (filter_map taken_named (cond b (x ∷ l) l))
+        ≡ filter_map (taken_piece p) (cond b (s ∷ r) r)
     go false l r h n rest = rest
-    go true l r h n rest = one x.statement (first_match p.script s.object s.name) l r (ap (λ (f : Facts). f.statement) h) h n rest
+    go true l r h n rest =
+        one x.statement (first_match p.script s.object s.name) l r (ap (λ (f : Facts). f.statement) h) h n rest
 
-names_are : (keys : Keys) (marks : List Bool) (xs : List Gathered) → All (IsNamedSection keys) xs → All (IsNamed keys.naming) (filter_map taken_named (marked marks xs))
+names_are : (keys : Keys) (marks : List Bool) (xs : List Gathered) → All (IsNamedSection keys) xs
+    → All (IsNamed keys.naming) (filter_map taken_named (marked marks xs))
 names_are keys [] xs a = All-nil (IsNamed keys.naming)
 names_are keys (b ∷ bs) [] a = All-nil (IsNamed keys.naming)
-names_are keys (b ∷ bs) (x ∷ xs) a = go b (marked bs xs) (All-head (IsNamedSection keys) x xs a) (names_are keys bs xs (All-tail (IsNamedSection keys) x xs a))
+names_are keys (b ∷ bs) (x ∷ xs) a =
+    go b (marked bs xs) (All-head (IsNamedSection keys) x xs a)
+    (names_are keys bs xs (All-tail (IsNamedSection keys) x xs a))
   where
-    one : (o : Option InputIndex) (l : List Gathered) → IsNamedSection keys x → All (IsNamed keys.naming) (filter_map taken_named l) → All (IsNamed keys.naming) (cons_option (option_map (named_piece x) o) (filter_map taken_named l))
+    one : (o : Option InputIndex) (l : List Gathered) → IsNamedSection keys x
+        → All (IsNamed keys.naming) (filter_map taken_named l)
+        → All (IsNamed keys.naming) (cons_option (option_map (named_piece x) o) (filter_map taken_named l))
     one None l n rest = rest
     one (Some k) l n rest = All-cons (IsNamed keys.naming) (named_piece x k) (filter_map taken_named l) n rest
 
-    go : (b : Bool) (l : List Gathered) → IsNamedSection keys x → All (IsNamed keys.naming) (filter_map taken_named l) → All (IsNamed keys.naming) (filter_map taken_named (cond b (x ∷ l) l))
+    go : (b : Bool) (l : List Gathered) → IsNamedSection keys x → All (IsNamed keys.naming) (filter_map taken_named l)
+        → All (IsNamed keys.naming) (filter_map taken_named (cond b (x ∷ l) l))
     go false l n rest = rest
     go true l n rest = one x.statement l n rest
 
 pub taken_are : (p : Project) (keys : Keys) (marks : List Bool) (xs : List Gathered) (pieces : List NamedPiece)
-    → pieces ≡ filter_map taken_named (marked marks xs) → AreGathered p keys xs → marked marks (input_sections p) ≡ live p → AreTaken p keys.naming pieces
+    → pieces ≡ filter_map taken_named (marked marks xs) → AreGathered p keys xs → marked marks (input_sections p)
+    ≡ live p → AreTaken p keys.naming pieces
 taken_are p keys marks xs pieces is a l = record {
   named = subst (All (IsNamed keys.naming)) (sym is) (names_are keys marks xs a.named);
-  pieces = ap (map (shown_named keys.naming)) is ∙ pieces_are p keys marks xs (input_sections p) a.facts a.named ∙ ap (filter_map (taken_piece p)) l;
+  pieces = ap (map (shown_named keys.naming)) is ∙ pieces_are p keys marks xs (input_sections p) a.facts a.named
+      ∙ ap (filter_map (taken_piece p)) l;
 }
 
 -- a section that no statement takes, by the number of the statement
@@ -149,21 +195,28 @@ is_there [] i h = absurd (omega (arith, h))
 is_there (x ∷ xs) zero h = refl
 is_there (x ∷ xs) (suc i) h = is_there xs i (omega (arith, h))
 
-at_position : {X : Type 0} (test : X → Bool) (xs : List X) → is_none (option_and_then (slice_get xs) (position test xs)) ≡ is_none (position test xs)
+at_position : {X : Type 0} (test : X → Bool) (xs : List X)
+    → is_none (option_and_then (slice_get xs) (position test xs)) ≡ is_none (position test xs)
 at_position test xs = go (ltb (position_or_len test xs) (length xs)) refl
   where
     go : (b : Bool) → ltb (position_or_len test xs) (length xs) ≡ b
-        → is_none (option_and_then (slice_get xs) (cond b (Some (position_or_len test xs)) None)) ≡ is_none (cond b (Some (position_or_len test xs)) None)
+        → is_none (option_and_then (slice_get xs) (cond b (Some (position_or_len test xs)) None))
+        ≡ is_none (cond b (Some (position_or_len test xs)) None)
     go true e = is_there xs (position_or_len test xs) (ltb-true (position_or_len test xs) (length xs) e)
     go false e = refl
 
-within_or_none : (script : List Statement) (file section : List ℕ) → is_none (option_and_then (slice_get (input_statements script)) (first_match script file section)) ≡ is_none (first_match script file section)
+within_or_none : (script : List Statement) (file section : List ℕ)
+    → is_none (option_and_then (slice_get (input_statements script)) (first_match script file section))
+    ≡ is_none (first_match script file section)
 unfolding first_match
-within_or_none script file section = at_position (λ (i : InputStatementAt). takes file section i.input) (input_statements script)
+within_or_none script file section =
+    at_position (λ (i : InputStatementAt). takes file section i.input) (input_statements script)
 
 -- the keys of the marked sections that no statement takes
-orphans_in : (p : Project) (keys : Keys) (marks : List Bool) (xs : List Gathered) (ss : List InputSection) → map (shown_facts keys) xs ≡ map (facts p) ss
-    → map (section_id keys.number) (filter_map untaken (marked marks xs)) ≡ map (λ (s : InputSection). s.id) (filter (λ s. is_none (taken_by p s)) (marked marks ss))
+orphans_in : (p : Project) (keys : Keys) (marks : List Bool) (xs : List Gathered) (ss : List InputSection)
+    → map (shown_facts keys) xs ≡ map (facts p) ss
+    → map (section_id keys.number) (filter_map untaken (marked marks xs))
+    ≡ map (λ (s : InputSection). s.id) (filter (λ s. is_none (taken_by p s)) (marked marks ss))
 orphans_in p keys [] xs ss e = refl
 orphans_in p keys (b ∷ bs) [] [] e = refl
 orphans_in p keys (b ∷ bs) [] (s ∷ ss) e = absurd (cc)
@@ -171,47 +224,64 @@ orphans_in p keys (b ∷ bs) (x ∷ xs) [] e = absurd (cc)
 orphans_in p keys (b ∷ bs) (x ∷ xs) (s ∷ ss) e =
     let head : shown_facts keys x ≡ facts p s = cc in
     let tail : map (shown_facts keys) xs ≡ map (facts p) ss = cc in
-    go b (marked bs xs) (filter (λ s. is_none (taken_by p s)) (marked bs ss)) (marked bs ss) refl head (orphans_in p keys bs xs ss tail)
+    go b (marked bs xs) (filter (λ s. is_none (taken_by p s)) (marked bs ss)) (marked bs ss) refl head
+    (orphans_in p keys bs xs ss tail)
   where
-    one : (o : Option InputIndex) (none : Bool) (l : List Gathered) (r : List InputSection) → is_none (number_of o) ≡ none → section_id keys.number x.section ≡ s.id
+    one : (o : Option InputIndex) (none : Bool) (l : List Gathered) (r : List InputSection) → is_none (number_of o)
+        ≡ none → section_id keys.number x.section ≡ s.id
         → map (section_id keys.number) (filter_map untaken l) ≡ map (λ (s : InputSection). s.id) r
-        → map (section_id keys.number) (cons_option (untaken_by_none x.section o) (filter_map untaken l)) ≡ map (λ (s : InputSection). s.id) (cond none (s ∷ r) r)
-    one None true l r e h rest = ap (λ i. i ∷ map (section_id keys.number) (filter_map untaken l)) h ∙ ap (λ t. s.id ∷ t) rest
+        → map (section_id keys.number) (cons_option (untaken_by_none x.section o) (filter_map untaken l))
+        ≡ map (λ (s : InputSection). s.id) (cond none (s ∷ r) r)
+    one None true l r e h rest = ap (λ i. i ∷ map (section_id keys.number) (filter_map untaken l)) h
+        ∙ ap (λ t. s.id ∷ t) rest
     one None false l r e h rest = absurd (cc)
     one (Some k) true l r e h rest = absurd (cc)
     one (Some k) false l r e h rest = rest
 
-    go : (b : Bool) (l : List Gathered) (r : List InputSection) (all : List InputSection) → r ≡ filter (λ s. is_none (taken_by p s)) all → shown_facts keys x ≡ facts p s
+    go : (b : Bool) (l : List Gathered) (r : List InputSection) (all : List InputSection) → r
+        ≡ filter (λ s. is_none (taken_by p s)) all → shown_facts keys x ≡ facts p s
         → map (section_id keys.number) (filter_map untaken l) ≡ map (λ (s : InputSection). s.id) r
-        → map (section_id keys.number) (filter_map untaken (cond b (x ∷ l) l)) ≡ map (λ (s : InputSection). s.id) (filter (λ s. is_none (taken_by p s)) (cond b (s ∷ all) all))
+        → map (section_id keys.number) (filter_map untaken (cond b (x ∷ l) l))
+        ≡ map (λ (s : InputSection). s.id) (filter (λ s. is_none (taken_by p s)) (cond b (s ∷ all) all))
     go false l r all is h rest = rest ∙ ap (map (λ (s : InputSection). s.id)) is
     go true l r all is h rest =
-        one x.statement (is_none (taken_by p s)) l r (ap (λ (f : Facts). is_none f.statement) h ∙ sym (within_or_none p.script s.object s.name)) (ap (λ (f : Facts). f.id) h) rest
+        one x.statement (is_none (taken_by p s)) l r (ap (λ (f : Facts). is_none f.statement) h
+        ∙ sym (within_or_none p.script s.object s.name)) (ap (λ (f : Facts). f.id) h) rest
         ∙ ap (λ q. map (λ (s : InputSection). s.id) (cond (is_none (taken_by p s)) (s ∷ q) q)) is
 
 pub orphans_are : (p : Project) (keys : Keys) (marks : List Bool) (xs : List Gathered) (found : List SectionKey)
-    → found ≡ filter_map untaken (marked marks xs) → AreGathered p keys xs → marked marks (input_sections p) ≡ live p → map (section_id keys.number) found ≡ map (λ (s : InputSection). s.id) (orphans p)
+    → found ≡ filter_map untaken (marked marks xs) → AreGathered p keys xs → marked marks (input_sections p) ≡ live p
+    → map (section_id keys.number) found ≡ map (λ (s : InputSection). s.id) (orphans p)
 unfolding orphans
 orphans_are p keys marks xs found is a l =
     ap (map (section_id keys.number)) is ∙ orphans_in p keys marks xs (input_sections p) a.facts
     ∙ ap (λ ss. map (λ (s : InputSection). s.id) (filter (λ s. is_none (taken_by p s)) ss)) l
 
 -- what is found, one section later
-pub found_step : {Y : Type 0} (h : Gathered → Option Y) (old new all : List Y) (marks : List Bool) (xs : List Gathered) (i : ℕ) (d : Gathered) (b : Bool)
+pub found_step : {Y : Type 0} (h : Gathered → Option Y) (old new all : List Y) (marks : List Bool) (xs : List Gathered)
+    (i : ℕ) (d : Gathered) (b : Bool)
     → i < length xs → b ≡ get_or marks i false → new ≡ old ++ filter_map h (cond b (get_or xs i d ∷ []) [])
-    → old ++ filter_map h (marked (drop i marks) (drop i xs)) ≡ all → new ++ filter_map h (marked (drop (i + 1) marks) (drop (i + 1) xs)) ≡ all
+    → old ++ filter_map h (marked (drop i marks) (drop i xs)) ≡ all → new
+    ++ filter_map h (marked (drop (i + 1) marks) (drop (i + 1) xs)) ≡ all
 found_step h old new all marks xs i d b within is added before =
-    ap (λ l. l ++ filter_map h (marked (drop (i + 1) marks) (drop (i + 1) xs))) (added ∙ ap (λ m. old ++ filter_map h (cond m (get_or xs i d ∷ []) [])) is)
-    ∙ append_assoc old (filter_map h (cond (get_or marks i false) (get_or xs i d ∷ []) [])) (filter_map h (marked (drop (i + 1) marks) (drop (i + 1) xs)))
-    ∙ ap (λ l. old ++ l) (go (get_or marks i false) (get_or xs i d) (marked (drop (i + 1) marks) (drop (i + 1) xs)) ∙ ap (filter_map h) (sym (marked_more marks xs i (get_or xs i d) within (get_or_default xs i d (get_or xs i d) within))))
+    ap (λ l. l ++ filter_map h (marked (drop (i + 1) marks) (drop (i + 1) xs))) (added
+    ∙ ap (λ m. old ++ filter_map h (cond m (get_or xs i d ∷ []) [])) is)
+    ∙ append_assoc old (filter_map h (cond (get_or marks i false) (get_or xs i d ∷ []) []))
+    (filter_map h (marked (drop (i + 1) marks) (drop (i + 1) xs)))
+    ∙ ap (λ l. old ++ l) (go (get_or marks i false) (get_or xs i d) (marked (drop (i + 1) marks) (drop (i + 1) xs))
+    ∙ ap (filter_map h) (sym
+    (marked_more marks xs i (get_or xs i d) within (get_or_default xs i d (get_or xs i d) within))))
     ∙ before
   where
-    go : (b : Bool) (x : Gathered) (rest : List Gathered) → filter_map h (cond b (x ∷ []) []) ++ filter_map h rest ≡ filter_map h (cond b (x ∷ rest) rest)
+    go : (b : Bool) (x : Gathered) (rest : List Gathered) → filter_map h (cond b (x ∷ []) []) ++ filter_map h rest
+        ≡ filter_map h (cond b (x ∷ rest) rest)
     go true x rest = sym (filter_map-append h (x ∷ []) rest)
     go false x rest = refl
 
 -- nothing is left to be found
-pub found_all : {Y : Type 0} (h : Gathered → Option Y) (found all : List Y) (marks : List Bool) (xs : List Gathered) (i : ℕ)
+pub found_all : {Y : Type 0} (h : Gathered → Option Y) (found all : List Y) (marks : List Bool) (xs : List Gathered)
+    (i : ℕ)
     → length xs ≤ i → found ++ filter_map h (marked (drop i marks) (drop i xs)) ≡ all → found ≡ all
 found_all h found all marks xs i past e =
-    sym (append-nil found) ∙ ap (λ l. found ++ filter_map h l) (sym (marked_nil (drop i marks))) ∙ ap (λ l. found ++ filter_map h (marked (drop i marks) l)) (sym (drop_all i xs past)) ∙ e
+    sym (append-nil found) ∙ ap (λ l. found ++ filter_map h l) (sym (marked_nil (drop i marks)))
+    ∙ ap (λ l. found ++ filter_map h (marked (drop i marks) l)) (sym (drop_all i xs past)) ∙ e

@@ -1,4 +1,6 @@
-use Rattle.std.proofs.Common.{◌≡◌, ℕ, ◌+◌, ◌<◌, Bool, true, false, cond, not, ◌||◌, List, [], ◌∷◌, ◌++◌, length, get_or, set, refl, sym, ◌∙◌, ◌⊎◌, inl, inr, ⊎_elim, arith, subst, get_or-set_same, get_or-set_other, length-append, ◌↔◌}
+use Rattle.std.proofs.Common.{◌≡◌, ℕ, ◌+◌, ◌<◌, Bool, true, false, cond, not, ◌||◌, List, [], ◌∷◌, ◌++◌, length, get_or}
+use Rattle.std.proofs.Common.{set, refl, sym, ◌∙◌, ◌⊎◌, inl, inr, ⊎_elim, arith, subst, get_or-set_same}
+use Rattle.std.proofs.Common.{get_or-set_other, length-append, ◌↔◌}
 use Rattle.std.specs.List.{Contains, count_by}
 use Rattle.std.proofs.Math.ListN.{replicate, length-set}
 use Rattle.std.proofs.lemmas.Bool.{false≢true, cases_lt, cases_eq}
@@ -20,7 +22,8 @@ abbrev pub work : List Bool → List ℕ → ℕ
 work live stack = count_by not live + length stack
 
 pub marked_within : (live : List Bool) (s : ℕ) → IsMarked live s → s < length live
-marked_within live s m = ⊎_elim (λ h. h) (λ h. absurd (false≢true (sym (get_or_past live s false h) ∙ m))) (cases_lt s (length live))
+marked_within live s m =
+    ⊎_elim (λ h. h) (λ h. absurd (false≢true (sym (get_or_past live s false h) ∙ m))) (cases_lt s (length live))
 
 none_marked : (n s : ℕ) → IsMarked (replicate n false) s → ⊥
 none_marked n s m = ⊎_elim
@@ -40,7 +43,8 @@ marks_start g n e = record {
 }
 
 -- what a visit keeps and adds
-pub record Visited (g : Graph) (live : List Bool) (stack : List ℕ) (at next : ℕ) (live' : List Bool) (stack' : List ℕ) : Type 0 where
+pub record Visited (g : Graph) (live : List Bool) (stack : List ℕ) (at next : ℕ) (live' : List Bool) (stack' : List ℕ)
+    : Type 0 where
   pub marks : Marks g live' stack' at
   pub marked : IsIn g next → IsMarked live' next
   pub kept : (s : ℕ) → IsMarked live s → IsMarked live' s
@@ -53,18 +57,25 @@ marked_set live next s h m = ⊎_elim
     (cases_eq s next)
 
 marked_before : (live : List Bool) (next s : ℕ) → IsMarked (set live next true) s → (s ≡ next) ⊎ IsMarked live s
-marked_before live next s m = ⊎_elim (λ e. inl e) (λ n. inr (sym (get_or-set_other live next s true false n) ∙ m)) (cases_eq s next)
+marked_before live next s m =
+    ⊎_elim (λ e. inl e) (λ n. inr (sym (get_or-set_other live next s true false n) ∙ m)) (cases_eq s next)
 
-visit_new : (g : Graph) (live : List Bool) (stack : List ℕ) (at next : ℕ) → Marks g live stack at → (IsIn g next → IsLive g next) → next < length live
-    → IsIn g next → get_or live next false ≡ false → Visited g live stack at next (set live next true) (stack ++ next ∷ [])
+visit_new : (g : Graph) (live : List Bool) (stack : List ℕ) (at next : ℕ) → Marks g live stack at
+    → (IsIn g next → IsLive g next) → next < length live
+    → IsIn g next → get_or live next false ≡ false
+    → Visited g live stack at next (set live next true) (stack ++ next ∷ [])
 visit_new g live stack at next m l h o u = record {
   marks = record {
     long = omega (arith, m.long, length-set live next true);
     sound = λ s k. ⊎_elim (λ e. subst (IsLive g) (sym e) (l o)) (m.sound s) (marked_before live next s k);
-    on_stack = λ s k. ⊎_elim (λ p. marked_set live next s h (m.on_stack s p)) (λ e. subst (IsMarked (set live next true)) e (get_or-set_same live next true false h)) (Contains-push_cases stack next s k);
+    on_stack = λ s k. ⊎_elim (λ p. marked_set live next s h (m.on_stack s p)) (λ e.
+        subst (IsMarked (set live next true)) e (get_or-set_same live next true false h))
+        (Contains-push_cases stack next s k);
     closed = λ a b k t i. ⊎_elim
         (λ e. inr (inl (subst (Contains (stack ++ next ∷ [])) (sym e) (Contains-push stack next))))
-        (λ k'. ⊎_elim (λ p. inl (marked_set live next b h p)) (⊎_elim (λ p. inr (inl (Contains-append_left stack (next ∷ []) a p))) (λ e. inr (inr e))) (m.closed a b k' t i))
+        (λ k'. ⊎_elim (λ p. inl (marked_set live next b h p))
+        (⊎_elim (λ p. inr (inl (Contains-append_left stack (next ∷ []) a p))) (λ e. inr (inr e)))
+        (m.closed a b k' t i))
         (marked_before live next a k);
   };
   marked = λ _. get_or-set_same live next true false h;
@@ -75,24 +86,30 @@ visit_new g live stack at next m l h o u = record {
       omega (arith, s', length-append stack (next ∷ []));
 }
 
-visit_old : (g : Graph) (live : List Bool) (stack : List ℕ) (at next : ℕ) → Marks g live stack at → (IsIn g next → IsMarked live next) → Visited g live stack at next live stack
+visit_old : (g : Graph) (live : List Bool) (stack : List ℕ) (at next : ℕ) → Marks g live stack at
+    → (IsIn g next → IsMarked live next) → Visited g live stack at next live stack
 visit_old g live stack at next m k = record { marks = m; marked = k; kept = λ _ x. x; same_work = refl }
 
-pub visited : (g : Graph) (live : List Bool) (stack : List ℕ) (at next : ℕ) (live' : List Bool) (stack' : List ℕ) → Marks g live stack at → (IsIn g next → IsLive g next)
+pub visited : (g : Graph) (live : List Bool) (stack : List ℕ) (at next : ℕ) (live' : List Bool) (stack' : List ℕ)
+    → Marks g live stack at → (IsIn g next → IsLive g next)
     → IsVisit g.out next live stack live' stack' → Visited g live stack at next live' stack'
 visited g live stack at next live' stack' m l v = go (get_or g.out next true) (get_or live next false) refl refl v
   where
     go : (o u : Bool) → get_or g.out next true ≡ o → get_or live next false ≡ u
-        → cond (o || u) ((live' ≡ live) × (stack' ≡ stack)) ((live' ≡ set live next true) × (stack' ≡ stack ++ next ∷ []))
+        → cond (o || u) ((live' ≡ live) × (stack' ≡ stack)) ((live' ≡ set live next true)
+        × (stack' ≡ stack ++ next ∷ []))
         → Visited g live stack at next live' stack'
     go true u eo eu p = rw (p.0, p.1) (visit_old g live stack at next m (λ i. absurd (false≢true (sym i ∙ eo))))
     go false true eo eu p = rw (p.0, p.1) (visit_old g live stack at next m (λ _. eu))
     go false false eo eu p =
-        let inside : next < length g.out = ⊎_elim (λ h. h) (λ h. absurd (false≢true (sym eo ∙ get_or_past g.out next true h))) (cases_lt next (length g.out)) in
+        let inside : next < length g.out =
+        ⊎_elim (λ h. h) (λ h. absurd (false≢true (sym eo ∙ get_or_past g.out next true h)))
+        (cases_lt next (length g.out)) in
         rw (p.0, p.1) (visit_new g live stack at next m l (omega (arith, inside, m.long)) eo eu)
 
 -- the last of the stack is taken to be expanded
-pub marks_pop : (g : Graph) (live : List Bool) (stack rest : List ℕ) (s : ℕ) → stack ≡ rest ++ s ∷ [] → Marks g live stack (length g.out) → Marks g live rest s
+pub marks_pop : (g : Graph) (live : List Bool) (stack rest : List ℕ) (s : ℕ) → stack ≡ rest ++ s ∷ []
+    → Marks g live stack (length g.out) → Marks g live rest s
 marks_pop g live stack rest s e m = record {
   long = m.long;
   sound = m.sound;
@@ -105,7 +122,8 @@ marks_pop g live stack rest s e m = record {
 }
 
 -- all its targets were visited
-pub marks_done : (g : Graph) (live : List Bool) (stack : List ℕ) (s : ℕ) → Marks g live stack s → ((b : ℕ) → LeadsTo g s b → IsIn g b → IsMarked live b) → Marks g live stack (length g.out)
+pub marks_done : (g : Graph) (live : List Bool) (stack : List ℕ) (s : ℕ) → Marks g live stack s
+    → ((b : ℕ) → LeadsTo g s b → IsIn g b → IsMarked live b) → Marks g live stack (length g.out)
 marks_done g live stack s m d = record {
   long = m.long;
   sound = m.sound;
@@ -116,21 +134,26 @@ marks_done g live stack s m d = record {
 }
 
 -- nothing is left on the stack
-pub marks_end : (g : Graph) (live : List Bool) → Marks g live [] (length g.out) → ((r : ℕ) → Contains g.roots r → IsIn g r → IsMarked live r) → (s : ℕ) → IsMarked live s ↔ IsLive g s
+pub marks_end : (g : Graph) (live : List Bool) → Marks g live [] (length g.out)
+    → ((r : ℕ) → Contains g.roots r → IsIn g r → IsMarked live r) → (s : ℕ) → IsMarked live s ↔ IsLive g s
 marks_end g live m r s = (m.sound s, all s)
   where
     all : (x : ℕ) → IsLive g x → IsMarked live x
     all x (from_root s h i) = r s h i
-    all x (from_live a b l t i) = ⊎_elim (λ p. p) (⊎_elim (λ p. absurd (none_contained a p)) (λ q. absurd (omega (arith, q, m.long, marked_within live a (all a l))))) (m.closed a b (all a l) t i)
+    all x (from_live a b l t i) =
+        ⊎_elim (λ p. p) (⊎_elim (λ p. absurd (none_contained a p)) (λ q.
+        absurd (omega (arith, q, m.long, marked_within live a (all a l))))) (m.closed a b (all a l) t i)
 
 pub leads_in : (g : Graph) (s b : ℕ) (items : List ℕ) → items ≡ targets_of g s → LeadsTo g s b → Contains items b
 leads_in g s b items e t = subst (λ l. Contains l b) (sym e) t.1
 
-pub leads_out : (g : Graph) (s k : ℕ) (items : List ℕ) → s < length g.out → items ≡ targets_of g s → k < length items → LeadsTo g s (get_or items k 0)
+pub leads_out : (g : Graph) (s k : ℕ) (items : List ℕ) → s < length g.out → items ≡ targets_of g s → k < length items
+    → LeadsTo g s (get_or items k 0)
 leads_out g s k items h e w = (h, subst (λ l. Contains l (get_or items k 0)) e (Contains-get_or items k 0 w))
 
 -- what holds of each place holds of each that is contained
-pub each_contained : (xs : List ℕ) (P : ℕ → Type 0) → ((k : ℕ) → k < length xs → P (get_or xs k 0)) → (x : ℕ) → Contains xs x → P x
+pub each_contained : (xs : List ℕ) (P : ℕ → Type 0) → ((k : ℕ) → k < length xs → P (get_or xs k 0)) → (x : ℕ)
+    → Contains xs x → P x
 each_contained xs P f x c = subst P (sym (get_or_default_zero xs c.0 x c.1) ∙ c.2) (f c.0 c.1)
 
 pub empty_length : (xs : List ℕ) → length xs ≡ 0 → xs ≡ []

@@ -7,4 +7,6 @@ use Rattle.ldmodel.specs.Project.{NamedObject, Project}
 
 -- the header numbers of the linked sections of each object ascend, as `Object::sections` says of an object
 abbrev pub AscendingSections : Project → Type 0
-AscendingSections p = All (λ (o : NamedObject). AllPairs (λ (s t : Section). s.number.0 < t.number.0) (map section_of o.object.sections)) p.objects
+AscendingSections p =
+    All (λ (o : NamedObject). AllPairs (λ (s t : Section). s.number.0 < t.number.0) (map section_of o.object.sections))
+    p.objects

@@ -66,7 +66,15 @@ pub record AreGathered (p : Project) (keys : Keys) (xs : List Gathered) : Type 0
 -- a section as the piece of a statement
 abbrev pub named_piece : Gathered → InputIndex → NamedPiece
 named_piece x n = record {
-  piece = record { statement = n; section = x.section; kind = x.kind; flags = x.flags; size = x.size; alignment = x.alignment };
+  piece = record {
+    statement = n;
+    section = x.section;
+    kind = x.kind;
+    flags = x.flags;
+    size = x.size;
+    alignment =
+        x.alignment;
+  };
   name = x.name;
 }
 

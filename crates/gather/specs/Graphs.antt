@@ -1,5 +1,6 @@
 -- Graphs of sections by their numbers, and what can be reached in one.
-use Rattle.std.specs.Prelude.{ℕ, ◌≡◌, ◌<◌, ◌+◌, Bool, true, false, cond, ◌||◌, List, ◌∷◌, [], ◌++◌, length, slice_index, slice_index_or, slice_range, slice_set, Contains}
+use Rattle.std.specs.Prelude.{ℕ, ◌≡◌, ◌<◌, ◌+◌, Bool, true, false, cond, ◌||◌, List, ◌∷◌, [], ◌++◌, length, slice_index}
+use Rattle.std.specs.Prelude.{slice_index_or, slice_range, slice_set, Contains}
 
 -- sections by their numbers: of each whether it is left out, the numbers of the roots, and the numbers of the sections
 -- that relocations refer to: those of section a are the targets from starts a up to starts (a + 1). A number past the

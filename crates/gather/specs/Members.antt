@@ -1,5 +1,6 @@
 -- Objects of a project, as the code has them, and their input sections.
-use Rattle.std.specs.Prelude.{ℕ, ◌≡◌, List, [], ◌∷◌, ◌++◌, map, Some, None, slice_get, slice_index_or, Option, Contains, codes, bit_or}
+use Rattle.std.specs.Prelude.{ℕ, ◌≡◌, List, [], ◌∷◌, ◌++◌, map, Some, None, slice_get, slice_index_or, Option, Contains}
+use Rattle.std.specs.Prelude.{codes, bit_or}
 use Rattle.std.specs.List.{AllZip, enumerate_from}
 use Rattle.elfobj.specs.Sections.{LinkedSection}
 use Rattle.elfdefs.specs.declared.constants.TheConstants.{SHF_ALLOC, SHF_WRITE}
@@ -36,7 +37,8 @@ AreMembers p keys ms = AllZip (λ (o : ℕ × NamedObject) m. IsMember p keys o.
 
 -- under the key of an input section stands its name
 abbrev pub NamesSections : Project → Keys → Type 0
-NamesSections p keys = (k : SectionKey) (s : InputSection) → Contains (input_sections p) s → section_id keys.number k ≡ s.id → keys.naming.section k ≡ s.name
+NamesSections p keys = (k : SectionKey) (s : InputSection) → Contains (input_sections p) s → section_id keys.number k
+    ≡ s.id → keys.naming.section k ≡ s.name
 
 -- what is known of linked section s, whose match has this number
 abbrev pub facts_of_linked : Keys → Member → LinkedSection → Option ℕ → Facts
@@ -54,7 +56,8 @@ facts_of_linked keys m s number = record {
 -- the section is the linked one at this place
 abbrev pub IsLinkedAt : Member → ℕ → Gathered → Type 0
 IsLinkedAt m place x =
-    (keys : Keys) (s : LinkedSection) → slice_get m.object.now.sections place ≡ Some s → shown_facts keys x ≡ facts_of_linked keys m s (number_of (slice_index_or m.matches.now place None))
+    (keys : Keys) (s : LinkedSection) → slice_get m.object.now.sections place ≡ Some s → shown_facts keys x
+    ≡ facts_of_linked keys m s (number_of (slice_index_or m.matches.now place None))
 
 -- what is known of the linked sections, each beside its match, if there is one
 abbrev pub beside : Keys → Member → List LinkedSection → List (Option ℕ) → List Facts

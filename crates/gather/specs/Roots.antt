@@ -12,4 +12,5 @@ is_kept_by statements number = is_kept (option_and_then (slice_get statements) n
 abbrev pub kept_numbers : List InputStatementAt → ℕ → List Gathered → List ℕ
 kept_numbers statements n [] = []
 kept_numbers statements n (x ∷ xs) =
-    if is_kept_by statements (number_of x.statement) then n ∷ kept_numbers statements (n + 1) xs else kept_numbers statements (n + 1) xs
+    if is_kept_by statements (number_of x.statement) then n ∷ kept_numbers statements (n + 1) xs else kept_numbers
+    statements (n + 1) xs

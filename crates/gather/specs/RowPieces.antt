@@ -1,5 +1,6 @@
 -- What rows are made of, and what they are.
-use Rattle.std.specs.Prelude.{ℕ, ◌≡◌, ◌<◌, ◌==◌, List, [], ◌++◌, length, map, filter, Option, if◌then◌else◌, slice_index_or, All}
+use Rattle.std.specs.Prelude.{ℕ, ◌≡◌, ◌<◌, ◌==◌, List, [], ◌++◌, length, map, filter, Option, if◌then◌else◌}
+use Rattle.std.specs.Prelude.{slice_index_or, All}
 use Rattle.std.proofs.Common.{Vec, Global}
 use Rattle.std.specs.List.{filter_map}
 use Rattle.std.specs.Option.{option_map}
@@ -56,20 +57,24 @@ pub record AreBuckets (xs : List NamedPiece) (count : ℕ) (buckets : List (Vec 
 
 -- a list is put in the order of a sort
 abbrev pub Orders : Option Sort → (old new : List NamedPiece) → Type 0
-Orders sort old new = (n : Naming) → All (IsNamed n) old → map (shown_named n) new ≡ sort_by (below sort) (map (shown_named n) old)
+Orders sort old new = (n : Naming) → All (IsNamed n) old → map (shown_named n) new
+    ≡ sort_by (below sort) (map (shown_named n) old)
 
 -- the pieces of a statement come to the end of the row of its output section
-pub record AddsTo (place : InputPlace) (sort : Option Sort) (xs : List NamedPiece) (old new : List (Vec code.Piece Global)) : Type 0 where
+pub record AddsTo (place : InputPlace) (sort : Option Sort) (xs : List NamedPiece)
+    (old new : List (Vec code.Piece Global)) : Type 0 where
   pub long : length new ≡ length old
   pub row : (n : Naming) → All (IsNamed n) xs → (k : ℕ) (d : Vec code.Piece Global) → k < length old
-      → shown_row n (slice_index_or new k d) ≡ shown_row n (slice_index_or old k d) ++ (if is_in_section k place then sort_by (below sort) (map (shown_named n) xs) else [])
+      → shown_row n (slice_index_or new k d) ≡ shown_row n (slice_index_or old k d)
+      ++ (if is_in_section k place then sort_by (below sort) (map (shown_named n) xs) else [])
 
 -- what an input statement of this number brings to the row of output section number k
 abbrev pub pieces_at : Naming → List NamedPiece → (k : ℕ) → ℕ × InputStatementAt → List Piece
 pieces_at n xs k i =
-    if is_in_section k i.1.place then sort_by (below i.1.input.sort) (filter (λ (y : Piece). y.statement == i.0) (map (shown_named n) xs)) else []
+    if is_in_section k i.1.place then sort_by (below i.1.input.sort)
+    (filter (λ (y : Piece). y.statement == i.0) (map (shown_named n) xs)) else []
 
--- so many rows of nothing
+-- this number of rows of nothing
 pub record AreEmpty (count : ℕ) (rows : List (Vec code.Piece Global)) : Type 0 where
   pub long : length rows ≡ count
   pub row : (k : ℕ) (d : Vec code.Piece Global) → k < count → (slice_index_or rows k d).items ≡ []

@@ -14,7 +14,8 @@ use Rattle.gather.specs.declared.word_table.WordTable.{WordTable}
 
 -- the words under a name
 abbrev pub listed : WordTable → List ℕ → List code.WordAt
-listed t name = option_map_or (λ (v : Vec code.WordAt Global). v.items) (get_by (λ (k : Bor (List ℕ)). slice_cmp nat_cmp name k.now) t.named) []
+listed t name = option_map_or (λ (v : Vec code.WordAt Global). v.items)
+    (get_by (λ (k : Bor (List ℕ)). slice_cmp nat_cmp name k.now) t.named) []
 
 abbrev pub shown_listed : WordTable → List ℕ → List WordAt
 shown_listed t name = shown_words (listed t name)

@@ -10,5 +10,6 @@ ghost use Rattle.gather.specs.LiveMarks.{IsSectionAt};
 /// ascend, as those of every object that was read do, what tells input sections apart tells their places apart.
 #[tactic(auto, using(crate::proofs::Ascending::sections_apart))]
 pub fn sections_apart()
-    ensures { (p : Project) → AscendingSections p → (a b : ℕ) (s t : InputSection) → IsSectionAt p a s → IsSectionAt p b t → s.id ≡ t.id → a ≡ b }
+    ensures { (p : Project) → AscendingSections p → (a b : ℕ) (s t : InputSection) → IsSectionAt p a s
+        → IsSectionAt p b t → s.id ≡ t.id → a ≡ b }
 {}

@@ -20,7 +20,8 @@ use std::alloc::Global;
 /// Whether a section is left out: one that `/DISCARD/` takes; and of those that no statement takes the empty ones,
 /// and all where orphans are discarded.
 pub fn is_out(statements: &[InputStatementAt<'_>], orphans: Orphans, section: &Gathered<'_>) -> bool
-    ensures { result ≡ is_out_of (shown_inputs statements.now) orphans section.now.size (number_of section.now.statement) }
+    ensures { result ≡ is_out_of (shown_inputs statements.now) orphans section.now.size
+        (number_of section.now.statement) }
 {
     let untaken = section.size == 0 || matches!(orphans, Orphans::Discard);
     match section.statement {
@@ -39,7 +40,9 @@ fn each_out(
     orphans: Orphans,
     sections: &[Gathered<'_>],
 ) -> Result<Vec<bool>, NoMemory>
-    ensures { IfOk result (λ out. out.items ≡ map (λ (x : Gathered). is_out_of (shown_inputs statements.now) orphans x.size (number_of x.statement)) sections.now) }
+    ensures { IfOk result (λ out. out.items
+        ≡ map (λ (x : Gathered). is_out_of (shown_inputs statements.now) orphans x.size (number_of x.statement))
+        sections.now) }
 {
     let mut out = Vec::with_capacity(alloc, sections.len())?;
     for section in sections {
@@ -56,7 +59,8 @@ pub fn left_out(
     orphans: Orphans,
     sections: &[Gathered<'_>],
 ) -> Result<Vec<bool>, NoMemory>
-    ensures { IfOk result (λ out. (p : Project) (keys : Keys) → p.script ≡ script.now → p.options.orphans ≡ orphans → AreGathered p keys sections.now → out.items ≡ map (is_out p) (input_sections p)) }
+    ensures { IfOk result (λ out. (p : Project) (keys : Keys) → p.script ≡ script.now → p.options.orphans ≡ orphans
+        → AreGathered p keys sections.now → out.items ≡ map (is_out p) (input_sections p)) }
 {
     let statements = script.input_statements(alloc)?;
     each_out(alloc, &statements, orphans, sections)

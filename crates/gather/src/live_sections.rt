@@ -23,7 +23,8 @@ use std::alloc::Global;
 /// ran out.
 pub fn not_out(alloc: Global, out: &[bool]) -> Result<Vec<bool>, NoMemory>
     ensures marks { IfOk result (λ marks. marks.items ≡ map not out.now) }
-    ensures live { IfOk result (λ marks. (p : Project) → p.options.gc ≡ false → out.now ≡ map (is_out p) (input_sections p) → marked marks.items (input_sections p) ≡ live p) }
+    ensures live { IfOk result (λ marks. (p : Project) → p.options.gc ≡ false → out.now
+        ≡ map (is_out p) (input_sections p) → marked marks.items (input_sections p) ≡ live p) }
 {
     live_by_path();
     let mut marks = Vec::with_capacity(alloc, out.len())?;
@@ -46,7 +47,8 @@ fn add_taken<'a>(
     section: &Gathered<'a>,
     is_live: bool,
 ) -> Result<(), NoMemory>
-    ensures { OnOk result (pieces.new.items ≡ pieces.old.items ++ filter_map taken_named (if is_live then section.now ∷ [] else [])) }
+    ensures { OnOk result (pieces.new.items ≡ pieces.old.items
+        ++ filter_map taken_named (if is_live then section.now ∷ [] else [])) }
 {
     match section.statement {
         Some(statement) if is_live => {
@@ -63,7 +65,8 @@ fn add_untaken(
     section: &Gathered<'_>,
     is_live: bool,
 ) -> Result<(), NoMemory>
-    ensures { OnOk result (found.new.items ≡ found.old.items ++ filter_map untaken (if is_live then section.now ∷ [] else [])) }
+    ensures { OnOk result (found.new.items ≡ found.old.items
+        ++ filter_map untaken (if is_live then section.now ∷ [] else [])) }
 {
     match section.statement {
         None if is_live => {
@@ -81,7 +84,8 @@ pub fn taken<'a>(
     sections: &[Gathered<'a>],
     marks: &[bool],
 ) -> Result<Vec<NamedPiece<'a>>, NoMemory>
-    ensures { IfOk result (λ pieces. (p : Project) (keys : Keys) → AreGathered p keys sections.now → marked marks.now (input_sections p) ≡ live p → AreTaken p keys.naming pieces.items) }
+    ensures { IfOk result (λ pieces. (p : Project) (keys : Keys) → AreGathered p keys sections.now
+        → marked marks.now (input_sections p) ≡ live p → AreTaken p keys.naming pieces.items) }
 {
     let mut pieces = Vec::new(alloc);
     for (place, section) in sections.iter().enumerate() {
@@ -97,7 +101,9 @@ pub fn orphans(
     sections: &[Gathered<'_>],
     marks: &[bool],
 ) -> Result<Vec<SectionKey>, NoMemory>
-    ensures { IfOk result (λ found. (p : Project) (keys : Keys) → AreGathered p keys sections.now → marked marks.now (input_sections p) ≡ live p → map (section_id keys.number) found.items ≡ map (λ (s : InputSection). s.id) (orphans p)) }
+    ensures { IfOk result (λ found. (p : Project) (keys : Keys) → AreGathered p keys sections.now
+        → marked marks.now (input_sections p) ≡ live p → map (section_id keys.number) found.items
+        ≡ map (λ (s : InputSection). s.id) (orphans p)) }
 {
     let mut found = Vec::new(alloc);
     for (place, section) in sections.iter().enumerate() {

@@ -43,7 +43,8 @@ fn between(targets: &[usize], start: usize, end: usize) -> &[usize]
 /// The sections that a section refers to.
 fn references<'a>(starts: &[usize], targets: &'a [usize], section: usize) -> &'a [usize]
     requires { section + 1 < 2 ^ 64 }
-    ensures { result.now ≡ slice_range targets.now (slice_index starts.now section) (slice_index starts.now (section + 1)) }
+    ensures { result.now ≡ slice_range targets.now (slice_index starts.now section)
+        (slice_index starts.now (section + 1)) }
 {
     let start = starts.get(section).copied().unwrap_or(0);
     let end = starts.get(section + 1).copied().unwrap_or(0);
@@ -59,7 +60,8 @@ fn reach(
     targets: &[usize],
 ) -> Result<Vec<bool>, NoMemory>
     ensures long { IfOk result (λ live. length live.items ≡ length out.now) }
-    ensures live { IfOk result (λ live. (s : ℕ) → IsMarked live.items s ↔ IsLive (graph out.now roots.now starts.now targets.now) s) }
+    ensures live { IfOk result (λ live. (s : ℕ)
+        → IsMarked live.items s ↔ IsLive (graph out.now roots.now starts.now targets.now) s) }
 {
     let mut live = vec![in alloc; false; out.len()]?;
     let mut stack: Vec<usize> = Vec::new(alloc);
@@ -87,8 +89,11 @@ pub fn mark(
     targets: &[usize],
 ) -> Result<Vec<bool>, NoMemory>
     ensures long { IfOk result (λ marks. length marks.items ≡ length out.now) }
-    ensures reached { IfOk result (λ marks. (s : ℕ) → IsMarked marks.items s ↔ IsLive (graph out.now roots.now starts.now targets.now) s) }
-    ensures live { IfOk result (λ marks. (p : Project) → p.options.gc ≡ true → IsGraphOf p (graph out.now roots.now starts.now targets.now) → marked marks.items (input_sections p) ≡ live p) }
+    ensures reached { IfOk result (λ marks. (s : ℕ)
+        → IsMarked marks.items s ↔ IsLive (graph out.now roots.now starts.now targets.now) s) }
+    ensures live { IfOk result (λ marks. (p : Project) → p.options.gc ≡ true
+        → IsGraphOf p (graph out.now roots.now starts.now targets.now) → marked marks.items (input_sections p)
+        ≡ live p) }
 {
     live_by_path();
     reach(alloc, out, roots, starts, targets)

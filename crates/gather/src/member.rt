@@ -84,7 +84,8 @@ impl<'a> Member<'a> {
 
     /// Adds its linked sections.
     fn add_linked(&self, sections: &mut Vec<Gathered<'a>>) -> Result<(), NoMemory>
-        ensures { OnOk result ((keys : Keys) → AddsFacts keys sections.old.items sections.new.items (linked_facts keys self.now)) }
+        ensures { OnOk result ((keys : Keys)
+            → AddsFacts keys sections.old.items sections.new.items (linked_facts keys self.now)) }
     {
         for place in 0..self.object.sections().len() {
             sections.push(self.linked_at(place))?;
@@ -94,7 +95,9 @@ impl<'a> Member<'a> {
 
     /// Adds its common blocks.
     fn add_blocks(&self, sections: &mut Vec<Gathered<'a>>) -> Result<(), NoMemory>
-        ensures { OnOk result ((keys : Keys) → AddsFacts keys sections.old.items sections.new.items (map (block_facts keys self.now) self.now.blocks.now)) }
+        ensures { OnOk result ((keys : Keys)
+            → AddsFacts keys sections.old.items sections.new.items
+            (map (block_facts keys self.now) self.now.blocks.now)) }
     {
         for block in self.blocks {
             sections.push(self.block(*block))?;
@@ -109,7 +112,8 @@ pub fn input_sections<'a>(
     alloc: Global,
     members: &[Member<'a>],
 ) -> Result<Vec<Gathered<'a>>, NoMemory>
-    ensures { IfOk result (λ sections. (p : Project) (keys : Keys) → AreMembers p keys members.now → NamesSections p keys → AreGathered p keys sections.items) }
+    ensures { IfOk result (λ sections. (p : Project) (keys : Keys) → AreMembers p keys members.now
+        → NamesSections p keys → AreGathered p keys sections.items) }
 {
     let mut sections = Vec::new(alloc);
     for member in members {

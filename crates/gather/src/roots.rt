@@ -1,6 +1,7 @@
 //! Where garbage collection starts.
 
-ghost use Rattle.std.specs.Prelude.{◌≡◌, ◌++◌, ◌∷◌, ◌↔◌, ◌⊎◌, [], ℕ, Contains, IfOk, IsTrue, OnOk, Some, if◌then◌else◌, option_to_list};
+ghost use Rattle.std.specs.Prelude.{◌≡◌, ◌++◌, ◌∷◌, ◌↔◌, ◌⊎◌, [], ℕ, Contains, IfOk, IsTrue, OnOk, Some, if◌then◌else◌};
+ghost use Rattle.std.specs.Prelude.{option_to_list};
 ghost use Rattle.ldtree.specs.Numbered.{shown_inputs};
 ghost use Rattle.ldmodel.specs.Gathering.{taken_by};
 ghost use Rattle.ldmodel.specs.Live.{is_kept};
@@ -78,7 +79,9 @@ pub fn roots(
     sections: &[Gathered<'_>],
     entry: Option<usize>,
 ) -> Result<Vec<usize>, NoMemory>
-    ensures { IfOk result (λ found. (p : Project) (keys : Keys) → p.script ≡ script.now → AreGathered p keys sections.now → (k : ℕ) (s : InputSection) → IsSectionAt p k s → (IsTrue (is_kept (taken_by p s)) ⊎ (entry ≡ Some k)) ↔ Contains found.items k) }
+    ensures { IfOk result (λ found. (p : Project) (keys : Keys) → p.script ≡ script.now
+        → AreGathered p keys sections.now → (k : ℕ) (s : InputSection) → IsSectionAt p k s
+        → (IsTrue (is_kept (taken_by p s)) ⊎ (entry ≡ Some k)) ↔ Contains found.items k) }
 {
     let statements = script.input_statements(alloc)?;
     let mut found = kept(alloc, &statements, sections)?;

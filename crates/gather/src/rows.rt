@@ -86,7 +86,8 @@ pub fn rows(
     script: &Script,
     pieces: &[NamedPiece<'_>],
 ) -> Result<Vec<Vec<Piece>>, NoMemory>
-    ensures { IfOk result (λ found. (p : Project) (n : Naming) → p.script ≡ script.now → AreTaken p n pieces.now → map (shown_row n) found.items ≡ rows p) }
+    ensures { IfOk result (λ found. (p : Project) (n : Naming) → p.script ≡ script.now → AreTaken p n pieces.now
+        → map (shown_row n) found.items ≡ rows p) }
 {
     let statements = script.input_statements(alloc)?;
     let mut buckets = buckets(alloc, pieces, statements.len())?;

@@ -44,7 +44,8 @@ impl<'a> WordTable<'a> {
 
     /// Adds a word that matches this name alone.
     fn add_named(&mut self, alloc: Global, name: &'a [u8], word: WordAt<'a>) -> Result<(), NoMemory>
-        ensures named { OnOk result ((q : List ℕ) → listed self.new q ≡ (if bytes_eq name.now q then listed self.old q ++ word.entry ∷ [] else listed self.old q)) }
+        ensures named { OnOk result ((q : List ℕ) → listed self.new q
+            ≡ (if bytes_eq name.now q then listed self.old q ++ word.entry ∷ [] else listed self.old q)) }
         ensures wild { self.new.wild ≡ self.old.wild }
     {
         match self.named.get_mut(name) {
@@ -98,7 +99,9 @@ impl<'a> WordTable<'a> {
 
     /// The first statement that takes the sections of this name in the file of this name, by a word of the table.
     pub fn first_taker(&self, file: &[u8], section: &[u8]) -> Option<InputIndex>
-        ensures { number_of result ≡ lesser (first_taker file.now section.now (shown_listed self.now section.now)) (first_taker file.now section.now (shown_words self.now.wild.items)) }
+        ensures { number_of result
+            ≡ lesser (first_taker file.now section.now (shown_listed self.now section.now))
+            (first_taker file.now section.now (shown_words self.now.wild.items)) }
     {
         let named = match self.named.get(section) {
             Some(words) => first_taker(words, file, section),

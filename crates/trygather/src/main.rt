@@ -1,7 +1,8 @@
-//! `trygather`: tries the crate `gather` (first match, marking, rows) on a stream of commands (`trystream`). Its own commands:
+//! `trygather`: tries the crate `gather` (first match, marking, rows) on a stream of commands (`trystream`). Its own
+//! commands:
 //!
 //!     common KEY SYMBOL SIZE ALIGNMENT    a decided common block that an entry owns; of one object in ascending order
-//!     refer KEY SYMBOL KEY PART           a symbol that isn't local refers to this section: PART is a number of a section
+//! refer KEY SYMBOL KEY PART           a symbol that isn't local refers to this section: PART is a number of a section
 //!                                         header, or `c` and the number of the entry that owns a common block
 //!     entry KEY PART                      the section of the entry symbol
 //!     match FILE SECTION                  the input statement that takes such a section

@@ -17,8 +17,11 @@ each statements orphans xs = map (λ (x : Gathered). is_out_of statements orphan
 pub returns : goal.returns
 returns c =
     let xs = c.args.sections.now in
-    let all : shown_inputs c.deref.result.now ≡ input_statements c.args.script.now = ap shown_inputs c.deref.ensures.value ∙ c.in_ok-statements.ensures in
+    let all : shown_inputs c.deref.result.now ≡ input_statements c.args.script.now =
+    ap shown_inputs c.deref.ensures.value ∙ c.in_ok-statements.ensures in
     IfOk-weaker c.each_out.result _ _
-    (λ (out : Vec Bool Global) (h : out.items ≡ each (shown_inputs c.deref.result.now) c.args.orphans xs) (p : Project) (keys : Keys) is o a.
-    h ∙ ap (λ st. each st c.args.orphans xs) (all ∙ ap input_statements (sym is)) ∙ ap (λ or. each (input_statements p.script) or xs) (sym o) ∙ out_are p keys xs a)
+    (λ (out : Vec Bool Global) (h : out.items ≡ each (shown_inputs c.deref.result.now) c.args.orphans xs) (p : Project)
+    (keys : Keys) is o a.
+    h ∙ ap (λ st. each st c.args.orphans xs) (all ∙ ap input_statements (sym is))
+    ∙ ap (λ or. each (input_statements p.script) or xs) (sym o) ∙ out_are p keys xs a)
     c.each_out.ensures

@@ -8,5 +8,7 @@ use Rattle.gather.proofs.live_sections.not_out.Goals as goal
 
 pub returns-clause-live : goal.returns-clause-live
 returns-clause-live c = λ p gc is.
-    let all : c.loop-is_out.marks.items ≡ map not c.args.out.now = c.loop-is_out.invariant ∙ ap (map not) (take_all c.loop-is_out.is_out-index c.args.out.now (omega (arith, c.loop-is_out-test.false))) in
-    ap (λ l. marked l (input_sections p)) (all ∙ ap (map not) is) ∙ kept_are (is_out p) (input_sections p) ∙ sym (c.live_by_path.ensures.all p gc)
+    let all : c.loop-is_out.marks.items ≡ map not c.args.out.now = c.loop-is_out.invariant
+    ∙ ap (map not) (take_all c.loop-is_out.is_out-index c.args.out.now (omega (arith, c.loop-is_out-test.false))) in
+    ap (λ l. marked l (input_sections p)) (all ∙ ap (map not) is) ∙ kept_are (is_out p) (input_sections p)
+    ∙ sym (c.live_by_path.ensures.all p gc)

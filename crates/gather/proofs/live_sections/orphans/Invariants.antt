@@ -6,4 +6,5 @@ use Rattle.gather.specs.LiveMarks.{marked}
 use Rattle.gather.proofs.live_sections.orphans.Given as goal
 
 abbrev pub invariant-loop-place : goal.invariant-loop-place
-invariant-loop-place l = l.found.items ++ filter_map untaken (marked (drop l.place l.marks) (drop l.place l.sections)) ≡ filter_map untaken (marked l.marks l.sections)
+invariant-loop-place l = l.found.items ++ filter_map untaken (marked (drop l.place l.marks) (drop l.place l.sections))
+    ≡ filter_map untaken (marked l.marks l.sections)

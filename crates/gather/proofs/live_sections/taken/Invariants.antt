@@ -6,4 +6,6 @@ use Rattle.gather.specs.LiveMarks.{marked}
 use Rattle.gather.proofs.live_sections.taken.Given as goal
 
 abbrev pub invariant-loop-place : goal.invariant-loop-place
-invariant-loop-place l = l.pieces.items ++ filter_map taken_named (marked (drop l.place l.marks) (drop l.place l.sections)) ≡ filter_map taken_named (marked l.marks l.sections)
+invariant-loop-place l = l.pieces.items
+    ++ filter_map taken_named (marked (drop l.place l.marks) (drop l.place l.sections))
+    ≡ filter_map taken_named (marked l.marks l.sections)

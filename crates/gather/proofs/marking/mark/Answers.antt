@@ -13,6 +13,9 @@ returns-clause-live c =
     if_ok_two c.reach.result
     (λ (marks : Vec Bool Global). length marks.items ≡ length c.args.out.now)
     (λ (marks : Vec Bool Global). (s : ℕ) → IsMarked marks.items s ↔ IsLive g s)
-    (λ (marks : Vec Bool Global). (p : Project) → p.options.gc ≡ true → IsGraphOf p g → marked marks.items (input_sections p) ≡ live p)
-    (λ marks long reached p gc w. marked_live p g w marks.items long reached (λ s. c.live_by_path.ensures.collected p s gc) (c.live_by_path.ensures.in_order p).0 (c.live_by_path.ensures.in_order p).1)
+    (λ (marks : Vec Bool Global). (p : Project) → p.options.gc ≡ true → IsGraphOf p g
+    → marked marks.items (input_sections p) ≡ live p)
+    (λ marks long reached p gc w.
+    marked_live p g w marks.items long reached (λ s. c.live_by_path.ensures.collected p s gc)
+    (c.live_by_path.ensures.in_order p).0 (c.live_by_path.ensures.in_order p).1)
     c.reach.ensures.long c.reach.ensures.live

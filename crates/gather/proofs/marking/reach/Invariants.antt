@@ -9,7 +9,8 @@ invariant-loop-root l =
     let g : Graph = graph l.out l.roots l.starts l.targets in
     record {
       marks : Marks g l.live.items l.stack.items (length l.out);
-      roots : (k : ℕ) → k < l.root-index → IsIn g (slice_index l.roots k) → IsMarked l.live.items (slice_index l.roots k);
+      roots : (k : ℕ) → k < l.root-index → IsIn g (slice_index l.roots k)
+          → IsMarked l.live.items (slice_index l.roots k);
     }
 
 abbrev pub invariant-loop-target : goal.invariant-loop-target

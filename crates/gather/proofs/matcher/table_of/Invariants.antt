@@ -7,6 +7,10 @@ use Rattle.gather.proofs.matcher.table_of.Given as goal
 
 abbrev pub invariant-loop-place : goal.invariant-loop-place
 invariant-loop-place l = record {
-  named : (name : List ℕ) → shown_listed l.table name ++ filter (is_named name) (words_from l.place (shown_inputs (drop l.place l.statements))) ≡ filter (is_named name) (words_from 0 (shown_inputs l.statements));
-  wild : shown_words l.table.wild.items ++ filter is_wild (words_from l.place (shown_inputs (drop l.place l.statements))) ≡ filter is_wild (words_from 0 (shown_inputs l.statements));
+  named : (name : List ℕ) → shown_listed l.table name
+      ++ filter (is_named name) (words_from l.place (shown_inputs (drop l.place l.statements)))
+      ≡ filter (is_named name) (words_from 0 (shown_inputs l.statements));
+  wild : shown_words l.table.wild.items
+      ++ filter is_wild (words_from l.place (shown_inputs (drop l.place l.statements)))
+      ≡ filter is_wild (words_from 0 (shown_inputs l.statements));
 }

@@ -8,7 +8,8 @@ use Rattle.gather.proofs.member.input_sections.Goals as goal
 
 pub returns : goal.returns
 returns c = λ p keys members names.
-    let none : drop c.loop-member.member-index c.args.members.now ≡ [] = drop_all c.loop-member.member-index c.args.members.now (omega (arith, c.loop-member-test.false)) in
+    let none : drop c.loop-member.member-index c.args.members.now ≡ [] =
+    drop_all c.loop-member.member-index c.args.members.now (omega (arith, c.loop-member-test.false)) in
     gathered_are p keys c.args.members.now c.loop-member.sections.items
     (sym (append-nil (map (shown_facts keys) c.loop-member.sections.items))
     ∙ ap (λ l. map (shown_facts keys) c.loop-member.sections.items ++ flat_map (member_facts keys) l) (sym none)

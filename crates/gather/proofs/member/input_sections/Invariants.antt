@@ -7,4 +7,5 @@ use Rattle.gather.proofs.member.input_sections.Given as goal
 
 abbrev pub invariant-loop-member : goal.invariant-loop-member
 invariant-loop-member l = (keys : Keys)
-    → map (shown_facts keys) l.sections.items ++ flat_map (member_facts keys) (drop l.member-index l.members) ≡ flat_map (member_facts keys) l.members
+    → map (shown_facts keys) l.sections.items ++ flat_map (member_facts keys) (drop l.member-index l.members)
+    ≡ flat_map (member_facts keys) l.members

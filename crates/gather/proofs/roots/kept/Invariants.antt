@@ -5,4 +5,5 @@ use Rattle.gather.specs.Roots.{kept_numbers}
 use Rattle.gather.proofs.roots.kept.Given as goal
 
 abbrev pub invariant-loop-number : goal.invariant-loop-number
-invariant-loop-number l = l.found.items ++ kept_numbers (shown_inputs l.statements) l.number (drop l.number l.sections) ≡ kept_numbers (shown_inputs l.statements) 0 l.sections
+invariant-loop-number l = l.found.items ++ kept_numbers (shown_inputs l.statements) l.number (drop l.number l.sections)
+    ≡ kept_numbers (shown_inputs l.statements) 0 l.sections

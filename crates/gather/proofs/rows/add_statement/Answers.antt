@@ -6,6 +6,8 @@ use Rattle.gather.proofs.rows.add_statement.Goals as goal
 pub returns-in_ok-add_pieces-in-InSection : goal.returns-in_ok-add_pieces-in-InSection
 returns-in_ok-add_pieces-in-InSection c =
     rw c.in-InSection.is
-    (adds_here c.args.sort c.in-InSection.number c.args.pieces.now.items c.order.new.pieces.items c.args.rows.now.items c.index_mut.result.now c.add_pieces.new.row
+    (adds_here c.args.sort c.in-InSection.number c.args.pieces.now.items c.order.new.pieces.items c.args.rows.now.items
+    c.index_mut.result.now c.add_pieces.new.row
     (omega (arith, c.if-number-len.true, c.len.ensures)) c.index_mut.ensures.value c.in_ok-order-in-InSection.ensures
-    (c.in_ok-add_pieces-in-InSection.ensures ∙ ap (λ l. c.index_mut.result.now.items ++ map (λ (x : NamedPiece). x.piece) l) c.deref.ensures.value))
+    (c.in_ok-add_pieces-in-InSection.ensures
+    ∙ ap (λ l. c.index_mut.result.now.items ++ map (λ (x : NamedPiece). x.piece) l) c.deref.ensures.value))

@@ -15,19 +15,30 @@ loop-number-preserved c =
     let inv = c.loop-number.invariant in
     let items = c.deref-statement-items.result.now in
     let within : i < length items = c.loop-number-test.true in
-    let st : InputStatementAt = record { line = c.statement-item.result.line; place = c.statement-item.result.place; input = c.statement-item.result.input.now } in
+    let st : InputStatementAt =
+    record {
+      line = c.statement-item.result.line;
+      place = c.statement-item.result.place;
+      input =
+          c.statement-item.result.input.now;
+    } in
     let cut : shown_inputs (drop i items) ≡ st ∷ shown_inputs (drop (i + 1) items) =
-    ap shown_inputs (drop_more items i c.statement-item.result within ∙ ap (λ x. x ∷ drop (i + 1) items) (sym c.statement-item.is)) in
+    ap shown_inputs (drop_more items i c.statement-item.result within
+    ∙ ap (λ x. x ∷ drop (i + 1) items) (sym c.statement-item.is)) in
     let is = ap (λ v. v.items) c.index_mut.ensures.value ∙ inv.left i c.index_mut.result.now (omega arith) within in
     let added = c.in_ok-add_statement.ensures in
     record {
       long = added.long ∙ inv.long;
       buckets = length-set c.loop-number.buckets.items i c.add_statement.new.pieces ∙ inv.buckets;
-      left = λ k d h l. let ne : k ≢ i = omega (arith, h) in ap (λ v. v.items) (get_or-set_other c.loop-number.buckets.items i k c.add_statement.new.pieces d ne) ∙ inv.left k d (omega (arith, h)) l;
+      left = λ k d h l. let ne : k ≢ i = omega (arith, h) in
+          ap (λ v. v.items) (get_or-set_other c.loop-number.buckets.items i k c.add_statement.new.pieces d ne)
+          ∙ inv.left k d (omega (arith, h)) l;
       rows = λ n named k d h.
           (let before : k < length c.loop-number.found.items = omega (arith, h, added.long) in
-          rows_step n c.args.pieces.now c.index_mut.result.now.items k i (shown_inputs (drop i items)) (shown_inputs (drop (i + 1) items)) st
-          (shown_row n (get_or c.loop-number.found.items k d)) (shown_row n (get_or c.add_statement.new.rows.items k d)) _
+          rows_step n c.args.pieces.now c.index_mut.result.now.items k i (shown_inputs (drop i items))
+          (shown_inputs (drop (i + 1) items)) st
+          (shown_row n (get_or c.loop-number.found.items k d))
+          (shown_row n (get_or c.add_statement.new.rows.items k d)) _
           named is (λ of. added.row n of k d before) cut (inv.rows n named k d before));
     }
 
@@ -37,7 +48,9 @@ returns c = λ p n is taken.
     let inv = c.loop-number.invariant in
     let items = c.deref-statement-items.result.now in
     let none : drop i items ≡ [] = drop_all i items (omega (arith, c.loop-number-test.false)) in
-    let all : shown_inputs items ≡ input_statements c.args.script.now = ap shown_inputs c.deref-statement-items.ensures.value ∙ c.in_ok-statements.ensures in
+    let all : shown_inputs items ≡ input_statements c.args.script.now =
+    ap shown_inputs c.deref-statement-items.ensures.value ∙ c.in_ok-statements.ensures in
     rows_are p n c.args.script.now c.args.pieces.now c.loop-number.found.items is taken inv.long
-    (λ k d l. rows_end n c.args.pieces.now k i (shown_inputs (drop i items)) _ _ (ap shown_inputs none) (inv.rows n taken.named k d l)
+    (λ k d l. rows_end n c.args.pieces.now k i (shown_inputs (drop i items)) _ _ (ap shown_inputs none)
+    (inv.rows n taken.named k d l)
     ∙ ap (λ s. flat_map (pieces_at n c.args.pieces.now k) (enumerate_from 0 s)) all)

@@ -13,7 +13,11 @@ abbrev pub invariant-loop-number : goal.invariant-loop-number
 invariant-loop-number l = record {
   long : length l.found.items ≡ length (output_sections l.script);
   buckets : length l.buckets.items ≡ length l.statement-items;
-  left : (k : ℕ) (d : Vec NamedPiece Global) → l.number ≤ k → k < length l.statement-items → (get_or l.buckets.items k d).items ≡ of_statement l.pieces k;
+  left : (k : ℕ) (d : Vec NamedPiece Global) → l.number ≤ k → k < length l.statement-items
+      → (get_or l.buckets.items k d).items ≡ of_statement l.pieces k;
   rows : (n : Naming) → All (IsNamed n) l.pieces → (k : ℕ) (d : Vec code.Piece Global) → k < length l.found.items
-      → shown_row n (get_or l.found.items k d) ++ flat_map (pieces_at n l.pieces k) (enumerate_from l.number (shown_inputs (drop l.number l.statement-items))) ≡ flat_map (pieces_at n l.pieces k) (enumerate_from 0 (shown_inputs l.statement-items));
+      → shown_row n (get_or l.found.items k d)
+      ++ flat_map (pieces_at n l.pieces k)
+      (enumerate_from l.number (shown_inputs (drop l.number l.statement-items)))
+      ≡ flat_map (pieces_at n l.pieces k) (enumerate_from 0 (shown_inputs l.statement-items));
 }

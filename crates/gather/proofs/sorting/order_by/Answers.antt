@@ -10,11 +10,15 @@ use Rattle.gather.proofs.sorting.order_by.Goals as goal
 pub returns-in-ByName : goal.returns-in-ByName
 returns-in-ByName c =
     rw c.in-ByName.is
-    (ordered_by c.sort_by.result c.row_by_order.ensures (Some ByName) _ _ (ranks_by nat_list_cmp_total (λ (x : NamedPiece). x.name.now))
-    (answers_always _ _ _ (λ f a r f' k. search rules)) c.sort_by.ensures.permutation c.sort_by.ensures.sorted c.sort_by.ensures.stable)
+    (ordered_by c.sort_by.result c.row_by_order.ensures (Some ByName) _ _
+    (ranks_by nat_list_cmp_total (λ (x : NamedPiece). x.name.now))
+    (answers_always _ _ _ (λ f a r f' k. search rules)) c.sort_by.ensures.permutation c.sort_by.ensures.sorted
+    c.sort_by.ensures.stable)
 
 pub returns-in-ByAlignment : goal.returns-in-ByAlignment
 returns-in-ByAlignment c =
     rw c.in-ByAlignment.is
-    (ordered_by c.sort_by-in-ByAlignment.result c.row_by_order.ensures (Some ByAlignment) _ _ (IsStrictWeakOrder-flip _ (IsStrictWeakOrder-by_number (λ (x : NamedPiece). max 1 x.piece.alignment)))
-    (answers_always _ _ _ (λ f a r f' k. search rules)) c.sort_by-in-ByAlignment.ensures.permutation c.sort_by-in-ByAlignment.ensures.sorted c.sort_by-in-ByAlignment.ensures.stable)
+    (ordered_by c.sort_by-in-ByAlignment.result c.row_by_order.ensures (Some ByAlignment) _ _
+    (IsStrictWeakOrder-flip _ (IsStrictWeakOrder-by_number (λ (x : NamedPiece). max 1 x.piece.alignment)))
+    (answers_always _ _ _ (λ f a r f' k. search rules)) c.sort_by-in-ByAlignment.ensures.permutation
+    c.sort_by-in-ByAlignment.ensures.sorted c.sort_by-in-ByAlignment.ensures.stable)

@@ -4,4 +4,5 @@ use Rattle.gather.specs.Words.{first_taker, shown_words}
 use Rattle.gather.proofs.word.first_taker.Given as goal
 
 abbrev pub invariant-loop-word : goal.invariant-loop-word
-invariant-loop-word l = first_taker l.file l.section (shown_words (drop l.word-index l.words)) ≡ first_taker l.file l.section (shown_words l.words)
+invariant-loop-word l = first_taker l.file l.section (shown_words (drop l.word-index l.words))
+    ≡ first_taker l.file l.section (shown_words l.words)

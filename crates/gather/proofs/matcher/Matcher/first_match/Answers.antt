@@ -14,7 +14,9 @@ returns c =
     let words = c.self.inside.words in
     let by_words : number_of c.first_taker.result ≡ first_match script file section =
     c.first_taker.ensures
-    ∙ ap (λ ws. lesser (first_taker file section ws) (first_taker file section (shown_words words.wild.items))) (c.self.invariant.named section)
-    ∙ ap (λ ws. lesser (first_taker file section (filter (is_named section) (words_from 0 (input_statements script)))) (first_taker file section ws)) c.self.invariant.wild
+    ∙ ap (λ ws. lesser (first_taker file section ws) (first_taker file section (shown_words words.wild.items)))
+    (c.self.invariant.named section)
+    ∙ ap (λ ws. lesser (first_taker file section (filter (is_named section) (words_from 0 (input_statements script))))
+    (first_taker file section ws)) c.self.invariant.wild
     ∙ first_match_by_words file section script in
     subst (λ s. number_of c.first_taker.result ≡ first_match s file section) c.self.view_is by_words

@@ -6,4 +6,5 @@ use Rattle.gather.specs.Matches.{number_of}
 use Rattle.gather.proofs.matcher.Matcher.matches_of.Given as goal
 
 abbrev pub invariant-loop-place : goal.invariant-loop-place
-invariant-loop-place l = map number_of l.found.items ≡ map (first_match l.self l.file) (take l.place (map (λ (s : LinkedSection). s.name) l.object.sections))
+invariant-loop-place l = map number_of l.found.items
+    ≡ map (first_match l.self l.file) (take l.place (map (λ (s : LinkedSection). s.name) l.object.sections))

@@ -7,4 +7,7 @@ use Rattle.gather.proofs.member.Member.add_linked.Given as goal
 
 abbrev pub invariant-loop-place : goal.invariant-loop-place
 invariant-loop-place l = (keys : Keys)
-    → map (shown_facts keys) l.sections.items ++ beside keys l.self (drop l.place l.self.object.now.sections) (map number_of (drop l.place l.self.matches.now)) ≡ map (shown_facts keys) l.initial.sections.items ++ linked_facts keys l.self
+    → map (shown_facts keys) l.sections.items
+    ++ beside keys l.self (drop l.place l.self.object.now.sections)
+    (map number_of (drop l.place l.self.matches.now)) ≡ map (shown_facts keys) l.initial.sections.items
+    ++ linked_facts keys l.self

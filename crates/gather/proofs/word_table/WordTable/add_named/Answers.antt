@@ -13,17 +13,24 @@ items_of v = v.items
 
 pub returns-in_ok-push-in-Some-clause-named : goal.returns-in_ok-push-in-Some-clause-named
 returns-in_ok-push-in-Some-clause-named c = λ q.
-    listed_more items_of (λ n. get_by (λ (k : Bor (List ℕ)). slice_cmp nat_cmp n k.now) c.args.self.now.named) c.args.name.now q
+    listed_more items_of (λ n. get_by (λ (k : Bor (List ℕ)). slice_cmp nat_cmp n k.now) c.args.self.now.named)
+    c.args.name.now q
     (get_by (λ (k : Bor (List ℕ)). slice_cmp nat_cmp q k.now) (c.get_mut.follows.lender c.push.new.self))
     c.push.new.self c.args.word
-    (btree_map_updates_str c.args.name.now c.args.self.now.named (c.get_mut.follows.lender c.push.new.self) (Some c.push.new.self) ((c.get_mut.follows.holds c.push.new.self).3 (search rules)) q)
-    (c.in_ok-push-in-Some.ensures.items ∙ ap (λ o. option_map_or items_of o [] ++ c.args.word ∷ []) c.in-Some.ensures.value)
+    (btree_map_updates_str c.args.name.now c.args.self.now.named (c.get_mut.follows.lender c.push.new.self)
+    (Some c.push.new.self) ((c.get_mut.follows.holds c.push.new.self).3 (search rules)) q)
+    (c.in_ok-push-in-Some.ensures.items
+    ∙ ap (λ o. option_map_or items_of o [] ++ c.args.word ∷ []) c.in-Some.ensures.value)
 
 pub returns-in_ok-insert-in-None-clause-named : goal.returns-in_ok-insert-in-None-clause-named
 returns-in_ok-insert-in-None-clause-named c = λ q.
-    listed_more items_of (λ n. get_by (λ (k : Bor (List ℕ)). slice_cmp nat_cmp n k.now) c.args.self.now.named) c.args.name.now q
+    listed_more items_of (λ n. get_by (λ (k : Bor (List ℕ)). slice_cmp nat_cmp n k.now) c.args.self.now.named)
+    c.args.name.now q
     (get_by (λ (k : Bor (List ℕ)). slice_cmp nat_cmp q k.now) c.insert.new.self)
     c.push-in-None.new.self c.args.word
     (btree_map_updates_str c.args.name.now c.args.self.now.named c.insert.new.self (Some c.push-in-None.new.self)
-    (subst (λ m. UpdatesBy (λ (x y : Bor (List ℕ)). slice_cmp nat_cmp x.now y.now) (λ (k : Bor (List ℕ)). slice_cmp nat_cmp c.args.name.now k.now) m c.insert.new.self (Some c.push-in-None.new.self)) c.get_mut.follows.holds-at-none c.in_ok-insert-in-None.ensures.updates) q)
-    (c.in_ok-push-in-None.ensures.items ∙ ap (λ xs. xs ++ c.args.word ∷ []) c.new-words.ensures.items ∙ ap (λ o. option_map_or items_of o [] ++ c.args.word ∷ []) c.in-None.ensures.value)
+    (subst (λ m. UpdatesBy (λ (x y : Bor (List ℕ)). slice_cmp nat_cmp x.now y.now) (λ (k : Bor (List ℕ)).
+    slice_cmp nat_cmp c.args.name.now k.now) m c.insert.new.self (Some c.push-in-None.new.self))
+    c.get_mut.follows.holds-at-none c.in_ok-insert-in-None.ensures.updates) q)
+    (c.in_ok-push-in-None.ensures.items ∙ ap (λ xs. xs ++ c.args.word ∷ []) c.new-words.ensures.items
+    ∙ ap (λ o. option_map_or items_of o [] ++ c.args.word ∷ []) c.in-None.ensures.value)
