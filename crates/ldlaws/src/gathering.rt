@@ -1,6 +1,7 @@
 //! Laws of gathering: which statement takes a section, which sections are live, and their order in a row.
 
-ghost use Rattle.std.specs.Prelude.{◌≡◌, ◌↔◌, ℕ, Bool, true, false, Contains, List, MatchOption, Option, filter, flat_map};
+ghost use Rattle.std.specs.Prelude.{◌≡◌, ◌↔◌, ℕ, Bool, true, false, Contains, List, MatchOption, Option, filter};
+ghost use Rattle.std.specs.Prelude.{flat_map};
 ghost use Rattle.ldtree.specs.declared.input.Sort.{Sort};
 ghost use Rattle.ldtree.specs.declared.statement.Statement.{Statement};
 ghost use Rattle.ldmodel.specs.Edits.{AreNamesDistinct};
