@@ -1,5 +1,6 @@
 -- Sites that were evaluated one after another.
-use Rattle.std.proofs.Common.{◌≡◌, ◌<◌, ◌≤◌, ◌^◌, ℕ, ◌+◌, List, [], ◌∷◌, ◌++◌, length, map, filter, take, get_or, false, ap, sym, ◌∙◌, arith, add-one, append_assoc, append-nil, length-append, subst, take-suc}
+use Rattle.std.proofs.Common.{◌≡◌, ◌<◌, ◌≤◌, ◌^◌, ℕ, ◌+◌, List, [], ◌∷◌, ◌++◌, length, map, filter, take, get_or, false}
+use Rattle.std.proofs.Common.{ap, sym, ◌∙◌, arith, add-one, append_assoc, append-nil, length-append, subst, take-suc}
 use Rattle.std.proofs.Math.Seq.{take-length}
 use Rattle.std.specs.List.{All, filter_map}
 use Rattle.std.proofs.lemmas.List.{map-append}
@@ -32,18 +33,21 @@ raise_both m a b =
 
 module _ (l : KnownLink) where
   -- nothing was evaluated
-  pub tried_nothing : (fs : List Patch) (gs : List code.Fault) (m : Counts) → m.fields < 2 ^ 64 → IsTried l [] fs fs gs gs m m
+  pub tried_nothing : (fs : List Patch) (gs : List code.Fault) (m : Counts) → m.fields < 2 ^ 64
+      → IsTried l [] fs fs gs gs m m
   tried_nothing fs gs m h = record {
     fields = sym (append-nil fs);
     counts = record { faults = sym (append-nil (faults_of l gs)); counted = raise_none m h };
   }
 
-  pub tried_none : (o : NamedObject) (x : LinkedSection) (start : ℕ) (r : Relocation) (fs : List Patch) (gs : List code.Fault) (m : Counts) → is_evaluated r.kind ≡ false → m.fields < 2 ^ 64
+  pub tried_none : (o : NamedObject) (x : LinkedSection) (start : ℕ) (r : Relocation) (fs : List Patch)
+      (gs : List code.Fault) (m : Counts) → is_evaluated r.kind ≡ false → m.fields < 2 ^ 64
       → IsTried l (sites_among o x start (r ∷ [])) fs fs gs gs m m
   tried_none o x start r fs gs m e h = rw e (tried_nothing fs gs m h)
 
   -- first some sites, then others
-  pub counted_more : (a b : List Site) (g0 g1 g2 : List code.Fault) (m0 m1 m2 : Counts) → IsCounted l a g0 g1 m0 m1 → IsCounted l b g1 g2 m1 m2 → IsCounted l (a ++ b) g0 g2 m0 m2
+  pub counted_more : (a b : List Site) (g0 g1 g2 : List code.Fault) (m0 m1 m2 : Counts) → IsCounted l a g0 g1 m0 m1
+      → IsCounted l b g1 g2 m1 m2 → IsCounted l (a ++ b) g0 g2 m0 m2
   counted_more a b g0 g1 g2 m0 m1 m2 p q = record {
     faults =
         q.faults ∙ ap (λ fs. fs ++ filter_map (fault_at l) b) p.faults
@@ -54,7 +58,8 @@ module _ (l : KnownLink) where
         ∙ ap (raised m0 count.Fields) (sym (length-append a b));
   }
 
-  pub tried_more : (a b : List Site) (f0 f1 f2 : List Patch) (g0 g1 g2 : List code.Fault) (m0 m1 m2 : Counts) → IsTried l a f0 f1 g0 g1 m0 m1 → IsTried l b f1 f2 g1 g2 m1 m2 → IsTried l (a ++ b) f0 f2 g0 g2 m0 m2
+  pub tried_more : (a b : List Site) (f0 f1 f2 : List Patch) (g0 g1 g2 : List code.Fault) (m0 m1 m2 : Counts)
+      → IsTried l a f0 f1 g0 g1 m0 m1 → IsTried l b f1 f2 g1 g2 m1 m2 → IsTried l (a ++ b) f0 f2 g0 g2 m0 m2
   tried_more a b f0 f1 f2 g0 g1 g2 m0 m1 m2 p q = record {
     fields =
         q.fields ∙ ap (λ fs. fs ++ filter_map (field_at l) b) p.fields
@@ -64,24 +69,33 @@ module _ (l : KnownLink) where
   }
 
 -- the sites among one relocation more
-pub among_more : (o : NamedObject) (x : LinkedSection) (start : ℕ) (rs : List Relocation) (i : ℕ) (d : Relocation) → i < length rs
-    → sites_among o x start (take (i + 1) rs) ≡ sites_among o x start (take i rs) ++ sites_among o x start (get_or rs i d ∷ [])
+pub among_more : (o : NamedObject) (x : LinkedSection) (start : ℕ) (rs : List Relocation) (i : ℕ) (d : Relocation)
+    → i < length rs
+    → sites_among o x start (take (i + 1) rs) ≡ sites_among o x start (take i rs)
+    ++ sites_among o x start (get_or rs i d ∷ [])
 among_more o x start rs i d low =
     ap (λ n. sites_among o x start (take n rs)) (add-one i)
     ∙ ap (sites_among o x start) (take-suc rs i d low)
-    ∙ ap (map (λ r. record { object = o; section = x; start = start; relocation = r })) (filter-append (λ (r : Relocation). is_evaluated r.kind) (take i rs) (get_or rs i d ∷ []))
-    ∙ map-append (λ r. record { object = o; section = x; start = start; relocation = r }) (filter (λ (r : Relocation). is_evaluated r.kind) (take i rs)) (filter (λ (r : Relocation). is_evaluated r.kind) (get_or rs i d ∷ []))
+    ∙ ap (map (λ r. record { object = o; section = x; start = start; relocation = r }))
+    (filter-append (λ (r : Relocation). is_evaluated r.kind) (take i rs) (get_or rs i d ∷ []))
+    ∙ map-append (λ r. record { object = o; section = x; start = start; relocation = r })
+    (filter (λ (r : Relocation). is_evaluated r.kind) (take i rs))
+    (filter (λ (r : Relocation). is_evaluated r.kind) (get_or rs i d ∷ []))
 
 module _ (l : KnownLink) (o : NamedObject) (x : LinkedSection) (start : ℕ) (rs : List Relocation) (i : ℕ) where
-  pub tried_next : (d : Relocation) → i < length rs → (f0 f1 f2 : List Patch) (g0 g1 g2 : List code.Fault) (m0 m1 m2 : Counts)
-      → IsTried l (sites_among o x start (take i rs)) f0 f1 g0 g1 m0 m1 → IsTried l (sites_among o x start (get_or rs i d ∷ [])) f1 f2 g1 g2 m1 m2
+  pub tried_next : (d : Relocation) → i < length rs
+      → (f0 f1 f2 : List Patch) (g0 g1 g2 : List code.Fault) (m0 m1 m2 : Counts)
+      → IsTried l (sites_among o x start (take i rs)) f0 f1 g0 g1 m0 m1
+      → IsTried l (sites_among o x start (get_or rs i d ∷ [])) f1 f2 g1 g2 m1 m2
       → IsTried l (sites_among o x start (take (i + 1) rs)) f0 f2 g0 g2 m0 m2
   tried_next d low f0 f1 f2 g0 g1 g2 m0 m1 m2 p q =
       rw (among_more o x start rs i d low)
-      (tried_more l (sites_among o x start (take i rs)) (sites_among o x start (get_or rs i d ∷ [])) f0 f1 f2 g0 g1 g2 m0 m1 m2 p q)
+      (tried_more l (sites_among o x start (take i rs)) (sites_among o x start (get_or rs i d ∷ [])) f0 f1 f2 g0 g1 g2
+      m0 m1 m2 p q)
 
   pub tried_all : length rs ≤ i → i ≤ length rs → (f0 f1 : List Patch) (g0 g1 : List code.Fault) (m0 m1 : Counts)
-      → IsTried l (sites_among o x start (take i rs)) f0 f1 g0 g1 m0 m1 → IsTried l (sites_among o x start rs) f0 f1 g0 g1 m0 m1
+      → IsTried l (sites_among o x start (take i rs)) f0 f1 g0 g1 m0 m1
+      → IsTried l (sites_among o x start rs) f0 f1 g0 g1 m0 m1
   tried_all low high f0 f1 g0 g1 m0 m1 p =
       let e : i ≡ length rs = omega arith in
       subst (λ ys. IsTried l (sites_among o x start ys) f0 f1 g0 g1 m0 m1) (ap (λ n. take n rs) e ∙ take-length rs) p
@@ -89,7 +103,8 @@ module _ (l : KnownLink) (o : NamedObject) (x : LinkedSection) (start : ℕ) (rs
 -- the fields of a section are put in order and added
 pub added : (l : KnownLink) (m : PlacedSection) (o : NamedObject) (x : LinkedSection) → IsPlaced l m o x
     → (f0 f1 old own run : List Patch) (g0 g1 : List code.Fault) (m0 m1 : Counts)
-    → IsTried l (sites_among o x m.start m.relocations.now) old own g0 g1 m0 m1 → old ≡ [] → AreFieldsOf m.relocations.now (length m.relocations.now) own
+    → IsTried l (sites_among o x m.start m.relocations.now) old own g0 g1 m0 m1 → old ≡ []
+    → AreFieldsOf m.relocations.now (length m.relocations.now) own
     → ((bytes : List ℕ) (i : ℕ) → patched_byte bytes run i ≡ patched_byte bytes own i)
     → ((n : ℕ) → All (IsWithin n) own → AreInOrder 0 n run)
     → f1 ≡ f0 ++ run
@@ -103,7 +118,8 @@ added l m o x h f0 f1 old own run g0 g1 m0 m1 tried none of same order e =
       fields = e;
       is_run = record {
         same = λ bytes i. same bytes i ∙ ap (λ ps. patched_byte bytes ps i) own_is;
-        order = λ n ends. order n (within m.relocations.now n (length m.relocations.now) own of (rw h.relocations_are ends));
+        order = λ n ends. order n
+            (within m.relocations.now n (length m.relocations.now) own of (rw h.relocations_are ends));
       };
       counts = subst (λ rs. IsCounted l (sites_among o x m.start rs) g0 g1 m0 m1) h.relocations_are tried.counts;
     }

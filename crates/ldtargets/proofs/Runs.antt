@@ -1,5 +1,6 @@
 -- Fields of relocations that share no byte share none.
-use Rattle.std.proofs.Common.{◌≡◌, inl, inr, ◌<◌, ◌≤◌, ℕ, ◌+◌, List, [], ◌∷◌, ◌++◌, length, Some, true, false, ap, ◌∙◌, arith, get_or, subst}
+use Rattle.std.proofs.Common.{◌≡◌, inl, inr, ◌<◌, ◌≤◌, ℕ, ◌+◌, List, [], ◌∷◌, ◌++◌, length, Some, true, false, ap, ◌∙◌}
+use Rattle.std.proofs.Common.{arith, get_or, subst}
 use Rattle.std.specs.Prelude.{slice_get}
 use Rattle.std.specs.List.{All, AllPairs}
 use Rattle.std.proofs.lemmas.Bool.{cases_eq}
@@ -45,7 +46,8 @@ module _ {X : Type 0} (xs : List X) (x : X) where
   all_longer : (P : X → Type 0) → All P xs → P x → All P (xs ++ x ∷ [])
   all_longer P all one = λ k d low. elim (cases_eq k (length xs)) [
     | inl e ↦ rw (at_last k d e) one
-    | inr differs ↦ rw (get_or_append_left xs (x ∷ []) d k (below_last k low differs)) (all k d (below_last k low differs))
+    | inr differs ↦ rw (get_or_append_left xs (x ∷ []) d k (below_last k low differs))
+        (all k d (below_last k low differs))
   ]
 
   pairs_longer : (R : X → X → Type 0) → AllPairs R xs → All (λ y. R y x) xs → AllPairs R (xs ++ x ∷ [])
@@ -60,7 +62,8 @@ module _ {X : Type 0} (xs : List X) (x : X) where
   ]
 
 -- fields of two relocations that are apart are apart
-apart_fields : (r q : Relocation) (x y : Patch) → IsFieldOf r x → IsFieldOf q y → of.meets r q ≡ false → meets x y ≡ false
+apart_fields : (r q : Relocation) (x y : Patch) → IsFieldOf r x → IsFieldOf q y → of.meets r q ≡ false → meets x y
+    ≡ false
 apart_fields r q x y h k e = rw (h.offset_is, h.width_is, k.offset_is, k.width_is) e
 
 module _ (rs : List Relocation) (i : ℕ) (r : Relocation) (is : slice_get rs i ≡ Some r) where
@@ -73,20 +76,30 @@ module _ (rs : List Relocation) (i : ℕ) (r : Relocation) (is : slice_get rs i 
       let second : get_or rs i r ≡ r = get_or_from_slice_get rs i r r is in
       apart_fields h.1 r x y h.4 k (rw (first, second) at (all h.0 i r h.2 (slice_get_within rs i r is)))
 
-  added_one : (ps : List Patch) (y : Patch) → AreFieldsOf rs i ps → IsFieldOf r y → AreFieldsOf rs (i + 1) (ps ++ y ∷ [])
+  added_one : (ps : List Patch) (y : Patch) → AreFieldsOf rs i ps → IsFieldOf r y
+      → AreFieldsOf rs (i + 1) (ps ++ y ∷ [])
   added_one ps y h k = record {
-    each = all_longer ps y (IsAmong rs (i + 1)) (λ j d low. further (get_or ps j d) (h.each j d low)) (i, r, omega arith, is, k);
-    apart = λ all. pairs_longer ps y (λ p q. meets p q ≡ false) (h.apart all) (λ j d low. apart_from all y k (get_or ps j d) (h.each j d low));
+    each = all_longer ps y (IsAmong rs (i + 1)) (λ j d low. further (get_or ps j d) (h.each j d low))
+        (i, r, omega arith, is, k);
+    apart = λ all. pairs_longer ps y (λ p q. meets p q ≡ false) (h.apart all) (λ j d low.
+        apart_from all y k (get_or ps j d) (h.each j d low));
   }
 
   pub next_fields : (ps qs : List Patch) → AreFieldsOf rs i ps → IsNext r ps qs → AreFieldsOf rs (i + 1) qs
-  next_fields ps qs h (inl e) = rw e (record { each = λ j d low. further (get_or ps j d) (h.each j d low); apart = h.apart })
+  next_fields ps qs h (inl e) =
+      rw e (record { each = λ j d low. further (get_or ps j d) (h.each j d low); apart = h.apart })
   next_fields ps qs h (inr n) = rw (n.1) (added_one ps n.0 h n.2)
 
 pub no_fields : (rs : List Relocation) (ps : List Patch) → ps ≡ [] → AreFieldsOf rs 0 ps
-no_fields rs ps e = rw e (record { each = λ j d low. absurd (omega (arith, low)); apart = λ all i j d before low. absurd (omega (arith, low)) })
+no_fields rs ps e = rw e
+    (record {
+      each = λ j d low. absurd (omega (arith, low));
+      apart = λ all i j d before low.
+          absurd (omega (arith, low));
+    })
 
-pub all_fields : (rs : List Relocation) (ps : List Patch) (i : ℕ) → length rs ≤ i → i ≤ length rs → AreFieldsOf rs i ps → AreFieldsOf rs (length rs) ps
+pub all_fields : (rs : List Relocation) (ps : List Patch) (i : ℕ) → length rs ≤ i → i ≤ length rs → AreFieldsOf rs i ps
+    → AreFieldsOf rs (length rs) ps
 all_fields rs ps i low high h =
     let e : i ≡ length rs = omega arith in
     subst (λ n. AreFieldsOf rs n ps) e h
@@ -99,7 +112,8 @@ within_one n r x h end =
     let width = h.width_is in
     record { some = omega (arith, width, wide); end = omega (arith, at, width, end) }
 
-pub within : (rs : List Relocation) (n m : ℕ) (ps : List Patch) → AreFieldsOf rs m ps → All (λ r. field_end r ≤ n) rs → All (IsWithin n) ps
+pub within : (rs : List Relocation) (n m : ℕ) (ps : List Patch) → AreFieldsOf rs m ps → All (λ r. field_end r ≤ n) rs
+    → All (IsWithin n) ps
 within rs n m ps h ends = λ k d low.
     let f = h.each k d low in
     let last : get_or rs f.0 f.1 ≡ f.1 = get_or_from_slice_get rs f.0 f.1 f.1 f.3 in

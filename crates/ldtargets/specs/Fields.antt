@@ -36,12 +36,14 @@ abbrev pub faults_of : KnownLink → List code.Fault → List Fault
 faults_of l fs = map (fault_of l.project l.number) fs
 
 -- the faults of these sites were added, and each site counted
-pub record IsCounted (l : KnownLink) (ts : List Site) (old_faults new_faults : List code.Fault) (before after : Counts) : Type 0 where
+pub record IsCounted (l : KnownLink) (ts : List Site) (old_faults new_faults : List code.Fault) (before after : Counts)
+    : Type 0 where
   pub faults : faults_of l new_faults ≡ faults_of l old_faults ++ filter_map (fault_at l) ts
   pub counted : after ≡ raised before count.Fields (length ts)
 
 -- so were the fields, in this order
-pub record IsTried (l : KnownLink) (ts : List Site) (old new : List Patch) (old_faults new_faults : List code.Fault) (before after : Counts) : Type 0 where
+pub record IsTried (l : KnownLink) (ts : List Site) (old new : List Patch) (old_faults new_faults : List code.Fault)
+    (before after : Counts) : Type 0 where
   pub fields : new ≡ old ++ filter_map (field_at l) ts
   pub counts : IsCounted l ts old_faults new_faults before after
 
@@ -60,11 +62,13 @@ pub record AreFieldsOf (rs : List Relocation) (n : ℕ) (fields : List Patch) : 
 
 -- the fields of a section that starts at an address, in the order of their offsets: they give its bytes
 pub record IsRun (l : KnownLink) (o : NamedObject) (x : LinkedSection) (start : ℕ) (run : List Patch) : Type 0 where
-  pub same : (bytes : List ℕ) (i : ℕ) → patched_byte bytes run i ≡ patched_byte bytes (fields_of l.project l.layout o x start) i
+  pub same : (bytes : List ℕ) (i : ℕ) → patched_byte bytes run i
+      ≡ patched_byte bytes (fields_of l.project l.layout o x start) i
   pub order : (n : ℕ) → All (λ r. field_end r ≤ n) x.relocations → AreInOrder 0 n run
 
 -- all sites of a section were evaluated: its fields were added in the order of their offsets
-pub record IsAdded (l : KnownLink) (o : NamedObject) (x : LinkedSection) (start : ℕ) (old new : List Patch) (old_faults new_faults : List code.Fault) (before after : Counts) : Type 0 where
+pub record IsAdded (l : KnownLink) (o : NamedObject) (x : LinkedSection) (start : ℕ) (old new : List Patch)
+    (old_faults new_faults : List code.Fault) (before after : Counts) : Type 0 where
   pub run : List Patch
   pub fields : new ≡ old ++ run
   pub is_run : IsRun l o x start run

@@ -39,7 +39,8 @@ abbrev pub IsRunOf : KnownLink → ObjectSection → List Patch → Type 0
 IsRunOf l s run = IsRunAt l s (placed_part l.layout s.object.name (InTable s.section.number)) run
 
 -- its fields were added, and its sites counted
-pub record IsRunAdded (l : KnownLink) (s : ObjectSection) (old new : List Patch) (old_faults new_faults : List code.Fault) (before after : Counts) : Type 0 where
+pub record IsRunAdded (l : KnownLink) (s : ObjectSection) (old new : List Patch)
+    (old_faults new_faults : List code.Fault) (before after : Counts) : Type 0 where
   pub run : List Patch
   pub fields : new ≡ old ++ run
   pub is_run : IsRunOf l s run
@@ -52,7 +53,8 @@ ends_of n (run ∷ runs) = (n + length run) ∷ ends_of (n + length run) runs
 
 -- the fields of these input sections were added one after another, the places where those of each end, the faults of
 -- their sites, and their number
-pub record AreFilled (l : KnownLink) (ss : List ObjectSection) (old new : List Patch) (old_ends new_ends : List ℕ) (old_faults new_faults : List code.Fault) (before after : Counts) : Type 0 where
+pub record AreFilled (l : KnownLink) (ss : List ObjectSection) (old new : List Patch) (old_ends new_ends : List ℕ)
+    (old_faults new_faults : List code.Fault) (before after : Counts) : Type 0 where
   pub runs : List (List Patch)
   pub fields : new ≡ old ++ flat_map (λ run. run) runs
   pub ends : new_ends ≡ old_ends ++ ends_of (length old) runs

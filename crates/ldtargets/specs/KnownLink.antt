@@ -77,7 +77,8 @@ abbrev pub value_under : List code.SymbolValue → NameKey → code.SymbolValue
 value_under values k = unwrap_or (slice_get values k.0) value.NotDefined
 
 -- a symbol of the object of a key, by its number
-pub record IsSymbolOf (l : KnownLink) (object : ObjectKey) (index : SymbolIndex) (symbol : Symbol) (o : NamedObject) (x : NamedSymbol) : Type 0 where
+pub record IsSymbolOf (l : KnownLink) (object : ObjectKey) (index : SymbolIndex) (symbol : Symbol) (o : NamedObject)
+    (x : NamedSymbol) : Type 0 where
   pub object_is : named_object l object ≡ Some o
   pub entry_is : slice_get o.object.symbols index.0 ≡ Some x
   pub symbol_is : x.symbol ≡ symbol

@@ -53,7 +53,12 @@ fn add_placed<L: Known>(
     meter: &mut Meter,
 ) -> Result<(), NoMemory>
     requires { index.0 < length object.now.sections }
-    ensures { OnOk result ((l : KnownLink) (o : NamedObject) (x : LinkedSection) → L.knows link.now l → AreNameValues l values.now → EndBelow l → named_object l key ≡ Some o → o.object ≡ object.now → slice_get o.object.sections index.0 ≡ Some x → (y : PlacedPiece) → placed_part l.layout o.name (InTable x.number) ≡ Some y → y.start ≡ start → IsAdded l o x start patches.old.items patches.new.items faults.old.items faults.new.items meter.old meter.new) }
+    ensures { OnOk result ((l : KnownLink) (o : NamedObject) (x : LinkedSection) → L.knows link.now l
+        → AreNameValues l values.now → EndBelow l → named_object l key ≡ Some o → o.object ≡ object.now
+        → slice_get o.object.sections index.0 ≡ Some x → (y : PlacedPiece)
+        → placed_part l.layout o.name (InTable x.number) ≡ Some y → y.start ≡ start
+        → IsAdded l o x start patches.old.items patches.new.items faults.old.items faults.new.items meter.old
+        meter.new) }
 {
     let section = object.sections()[index.0];
     if u64::MAX - start < section.size {
@@ -78,7 +83,11 @@ fn add_run<L: Known>(
     meter: &mut Meter,
 ) -> Result<(), NoMemory>
     requires { index.0 < length object.now.sections }
-    ensures { OnOk result ((l : KnownLink) (o : NamedObject) (x : LinkedSection) → L.knows link.now l → AreNameValues l values.now → EndBelow l → named_object l key ≡ Some o → o.object ≡ object.now → slice_get o.object.sections index.0 ≡ Some x → IsRunAdded l (record { object = o; section = x }) patches.old.items patches.new.items faults.old.items faults.new.items meter.old meter.new) }
+    ensures { OnOk result ((l : KnownLink) (o : NamedObject) (x : LinkedSection) → L.knows link.now l
+        → AreNameValues l values.now → EndBelow l → named_object l key ≡ Some o → o.object ≡ object.now
+        → slice_get o.object.sections index.0 ≡ Some x
+        → IsRunAdded l (record { object = o; section = x }) patches.old.items patches.new.items faults.old.items
+        faults.new.items meter.old meter.new) }
 {
     // so that the range of the count is known
     let _fields = meter.fields();
@@ -106,7 +115,12 @@ fn add_section<L: Known>(
     meter: &mut Meter,
 ) -> Result<(), NoMemory>
     requires { index.0 < length object.now.sections }
-    ensures { OnOk result ((l : KnownLink) (o : NamedObject) (x : LinkedSection) → L.knows link.now l → AreNameValues l values.now → EndBelow l → named_object l key ≡ Some o → o.object ≡ object.now → slice_get o.object.sections index.0 ≡ Some x → AreFilled l (record { object = o; section = x } ∷ []) fields.old.patches.items fields.new.patches.items fields.old.ends.items fields.new.ends.items fields.old.faults.items fields.new.faults.items meter.old meter.new) }
+    ensures { OnOk result ((l : KnownLink) (o : NamedObject) (x : LinkedSection) → L.knows link.now l
+        → AreNameValues l values.now → EndBelow l → named_object l key ≡ Some o → o.object ≡ object.now
+        → slice_get o.object.sections index.0 ≡ Some x
+        → AreFilled l (record { object = o; section = x } ∷ []) fields.old.patches.items fields.new.patches.items
+        fields.old.ends.items fields.new.ends.items fields.old.faults.items fields.new.faults.items meter.old
+        meter.new) }
 {
     let Fields {
         patches,
@@ -130,7 +144,11 @@ fn add_object<L: Known>(
     fields: &mut Fields,
     meter: &mut Meter,
 ) -> Result<(), NoMemory>
-    ensures { OnOk result ((l : KnownLink) (o : NamedObject) → L.knows link.now l → AreNameValues l values.now → EndBelow l → named_object l key ≡ Some o → o.object ≡ object.now → AreFilled l (sections_of o object.now.sections) fields.old.patches.items fields.new.patches.items fields.old.ends.items fields.new.ends.items fields.old.faults.items fields.new.faults.items meter.old meter.new) }
+    ensures { OnOk result ((l : KnownLink) (o : NamedObject) → L.knows link.now l → AreNameValues l values.now
+        → EndBelow l → named_object l key ≡ Some o → o.object ≡ object.now
+        → AreFilled l (sections_of o object.now.sections) fields.old.patches.items fields.new.patches.items
+        fields.old.ends.items fields.new.ends.items fields.old.faults.items fields.new.faults.items meter.old
+        meter.new) }
 {
     // so that the range of the count is known
     let _fields = meter.fields();
@@ -150,7 +168,11 @@ fn add_of_key<L: Known>(
     fields: &mut Fields,
     meter: &mut Meter,
 ) -> Result<(), NoMemory>
-    ensures { OnOk result ((l : KnownLink) (o : NamedObject) → L.knows link.now l → AreNameValues l values.now → EndBelow l → named_object l key ≡ Some o → AreFilled l (sections_of o o.object.sections) fields.old.patches.items fields.new.patches.items fields.old.ends.items fields.new.ends.items fields.old.faults.items fields.new.faults.items meter.old meter.new) }
+    ensures { OnOk result ((l : KnownLink) (o : NamedObject) → L.knows link.now l → AreNameValues l values.now
+        → EndBelow l → named_object l key ≡ Some o
+        → AreFilled l (sections_of o o.object.sections) fields.old.patches.items fields.new.patches.items
+        fields.old.ends.items fields.new.ends.items fields.old.faults.items fields.new.faults.items meter.old
+        meter.new) }
 {
     match link.object(key) {
         None => Ok(()),
@@ -161,10 +183,12 @@ fn add_of_key<L: Known>(
     }
 }
 
-/// Evaluates all relocations of input sections in the output, each of which counts as one. `objects` are the keys of the
+/// Evaluates all relocations of input sections in the output, each of which counts as one. `objects` are the keys of
+/// the
 /// objects, in their order, and `values` the values of all names.
 ///
-/// An error says that there was no memory for the fields; a table of 2^32 relocations or more, which no object has whose
+/// An error says that there was no memory for the fields; a table of 2^32 relocations or more, which no object has
+/// whose
 /// length is within the limit, counts as that.
 pub fn all_fields<L: Known>(
     alloc: Global,
@@ -173,9 +197,14 @@ pub fn all_fields<L: Known>(
     objects: &[ObjectKey],
     meter: &mut Meter,
 ) -> Result<Fields, NoMemory>
-    ensures filled { IfOk result (λ f. (l : KnownLink) → L.knows link.now l → AreNameValues l values.now → EndBelow l → IsOrder l objects.now → AreFilled l (sections_in l.project.objects) [] f.patches.items [] f.ends.items [] f.faults.items meter.old meter.new) }
-    ensures faults { IfOk result (λ f. (l : KnownLink) → L.knows link.now l → AreNameValues l values.now → EndBelow l → IsOrder l objects.now → faults_of l f.faults.items ≡ filter_map (fault_at l) (sites l.project l.layout)) }
-    ensures counted { IfOk result (λ f. (l : KnownLink) → L.knows link.now l → AreNameValues l values.now → EndBelow l → IsOrder l objects.now → meter.new ≡ raised meter.old Count.Fields (length (sites l.project l.layout))) }
+    ensures filled { IfOk result (λ f. (l : KnownLink) → L.knows link.now l → AreNameValues l values.now → EndBelow l
+        → IsOrder l objects.now
+        → AreFilled l (sections_in l.project.objects) [] f.patches.items [] f.ends.items [] f.faults.items meter.old
+        meter.new) }
+    ensures faults { IfOk result (λ f. (l : KnownLink) → L.knows link.now l → AreNameValues l values.now → EndBelow l
+        → IsOrder l objects.now → faults_of l f.faults.items ≡ filter_map (fault_at l) (sites l.project l.layout)) }
+    ensures counted { IfOk result (λ f. (l : KnownLink) → L.knows link.now l → AreNameValues l values.now → EndBelow l
+        → IsOrder l objects.now → meter.new ≡ raised meter.old Count.Fields (length (sites l.project l.layout))) }
 {
     // so that the range of the count is known
     let _fields = meter.fields();

@@ -33,7 +33,10 @@ fn add_site<L: Known>(
     requires entry_is { slice_get section.now.relocations.now entry ≡ Some relocation.now }
     requires below { section.now.start + relocation.now.offset < 2 ^ 64 }
     ensures next { OnOk result (IsNext relocation.now fields.old.items fields.new.items) }
-    ensures tried { OnOk result ((l : KnownLink) → L.knows link.now l → AreNameValues l values.now → (o : NamedObject) (x : LinkedSection) → IsPlaced l section.now o x → IsTried l (sites_among o x section.now.start (relocation.now ∷ [])) fields.old.items fields.new.items faults.old.items faults.new.items meter.old meter.new) }
+    ensures tried { OnOk result ((l : KnownLink) → L.knows link.now l → AreNameValues l values.now
+        → (o : NamedObject) (x : LinkedSection) → IsPlaced l section.now o x
+        → IsTried l (sites_among o x section.now.start (relocation.now ∷ [])) fields.old.items fields.new.items
+        faults.old.items faults.new.items meter.old meter.new) }
 {
     // so that the range of the count is known
     let _fields = meter.fields();
@@ -66,8 +69,12 @@ fn add_sites<L: Known>(
 ) -> Result<(), NoMemory>
     requires none { fields.old.items ≡ [] }
     requires below { All (λ r. section.now.start + r.offset < 2 ^ 64) section.now.relocations.now }
-    ensures fields { OnOk result (AreFieldsOf section.now.relocations.now (length section.now.relocations.now) fields.new.items) }
-    ensures tried { OnOk result ((l : KnownLink) → L.knows link.now l → AreNameValues l values.now → (o : NamedObject) (x : LinkedSection) → IsPlaced l section.now o x → IsTried l (sites_among o x section.now.start section.now.relocations.now) fields.old.items fields.new.items faults.old.items faults.new.items meter.old meter.new) }
+    ensures fields { OnOk result
+        (AreFieldsOf section.now.relocations.now (length section.now.relocations.now) fields.new.items) }
+    ensures tried { OnOk result ((l : KnownLink) → L.knows link.now l → AreNameValues l values.now
+        → (o : NamedObject) (x : LinkedSection) → IsPlaced l section.now o x
+        → IsTried l (sites_among o x section.now.start section.now.relocations.now) fields.old.items fields.new.items
+        faults.old.items faults.new.items meter.old meter.new) }
 {
     // so that the range of the count is known
     let _fields = meter.fields();
@@ -97,7 +104,10 @@ pub fn add_fields<L: Known>(
 ) -> Result<(), NoMemory>
     requires apart { AreApart section.now.relocations.now }
     requires below { All (λ r. section.now.start + r.offset < 2 ^ 64) section.now.relocations.now }
-    ensures { OnOk result ((l : KnownLink) → L.knows link.now l → AreNameValues l values.now → (o : NamedObject) (x : LinkedSection) → IsPlaced l section.now o x → IsAdded l o x section.now.start fields.old.items fields.new.items faults.old.items faults.new.items meter.old meter.new) }
+    ensures { OnOk result ((l : KnownLink) → L.knows link.now l → AreNameValues l values.now
+        → (o : NamedObject) (x : LinkedSection) → IsPlaced l section.now o x
+        → IsAdded l o x section.now.start fields.old.items fields.new.items faults.old.items faults.new.items meter.old
+        meter.new) }
 {
     let mut own = Vec::with_capacity(alloc, section.relocations.len())?;
     add_sites(link, values, section, &mut own, faults, meter)?;

@@ -1,8 +1,10 @@
 //! Which relocations are against a target.
 
-ghost use Rattle.std.specs.Prelude.{◌≡◌, ◌≢◌, ◌≤◌, ◌<◌, ◌+◌, ◌++◌, ℕ, List, [], ◌∷◌, All, OnOk, count_by, filter, length, map, not, slice_index};
+ghost use Rattle.std.specs.Prelude.{◌≡◌, ◌≢◌, ◌≤◌, ◌<◌, ◌+◌, ◌++◌, ℕ, List, [], ◌∷◌, All, OnOk, count_by, filter};
+ghost use Rattle.std.specs.Prelude.{length, map, not, slice_index};
 ghost use Rattle.std.specs.List.Sorted.{IsPermutation};
-ghost use Rattle.ldtargets.specs.Index.{HasRoomFor, cleared, cleared_one, is_against, is_of_object, site_of, room_at, sites_at, slot, slots_at, spot_room, spots_at, wanted_at};
+ghost use Rattle.ldtargets.specs.Index.{HasRoomFor, cleared, cleared_one, is_against, is_of_object, site_of, room_at};
+ghost use Rattle.ldtargets.specs.Index.{sites_at, slot, slots_at, spot_room, spots_at, wanted_at};
 
 use crate::bucket::Bucket;
 use elfobj::section::SectionIndex;
@@ -153,7 +155,7 @@ fn grow_objects(objects: &mut Vec<Vec<Spot>>, alloc: Global, object: usize) -> R
     Ok(())
 }
 
-/// Makes room for so many sites more with their object.
+/// Makes room for these sites with their object.
 fn reserve_object(
     objects: &mut Vec<Vec<Spot>>,
     alloc: Global,
@@ -215,10 +217,13 @@ impl Index {
     fn add_one(&mut self, object: ObjectKey, site: TargetSite)
         requires target { 0 < slice_index self.old.target_room site.target.0 }
         requires object { 0 < slice_index self.old.object_room object.0 }
-        ensures added { IsPermutation (site_of object site ∷ sites_at self.old site.target.0) (sites_at self.new site.target.0) }
+        ensures added { IsPermutation (site_of object site ∷ sites_at self.old site.target.0)
+            (sites_at self.new site.target.0) }
         ensures others { (t : ℕ) → t ≢ site.target.0 → sites_at self.new t ≡ sites_at self.old t }
-        ensures target_room { slice_index self.old.target_room site.target.0 ≤ slice_index self.new.target_room site.target.0 + 1 }
-        ensures other_rooms { (t : ℕ) → t ≢ site.target.0 → slice_index self.new.target_room t ≡ slice_index self.old.target_room t }
+        ensures target_room { slice_index self.old.target_room site.target.0 ≤ slice_index self.new.target_room
+            site.target.0 + 1 }
+        ensures other_rooms { (t : ℕ) → t ≢ site.target.0 → slice_index self.new.target_room t
+            ≡ slice_index self.old.target_room t }
         ensures object_room { slice_index self.old.object_room object.0 ≤ slice_index self.new.object_room object.0 + 1 }
     {
         let target = site.target.0;
@@ -233,7 +238,8 @@ impl Index {
     /// Adds sites of an object, for which there is room. It takes no memory.
     pub fn add_reserved(&mut self, object: ObjectKey, sites: &[TargetSite])
         requires { HasRoomFor self.old object sites.now }
-        ensures { (t : ℕ) → IsPermutation (sites_at self.old t ++ map (site_of object) (filter (is_against t) sites.now)) (sites_at self.new t) }
+        ensures { (t : ℕ) → IsPermutation (sites_at self.old t
+            ++ map (site_of object) (filter (is_against t) sites.now)) (sites_at self.new t) }
     {
         for site in sites {
             self.add_one(object, *site);

@@ -48,9 +48,11 @@ impl<'a> PlacedSection<'a> {
     ) -> PlacedSection<'a>
         requires { index.0 < length object.now.sections }
         ensures start { result.start ≡ start }
-        ensures section { (x : LinkedSection) → slice_get object.now.sections index.0 ≡ Some x → IsSectionOf object.now x key result }
+        ensures section { (x : LinkedSection) → slice_get object.now.sections index.0 ≡ Some x
+            → IsSectionOf object.now x key result }
         ensures apart { AreApart result.relocations.now }
-        ensures ends { (x : LinkedSection) → slice_get object.now.sections index.0 ≡ Some x → All (λ r. field_end r ≤ x.size) result.relocations.now }
+        ensures ends { (x : LinkedSection) → slice_get object.now.sections index.0 ≡ Some x
+            → All (λ r. field_end r ≤ x.size) result.relocations.now }
     {
         let section = object.sections()[index.0];
         PlacedSection {
@@ -77,7 +79,8 @@ fn site_value<L: Known>(
     section: &PlacedSection<'_>,
     symbol: SymbolIndex,
 ) -> SymbolValue
-    ensures { (l : KnownLink) → L.knows link.now l → AreNameValues l values.now → (t : Site) → IsSite l section.now t → t.relocation.symbol ≡ symbol → value_of result ≡ site_value l.project l.layout t }
+    ensures { (l : KnownLink) → L.knows link.now l → AreNameValues l values.now → (t : Site) → IsSite l section.now t
+        → t.relocation.symbol ≡ symbol → value_of result ≡ site_value l.project l.layout t }
 {
     match section.symbols.get(symbol.0 as usize) {
         None => SymbolValue::NotDefined,
@@ -96,7 +99,8 @@ fn field_with(
     requires evaluated { is_evaluated relocation.now.kind ≡ true }
     requires below { section.now.start + relocation.now.offset < 2 ^ 64 }
     ensures field { IfOk result (IsFieldOf relocation.now) }
-    ensures outcome { (l : KnownLink) (t : Site) → IsSiteAt l section.now entry t → t.relocation ≡ relocation.now → IsOutcome l t (value_of value) result }
+    ensures outcome { (l : KnownLink) (t : Site) → IsSiteAt l section.now entry t → t.relocation ≡ relocation.now
+        → IsOutcome l t (value_of value) result }
     ensures counted { meter.new ≡ raised meter.old Count.Fields 1 }
 {
     let site = SiteKey {
@@ -141,7 +145,8 @@ pub fn evaluate<L: Known>(
     requires evaluated { is_evaluated relocation.now.kind ≡ true }
     requires below { section.now.start + relocation.now.offset < 2 ^ 64 }
     ensures field { IfOk result (IsFieldOf relocation.now) }
-    ensures evaluated { (l : KnownLink) → L.knows link.now l → AreNameValues l values.now → (t : Site) → IsSiteAt l section.now entry t → t.relocation ≡ relocation.now → IsEvaluated l t result }
+    ensures evaluated { (l : KnownLink) → L.knows link.now l → AreNameValues l values.now → (t : Site)
+        → IsSiteAt l section.now entry t → t.relocation ≡ relocation.now → IsEvaluated l t result }
     ensures counted { meter.new ≡ raised meter.old Count.Fields 1 }
 {
     let value = site_value(link, values, section, relocation.symbol);

@@ -7,7 +7,8 @@ ghost use Rattle.ldmodel.specs.HandedOver.{decision_of, entry_of};
 ghost use Rattle.ldmodel.specs.Layout.{script_value};
 ghost use Rattle.ldmodel.specs.Relocations.{entry_fault};
 ghost use Rattle.ldmodel.specs.SymbolValues.{decided_value, entry_point, entry_value, own_value, value_or_undefined};
-ghost use Rattle.ldtargets.specs.KnownLink.{AreNameValues, IsEntryCase, IsNameValueOf, KnownLink, common_value, name_of_object};
+ghost use Rattle.ldtargets.specs.KnownLink.{AreNameValues, IsEntryCase, IsNameValueOf, KnownLink, common_value};
+ghost use Rattle.ldtargets.specs.KnownLink.{name_of_object};
 ghost use Rattle.ldtargets.specs.Values.{value_of};
 
 use crate::known::Known;
@@ -23,7 +24,8 @@ use std::alloc::Global;
 /// The value of a symbol of an object by its own entry (gABI, "Symbol Values"): an address in its section, its number,
 /// or 0 for the null entry.
 pub fn own_value<L: Known>(link: &L, object: ObjectKey, symbol: &Symbol) -> SymbolValue
-    ensures { (l : KnownLink) → L.knows link.now l → value_of result ≡ own_value l.layout (name_of_object l object) symbol.now.place symbol.now.value }
+    ensures { (l : KnownLink) → L.knows link.now l → value_of result
+        ≡ own_value l.layout (name_of_object l object) symbol.now.place symbol.now.value }
 {
     match symbol.place {
         SymbolPlace::Section(section) => {
@@ -38,7 +40,8 @@ pub fn own_value<L: Known>(link: &L, object: ObjectKey, symbol: &Symbol) -> Symb
 
 /// The value of the symbol of an entry, if there is such an entry.
 fn entry_value<L: Known>(link: &L, entry: Entry) -> SymbolValue
-    ensures { (l : KnownLink) → L.knows link.now l → value_of result ≡ entry_value l.project l.layout (entry_of l.number entry) }
+    ensures { (l : KnownLink) → L.knows link.now l → value_of result
+        ≡ entry_value l.project l.layout (entry_of l.number entry) }
 {
     let key = ObjectKey(entry.key);
     let Some(object) = link.object(key) else {
@@ -71,7 +74,8 @@ fn given_value(given: Option<u64>) -> SymbolValue
 
 /// The value of a name, by what it stands for and the value that the script gives it.
 fn decided_value<L: Known>(link: &L, case: Case, given: Option<u64>) -> SymbolValue
-    ensures { (l : KnownLink) → L.knows link.now l → (name : List ℕ) → given ≡ script_value l.layout name → value_of result ≡ decided_value l.project l.layout name (decision_of l.number case) }
+    ensures { (l : KnownLink) → L.knows link.now l → (name : List ℕ) → given ≡ script_value l.layout name
+        → value_of result ≡ decided_value l.project l.layout name (decision_of l.number case) }
 {
     match case {
         Case::Strong(entry) | Case::Weak(entry) => entry_value(link, entry),
@@ -84,7 +88,8 @@ fn decided_value<L: Known>(link: &L, case: Case, given: Option<u64>) -> SymbolVa
 /// The value of the entry symbol, `e_entry`: 0 where there is none. It stands for `case`, and the script gives it the
 /// value `given`, if any.
 pub fn entry_point<L: Known>(link: &L, case: Option<Case>, given: Option<u64>) -> SymbolValue
-    ensures { (l : KnownLink) → L.knows link.now l → IsEntryCase l case given → value_of result ≡ entry_point l.project l.layout }
+    ensures { (l : KnownLink) → L.knows link.now l → IsEntryCase l case given → value_of result
+        ≡ entry_point l.project l.layout }
 {
     match case {
         None => SymbolValue::Number(0),
@@ -95,7 +100,8 @@ pub fn entry_point<L: Known>(link: &L, case: Option<Case>, given: Option<u64>) -
 /// The fault of an entry symbol of a value: its section is not in the output.
 #[tactic(auto, unfolding(ldmodel::specs::FaultCode::fault_of))]
 pub fn entry_fault(value: SymbolValue) -> Option<Fault>
-    ensures { (l : KnownLink) → option_to_list (option_map (fault_of l.project l.number) result) ≡ entry_fault (value_of value) }
+    ensures { (l : KnownLink) → option_to_list (option_map (fault_of l.project l.number) result)
+        ≡ entry_fault (value_of value) }
 {
     match value {
         SymbolValue::NotInOutput => Some(Fault::EntryNotInOutput),

@@ -40,7 +40,8 @@ pub fn target_of<L: Known>(
     index: SymbolIndex,
     symbol: &Symbol,
 ) -> Target
-    ensures { (l : KnownLink) → L.knows link.now l → (o : NamedObject) (x : NamedSymbol) → IsSymbolOf l object index symbol.now o x → named_target l result ≡ Some (target_of o x) }
+    ensures { (l : KnownLink) → L.knows link.now l → (o : NamedObject) (x : NamedSymbol)
+        → IsSymbolOf l object index symbol.now o x → named_target l result ≡ Some (target_of o x) }
 {
     if !is_local(symbol.binding) {
         return Target::Name(link.name_key(object, index));
@@ -65,7 +66,8 @@ fn value_under(values: &[SymbolValue], name: NameKey) -> SymbolValue
 /// `values` are those of all names. While the number of a target stays the same, so do the fields of all relocations
 /// against it.
 pub fn target_number<L: Known>(link: &L, values: &[SymbolValue], target: Target) -> u64
-    ensures { (l : KnownLink) → L.knows link.now l → AreNameValues l values.now → (t : model.Target) → named_target l target ≡ Some t → result ≡ target_number l.project l.layout t }
+    ensures { (l : KnownLink) → L.knows link.now l → AreNameValues l values.now → (t : model.Target)
+        → named_target l target ≡ Some t → result ≡ target_number l.project l.layout t }
 {
     match target {
         Target::Name(name) => value_under(values, name).number_or_0(),
@@ -85,7 +87,8 @@ pub fn referenced_value<L: Known>(
     index: SymbolIndex,
     symbol: &Symbol,
 ) -> SymbolValue
-    ensures { (l : KnownLink) → L.knows link.now l → AreNameValues l values.now → (o : NamedObject) (x : NamedSymbol) → IsSymbolOf l object index symbol.now o x → value_of result ≡ referenced_value l.project l.layout o x }
+    ensures { (l : KnownLink) → L.knows link.now l → AreNameValues l values.now → (o : NamedObject) (x : NamedSymbol)
+        → IsSymbolOf l object index symbol.now o x → value_of result ≡ referenced_value l.project l.layout o x }
 {
     if is_local(symbol.binding) {
         return own_value(link, object, symbol);

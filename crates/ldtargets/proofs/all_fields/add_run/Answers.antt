@@ -13,7 +13,9 @@ returns-in-None g c =
     let there = ap (λ (r : ObjectData). slice_get r.sections c.args.index.0) (sym same) ∙ is in
     let d : Section = record { number = record { 0 = 0 }; kind = Progbits; flags = 0; size = 0; alignment = 0 } in
     run_none l c.args.key o x ((get_or c.sections.result.now c.args.index.0 d).number) named
-    (ap (λ (s : Section). s.number) (at_index c.args.object.now.sections c.args.index.0 d c.sections.result.now c.sections.ensures.value x there))
+    (ap (λ (s : Section).
+    s.number) (at_index c.args.object.now.sections c.args.index.0 d c.sections.result.now c.sections.ensures.value
+    x there))
     (c.in-None.ensures l k) c.args.patches.now.items c.args.faults.now.items c.args.meter.now
     (omega (arith, c.fields-fields.type_inv, c.fields-fields.ensures))
 
@@ -23,5 +25,8 @@ returns-in_ok-add_placed-in-Some g c =
     let there = ap (λ (r : ObjectData). slice_get r.sections c.args.index.0) (sym same) ∙ is in
     let d : Section = record { number = record { 0 = 0 }; kind = Progbits; flags = 0; size = 0; alignment = 0 } in
     run_some l c.args.key o x ((get_or c.sections.result.now c.args.index.0 d).number) named
-    (ap (λ (s : Section). s.number) (at_index c.args.object.now.sections c.args.index.0 d c.sections.result.now c.sections.ensures.value x there))
-    c.in-Some.start _ _ _ _ _ _ (c.in-Some.ensures l k) (c.in_ok-add_placed-in-Some.ensures l o x k all low named same is)
+    (ap (λ (s : Section).
+    s.number) (at_index c.args.object.now.sections c.args.index.0 d c.sections.result.now c.sections.ensures.value
+    x there))
+    c.in-Some.start _ _ _ _ _ _ (c.in-Some.ensures l k)
+    (c.in_ok-add_placed-in-Some.ensures l o x k all low named same is)

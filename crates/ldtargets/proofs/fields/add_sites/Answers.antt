@@ -17,10 +17,13 @@ add_site-requires-clause-entry_is g c = slice_get-get_or _ _ _ c.loop-entry-test
 
 pub loop-entry-preserved : goal.loop-entry-preserved
 loop-entry-preserved g c = record {
-  of = next_fields c.args.section.now.relocations.now c.loop-entry.entry _ (slice_get-get_or _ _ _ c.loop-entry-test.true) _ _
+  of = next_fields c.args.section.now.relocations.now c.loop-entry.entry _
+      (slice_get-get_or _ _ _ c.loop-entry-test.true) _ _
       c.loop-entry.invariant.of c.in_ok-add_site.ensures.next;
-  tried = λ l k all o x h. tried_next l o x c.args.section.now.start c.args.section.now.relocations.now c.loop-entry.entry
-      (record { offset = 0; symbol = record { 0 = 0 }; kind = None; addend = pos 0 }) c.loop-entry-test.true _ _ _ _ _ _ _ _ _
+  tried = λ l k all o x h.
+      tried_next l o x c.args.section.now.start c.args.section.now.relocations.now c.loop-entry.entry
+      (record { offset = 0; symbol = record { 0 = 0 }; kind = None; addend = pos 0 }) c.loop-entry-test.true _ _ _ _ _
+      _ _ _ _
       (c.loop-entry.invariant.tried l k all o x h) (c.in_ok-add_site.ensures.tried l k all o x h);
 }
 

@@ -9,7 +9,9 @@ use Rattle.ldtargets.proofs.fields.add_sites.Given as goal
 abbrev pub invariant-loop-entry : goal.invariant-loop-entry
 invariant-loop-entry g l = record {
   of : AreFieldsOf l.section.relocations.now l.entry l.fields.items;
-  tried : (k : KnownLink) → g.L.Known.knows l.link k → AreNameValues k l.values → (o : NamedObject) (x : LinkedSection) → IsPlaced k l.section o x
-      → IsTried k (sites_among o x l.section.start (take l.entry l.section.relocations.now)) l.initial.fields.items l.fields.items
+  tried : (k : KnownLink) → g.L.Known.knows l.link k → AreNameValues k l.values → (o : NamedObject) (x : LinkedSection)
+      → IsPlaced k l.section o x
+      → IsTried k (sites_among o x l.section.start (take l.entry l.section.relocations.now)) l.initial.fields.items
+      l.fields.items
       l.initial.faults.items l.faults.items l.initial.meter l.meter;
 }

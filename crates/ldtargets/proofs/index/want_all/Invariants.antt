@@ -6,5 +6,6 @@ abbrev pub invariant-loop-site : goal.invariant-loop-site
 invariant-loop-site l =
     ((t : ℕ) → slots_at l.targets.items t ≡ slots_at l.initial.targets.items t)
     × (length l.targets.items ≡ length l.initial.targets.items)
-    × ((t : ℕ) → wanted_at l.targets.items t ≡ wanted_at l.initial.targets.items t + count_by (is_against t) (take l.site-index l.sites))
+    × ((t : ℕ) → wanted_at l.targets.items t
+    ≡ wanted_at l.initial.targets.items t + count_by (is_against t) (take l.site-index l.sites))
     × ((t : ℕ) → count_by (is_against t) (take l.site-index l.sites) ≤ room_at l.targets.items t)

@@ -3,15 +3,19 @@ use Rattle.ldtargets.proofs.index.Index.reserve.Goals as goal
 
 pub returns-in_err-reserve_targets-clause-same : goal.returns-in_err-reserve_targets-clause-same
 returns-in_err-reserve_targets-clause-same c =
-    rw (← c.self.view_is) (same_values c.self.inside.targets.items c.reserve_targets.new.targets.items c.in_err-reserve_targets.ensures.slots)
+    rw (← c.self.view_is)
+    (same_values c.self.inside.targets.items c.reserve_targets.new.targets.items
+    c.in_err-reserve_targets.ensures.slots)
 
 pub returns-in_err-reserve_object-clause-same : goal.returns-in_err-reserve_object-clause-same
 returns-in_err-reserve_object-clause-same c =
-    rw (← c.self.view_is) (same_values c.self.inside.targets.items c.reserve_targets.new.targets.items c.reserve_targets.ensures.slots)
+    rw (← c.self.view_is)
+    (same_values c.self.inside.targets.items c.reserve_targets.new.targets.items c.reserve_targets.ensures.slots)
 
 pub returns-clause-same : goal.returns-clause-same
 returns-clause-same c =
-    rw (← c.self.view_is) (same_values c.self.inside.targets.items c.reserve_targets.new.targets.items c.reserve_targets.ensures.slots)
+    rw (← c.self.view_is)
+    (same_values c.self.inside.targets.items c.reserve_targets.new.targets.items c.reserve_targets.ensures.slots)
 
 pub returns-clause-room : goal.returns-clause-room
 returns-clause-room c = record {
