@@ -1,0 +1,6 @@
+-- What the layout of a script is, as the code holds it.
+pub mod Naming
+pub mod Keyed
+pub mod Tables
+pub mod SymbolTable
+pub mod RegionTable
