@@ -1,7 +1,6 @@
 //! The names that the expressions of a script mention, in the order of the text.
 
-ghost use Rattle.std.specs.Prelude.{◌≡◌, [], ◌∷◌, ◌++◌, OnOk, IfOk, IfSome, IfNone, ◌<◌, ◌^◌, List, Some, slice_get, length};
-ghost use Rattle.std.specs.List.{Contains};
+ghost use Rattle.std.specs.Prelude.{◌≡◌, [], ◌∷◌, ◌++◌, OnOk, IfOk, IfSome, IfNone, ℕ, ◌≤◌, ◌^◌, Some, slice_get};
 ghost use Rattle.ldexpr.specs.Expressions.{expr_of};
 ghost use Rattle.ldmodel.specs.Mentioned.{in_expression, in_optional, in_common, in_dot_command, in_body_command, in_section, in_item, in_command, mentioned_names};
 ghost use Rattle.ldvalue.specs.Mentions.{Adds, in_load, in_body, in_items, in_regions, shown_names};
@@ -177,7 +176,7 @@ pub fn mentioned_names(alloc: Global, statements: &[Statement]) -> Result<Vec<&[
 /// The number of the first mention of a name; `None` where none of the first 2^32 mentions is of it.
 pub fn mention_of(names: &[&[u8]], name: &[u8]) -> Option<MentionIndex>
     ensures found { IfSome result (λ m. slice_get (shown_names names.now) m.0 ≡ Some name.now) }
-    ensures missing { IfNone result (Contains (shown_names names.now) name.now → 2 ^ 32 < length names.now) }
+    ensures missing { IfNone result ((k : ℕ) → slice_get (shown_names names.now) k ≡ Some name.now → 2 ^ 32 ≤ k) }
 {
     for (k, mentioned) in names.iter().enumerate() {
         if *mentioned == name {

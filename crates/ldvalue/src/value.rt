@@ -106,12 +106,7 @@ fn align(x: u64, to: u64) -> Option<u64>
     if !to.is_power_of_two() {
         return None;
     }
-    let past = x % to;
-    if past == 0 {
-        Some(x)
-    } else {
-        Some(x.wrapping_add(to - past))
-    }
+    Some(x.wrapping_add((to - x % to) % to))
 }
 
 /// The value of an expression, with `.` at a number. Numbers are unsigned, of 64 bits, and arithmetic is modulo 2^64.
@@ -209,10 +204,4 @@ fn value_of_region<'e, S: Scope>(
         Some(region) => Ok(ask_region(query, &region)),
         None => Err(ValueFault::NotReady(name)),
     }
-}
-
-#[cfg(test)]
-mod tests {
-    #[test]
-    fn trivial() {}
 }

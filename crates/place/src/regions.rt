@@ -59,11 +59,20 @@ impl<'a> Regions<'a> {
     }
 
     /// The region of a name.
+    #[tactic(auto, using(crate::proofs::Found::region_there, crate::proofs::Found::region_past, crate::proofs::Found::region_unknown))]
     pub fn get(&self, name: &[u8]) -> Option<Region<'a>>
         ensures { option_map region_of result ≡ region_named self.now name.now }
     {
-        let number = self.script.region_number(name)?;
-        Some(*self.list.get(number)?)
+        match self.script.region_number(name) {
+            Some(number) => {
+                if number < self.list.len() {
+                    Some(self.list[number])
+                } else {
+                    None
+                }
+            }
+            None => None,
+        }
     }
 
     /// One more region, whose next free address is where it begins. It is an error where memory ran out.
@@ -85,6 +94,7 @@ impl<'a> Regions<'a> {
     }
 
     /// Sets the next free address of a region.
+    #[tactic(auto, using(crate::proofs::Found::freed_there, crate::proofs::Found::freed_past, crate::proofs::Found::freed_unknown, crate::proofs::Found::freed_in_order))]
     pub fn free_from(&mut self, name: &[u8], next: u64)
         ensures { self.new ≡ freed_from (Some name.now) next self.old }
     {
