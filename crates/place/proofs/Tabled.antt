@@ -147,3 +147,9 @@ module _ (script : List Statement) (values : List (Option ℕ)) (xs : List Scrip
           let before = ap (value_of xs) (sym same) ∙ (here_before ∙ some) in
           ap (entry_under values) number ∙ (some ∙ sym (value_more xs x m ∙ rw before refl))
       go m false e = elsewhere values m e (λ j ne. refl)
+
+-- what stands at a place, whatever is given for a place past the end
+pub at_place : {X : Type 0} (xs : List X) (k : ℕ) (r o d : X) → r ≡ get_or xs k r → r ≡ o → k < length xs → get_or xs k d ≡ o
+at_place [] k r o d e f l = absurd (omega arith)
+at_place (x ∷ xs) zero r o d e f l = sym e ∙ f
+at_place (x ∷ xs) (suc k) r o d e f l = at_place xs k r o d e f (omega arith)

@@ -4,3 +4,6 @@ pub mod Keyed
 pub mod Tables
 pub mod SymbolTable
 pub mod RegionTable
+pub mod ProvidedTable
+pub mod State
+pub mod SectionTable

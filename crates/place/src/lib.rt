@@ -2,5 +2,11 @@
 #![tactic(auto)]
 
 mod regions;
+mod assign;
+mod body;
+mod provided;
+mod ready;
+mod sections;
+mod state;
 mod stop;
 mod symbols;

@@ -85,9 +85,12 @@ impl<'a> Symbols<'a> {
             return Err(Stop::NoMemory);
         }
         self.list.push(Symbol { name, value })?;
-        if self.values[number].is_none() {
-            self.values[number] = Some(value);
+        match self.values[number] {
+            None => {
+                self.values[number] = Some(value);
+                Ok(())
+            }
+            Some(_) => Ok(()),
         }
-        Ok(())
     }
 }

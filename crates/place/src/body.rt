@@ -1,0 +1,183 @@
+//! The body of an output section.
+
+ghost use Rattle.std.specs.Prelude.{◌≡◌, ◌<◌, ◌+◌, length, drop, OnOk};
+ghost use Rattle.std.specs.Int.{next_multiple_of};
+ghost use Rattle.ldexpr.specs.DotForms.{dot_form};
+ghost use Rattle.ldexpr.specs.Expressions.{expr_of};
+ghost use Rattle.ldmodel.specs.Body.{advanced, body_command_step, body_step, data_step, dot_step, input_step, moved, piece_placed, pieces_placed, set_to};
+ghost use Rattle.ldmodel.specs.Chain.{run};
+ghost use Rattle.place.specs.Naming.{Naming, piece_named, row_named};
+ghost use Rattle.place.specs.State.{body_of, Gives};
+
+use crate::sections::PieceAt;
+use crate::state::{Frame, Here};
+use crate::stop::Stop;
+use ldmodel::laid::PlacedData;
+use ldmodel::rows::Piece;
+use ldscript::tree::{BodyCommand, BodyStatement, DotCommand, DotForm, Expr, Formula, Width};
+
+impl<'d, 'a> Frame<'d, 'a> {
+    /// The next entry of the row takes its place.
+    #[tactic(auto, unfolding(ldmodel::specs::Body::piece_placed))]
+    fn place_piece(&self, here: &mut Here<'a>, line: u32, piece: &'a Piece) -> Result<(), Stop<'a>>
+        ghost naming: { Naming }
+        ensures gives { Gives (piece_placed line (body_of naming here.old self.now) (piece_named naming piece.now) (row_named naming (drop (length here.old.pieces.items + 1) self.now.row.now))) (body_of naming here.new self.now) result }
+        ensures one { OnOk result (length here.new.pieces.items ≡ length here.old.pieces.items + 1) }
+    {
+        let Some(start) = here.dot.checked_next_multiple_of(piece.alignment.max(1)) else {
+            return Err(Stop::PastAddressSpace { line });
+        };
+        let Some(end) = start.checked_add(piece.size) else {
+            return Err(Stop::PastAddressSpace { line });
+        };
+        here.pieces.push(PieceAt { start, piece })?;
+        here.anew = here.anew.saturating_add(1);
+        here.dot = end;
+        Ok(())
+    }
+
+    /// The entries of an input statement take their places.
+    #[tactic(auto, unfolding(ldmodel::specs::Body::pieces_placed))]
+    fn place_pieces(&self, here: &mut Here<'a>, line: u32, number: u64) -> Result<(), Stop<'a>>
+        ghost naming: { Naming }
+        ensures gives { Gives (pieces_placed line number (body_of naming here.old self.now) (row_named naming (drop (length here.old.pieces.items) self.now.row.now))) (body_of naming here.new self.now) result }
+    {
+        while here.pieces.len() < self.row.len() {
+            let piece = &self.row[here.pieces.len()];
+            if u64::from(piece.statement.0) != number {
+                break;
+            }
+            self.place_piece(here, line, piece)?;
+        }
+        Ok(())
+    }
+
+    /// An input statement.
+    fn place_input(&self, here: &mut Here<'a>, line: u32) -> Result<(), Stop<'a>>
+        ghost naming: { Naming }
+        ensures gives { Gives (input_step line (body_of naming here.old self.now)) (body_of naming here.new self.now) result }
+    {
+        let number = here.inputs;
+        let Some(next) = number.checked_add(1) else {
+            // it does not come to this: no script has so many input statements
+            return Err(Stop::NoMemory);
+        };
+        self.place_pieces(here, line, number)?;
+        here.inputs = next;
+        Ok(())
+    }
+
+    /// BYTE, SHORT, LONG or QUAD.
+    fn place_data(
+        &self,
+        here: &mut Here<'a>,
+        line: u32,
+        width: Width,
+        formula: &'a Formula,
+    ) -> Result<(), Stop<'a>>
+        ghost naming: { Naming }
+        ensures gives { Gives (data_step line (body_of naming here.old self.now) width formula.now) (body_of naming here.new self.now) result }
+    {
+        let value = here.formula(self.done, line, formula)?;
+        let Some(end) = here.dot.checked_add(u64::from(width.byte_count())) else {
+            return Err(Stop::PastAddressSpace { line });
+        };
+        here.data_commands.push(PlacedData {
+            section: self.number,
+            start: here.dot,
+            width,
+            value,
+        })?;
+        here.dot = end;
+        Ok(())
+    }
+
+    /// `.` goes on to a number and some more.
+    fn go_to(&self, here: &mut Here<'a>, line: u32, from: u64, more: u64) -> Result<(), Stop<'a>>
+        ghost naming: { Naming }
+        ensures gives { Gives (moved line (body_of naming here.old self.now) (from + more)) (body_of naming here.new self.now) result }
+    {
+        let dot = here.dot;
+        let Some(to) = from.checked_add(more) else {
+            return Err(Stop::PastAddressSpace { line });
+        };
+        if to < dot {
+            return Err(Stop::MovedBack { line });
+        }
+        here.dot = to;
+        Ok(())
+    }
+
+    /// `. += e` and `. = . + e`.
+    fn advance(&self, here: &mut Here<'a>, line: u32, by: &'a Expr) -> Result<(), Stop<'a>>
+        ghost naming: { Naming }
+        ensures gives { Gives (advanced line (body_of naming here.old self.now) (expr_of by.now)) (body_of naming here.new self.now) result }
+    {
+        let more = here.number(self.done, line, by)?;
+        let from = here.dot;
+        self.go_to(here, line, from, more)?;
+        Ok(())
+    }
+
+    /// `. = e`.
+    fn set_dot(&self, here: &mut Here<'a>, line: u32, to: &'a Expr) -> Result<(), Stop<'a>>
+        ghost naming: { Naming }
+        ensures gives { Gives (set_to line (body_of naming here.old self.now) (dot_form (expr_of to.now))) (body_of naming here.new self.now) result }
+    {
+        match to.dot_form() {
+            Some(DotForm::Advance(by)) => self.advance(here, line, by),
+            Some(DotForm::Align(_)) => {
+                let to = here.number(self.done, line, to)?;
+                self.go_to(here, line, to, 0)
+            }
+            Some(DotForm::Offset(by)) => {
+                let by = here.number(self.done, line, by)?;
+                self.go_to(here, line, self.start, by)
+            }
+            None => Ok(()),
+        }
+    }
+
+    fn move_dot(&self, here: &mut Here<'a>, line: u32, command: &'a DotCommand) -> Result<(), Stop<'a>>
+        ghost naming: { Naming }
+        ensures gives { Gives (dot_step line (body_of naming here.old self.now) command.now) (body_of naming here.new self.now) result }
+    {
+        match command {
+            DotCommand::Add(by) => self.advance(here, line, by.expr()),
+            DotCommand::Set(to) => self.set_dot(here, line, to.expr()),
+        }
+    }
+
+    #[tactic(auto, unfolding(ldmodel::specs::Body::body_command_step))]
+    fn place_command(&self, here: &mut Here<'a>, line: u32, command: &'a BodyCommand) -> Result<(), Stop<'a>>
+        ghost naming: { Naming }
+        ensures gives { Gives (body_command_step self.now.provided.now line (body_of naming here.old self.now) command.now) (body_of naming here.new self.now) result }
+    {
+        match command {
+            BodyCommand::Dot(command) => self.move_dot(here, line, command),
+            BodyCommand::Common(command) => here.common(self.done, self.provided, line, command),
+            BodyCommand::Data(width, formula) => self.place_data(here, line, *width, formula),
+            BodyCommand::Input(_) => self.place_input(here, line),
+        }
+    }
+
+    fn place_statement(&self, here: &mut Here<'a>, statement: &'a BodyStatement) -> Result<(), Stop<'a>>
+        ghost naming: { Naming }
+        ensures gives { Gives (body_step self.now.provided.now (body_of naming here.old self.now) statement.now) (body_of naming here.new self.now) result }
+    {
+        here.dots.push(here.dot)?;
+        self.place_command(here, statement.line, &statement.command)
+    }
+
+    /// The statements of the body.
+    #[tactic(auto, unfolding(ldmodel::specs::Chain::run))]
+    pub fn place_body(&self, here: &mut Here<'a>, body: &'a [BodyStatement]) -> Result<(), Stop<'a>>
+        ghost naming: { Naming }
+        ensures gives { Gives (run (body_step self.now.provided.now) (body_of naming here.old self.now) body.now) (body_of naming here.new self.now) result }
+    {
+        for statement in body {
+            self.place_statement(here, statement)?;
+        }
+        Ok(())
+    }
+}
