@@ -6,3 +6,4 @@ pub mod FoundSections
 pub mod Naming
 pub mod Valued
 pub mod Marking
+pub mod Differences

@@ -6,4 +6,5 @@ pub mod SymbolTable
 pub mod RegionTable
 pub mod ProvidedTable
 pub mod State
+pub mod Heads
 pub mod SectionTable

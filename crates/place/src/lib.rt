@@ -4,6 +4,7 @@
 mod regions;
 mod assign;
 mod body;
+mod head;
 mod provided;
 mod ready;
 mod sections;
