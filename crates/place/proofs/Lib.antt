@@ -7,3 +7,5 @@ pub mod Naming
 pub mod Valued
 pub mod Marking
 pub mod Differences
+pub mod Ending
+pub mod Rows

@@ -6,5 +6,7 @@ pub mod SymbolTable
 pub mod RegionTable
 pub mod ProvidedTable
 pub mod State
+pub mod Inputs
 pub mod Heads
+pub mod Ends
 pub mod SectionTable

@@ -4,6 +4,7 @@ use Rattle.ldmodel.specs.Body.{Body}
 use Rattle.ldmodel.specs.Fault.{Fault}
 use Rattle.ldmodel.specs.Fault as fault
 use Rattle.ldmodel.specs.Layout.{Layout}
+use Rattle.ldmodel.specs.declared.rows.Piece as rows
 use Rattle.place.specs.Keyed.{piece_at, data_at, section_of}
 use Rattle.place.specs.Naming.{Naming, row_named}
 use Rattle.place.specs.SectionTable.{keyed_piece}
@@ -23,14 +24,18 @@ layout_of n h d = record {
   sections = map (section_of n) d.sections;
 }
 
-abbrev pub body_of : Naming → Here → Frame → Body
-body_of n h f = record {
-  layout = layout_of n h f.done.now;
-  start = f.start;
-  rest = row_named n (drop (length h.pieces.items) f.row.now);
+-- a body that starts there, with this row
+abbrev pub body_from : Naming → Here → Done → ℕ → List rows.Piece → Body
+body_from n h d start row = record {
+  layout = layout_of n h d;
+  start = start;
+  rest = row_named n (drop (length h.pieces.items) row);
   pieces = map (piece_at n) (map keyed_piece h.pieces.items);
   data_commands = map data_at h.data_commands.items;
 }
+
+abbrev pub body_of : Naming → Here → Frame → Body
+body_of n h f = body_from n h f.done.now f.start f.row.now
 
 -- the fault that stands in a stop; for want of memory there is none, and any will do
 abbrev pub fault_of : Stop → Fault

@@ -4,9 +4,13 @@
 mod regions;
 mod assign;
 mod body;
+mod end;
 mod head;
+mod memory;
 mod provided;
 mod ready;
+mod script;
+mod section;
 mod sections;
 mod state;
 mod stop;
