@@ -9,3 +9,6 @@ pub mod Marking
 pub mod Differences
 pub mod Ending
 pub mod Rows
+pub mod Wholes
+pub mod Grows
+pub mod Outputs

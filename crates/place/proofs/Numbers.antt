@@ -10,7 +10,7 @@ use Rattle.ldtree.specs.declared.given.Given.{Given}
 use Rattle.ldtree.specs.declared.given.Given.TheVariants.{Assigned, Provided}
 use Rattle.ldtree.specs.declared.statement.Region.{Region}
 use Rattle.ldtree.specs.declared.statement.Statement.{Statement}
-use Rattle.ldmodel.specs.Lent.{given_name}
+use Rattle.ldmodel.specs.Lent.{given_name, name_given_by}
 use Rattle.place.proofs.Lists.{same_name}
 use Rattle.place.specs.Tables.{number_of, symbol_number}
 
@@ -94,3 +94,10 @@ sections_told script = record { apart = λ a b k f g. same_place name_of_section
 
 pub regions_told : (script : List Statement) → Tells (region_number script)
 regions_told script = record { apart = λ a b k f g. same_place name_of_region (regions script) a b k (region_at 0 (regions script) a k f) (region_at 0 (regions script) b k g) }
+
+-- the command of a number gives the symbol its value
+pub symbol_named_by : (script : List Statement) (name : List ℕ) (k : ℕ) → symbol_number script name ≡ Some k → name_given_by script k ≡ name
+symbol_named_by script name k e =
+    let f = symbol_at script name k e in
+    let same : k ≡ f.more = omega (arith, f.here) in
+    ap (λ j. option_map_or name_of_command (slice_get (common_commands script) j) []) same ∙ f.named

@@ -4,9 +4,9 @@ use Rattle.byteorder.specs.Endian.{little_bytes}
 use Rattle.ldtree.specs.Widths.{byte_count}
 use Rattle.ldmodel.specs.Layout.{PlacedPiece, PlacedSection, PlacedData}
 use Rattle.ldmodel.specs.declared.laid.Placed.{Placed}
-use Rattle.ldmodel.specs.declared.laid.PlacedData as code
 use Rattle.ldmodel.specs.declared.rows.Piece as rows
 use Rattle.place.specs.Naming.{Naming, piece_named}
+use Rattle.place.specs.declared.sections.DataAt.{DataAt}
 
 -- an input section in its place
 pub record KeyedPiece : Type 0 where
@@ -20,12 +20,12 @@ pub record KeyedSection : Type 0 where
   pub fill : Option (List ℕ)
   pub placed : Placed
   pub pieces : List KeyedPiece
-  pub data_commands : List code.PlacedData
+  pub data_commands : List DataAt
 
 abbrev pub piece_at : Naming → KeyedPiece → PlacedPiece
 piece_at n x = record { start = x.start; piece = piece_named n x.piece }
 
-abbrev pub data_at : code.PlacedData → PlacedData
+abbrev pub data_at : DataAt → PlacedData
 data_at d = record { start = d.start; bytes = little_bytes (byte_count d.width) d.value }
 
 abbrev pub section_of : Naming → KeyedSection → PlacedSection

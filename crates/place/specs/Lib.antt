@@ -7,6 +7,8 @@ pub mod RegionTable
 pub mod ProvidedTable
 pub mod State
 pub mod Inputs
+pub mod Places
+pub mod Wholes
 pub mod Heads
 pub mod Ends
 pub mod SectionTable

@@ -9,10 +9,9 @@ ghost use Rattle.ldmodel.specs.Chain.{run};
 ghost use Rattle.place.specs.Naming.{Naming, piece_named, row_named};
 ghost use Rattle.place.specs.State.{body_of, Gives};
 
-use crate::sections::PieceAt;
+use crate::sections::{DataAt, PieceAt};
 use crate::state::{Frame, Here};
 use crate::stop::Stop;
-use ldmodel::laid::PlacedData;
 use ldmodel::rows::Piece;
 use ldscript::tree::{BodyCommand, BodyStatement, DotCommand, DotForm, Expr, Formula, Width};
 
@@ -82,9 +81,9 @@ impl<'d, 'a> Frame<'d, 'a> {
         let Some(end) = here.dot.checked_add(u64::from(width.byte_count())) else {
             return Err(Stop::PastAddressSpace { line });
         };
-        here.data_commands.push(PlacedData {
-            section: self.number,
-            start: here.dot,
+        let start = here.dot;
+        here.data_commands.push(DataAt {
+            start,
             width,
             value,
         })?;

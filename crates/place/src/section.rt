@@ -12,7 +12,6 @@ use crate::head::Head;
 use crate::provided::Provided;
 use crate::state::{Done, Frame, Here};
 use crate::stop::Stop;
-use ldmodel::laid::OutputIndex;
 use ldmodel::rows::Piece;
 use ldscript::tree::OutputSection;
 use std::alloc::Global;
@@ -44,14 +43,9 @@ impl<'a> Here<'a> {
         ghost naming: { Naming }
         ensures { Gives (run (body_step provided.now) (opened (layout_of naming self.old done.now) (row_named naming row.now) (head_from head)) output.now.body) (body_from naming self.new done.now head.start row.now) result }
     {
-        let Ok(number) = u32::try_from(done.sections.len()) else {
-            // it does not come to this: no script has so many output sections
-            return Err(Stop::NoMemory);
-        };
         let frame = Frame {
             done,
             provided,
-            number: OutputIndex(number),
             row,
             start: head.start,
         };

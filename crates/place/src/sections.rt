@@ -7,10 +7,10 @@ ghost use Rattle.place.specs.SectionTable.{keyed, difference_by};
 ghost use Rattle.place.specs.declared.stop.Stop.TheVariants.{NoMemory};
 
 use crate::stop::Stop;
-use ldmodel::laid::{Placed, PlacedData};
+use ldmodel::laid::Placed;
 use ldmodel::rows::Piece;
 use ldscript::script::Script;
-use ldscript::tree::OutputSection;
+use ldscript::tree::{OutputSection, Width};
 use std::alloc::{AllocError, Global};
 use std::marker::Model;
 
@@ -23,6 +23,17 @@ pub(crate) struct PieceAt<'a> {
     pub piece: &'a Piece,
 }
 
+/// A data command in its place.
+#[derive(Clone, Copy)]
+pub(crate) struct DataAt {
+    /// The address of its first byte.
+    pub start: u64,
+    /// How many bytes it has.
+    pub width: Width,
+    /// The number whose lowest bytes these are.
+    pub value: u64,
+}
+
 /// An output section in its place.
 #[derive(Drop)]
 pub(crate) struct Closed<'a> {
@@ -33,7 +44,7 @@ pub(crate) struct Closed<'a> {
     /// Its input sections.
     pub pieces: Vec<PieceAt<'a>>,
     /// Its data commands.
-    pub data_commands: Vec<PlacedData>,
+    pub data_commands: Vec<DataAt>,
 }
 
 /// The output sections that are in their places, in the order of the text, and for each memory region how far the last
@@ -79,6 +90,13 @@ impl<'a> Sections<'a> {
             differences,
             elsewhere: 0,
         })
+    }
+
+    /// All of them.
+    pub fn as_slice(&self) -> &[Closed<'a>]
+        ensures { map keyed result.now ≡ self.now }
+    {
+        &self.list
     }
 
     /// How many there are.

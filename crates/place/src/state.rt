@@ -2,9 +2,8 @@
 
 use crate::provided::Provided;
 use crate::regions::Regions;
-use crate::sections::{PieceAt, Sections};
+use crate::sections::{DataAt, PieceAt, Sections};
 use crate::symbols::Symbols;
-use ldmodel::laid::{OutputIndex, PlacedData};
 use ldmodel::rows::Piece;
 
 /// Where a layout has come to: what changes from statement to statement, in the body of an output section too.
@@ -21,7 +20,7 @@ pub(crate) struct Here<'a> {
     /// The input sections of the present output section that have their places.
     pub pieces: Vec<PieceAt<'a>>,
     /// The data commands of the present output section so far.
-    pub data_commands: Vec<PlacedData>,
+    pub data_commands: Vec<DataAt>,
     /// How many input sections were placed anew.
     pub anew: u64,
 }
@@ -42,8 +41,6 @@ pub(crate) struct Frame<'d, 'a> {
     pub done: &'d Done<'a>,
     /// The PROVIDEs that are in force.
     pub provided: &'d Provided<'a>,
-    /// Its number.
-    pub number: OutputIndex,
     /// Its row.
     pub row: &'a [Piece],
     /// Where it starts.

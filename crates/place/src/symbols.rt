@@ -1,7 +1,8 @@
 //! The symbols that a script has given values so far.
 
-ghost use Rattle.std.specs.Prelude.{◌≡◌, [], ◌∷◌, ◌++◌, IfOk, OnOk, IfErr, find, bytes_eq, option_map};
+ghost use Rattle.std.specs.Prelude.{◌≡◌, [], ◌∷◌, ◌++◌, map, IfOk, OnOk, IfErr, find, bytes_eq, option_map};
 ghost use Rattle.ldmodel.specs.Layout.{ScriptSymbol};
+ghost use Rattle.place.specs.SymbolTable.{symbol_of};
 ghost use Rattle.place.specs.Tables.{symbol_number};
 ghost use Rattle.place.specs.declared.stop.Stop.TheVariants.{NoMemory};
 
@@ -13,9 +14,11 @@ use std::marker::Model;
 
 /// A symbol that the script has given a value.
 #[derive(Clone, Copy)]
-struct Symbol<'a> {
-    name: &'a [u8],
-    value: u64,
+pub(crate) struct Symbol<'a> {
+    /// Its name.
+    pub name: &'a [u8],
+    /// Its value.
+    pub value: u64,
 }
 
 /// The symbols that a script has given values so far, in the order of the text. A look-up takes the time of one in the
@@ -62,6 +65,13 @@ impl<'a> Symbols<'a> {
             list: Vec::new(alloc),
             values,
         })
+    }
+
+    /// All symbols, in the order of the text.
+    pub fn as_slice(&self) -> &[Symbol<'a>]
+        ensures { map symbol_of result.now ≡ self.now }
+    {
+        &self.list
     }
 
     /// The value of a symbol.
