@@ -1,5 +1,5 @@
 -- What the code finds, over the numbers of output sections.
-use Rattle.std.specs.Prelude.{ℕ, zero, suc, List, [], ◌∷◌, ◌++◌, length, map, take, drop, position, Option, Some, None}
+use Rattle.std.specs.Prelude.{ℕ, List, [], ◌∷◌, ◌++◌, length, map, position, Option, Some, None}
 use Rattle.ldmodel.specs.declared.fault.Fault as code
 use Rattle.ldmodel.specs.declared.fault.Fault.TheVariants.{AddressesMeet, LoadAddressesMeet}
 use Rattle.ldmodel.specs.declared.laid.OutputIndex.{OutputIndex}

@@ -1,5 +1,5 @@
 -- The overlaps of output sections that the code reports, by the numbers of the sections.
-use Rattle.std.specs.Prelude.{◌≡◌, ℕ, zero, suc, List, [], ◌∷◌, ◌++◌, map, take, position, slice_index_or, Option, Some, None}
+use Rattle.std.specs.Prelude.{◌≡◌, ℕ, List, map}
 use Rattle.ldtree.specs.Numbering.{OutputSectionAt, output_sections}
 use Rattle.ldmodel.specs.FaultCode.{fault_of}
 use Rattle.ldmodel.specs.Layout.{PlacedSection}

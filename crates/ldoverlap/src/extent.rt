@@ -1,6 +1,6 @@
 //! Ranges of addresses, and whether any two of them share one.
 
-ghost use Rattle.std.specs.Prelude.{◌≡◌, ℕ, ◌≤◌, List, IsTrue};
+ghost use Rattle.std.specs.Prelude.{◌≡◌, ℕ, ◌+◌, ◌≤◌, List, IsTrue};
 ghost use Rattle.ldoverlap.specs.Extents.{meet, cover};
 
 /// A range of addresses. Its end may be past the last address.

@@ -1,8 +1,8 @@
 //! The output sections that meet others.
 
-ghost use Rattle.std.specs.Prelude.{◌≡◌, List, [], ◌++◌, map, IfOk, OnOk};
+ghost use Rattle.std.specs.Prelude.{◌≡◌, ◌++◌, IfOk, OnOk, length};
 ghost use Rattle.ldoverlap.specs.Meetings.{AreOverlaps};
-ghost use Rattle.ldoverlap.specs.Found.{extent_in, fault_in, first_met, met_by, met_before, extents_in};
+ghost use Rattle.ldoverlap.specs.Found.{extent_in, extents_in, fault_in, fault_with, first_met, met_before};
 
 use crate::extent::{Extent, are_ascending};
 use ldmodel::fault::Fault;
@@ -73,18 +73,30 @@ fn number(k: usize) -> Result<OutputIndex, NoMemory>
     }
 }
 
-/// The faults of all that meet an earlier one, with the first such.
-fn push_meetings(
+/// The fault of one that meets an earlier one, with the first such.
+fn push_meeting(
     faults: &mut Vec<Fault>,
     space: Space,
-    extents: &[Extent],
+    earlier: &[Extent],
+    extent: &Extent,
 ) -> Result<(), NoMemory>
+    ensures { OnOk result (faults.new.items ≡ faults.old.items ++ fault_with space (length earlier.now) (first_met earlier.now extent.now)) }
+{
+    let Some(met) = first_met(earlier, extent) else {
+        return Ok(());
+    };
+    let section = number(earlier.len())?;
+    let met = number(met)?;
+    faults.push(space.fault(section, met))?;
+    Ok(())
+}
+
+/// The faults of all that meet an earlier one.
+fn push_meetings(faults: &mut Vec<Fault>, space: Space, extents: &[Extent]) -> Result<(), NoMemory>
     ensures { OnOk result (faults.new.items ≡ faults.old.items ++ met_before space extents.now) }
 {
     for k in 0..extents.len() {
-        if let Some(earlier) = first_met(&extents[..k], &extents[k]) {
-            faults.push(space.fault(number(k)?, number(earlier)?))?;
-        }
+        push_meeting(faults, space, &extents[..k], &extents[k])?;
     }
     Ok(())
 }
@@ -100,7 +112,7 @@ fn push_overlaps(
     ensures { OnOk result (faults.new.items ≡ faults.old.items ++ met_before space (extents_in space sections.now)) }
 {
     let extents = extents(alloc, space, sections)?;
-    let mut ascending = extents.clone()?;
+    let mut ascending = Vec::from_slice(alloc, &extents)?;
     ascending.sort_unstable_by_key(|e| e.start);
     if are_ascending(&ascending) {
         return Ok(());

@@ -1,6 +1,6 @@
 -- Output sections that share a segment, as the code groups them: from the first to the last, by their numbers.
-use Rattle.std.specs.Prelude.{◌≡◌, ℕ, ◌+◌, ◌-◌, ◌<◌, ◌^◌, List, [], ◌∷◌, ◌++◌, map, Option, Some, None, Bool, not, ◌==◌}
-use Rattle.std.specs.Prelude.{cond, slice_get, if◌then◌else◌}
+use Rattle.std.specs.Prelude.{◌≡◌, ⊤, ℕ, ◌+◌, ◌-◌, ◌<◌, ◌^◌, List, [], ◌∷◌, ◌++◌, map, Option, Some, None, ◌==◌}
+use Rattle.std.specs.Prelude.{slice_get, if◌then◌else◌}
 use Rattle.std.specs.List.{All, AllZip, last_or}
 use Rattle.ldmodel.specs.Layout.{PlacedSection}
 use Rattle.ldmodel.specs.Lent.{placed_of}
@@ -95,9 +95,10 @@ pub record IsCurrent (sections : List PlacedSection) (c : Current) (x : Running)
   pub group : IsGroup sections c.group x.group
   pub last : placed_of c.last ≡ x.last
 
-pub data IsRunning (sections : List PlacedSection) : Option Current → Option Running → Type 0 where
-  none : IsRunning sections None None
-  some : {c : Current} {x : Running} → IsCurrent sections c x → IsRunning sections (Some c) (Some x)
+abbrev pub IsRunning : List PlacedSection → Option Current → Option Running → Type 0
+IsRunning sections None None = ⊤
+IsRunning sections (Some c) (Some x) = IsCurrent sections c x
+IsRunning sections _ _ = ⊥
 
 -- the groups so far, where the output sections that are left are these
 pub record Grouped (sections rest : List PlacedSection) (done : List code.Group) (running : Option Running) : Type 0 where

@@ -1,5 +1,5 @@
 -- The length of the image, of the sizes of its parts.
-use Rattle.std.specs.Prelude.{◌≡◌, ℕ, ◌+◌, ◌*◌, List, [], ◌∷◌, length}
+use Rattle.std.specs.Prelude.{◌≡◌, ℕ, List, length}
 use Rattle.ldmodel.specs.Layout.{Layout}
 use Rattle.ldmodel.specs.Lent.{AreSegments}
 use Rattle.ldmodel.specs.Project.{Project}

@@ -1,5 +1,5 @@
 -- Where groups stand in the file.
-use Rattle.std.specs.Prelude.{◌≡◌, ℕ, ◌+◌, List, [], ◌∷◌, map, ◌==◌, if◌then◌else◌}
+use Rattle.std.specs.Prelude.{◌≡◌, ⊤, ℕ, ◌+◌, ◌≤◌, List, [], ◌∷◌, map, ◌==◌, if◌then◌else◌}
 use Rattle.ldmodel.specs.Layout.{PlacedSection}
 use Rattle.ldmodel.specs.Lent.{AreSegments, placed_of}
 use Rattle.ldmodel.specs.Segments.{congruent, segments}
@@ -32,3 +32,8 @@ past end x = if x.file_size == 0 then end else x.offset + x.file_size
 unfoldable pub segments_from : ℕ → List Group → List Segment
 segments_from end [] = []
 segments_from end (g ∷ gs) = segment_at end g ∷ segments_from (past end (segment_at end g)) gs
+
+-- each begins less than a page past the file bytes before it
+unfoldable pub Follow : ℕ → List Segment → Type 0
+Follow end [] = ⊤
+Follow end (x ∷ xs) = (x.offset ≤ end + 4096) × Follow (past end x) xs

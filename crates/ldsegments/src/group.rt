@@ -1,6 +1,6 @@
 //! Output sections that share a segment, before it is known where they stand in the file.
 
-ghost use Rattle.std.specs.Prelude.{◌≡◌, ℕ, ◌+◌, ◌-◌, ◌<◌, ◌^◌, List, IfOk, OnOk};
+ghost use Rattle.std.specs.Prelude.{◌≡◌, ℕ, ◌+◌, ◌-◌, ◌<◌, ◌^◌, List, IfOk, OnOk, cond, ◌==◌};
 ghost use Rattle.std.specs.List.{All};
 ghost use Rattle.ldmodel.specs.Segments.{shares_segment};
 ghost use Rattle.ldsegments.specs.Grouping.{Ends, AreGroups, Takes, bare, begun, joined};
@@ -67,7 +67,11 @@ fn begin(number: OutputIndex, section: &Placed) -> Group
 fn size_in_file(section: &Placed, reach: u64, before: u64) -> u64
     ensures { result ≡ cond (section.now.load_size == 0) before reach }
 {
-    if section.load_size == 0 { before } else { reach }
+    if section.load_size == 0 {
+        before
+    } else {
+        reach
+    }
 }
 
 /// A group and one more output section.
@@ -156,8 +160,11 @@ pub(crate) fn groups(alloc: Global, sections: &[Placed]) -> Result<Vec<Group>, N
     for (number, section) in sections.iter().enumerate() {
         grouping.take(number, section)?;
     }
-    if let Some(running) = grouping.running {
-        grouping.done.push(running.group)?;
+    match grouping.running {
+        Some(running) => {
+            grouping.done.push(running.group)?;
+            Ok(grouping.done)
+        }
+        None => Ok(grouping.done),
     }
-    Ok(grouping.done)
 }

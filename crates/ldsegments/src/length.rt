@@ -1,9 +1,12 @@
 //! The length of the image.
 
-ghost use Rattle.std.specs.Prelude.{◌≡◌, ℕ, ◌+◌, ◌*◌, ◌≤◌, ◌<◌, ◌^◌, List, length, nat_lt, Option, Some, None, if◌then◌else◌};
+ghost use Rattle.std.specs.Prelude.{◌≡◌, ℕ, ◌+◌, ◌*◌, ◌≤◌, ◌<◌, ◌^◌, List, fold, length, nat_lt, Option, Some, None, if◌then◌else◌};
+ghost use Rattle.std.specs.Int.{next_multiple_of};
 ghost use Rattle.ldmodel.specs.Link.{max_image_length};
 ghost use Rattle.ldmodel.specs.declared.fault.Fault.TheVariants.{ImageTooLong};
+ghost use Rattle.ldmodel.specs.Segments.{headers_end};
 ghost use Rattle.ldsegments.specs.Length.{IsImageLength};
+ghost use Rattle.ldsegments.specs.Placing.{Follow, past};
 
 use crate::segments::{end_after, header_length};
 use ldmodel::fault::Fault;
@@ -27,20 +30,33 @@ pub struct TailSizes {
 
 /// The least multiple of 8 not below a number.
 fn align(x: u128) -> u128
-    requires { x < 2 ^ 127 }
+    requires { x + 8 < 2 ^ 128 }
     ensures { result ≡ next_multiple_of x 8 }
 {
     x + (8 - x % 8) % 8
 }
 
+/// The number of segments; no slice has 2^63 elements.
+fn count(segments: &[Segment]) -> usize
+    ensures value { result ≡ length segments.now }
+    ensures small { result < 2 ^ 63 }
+{
+    segments.len()
+}
+
+/// A cap that no file reaches.
+const FAR: u128 = 3 << 126;
+
 /// Where the loaded part of the file ends: at the end of the last file bytes, or of the headers.
 fn loaded_end(segments: &[Segment]) -> u128
+    ensures exact { Follow (headers_end (length segments.now)) segments.now → result ≡ fold past (headers_end (length segments.now)) segments.now }
+    ensures far { result ≤ 3 * 2 ^ 126 }
 {
-    let mut end = header_length(segments.len());
+    let mut end = header_length(count(segments));
     for segment in segments {
-        end = end_after(end, segment);
+        end = end_after(end, *segment);
     }
-    end
+    end.min(FAR)
 }
 
 /// The length of an image with these segments and this tail.

@@ -20,7 +20,7 @@ pub(crate) fn header_length(count: usize) -> u128
 
 /// The least place not below `end` that is congruent to an address modulo the page size.
 fn congruent_place(end: u128, address: u64) -> u128
-    requires { end < 2 ^ 127 }
+    requires { end + 4096 < 2 ^ 128 }
     ensures { result ≡ congruent end address }
 {
     let page = u128::from(PAGE_SIZE);
@@ -28,7 +28,7 @@ fn congruent_place(end: u128, address: u64) -> u128
 }
 
 fn place_segment(end: u128, group: &Group) -> Segment
-    requires { end < 2 ^ 127 }
+    requires { end + 4096 < 2 ^ 128 }
     ensures { result ≡ segment_at end group.now }
 {
     Segment {
@@ -45,14 +45,15 @@ fn place_segment(end: u128, group: &Group) -> Segment
 }
 
 /// Where the file bytes end after a segment.
-pub(crate) fn end_after(end: u128, segment: &Segment) -> u128
-    requires { segment.now.offset + segment.now.file_size < 2 ^ 128 }
-    ensures { result ≡ past end segment.now }
+pub(crate) fn end_after(end: u128, segment: Segment) -> u128
+    ensures value { segment.offset + segment.file_size < 2 ^ 128 → result ≡ past end segment }
+    ensures near { segment.offset ≤ end + 4096 → result ≤ end + 4096 + 2 ^ 64 }
+    ensures fits { end + 4096 + 2 ^ 64 < 2 ^ 128 → segment.offset ≤ end + 4096 → segment.offset + segment.file_size < 2 ^ 128 }
 {
     if segment.file_size == 0 {
         end
     } else {
-        segment.offset + u128::from(segment.file_size)
+        segment.offset.saturating_add(u128::from(segment.file_size))
     }
 }
 
@@ -64,14 +65,14 @@ pub(crate) fn end_after(end: u128, segment: &Segment) -> u128
 /// Out of memory.
 pub fn segments(alloc: Global, laid: Laid<'_>) -> Result<Vec<Segment>, NoMemory>
     requires ends { Ends laid.sections.now }
-    ensures { IfOk result (λ v. AreAllSegments laid.sections.now v.items) }
+    ensures { IfOk result (λ v. AreAllSegments laid.entry.sections.now v.items) }
 {
     let groups = groups(alloc, laid.sections)?;
     let mut end = header_length(groups.len());
     let mut segments = Vec::with_capacity(alloc, groups.len())?;
     for group in &groups {
         let segment = place_segment(end, group);
-        end = end_after(end, &segment);
+        end = end_after(end, segment);
         segments.push(segment)?;
     }
     Ok(segments)

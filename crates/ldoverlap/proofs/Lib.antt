@@ -1,0 +1,4 @@
+pub mod Covering
+pub mod Apart
+pub mod Finding
+pub mod Named

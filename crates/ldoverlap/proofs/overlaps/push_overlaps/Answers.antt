@@ -1,0 +1,19 @@
+-- Where the copy in order ascends no two meet.
+use Rattle.std.proofs.Common.{◌∙◌, ◌++◌, ◌≤◌, ℕ, sym, ap, subst, IsPermutation}
+use Rattle.std.proofs.lemmas.List.{append-nil}
+use Rattle.ldoverlap.specs.Extents.{cover}
+use Rattle.ldoverlap.specs.Found.{extents_in}
+use Rattle.ldoverlap.proofs.Apart.{apart_in_order}
+use Rattle.ldoverlap.proofs.overlaps.push_overlaps.Goals as goal
+
+pub returns-then-are_ascending : goal.returns-then-are_ascending
+returns-then-are_ascending c =
+    let all = extents_in c.args.space c.args.sections.now in
+    let moved : IsPermutation all c.sort_unstable_by_key.new.self.items =
+    subst (λ l. IsPermutation l c.sort_unstable_by_key.new.self.items)
+    (c.in_ok-ascending.ensures.items ∙ c.deref.ensures.value ∙ c.in_ok-extents.ensures)
+    c.sort_unstable_by_key.ensures.permutation in
+    let apart : (address : ℕ) → cover address c.sort_unstable_by_key.new.self.items ≤ 1 =
+    λ a. subst (λ l. cover a l ≤ 1) c.deref-2.ensures.value (c.are_ascending.ensures c.if-are_ascending.true a) in
+    sym (ap (λ l. c.args.faults.now.items ++ l) (apart_in_order c.args.space all c.sort_unstable_by_key.new.self.items moved apart)
+    ∙ append-nil c.args.faults.now.items)
