@@ -38,8 +38,8 @@ unfolding section_end
 end_is n h d line o head q e =
     let same : placed_section o head (ended_body n h d) ≡ q = alone_same n h d o head ∙ sym e in
     rw same (regrouped (with_room (option_and_then (region_named d.regions) o.region) q.start q.size q)
-        (with_room (option_and_then (region_named d.regions) (load_region o.load)) q.load q.load_size q)
-        (address line (q.load + q.load_size)) (Ok (with_section (ended_body n h d).layout o q)))
+    (with_room (option_and_then (region_named d.regions) (load_region o.load)) q.load q.load_size q)
+    (address line (q.load + q.load_size)) (Ok (with_section (ended_body n h d).layout o q)))
 
 -- where a section ends
 pub ends_there : (n : Naming) (h : Here) (o : OutputSection) (head : Head) (q : PlacedSection) → q ≡ placed_section o head (body_alone n h) → q.start + q.size ≡ max h.dot head.start

@@ -7,7 +7,7 @@ use Rattle.std.proofs.Common.{replicate, length-append, ◌==◌}
 use Rattle.std.proofs.lemmas.List.{length-map, append-nil, get_or-set_other, map-append, get_or-replicate, length-replicate, length-set, get_or_at}
 use Rattle.std.proofs.Math.ListN.{get_or-append}
 use Rattle.std.proofs.lemmas.Bool.{eqb-true, eqb-false}
-use Rattle.std.proofs.lemmas.List.Elements.{filter-append}
+use Rattle.std.proofs.lemmas.List.Elements.{filter-append, All-push}
 use Rattle.std.proofs.lemmas.Option.{slice_get-map, slice_get-get_or, slice_get_past}
 use Rattle.std.proofs.lemmas.Grind.{get_or-set_at}
 use Rattle.ldtree.specs.Given.{section_number, region_number}
@@ -20,7 +20,7 @@ use Rattle.place.proofs.Numbers.{sections_told, regions_told}
 use Rattle.place.proofs.Tabled.{found_under}
 use Rattle.place.specs.Keyed.{KeyedSection, section_of}
 use Rattle.place.specs.Naming.{Naming}
-use Rattle.place.specs.SectionTable.{keyed, section_names, nameless, difference_by, AreSectionsOf}
+use Rattle.place.specs.SectionTable.{keyed, section_names, nameless, difference_by, AreSectionsOf, Fits}
 use Rattle.place.specs.Tables.{AreInOrder}
 use Rattle.place.specs.declared.sections.Closed.{Closed}
 
@@ -48,6 +48,7 @@ no_sections script xs ds n a b = rw (a, b) (record {
   order = λ k l. absurd (omega arith);
   differences_of = λ name k e l. get_or-replicate n k 0 0 (omega (arith, length-replicate {A = ℕ} n 0));
   elsewhere_of = refl;
+  ends = λ k d l. absurd (omega arith);
 })
 
 last_or_push : {X : Type 0} (o : Option X) (xs : List X) (x : X) → last_or o (xs ++ x ∷ []) ≡ Some x
@@ -65,16 +66,19 @@ unfolding difference_by difference_in
 difference_other xs x region e =
     rw (map-append (section_of nameless) xs (x ∷ []), filter-append (λ (q : PlacedSection). same_region q.region region) (map (section_of nameless) xs) (section_of nameless x ∷ []), e, append-nil) refl
 
-module _ (script : List Statement) (xs : List KeyedSection) (x : KeyedSection) (ds : List ℕ) (elsewhere : ℕ) (o : AreSectionsOf script xs ds elsewhere) (next : section_number script x.name ≡ Some (length xs)) where
+module _ (script : List Statement) (xs : List KeyedSection) (x : KeyedSection) (ds : List ℕ) (elsewhere : ℕ) (o : AreSectionsOf script xs ds elsewhere) (next : section_number script x.name ≡ Some (length xs)) (fits : Fits x) where
   order_more : AreInOrder (section_number script) (section_names (xs ++ x ∷ []))
   order_more k l = rw names (go (k == length xs) refl)
     where
       names : section_names (xs ++ x ∷ []) ≡ section_names xs ++ x.name ∷ []
       names = map-append (λ (y : KeyedSection). y.name) xs (x ∷ [])
+
       long : length (section_names xs) ≡ length xs
       long = length-map xs (λ (y : KeyedSection). y.name)
+
       whole : length (section_names (xs ++ x ∷ [])) ≡ length xs + 1
       whole = length-map (xs ++ x ∷ []) (λ (y : KeyedSection). y.name) ∙ length-append xs (x ∷ [])
+
       go : (b : Bool) → (k == length xs) ≡ b → section_number script (get_or (section_names xs ++ x.name ∷ []) k []) ≡ Some k
       go true e =
           let k_is : k ≡ length xs = eqb-true k (length xs) e in
@@ -91,6 +95,7 @@ module _ (script : List Statement) (xs : List KeyedSection) (x : KeyedSection) (
     order = order_more;
     differences_of = λ name k e l. o.differences_of name k e l ∙ sym (difference_other xs x (Some name) (ap (λ r. same_region r (Some name)) none));
     elsewhere_of = sym (difference_same xs x None (ap (λ r. same_region r None) none));
+    ends = All-push (λ (y : KeyedSection). Fits y) xs x o.ends fits;
   }
 
   -- a section that names a region
@@ -99,6 +104,7 @@ module _ (script : List Statement) (xs : List KeyedSection) (x : KeyedSection) (
     order = order_more;
     differences_of = λ name k e h. go name k e (omega (arith, h, length-set ds j (difference_of (section_of nameless x)))) (bytes_eq region name) refl;
     elsewhere_of = o.elsewhere_of ∙ sym (difference_other xs x None (ap (λ r. same_region r None) some));
+    ends = All-push (λ (y : KeyedSection). Fits y) xs x o.ends fits;
   }
     where
       go : (name : List ℕ) (k : ℕ) → region_number script name ≡ Some k → k < length ds → (b : Bool) → bytes_eq region name ≡ b → get_or (set ds j (difference_of (section_of nameless x))) k 0 ≡ difference_by (xs ++ x ∷ []) (Some name)

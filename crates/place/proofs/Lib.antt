@@ -12,3 +12,5 @@ pub mod Rows
 pub mod Wholes
 pub mod Grows
 pub mod Outputs
+pub mod Reporting
+pub mod Good

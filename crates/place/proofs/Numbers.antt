@@ -101,3 +101,15 @@ symbol_named_by script name k e =
     let f = symbol_at script name k e in
     let same : k ≡ f.more = omega (arith, f.here) in
     ap (λ j. option_map_or name_of_command (slice_get (common_commands script) j) []) same ∙ f.named
+
+pub section_named_by : (script : List Statement) (name : List ℕ) (k : ℕ) → section_number script name ≡ Some k → option_map_or (λ (s : OutputSectionAt). s.section.name) (slice_get (output_sections script) k) [] ≡ name
+section_named_by script name k e =
+    let f = section_at 0 (output_sections script) name k e in
+    let same : k ≡ f.more = omega (arith, f.here) in
+    ap (λ j. option_map_or name_of_section (slice_get (output_sections script) j) []) same ∙ f.named
+
+pub region_named_by : (script : List Statement) (name : List ℕ) (k : ℕ) → region_number script name ≡ Some k → option_map_or (λ (r : Region). r.name) (slice_get (regions script) k) [] ≡ name
+region_named_by script name k e =
+    let f = region_at 0 (regions script) name k e in
+    let same : k ≡ f.more = omega (arith, f.here) in
+    ap (λ j. option_map_or name_of_region (slice_get (regions script) j) []) same ∙ f.named

@@ -72,6 +72,7 @@ module _ {X : Type 0} (name_of : X → List ℕ) (number : List ℕ → Option �
     where
       zero_more : (k : ℕ) → k ≡ 0 + k
       zero_more k = omega arith
+
       go : (r : Option ℕ) → at_option 0 xs r ≡ option_and_then (λ k. slice_get xs k) r
       go None = refl
       go (Some k) = ap (at_number 0 xs) (zero_more k) ∙ at_number_is 0 xs k
@@ -120,6 +121,7 @@ module _ (script : List Statement) (values : List (Option ℕ)) (xs : List Scrip
       go (Some j) f h =
           let other : j ≢ k = (λ s. let a = is_same_name x.name m ((symbols_told script).apart x.name m k known (f ∙ ap Some s)) in let no : ⊥ = cc in no) in
           ap (entry_under vs) f ∙ (same j other ∙ (sym (ap (entry_under values) f) ∙ h))
+
       rest : (o : Option ℕ) → o ≡ or_else o None
       rest None = refl
       rest (Some v) = refl

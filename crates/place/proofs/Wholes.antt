@@ -1,5 +1,5 @@
 -- The parts of all output sections, by the layout that they stand for.
-use Rattle.std.proofs.Common.{◌≡◌, ℕ, suc, ◌+◌, List, [], ◌∷◌, ◌++◌, map, refl, sym, ap, ◌∙◌, ◌<◌, length, get_or, drop, append_assoc}
+use Rattle.std.proofs.Common.{◌≡◌, ℕ, zero, suc, arith, ◌+◌, List, [], ◌∷◌, ◌++◌, map, refl, sym, ap, ◌∙◌, ◌<◌, length, get_or, drop, append_assoc}
 use Rattle.std.proofs.lemmas.List.{drop_more}
 use Rattle.place.specs.SectionTable.{keyed, keyed_piece}
 use Rattle.place.specs.declared.sections.Closed.{Closed}
@@ -9,6 +9,8 @@ use Rattle.ldmodel.specs.Layout.{PlacedPiece}
 use Rattle.ldmodel.specs.Lent.{placed_of, starts_of, numbered}
 use Rattle.place.specs.Keyed.{KeyedPiece, KeyedSection, section_of, piece_at}
 use Rattle.place.specs.Naming.{Naming}
+use Rattle.place.specs.Places.{Ends}
+use Rattle.place.specs.SectionTable.{Ends as KeyedEnds}
 use Rattle.place.specs.Wholes.{placed_in, starts_in, data_in, all_data_in}
 
 pub placed_whole : (n : Naming) (xs : List KeyedSection) → placed_in xs ≡ map placed_of (map (section_of n) xs)
@@ -33,3 +35,8 @@ pub starts_more : (xs : List Closed) (i : ℕ) (x : Closed) (all old new : List 
 starts_more xs i x all old new l at h e =
     let here : drop i xs ≡ x ∷ drop (i + 1) xs = drop_more xs i x l ∙ ap (λ y. y ∷ drop (i + 1) xs) (sym at) in
     h ∙ (ap (λ ys. old ++ starts_in (map keyed ys)) here ∙ (sym (append_assoc old (map (λ (p : KeyedPiece). p.start) (map keyed_piece x.pieces.items)) (starts_in (map keyed (drop (i + 1) xs)))) ∙ ap (λ ys. ys ++ starts_in (map keyed (drop (i + 1) xs))) (sym e)))
+
+pub ends_whole : (xs : List KeyedSection) → KeyedEnds xs → Ends (placed_in xs)
+ends_whole [] h k d l = absurd (omega arith)
+ends_whole (x ∷ xs) h zero d l = h 0 x (omega arith)
+ends_whole (x ∷ xs) h (suc k) d l = ends_whole xs (λ j e m. h (suc j) e (omega arith)) k d (omega arith)

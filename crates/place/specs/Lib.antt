@@ -8,6 +8,7 @@ pub mod ProvidedTable
 pub mod State
 pub mod Inputs
 pub mod Places
+pub mod Outcomes
 pub mod Wholes
 pub mod Heads
 pub mod Ends

@@ -1,6 +1,6 @@
 -- Where everything of a script stands, as the code keeps it.
-use Rattle.std.specs.Prelude.{◌≡◌, ℕ, List, ⊤, map, flat_map, Result, Ok, Err}
-use Rattle.std.specs.List.{enumerate_from}
+use Rattle.std.specs.Prelude.{◌≡◌, ℕ, ◌+◌, ◌^◌, ◌<◌, List, ⊤, map, flat_map, Result, Ok, Err}
+use Rattle.std.specs.List.{All, enumerate_from}
 use Rattle.ldtree.specs.declared.statement.Statement.{Statement}
 use Rattle.ldmodel.specs.Fault.{Fault}
 use Rattle.ldmodel.specs.FaultCode.{fault_of}
@@ -23,6 +23,10 @@ pub record Places : Type 0 where
   pub dots : List ℕ
   pub symbols : List ScriptSymbol
   pub regions : List PlacedRegion
+
+-- the end of each output section is an address
+abbrev pub Ends : List Placed → Type 0
+Ends sections = All (λ (q : Placed). q.start + q.size < 2 ^ 64) sections
 
 -- they are those of the layout of a script
 pub record AreOf (script : List Statement) (s : Layout) (p : Places) : Type 0 where

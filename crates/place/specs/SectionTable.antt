@@ -1,5 +1,6 @@
 -- The table of the output sections in their places.
-use Rattle.std.specs.Prelude.{◌≡◌, ℕ, ◌<◌, List, [], length, map, Option, Some, None, slice_index}
+use Rattle.std.specs.Prelude.{◌≡◌, ℕ, ◌+◌, ◌^◌, ◌<◌, List, [], length, map, Option, Some, None, slice_index}
+use Rattle.std.specs.List.{All}
 use Rattle.ldtree.specs.Given.{section_number, region_number}
 use Rattle.ldtree.specs.declared.statement.Statement.{Statement}
 use Rattle.ldmodel.specs.SectionHead.{difference_in}
@@ -32,10 +33,18 @@ nameless = record { object = λ _. []; section = λ _. [] }
 unfoldable pub difference_by : List KeyedSection → Option (List ℕ) → ℕ
 difference_by sections region = difference_in (map (section_of nameless) sections) region
 
--- the sections stand under their numbers, and the differences under those of their regions
+-- the end of a section is an address
+abbrev pub Fits : KeyedSection → Type 0
+Fits x = x.placed.start + x.placed.size < 2 ^ 64
+
+abbrev pub Ends : List KeyedSection → Type 0
+Ends sections = All (λ (x : KeyedSection). Fits x) sections
+
+-- the sections stand under their numbers, their ends are addresses, and the differences under those of their regions
 pub record AreSectionsOf (script : List Statement) (sections : List KeyedSection) (differences : List ℕ)
     (elsewhere : ℕ) : Type 0 where
   pub order : AreInOrder (section_number script) (section_names sections)
   pub differences_of : (name : List ℕ) (k : ℕ) → region_number script name ≡ Some k → k < length differences
       → slice_index differences k ≡ difference_by sections (Some name)
   pub elsewhere_of : elsewhere ≡ difference_by sections None
+  pub ends : Ends sections

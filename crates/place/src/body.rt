@@ -137,7 +137,12 @@ impl<'d, 'a> Frame<'d, 'a> {
         }
     }
 
-    fn move_dot(&self, here: &mut Here<'a>, line: u32, command: &'a DotCommand) -> Result<(), Stop<'a>>
+    fn move_dot(
+        &self,
+        here: &mut Here<'a>,
+        line: u32,
+        command: &'a DotCommand,
+    ) -> Result<(), Stop<'a>>
         ghost naming: { Naming }
         ensures gives { Gives (dot_step line (body_of naming here.old self.now) command.now) (body_of naming here.new self.now) result }
     {
@@ -148,7 +153,12 @@ impl<'d, 'a> Frame<'d, 'a> {
     }
 
     #[tactic(auto, unfolding(ldmodel::specs::Body::body_command_step))]
-    fn place_command(&self, here: &mut Here<'a>, line: u32, command: &'a BodyCommand) -> Result<(), Stop<'a>>
+    fn place_command(
+        &self,
+        here: &mut Here<'a>,
+        line: u32,
+        command: &'a BodyCommand,
+    ) -> Result<(), Stop<'a>>
         ghost naming: { Naming }
         ensures gives { Gives (body_command_step self.now.provided.now line (body_of naming here.old self.now) command.now) (body_of naming here.new self.now) result }
     {
@@ -160,7 +170,11 @@ impl<'d, 'a> Frame<'d, 'a> {
         }
     }
 
-    fn place_statement(&self, here: &mut Here<'a>, statement: &'a BodyStatement) -> Result<(), Stop<'a>>
+    fn place_statement(
+        &self,
+        here: &mut Here<'a>,
+        statement: &'a BodyStatement,
+    ) -> Result<(), Stop<'a>>
         ghost naming: { Naming }
         ensures gives { Gives (body_step self.now.provided.now (body_of naming here.old self.now) statement.now) (body_of naming here.new self.now) result }
     {

@@ -10,7 +10,7 @@ ghost use Rattle.place.specs.Heads.{head_from, Yields};
 ghost use Rattle.place.specs.Keyed.{piece_at, section_of};
 ghost use Rattle.place.specs.Naming.{Naming};
 ghost use Rattle.place.specs.RegionTable.{region_of};
-ghost use Rattle.place.specs.SectionTable.{keyed, keyed_piece};
+ghost use Rattle.place.specs.SectionTable.{keyed, keyed_piece, Fits};
 ghost use Rattle.place.specs.State.{layout_of, Gives};
 
 use crate::head::{Head, region_name};
@@ -171,6 +171,7 @@ impl<'a> Here<'a> {
     fn close(&mut self, alloc: Global, output: &'a OutputSection, head: Head) -> Closed<'a>
         ghost naming: { Naming }
         ensures value { section_of naming (keyed result) ≡ placed_section output.now (head_from head) (body_alone naming self.old) }
+        ensures fits { Fits (keyed result) }
         ensures dot { self.new.dot ≡ self.old.dot }
         ensures dots { self.new.dots.items ≡ self.old.dots.items }
         ensures inputs { self.new.inputs ≡ self.old.inputs }

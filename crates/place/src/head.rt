@@ -115,12 +115,7 @@ impl<'a> Here<'a> {
     }
 
     /// The number of `AT(e)`.
-    fn loaded_at(
-        &self,
-        done: &Done<'a>,
-        line: u32,
-        load: &'a Load,
-    ) -> Result<Option<u64>, Stop<'a>>
+    fn loaded_at(&self, done: &Done<'a>, line: u32, load: &'a Load) -> Result<Option<u64>, Stop<'a>>
         ghost naming: { Naming }
         ensures { outcome result ≡ number_if_given (layout_of naming self.now done.now) line (given_load load.now) }
     {
@@ -132,7 +127,12 @@ impl<'a> Here<'a> {
 
     /// The expressions of a head, in the order of the text.
     #[tactic(auto, unfolding(ldmodel::specs::SectionHead::given))]
-    fn given(&self, done: &Done<'a>, line: u32, section: &'a OutputSection) -> Result<Given, Stop<'a>>
+    fn given(
+        &self,
+        done: &Done<'a>,
+        line: u32,
+        section: &'a OutputSection,
+    ) -> Result<Given, Stop<'a>>
         ghost naming: { Naming }
         ensures given { Yields given_of (given (layout_of naming self.now done.now) line section.now) result }
         ensures positive { IfOk result (λ g. 0 < g.alignment) }

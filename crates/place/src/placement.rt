@@ -4,7 +4,7 @@ ghost use Rattle.std.specs.Prelude.{◌≡◌, List, slice_get};
 ghost use Rattle.ldtree.specs.declared.statement.Statement.{Statement};
 ghost use Rattle.ldmodel.specs.Layout.{Layout};
 ghost use Rattle.ldmodel.specs.Lent.{IsLaid};
-ghost use Rattle.place.specs.Places.{AreOf};
+ghost use Rattle.place.specs.Places.{AreOf, Ends};
 
 use ldmodel::laid::{Laid, Placed, PlacedData, PlacedRegion};
 use ldmodel::script_symbol::ScriptSymbol;
@@ -27,7 +27,11 @@ impl Model for Placement {
 
     ghost Value = { Places };
 
+    ghost use Rattle.place.specs.Places.{Ends};
+
     ghost view = { λ p. record { sections = p.sections.items; starts = p.starts.items; data_commands = p.data_commands.items; dots = p.dots.items; symbols = p.symbols.items; regions = p.regions.items } };
+
+    ghost invariant = { λ p. Ends p.sections.items };
 }
 
 impl Placement {
@@ -39,6 +43,7 @@ impl Placement {
         ensures dots { result.dots.now ≡ self.now.dots }
         ensures symbols { result.symbols.now ≡ self.now.symbols }
         ensures regions { result.regions.now ≡ self.now.regions }
+        ensures ends { Ends result.sections.now }
         ensures laid { (script : List Statement) (s : Layout) → AreOf script s self.now → IsLaid script s result }
     {
         Laid {

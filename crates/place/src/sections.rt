@@ -3,7 +3,7 @@
 ghost use Rattle.std.specs.Prelude.{◌≡◌, [], ◌∷◌, ◌++◌, length, map, replicate, IfOk, OnOk, IfErr, IfSome, find, bytes_eq, option_map};
 ghost use Rattle.std.specs.Option.{option_copied};
 ghost use Rattle.place.specs.Keyed.{KeyedSection};
-ghost use Rattle.place.specs.SectionTable.{keyed, difference_by};
+ghost use Rattle.place.specs.SectionTable.{keyed, difference_by, Ends, Fits};
 ghost use Rattle.place.specs.declared.stop.Stop.TheVariants.{NoMemory};
 
 use crate::stop::Stop;
@@ -94,7 +94,8 @@ impl<'a> Sections<'a> {
 
     /// All of them.
     pub fn as_slice(&self) -> &[Closed<'a>]
-        ensures { map keyed result.now ≡ self.now }
+        ensures all { map keyed result.now ≡ self.now }
+        ensures ends { Ends self.now }
     {
         &self.list
     }
@@ -144,6 +145,7 @@ impl<'a> Sections<'a> {
 
     /// One more output section. It is an error where memory ran out.
     pub fn push(&mut self, section: Closed<'a>) -> Result<(), Stop<'a>>
+        requires { Fits (keyed section) }
         ensures pushed { OnOk result (self.new ≡ self.old ++ keyed section.entry ∷ []) }
         ensures refused { IfErr result (λ f. f ≡ NoMemory) }
     {
