@@ -14,3 +14,4 @@ pub mod Grows
 pub mod Outputs
 pub mod Reporting
 pub mod Good
+pub mod Multiples

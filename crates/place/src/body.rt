@@ -1,10 +1,10 @@
 //! The body of an output section.
 
-ghost use Rattle.std.specs.Prelude.{◌≡◌, ◌<◌, ◌+◌, length, drop, OnOk};
+ghost use Rattle.std.specs.Prelude.{◌^◌, ◌≤◌, IfSome, IfNone, ◌≡◌, ◌<◌, ◌+◌, length, drop, OnOk};
 ghost use Rattle.std.specs.Int.{next_multiple_of};
 ghost use Rattle.ldexpr.specs.DotForms.{dot_form};
 ghost use Rattle.ldexpr.specs.Expressions.{expr_of};
-ghost use Rattle.ldmodel.specs.Body.{advanced, body_command_step, body_step, data_step, dot_step, input_step, moved, piece_placed, pieces_placed, set_to};
+ghost use Rattle.ldmodel.specs.Body.{advanced, body_command_step, body_step, data_step, dot_step, input_step, moved, piece_placed, piece_start, pieces_placed, set_to};
 ghost use Rattle.ldmodel.specs.Chain.{run};
 ghost use Rattle.place.specs.Naming.{Naming, piece_named, row_named};
 ghost use Rattle.place.specs.State.{body_of, Gives};
@@ -15,7 +15,40 @@ use crate::stop::Stop;
 use ldmodel::rows::Piece;
 use ldscript::tree::{BodyCommand, BodyStatement, DotCommand, DotForm, Expr, Formula, Width};
 
+/// The start that was kept, where it is the least multiple of the alignment not below `.`.
+#[tactic(auto, using(crate::proofs::Multiples::next_multiple_is))]
+fn taken_over(kept: Option<&u64>, dot: u64, alignment: u64) -> Option<u64>
+    requires { 0 < alignment }
+    ensures { IfSome result (λ start. start ≡ next_multiple_of dot alignment) }
+{
+    let start = match kept {
+        Some(start) => *start,
+        None => return None,
+    };
+    if dot <= start && start - dot < alignment && start % alignment == 0 {
+        Some(start)
+    } else {
+        None
+    }
+}
+
 impl<'d, 'a> Frame<'d, 'a> {
+    /// Where the next entry of the row starts, and whether that was worked out anew.
+    fn start_of(&self, here: &Here<'a>, piece: &Piece) -> Option<(u64, bool)>
+        ghost naming: { Naming }
+        ensures some { IfSome result (λ s. s.0 ≡ piece_start here.now.dot (piece_named naming piece.now)) }
+        ensures none { IfNone result (2 ^ 64 ≤ piece_start here.now.dot (piece_named naming piece.now)) }
+    {
+        let alignment = piece.alignment.max(1);
+        match taken_over(self.kept.get(here.pieces.len()), here.dot, alignment) {
+            Some(start) => Some((start, false)),
+            None => match here.dot.checked_next_multiple_of(alignment) {
+                Some(start) => Some((start, true)),
+                None => None,
+            },
+        }
+    }
+
     /// The next entry of the row takes its place.
     #[tactic(auto, unfolding(ldmodel::specs::Body::piece_placed))]
     fn place_piece(&self, here: &mut Here<'a>, line: u32, piece: &'a Piece) -> Result<(), Stop<'a>>
@@ -23,14 +56,14 @@ impl<'d, 'a> Frame<'d, 'a> {
         ensures gives { Gives (piece_placed line (body_of naming here.old self.now) (piece_named naming piece.now) (row_named naming (drop (length here.old.pieces.items + 1) self.now.row.now))) (body_of naming here.new self.now) result }
         ensures one { OnOk result (length here.new.pieces.items ≡ length here.old.pieces.items + 1) }
     {
-        let Some(start) = here.dot.checked_next_multiple_of(piece.alignment.max(1)) else {
+        let Some((start, is_new)) = self.start_of(here, piece) else {
             return Err(Stop::PastAddressSpace { line });
         };
         let Some(end) = start.checked_add(piece.size) else {
             return Err(Stop::PastAddressSpace { line });
         };
         here.pieces.push(PieceAt { start, piece })?;
-        here.anew = here.anew.saturating_add(1);
+        here.anew = here.anew.saturating_add(u64::from(is_new));
         here.dot = end;
         Ok(())
     }

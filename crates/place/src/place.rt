@@ -52,6 +52,14 @@ fn nothing<'a>(alloc: Global, script: &'a Script) -> Result<Done<'a>, AllocError
     })
 }
 
+/// The starts that an earlier layout has, and the number of the output section before which they are taken over.
+fn kept_starts<'k>(kept: Option<(&'k Placement, usize)>) -> (&'k [u64], usize) {
+    match kept {
+        Some((placement, first)) => (placement.pieces(), first),
+        None => (&[], 0),
+    }
+}
+
 /// The layout of a script, or its first fault.
 #[tactic(auto, unfolding(ldmodel::specs::Placement::placement))]
 fn lay_out(
@@ -59,6 +67,7 @@ fn lay_out(
     script: &Script,
     rows: &[Vec<Piece>],
     provided: &[CommonIndex],
+    kept: Option<(&Placement, usize)>,
     meter: &mut Meter,
 ) -> Result<Placement, PlaceFault>
     ghost naming: { Naming }
@@ -68,10 +77,13 @@ fn lay_out(
     let provided = Provided::new(alloc, script, provided)?;
     let mut here = nowhere(alloc, script)?;
     let mut done = nothing(alloc, script)?;
+    let (starts, first) = kept_starts(kept);
     let input = Input {
         alloc,
         provided: &provided,
         rows,
+        kept: starts,
+        first,
     };
     let laid = input.place_statements(&mut here, &mut done, script.statements());
     meter.raise(Count::Pieces, here.anew);
@@ -84,6 +96,11 @@ fn lay_out(
 /// Lays a script out: one pass over its statements, in which the rows' entries take their places.
 ///
 /// `rows` has one row for each output section, in the order of the script, `provided` the PROVIDEs that are in force.
+/// With `kept`, an earlier placement of the script and the number of the first row that differs from the earlier one,
+/// the starts of pieces before that row are taken over, each after a look that it is right, and all statements are
+/// evaluated anew; so the layout is the same with any `kept`. The meter counts the pieces whose starts were not taken
+/// over.
+///
 /// What the pieces' objects and sections are called does not matter: the contract holds with any names.
 ///
 /// # Errors
@@ -102,8 +119,7 @@ pub fn place(
     ensures good { IfOk result (λ p. IsGood script.now (rows_named naming (map (λ v. v.items) rows.now)) (provided_names script.now provided.now) p) }
     ensures faulty { IfErr result (λ f. IsWhy script.now (rows_named naming (map (λ v. v.items) rows.now)) (provided_names script.now provided.now) f) }
 {
-    let _ = kept;
-    let placement = lay_out(alloc, script, rows, provided, meter)?;
+    let placement = lay_out(alloc, script, rows, provided, kept, meter)?;
     let meeting = overlaps(alloc, placement.sections())?;
     if meeting.as_slice().is_empty() {
         Ok(placement)

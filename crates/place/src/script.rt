@@ -23,6 +23,10 @@ pub(crate) struct Input<'i, 'a> {
     pub provided: &'i Provided<'a>,
     /// The rows of the output sections.
     pub rows: &'a [Vec<Piece>],
+    /// Where the entries of all rows started in an earlier layout.
+    pub kept: &'i [u64],
+    /// The number of the output section before which these are taken over.
+    pub first: usize,
 }
 
 fn row_at(rows: &[Vec<Piece>], section: usize) -> &[Piece]
@@ -60,6 +64,17 @@ impl<'a> Here<'a> {
 }
 
 impl<'i, 'a> Input<'i, 'a> {
+    /// What is taken over in the next output section.
+    fn kept_at(&self, done: &Done<'a>) -> &'i [u64] {
+        if done.sections.len() >= self.first {
+            return &[];
+        }
+        match self.kept.get(done.sections.count()..) {
+            Some(kept) => kept,
+            None => &[],
+        }
+    }
+
     #[tactic(auto, unfolding(ldmodel::specs::Placement::item_command_step), using(crate::proofs::Rows::next_row_is))]
     fn place_command(
         &self,
@@ -76,7 +91,8 @@ impl<'i, 'a> Input<'i, 'a> {
             ItemCommand::Common(command) => here.common(done, self.provided, line, command),
             ItemCommand::Section(output) => {
                 let row = row_at(self.rows, done.sections.len());
-                here.place_section(self.alloc, done, self.provided, row, line, output)
+                let kept = self.kept_at(done);
+                here.place_section(self.alloc, done, self.provided, row, kept, line, output)
             }
             ItemCommand::Discard(inputs) => {
                 let Some(next) = here.inputs.checked_add(inputs.as_slice().len() as u64) else {

@@ -37,6 +37,7 @@ impl<'a> Here<'a> {
         done: &Done<'a>,
         provided: &Provided<'a>,
         row: &'a [Piece],
+        kept: &[u64],
         head: Head,
         output: &'a OutputSection,
     ) -> Result<(), Stop<'a>>
@@ -48,6 +49,7 @@ impl<'a> Here<'a> {
             provided,
             row,
             start: head.start,
+            kept,
         };
         self.open(head.start);
         frame.place_body(self, output.body.as_slice())?;
@@ -62,6 +64,7 @@ impl<'a> Here<'a> {
         done: &mut Done<'a>,
         provided: &Provided<'a>,
         row: &'a [Piece],
+        kept: &[u64],
         line: u32,
         output: &'a OutputSection,
     ) -> Result<(), Stop<'a>>
@@ -69,7 +72,7 @@ impl<'a> Here<'a> {
         ensures { Gives (section_step provided.now (row_named naming row.now) (layout_of naming self.old done.old) line output.now) (layout_of naming self.new done.new) result }
     {
         let head = self.head(done, row, line, output)?;
-        self.body(done, provided, row, head, output)?;
+        self.body(done, provided, row, kept, head, output)?;
         self.end(alloc, done, line, output, head)?;
         Ok(())
     }

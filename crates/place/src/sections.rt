@@ -53,6 +53,7 @@ pub(crate) struct Closed<'a> {
 pub(crate) struct Sections<'a> {
     script: &'a Script,
     list: Vec<Closed<'a>>,
+    count: usize,
     differences: Vec<u64>,
     elsewhere: u64,
 }
@@ -87,6 +88,7 @@ impl<'a> Sections<'a> {
         Ok(Sections {
             script,
             list: Vec::new(alloc),
+            count: 0,
             differences,
             elsewhere: 0,
         })
@@ -105,6 +107,11 @@ impl<'a> Sections<'a> {
         ensures { result ≡ length self.now }
     {
         self.list.len()
+    }
+
+    /// How many input sections are in them.
+    pub fn count(&self) -> usize {
+        self.count
     }
 
     /// The numbers of the output section of a name.
@@ -158,9 +165,11 @@ impl<'a> Sections<'a> {
             return Err(Stop::NoMemory);
         }
         let difference = section.placed.start.wrapping_sub(section.placed.load);
+        let count = self.count.saturating_add(section.pieces.len());
         match &section.output.region {
             None => {
                 self.list.push(section)?;
+                self.count = count;
                 self.elsewhere = difference;
                 Ok(())
             }
@@ -170,6 +179,7 @@ impl<'a> Sections<'a> {
                         return Err(Stop::NoMemory);
                     }
                     self.list.push(section)?;
+                    self.count = count;
                     self.differences[number] = difference;
                     Ok(())
                 }
