@@ -49,11 +49,16 @@ class Wanted:
     def __init__(self, stream):
         self.stream, self.lines = stream, []
 
-    def lay_out(self, title, text, pieces=(), provided=(), by_hand=None):
-        """A case: pieces are (output section, input statement, kind, flags, size, alignment)."""
-        self.stream.case(title)
-        self.lines += ["", "case " + title]
-        self.stream.script(text)
+    def lay_out(self, title, text, pieces=(), provided=(), by_hand=None, first=None, anew=None):
+        """A case: pieces are (output section, input statement, kind, flags, size, alignment). With `first` the last
+        placement is kept before that row; without a title the case goes on with other rows. `anew` says how many pieces
+        are placed anew, where the rows before that row differ after all."""
+        if title is not None:
+            self.stream.case(title)
+            self.lines += ["", "case " + title]
+            self.stream.script(text)
+        else:
+            self.stream.line("rows")
         script = scripts.read(text.encode())
         outputs = [item for statement in script if isinstance(statement, tree.Sections)
                    for item in statement.items if isinstance(item, tree.OutputSection)]
@@ -65,7 +70,7 @@ class Wanted:
         for name in provided:
             self.stream.line("provided", next(k for k, c in enumerate(commands)
                                               if isinstance(c, tree.Provide) and c.name == name))
-        self.stream.line("place")
+        self.stream.line(*(["place"] if first is None else ["kept", first]))
         placement, faults = layout.place(Project(script), Decisions(provided), rows)
         if by_hand is not None:
             assert by_hand == (faults if faults else [placed.start for placed in placement.sections]), (title, faults, by_hand)
@@ -74,7 +79,9 @@ class Wanted:
             placed = len(pieces) if faults[0].startswith(("F9", "F10")) else 0
             self.lines += [self.fault(script, outputs, fault) for fault in faults] + [f"{placed} placed"]
         else:
-            self.lines += self.printed(script, commands, placement) + [f"{len(pieces)} placed"]
+            if anew is None:
+                anew = sum(first is None or section >= first for section, *_ in pieces)
+            self.lines += self.printed(script, commands, placement) + [f"{anew} placed"]
 
     @staticmethod
     def fault(script, outputs, text):
@@ -176,6 +183,26 @@ FAULTS = [
     ("both", "SECTIONS { .a 0 : { QUAD(1) } .b 4 : { QUAD(1) } .c 0 : { QUAD(1) } }", [], [],
      ["F9 .b .a", "F9 .c .a", "F10 .b .a", "F10 .c .a"]),
 ]
+REGIONS = ("MEMORY { rom : ORIGIN = 0x8000, LENGTH = 4K ram : ORIGIN = 0x20000, LENGTH = 4K } SECTIONS {"
+           " .text : { *(.text) } >rom .data : { *(.data) } >ram AT>rom .bss : { *(.bss) } >ram }")
+RESUMED = [
+    # title, script, then rows, starts by hand and the number of the first row that differs from the rows before
+    ("resumed", "SECTIONS { . = 0x401000; .text : { *(.text) } . = 0x402000; .data : { *(.data) } }", [
+        ([(0, 0, BYTES, CODE, 4, 1), (1, 1, BYTES, DATA, 8, 1)], [0x401000, 0x402000], None),
+        ([(0, 0, BYTES, CODE, 4, 1), (1, 1, BYTES, DATA, 12, 1)], [0x401000, 0x402000], 1),
+        ([(0, 0, BYTES, CODE, 8, 1), (1, 1, BYTES, DATA, 12, 1)], [0x401000, 0x402000], 0),
+        ([(0, 0, BYTES, CODE, 8, 1), (1, 1, BYTES, DATA, 12, 1)], [0x401000, 0x402000], 2),
+    ]),
+    ("resumed in regions", REGIONS, [
+        ([(0, 0, BYTES, CODE, 9, 1), (1, 1, BYTES, DATA, 8, 4), (2, 2, NONE, DATA, 16, 8)], [0x8000, 0x20000, 0x20008], None),
+        ([(0, 0, BYTES, CODE, 10, 1), (1, 1, BYTES, DATA, 8, 4), (2, 2, NONE, DATA, 16, 8)], [0x8000, 0x20000, 0x20008], 0),
+        ([(0, 0, BYTES, CODE, 10, 1), (1, 1, BYTES, DATA, 9, 4), (2, 2, NONE, DATA, 16, 8)], [0x8000, 0x20000, 0x20010], 1),
+    ]),
+    ("a kept start that is wrong is not taken over", "SECTIONS { .a : { *(.a) } }", [
+        ([(0, 0, BYTES, CODE, 4, 1), (0, 0, BYTES, CODE, 4, 1)], [0], None),
+        ([(0, 0, BYTES, CODE, 5, 1), (0, 0, BYTES, CODE, 4, 1)], [0], 1, 1),
+    ]),
+]
 
 
 def cases(stream):
@@ -183,6 +210,10 @@ def cases(stream):
     WANTED[:] = [wanted]
     for row in LAYOUTS + FAULTS:
         wanted.lay_out(*row)
+    for title, text, steps in RESUMED:
+        for pieces, starts, *more in steps:
+            wanted.lay_out(title, text, pieces, (), starts, *more)
+            title = None
 
 
 def expected(_stream):

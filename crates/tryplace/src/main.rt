@@ -4,7 +4,11 @@
 //!                                                          taken by this input statement; KIND is 1 for bytes, 8 for none
 //!     provided NUMBER                                      this PROVIDE is in force, by its number among the commands
 //!     place                                                the layout, or its faults
+//!     rows                                                 forgets all rows
+//!     kept FIRST                                           the same as `place`, with the last good placement kept before
+//!                                                          the row of this number
 //!     repeat TIMES                                         lays out that often, and prints how many pieces were placed
+//!     again TIMES FIRST                                    the same with the last good placement kept
 #![tactic(auto)]
 
 mod place;

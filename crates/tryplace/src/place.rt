@@ -11,6 +11,7 @@ use ldmodel::sections::{Part, SectionKey};
 use ldscript::tree::Width;
 use place::fault::PlaceFault;
 use place::place::place;
+use place::placement::Placement;
 use std::alloc::Global;
 use std::io;
 use std::io::Write;
@@ -27,6 +28,7 @@ const MAX_SECTIONS: usize = 0x1_0000;
 pub struct Rows {
     rows: Vec<Vec<Piece>>,
     provided: Vec<CommonIndex>,
+    last: Option<Placement>,
 }
 
 impl Rows {
@@ -35,6 +37,7 @@ impl Rows {
         Rows {
             rows: Vec::new(alloc),
             provided: Vec::new(alloc),
+            last: None,
         }
     }
 
@@ -77,17 +80,25 @@ impl Rows {
         Ok(true)
     }
 
-    fn place<W: Write>(&self, alloc: Global, state: &State, out: &mut W) -> io::Result<()> {
+    /// `place`, or `kept FIRST` with the last good placement
+    fn lay_out<W: Write>(
+        &mut self,
+        alloc: Global,
+        state: &State,
+        first: Option<usize>,
+        out: &mut W,
+    ) -> io::Result<()> {
         let mut meter = Meter::new();
-        match place(
-            alloc,
-            &state.script,
-            &self.rows,
-            &self.provided,
-            None,
-            &mut meter,
-        ) {
-            Ok(placement) => print_laid(placement.laid(), out)?,
+        let kept = match (&self.last, first) {
+            (Some(last), Some(first)) => Some((last, first)),
+            _ => None,
+        };
+        let script = &state.script;
+        match place(alloc, script, &self.rows, &self.provided, kept, &mut meter) {
+            Ok(placement) => {
+                print_laid(placement.laid(), out)?;
+                self.last = Some(placement);
+            }
             Err(PlaceFault::First(fault)) => print_fault(fault, out)?,
             Err(PlaceFault::Meeting(faults)) => {
                 for fault in &faults {
@@ -99,7 +110,7 @@ impl Rows {
         writeln!(out, "{} placed", meter.pieces())
     }
 
-    /// `repeat TIMES`
+    /// `repeat TIMES`, or `again TIMES FIRST` with the last good placement
     fn repeat<W: Write>(
         &self,
         alloc: Global,
@@ -110,16 +121,14 @@ impl Rows {
         let Some(times) = words.short() else {
             return Ok(false);
         };
+        let kept = match (&self.last, words.size()) {
+            (Some(last), Some(first)) => Some((last, first)),
+            _ => None,
+        };
+        let script = &state.script;
         let mut meter = Meter::new();
         for _ in 0..times {
-            let _done = place(
-                alloc,
-                &state.script,
-                &self.rows,
-                &self.provided,
-                None,
-                &mut meter,
-            );
+            let _done = place(alloc, script, &self.rows, &self.provided, kept, &mut meter);
         }
         writeln!(out, "{} placed", meter.pieces())?;
         Ok(true)
@@ -187,6 +196,7 @@ impl Layer for Rows {
     fn forget(&mut self, alloc: Global) -> io::Result<()> {
         self.rows = Vec::new(alloc);
         self.provided = Vec::new(alloc);
+        self.last = None;
         Ok(())
     }
 
@@ -207,10 +217,18 @@ impl Layer for Rows {
             };
             self.provided.push(CommonIndex(number))?;
             Ok(true)
-        } else if word == b"place".as_slice() {
-            self.place(alloc, state, out)?;
+        } else if word == b"rows".as_slice() {
+            self.rows = Vec::new(alloc);
             Ok(true)
-        } else if word == b"repeat".as_slice() {
+        } else if word == b"place".as_slice() {
+            self.lay_out(alloc, state, None, out)?;
+            Ok(true)
+        } else if word == b"kept".as_slice() {
+            let mut words = command.words;
+            let first = words.size();
+            self.lay_out(alloc, state, first, out)?;
+            Ok(true)
+        } else if word == b"repeat".as_slice() || word == b"again".as_slice() {
             self.repeat(alloc, state, command.words, out)
         } else {
             Ok(false)

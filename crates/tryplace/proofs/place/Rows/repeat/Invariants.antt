@@ -2,4 +2,4 @@ use Rattle.std.proofs.Common.{[]}
 use Rattle.tryplace.proofs.place.Rows.repeat.Given as goal
 
 abbrev pub ghost-place : goal.ghost-place
-ghost-place a = record { object = λ _. []; section = λ _. [] }
+ghost-place g a = record { object = λ _. []; section = λ _. [] }
