@@ -15,3 +15,4 @@ pub mod Outputs
 pub mod Reporting
 pub mod Good
 pub mod Multiples
+pub mod Counting

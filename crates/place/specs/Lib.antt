@@ -13,3 +13,4 @@ pub mod Wholes
 pub mod Heads
 pub mod Ends
 pub mod SectionTable
+pub mod Counted

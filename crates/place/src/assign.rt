@@ -17,6 +17,7 @@ impl<'a> Here<'a> {
         ensures gives { Gives (assigned (layout_of naming self.old done.now) line a.now) (layout_of naming self.new done.now) result }
         ensures pieces { self.new.pieces.items ≡ self.old.pieces.items }
         ensures data_commands { self.new.data_commands.items ≡ self.old.data_commands.items }
+        ensures anew { self.new.anew ≡ self.old.anew }
     {
         let value = self.formula(done, line, &a.value)?;
         self.symbols.assign(a.name.as_bytes(), value)?;
@@ -36,6 +37,7 @@ impl<'a> Here<'a> {
         ensures gives { Gives (common_step provided.now (layout_of naming self.old done.now) line command.now) (layout_of naming self.new done.now) result }
         ensures pieces { self.new.pieces.items ≡ self.old.pieces.items }
         ensures data_commands { self.new.data_commands.items ≡ self.old.data_commands.items }
+        ensures anew { self.new.anew ≡ self.old.anew }
     {
         match command {
             Common::Assign(a) => self.assign(done, line, a),

@@ -6,6 +6,7 @@ ghost use Rattle.ldexpr.specs.DotForms.{dot_form};
 ghost use Rattle.ldexpr.specs.Expressions.{expr_of};
 ghost use Rattle.ldmodel.specs.Body.{advanced, body_command_step, body_step, data_step, dot_step, input_step, moved, piece_placed, piece_start, pieces_placed, set_to};
 ghost use Rattle.ldmodel.specs.Chain.{run};
+ghost use Rattle.place.specs.Counted.{Counted};
 ghost use Rattle.place.specs.Naming.{Naming, piece_named, row_named};
 ghost use Rattle.place.specs.State.{body_of, Gives};
 
@@ -55,6 +56,8 @@ impl<'d, 'a> Frame<'d, 'a> {
         ghost naming: { Naming }
         ensures gives { Gives (piece_placed line (body_of naming here.old self.now) (piece_named naming piece.now) (row_named naming (drop (length here.old.pieces.items + 1) self.now.row.now))) (body_of naming here.new self.now) result }
         ensures one { OnOk result (length here.new.pieces.items ≡ length here.old.pieces.items + 1) }
+        ensures anew { here.new.anew + length here.old.pieces.items ≤ here.old.anew + length here.new.pieces.items }
+        ensures few { length here.new.pieces.items ≤ length here.old.pieces.items + 1 }
     {
         let Some((start, is_new)) = self.start_of(here, piece) else {
             return Err(Stop::PastAddressSpace { line });
@@ -73,6 +76,7 @@ impl<'d, 'a> Frame<'d, 'a> {
     fn place_pieces(&self, here: &mut Here<'a>, line: u32, number: u64) -> Result<(), Stop<'a>>
         ghost naming: { Naming }
         ensures gives { Gives (pieces_placed line number (body_of naming here.old self.now) (row_named naming (drop (length here.old.pieces.items) self.now.row.now))) (body_of naming here.new self.now) result }
+        ensures counted { Counted here.old here.new (length self.now.row.now) }
     {
         while here.pieces.len() < self.row.len() {
             let piece = &self.row[here.pieces.len()];
@@ -88,6 +92,7 @@ impl<'d, 'a> Frame<'d, 'a> {
     fn place_input(&self, here: &mut Here<'a>, line: u32) -> Result<(), Stop<'a>>
         ghost naming: { Naming }
         ensures gives { Gives (input_step line (body_of naming here.old self.now)) (body_of naming here.new self.now) result }
+        ensures counted { Counted here.old here.new (length self.now.row.now) }
     {
         let number = here.inputs;
         let Some(next) = number.checked_add(1) else {
@@ -109,6 +114,7 @@ impl<'d, 'a> Frame<'d, 'a> {
     ) -> Result<(), Stop<'a>>
         ghost naming: { Naming }
         ensures gives { Gives (data_step line (body_of naming here.old self.now) width formula.now) (body_of naming here.new self.now) result }
+        ensures counted { Counted here.old here.new (length self.now.row.now) }
     {
         let value = here.formula(self.done, line, formula)?;
         let Some(end) = here.dot.checked_add(u64::from(width.byte_count())) else {
@@ -128,6 +134,7 @@ impl<'d, 'a> Frame<'d, 'a> {
     fn go_to(&self, here: &mut Here<'a>, line: u32, from: u64, more: u64) -> Result<(), Stop<'a>>
         ghost naming: { Naming }
         ensures gives { Gives (moved line (body_of naming here.old self.now) (from + more)) (body_of naming here.new self.now) result }
+        ensures counted { Counted here.old here.new (length self.now.row.now) }
     {
         let dot = here.dot;
         let Some(to) = from.checked_add(more) else {
@@ -144,6 +151,7 @@ impl<'d, 'a> Frame<'d, 'a> {
     fn advance(&self, here: &mut Here<'a>, line: u32, by: &'a Expr) -> Result<(), Stop<'a>>
         ghost naming: { Naming }
         ensures gives { Gives (advanced line (body_of naming here.old self.now) (expr_of by.now)) (body_of naming here.new self.now) result }
+        ensures counted { Counted here.old here.new (length self.now.row.now) }
     {
         let more = here.number(self.done, line, by)?;
         let from = here.dot;
@@ -155,6 +163,7 @@ impl<'d, 'a> Frame<'d, 'a> {
     fn set_dot(&self, here: &mut Here<'a>, line: u32, to: &'a Expr) -> Result<(), Stop<'a>>
         ghost naming: { Naming }
         ensures gives { Gives (set_to line (body_of naming here.old self.now) (dot_form (expr_of to.now))) (body_of naming here.new self.now) result }
+        ensures counted { Counted here.old here.new (length self.now.row.now) }
     {
         match to.dot_form() {
             Some(DotForm::Advance(by)) => self.advance(here, line, by),
@@ -178,6 +187,7 @@ impl<'d, 'a> Frame<'d, 'a> {
     ) -> Result<(), Stop<'a>>
         ghost naming: { Naming }
         ensures gives { Gives (dot_step line (body_of naming here.old self.now) command.now) (body_of naming here.new self.now) result }
+        ensures counted { Counted here.old here.new (length self.now.row.now) }
     {
         match command {
             DotCommand::Add(by) => self.advance(here, line, by.expr()),
@@ -194,6 +204,7 @@ impl<'d, 'a> Frame<'d, 'a> {
     ) -> Result<(), Stop<'a>>
         ghost naming: { Naming }
         ensures gives { Gives (body_command_step self.now.provided.now line (body_of naming here.old self.now) command.now) (body_of naming here.new self.now) result }
+        ensures counted { Counted here.old here.new (length self.now.row.now) }
     {
         match command {
             BodyCommand::Dot(command) => self.move_dot(here, line, command),
@@ -210,6 +221,7 @@ impl<'d, 'a> Frame<'d, 'a> {
     ) -> Result<(), Stop<'a>>
         ghost naming: { Naming }
         ensures gives { Gives (body_step self.now.provided.now (body_of naming here.old self.now) statement.now) (body_of naming here.new self.now) result }
+        ensures counted { Counted here.old here.new (length self.now.row.now) }
     {
         here.dots.push(here.dot)?;
         self.place_command(here, statement.line, &statement.command)
@@ -220,6 +232,7 @@ impl<'d, 'a> Frame<'d, 'a> {
     pub fn place_body(&self, here: &mut Here<'a>, body: &'a [BodyStatement]) -> Result<(), Stop<'a>>
         ghost naming: { Naming }
         ensures gives { Gives (run (body_step self.now.provided.now) (body_of naming here.old self.now) body.now) (body_of naming here.new self.now) result }
+        ensures counted { Counted here.old here.new (length self.now.row.now) }
     {
         for statement in body {
             self.place_statement(here, statement)?;

@@ -1,6 +1,6 @@
 //! The end of an output section.
 
-ghost use Rattle.std.specs.Prelude.{◌≡◌, ◌==◌, ◌&&◌, ◌||◌, if◌then◌else◌, map, not, bit_and};
+ghost use Rattle.std.specs.Prelude.{◌+◌, length, OnOk, ◌≡◌, ◌==◌, ◌&&◌, ◌||◌, if◌then◌else◌, map, not, bit_and};
 ghost use Rattle.std.specs.List.{list_any};
 ghost use Rattle.std.specs.Option.{option_copied, option_and_then};
 ghost use Rattle.ldmodel.specs.Layout.{PlacedPiece, region_named};
@@ -176,6 +176,7 @@ impl<'a> Here<'a> {
         ensures dots { self.new.dots.items ≡ self.old.dots.items }
         ensures inputs { self.new.inputs ≡ self.old.inputs }
         ensures symbols { self.new.symbols ≡ self.old.symbols }
+        ensures anew { self.new.anew ≡ self.old.anew }
     {
         let size = self.dot.saturating_sub(head.start);
         let has_file_bytes = self.has_file_bytes();
@@ -206,7 +207,9 @@ impl<'a> Here<'a> {
         head: Head,
     ) -> Result<(), Stop<'a>>
         ghost naming: { Naming }
-        ensures { Gives (section_end line output.now (head_from head) (ended_body naming self.old done.old)) (layout_of naming self.new done.new) result }
+        ensures anew { self.new.anew ≡ self.old.anew }
+        ensures one { OnOk result (length done.new.sections ≡ length done.old.sections + 1) }
+        ensures gives { Gives (section_end line output.now (head_from head) (ended_body naming self.old done.old)) (layout_of naming self.new done.new) result }
     {
         let end = self.dot.max(head.start);
         let section = self.close(alloc, output, head);

@@ -1,5 +1,6 @@
 //! The memory regions of a script.
 
+ghost use Rattle.std.specs.Prelude.{◌≡◌};
 ghost use Rattle.ldmodel.specs.Chain.{run};
 ghost use Rattle.ldmodel.specs.Placement.{region_step};
 ghost use Rattle.place.specs.Naming.{Naming};
@@ -14,7 +15,8 @@ impl<'a> Here<'a> {
     #[tactic(auto, unfolding(ldmodel::specs::Placement::region_step))]
     fn declare(&self, done: &mut Done<'a>, region: &'a Region) -> Result<(), Stop<'a>>
         ghost naming: { Naming }
-        ensures { Gives (region_step (layout_of naming self.now done.old) region.now) (layout_of naming self.now done.new) result }
+        ensures sections { done.new.sections ≡ done.old.sections }
+        ensures gives { Gives (region_step (layout_of naming self.now done.old) region.now) (layout_of naming self.now done.new) result }
     {
         let origin = self.formula(done, region.line, &region.origin)?;
         let extent = self.formula(done, region.line, &region.extent)?;
@@ -26,7 +28,8 @@ impl<'a> Here<'a> {
     #[tactic(auto, unfolding(ldmodel::specs::Chain::run))]
     pub fn declare_all(&self, done: &mut Done<'a>, regions: &'a [Region]) -> Result<(), Stop<'a>>
         ghost naming: { Naming }
-        ensures { Gives (run region_step (layout_of naming self.now done.old) regions.now) (layout_of naming self.now done.new) result }
+        ensures sections { done.new.sections ≡ done.old.sections }
+        ensures gives { Gives (run region_step (layout_of naming self.now done.old) regions.now) (layout_of naming self.now done.new) result }
     {
         for region in regions {
             self.declare(done, region)?;

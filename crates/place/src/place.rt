@@ -1,6 +1,7 @@
 //! The layout of a script.
 
 ghost use Rattle.std.specs.Prelude.{◌≡◌, [], map, IfErr, IfOk};
+ghost use Rattle.place.specs.Counted.{CountsPieces, entries};
 ghost use Rattle.place.specs.Naming.{Naming, rows_named};
 ghost use Rattle.place.specs.Outcomes.{IsGood, IsWhy, Stops};
 ghost use Rattle.place.specs.Places.{IsPlacement};
@@ -27,6 +28,7 @@ fn nowhere<'a>(alloc: Global, script: &'a Script) -> Result<Here<'a>, AllocError
     ensures dot { IfOk result (λ h. h.dot ≡ 0) }
     ensures dots { IfOk result (λ h. h.dots.items ≡ []) }
     ensures inputs { IfOk result (λ h. h.inputs ≡ 0) }
+    ensures anew { IfOk result (λ h. h.anew ≡ 0) }
     ensures symbols { IfOk result (λ h. h.symbols ≡ []) }
 {
     let symbols = Symbols::new(alloc, script)?;
@@ -71,6 +73,7 @@ fn lay_out(
     meter: &mut Meter,
 ) -> Result<Placement, PlaceFault>
     ghost naming: { Naming }
+    ensures counted { CountsPieces meter.old meter.new (entries 0 (map (λ v. v.items) rows.now)) }
     ensures placed { IfOk result (λ p. IsPlacement script.now (rows_named naming (map (λ v. v.items) rows.now)) (provided_names script.now provided.now) p) }
     ensures faulty { IfErr result (λ f. Stops script.now (rows_named naming (map (λ v. v.items) rows.now)) (provided_names script.now provided.now) f) }
 {
@@ -116,6 +119,7 @@ pub fn place(
     meter: &mut Meter,
 ) -> Result<Placement, PlaceFault>
     ghost naming: { Naming }
+    ensures counted { CountsPieces meter.old meter.new (entries 0 (map (λ v. v.items) rows.now)) }
     ensures good { IfOk result (λ p. IsGood script.now (rows_named naming (map (λ v. v.items) rows.now)) (provided_names script.now provided.now) p) }
     ensures faulty { IfErr result (λ f. IsWhy script.now (rows_named naming (map (λ v. v.items) rows.now)) (provided_names script.now provided.now) f) }
 {

@@ -1,8 +1,9 @@
 //! The statements of a script.
 
-ghost use Rattle.std.specs.Prelude.{◌≡◌, [], map, slice_index_or};
+ghost use Rattle.std.specs.Prelude.{◌≡◌, ◌≤◌, ◌+◌, [], map, slice_index_or, length, OnOk};
 ghost use Rattle.ldmodel.specs.Chain.{run};
 ghost use Rattle.ldmodel.specs.Placement.{free_dot_step, item_command_step, item_step, statement_step};
+ghost use Rattle.place.specs.Counted.{entries};
 ghost use Rattle.place.specs.Inputs.{rows_of};
 ghost use Rattle.place.specs.Naming.{Naming};
 ghost use Rattle.place.specs.State.{layout_of, Gives};
@@ -47,7 +48,8 @@ impl<'a> Here<'a> {
         command: &'a DotCommand,
     ) -> Result<(), Stop<'a>>
         ghost naming: { Naming }
-        ensures { Gives (free_dot_step (layout_of naming self.old done.now) line command.now) (layout_of naming self.new done.now) result }
+        ensures anew { self.new.anew ≡ self.old.anew }
+        ensures gives { Gives (free_dot_step (layout_of naming self.old done.now) line command.now) (layout_of naming self.new done.now) result }
     {
         match command {
             DotCommand::Set(to) => {
@@ -75,7 +77,7 @@ impl<'i, 'a> Input<'i, 'a> {
         }
     }
 
-    #[tactic(auto, unfolding(ldmodel::specs::Placement::item_command_step), using(crate::proofs::Rows::next_row_is))]
+    #[tactic(auto, unfolding(ldmodel::specs::Placement::item_command_step), using(crate::proofs::Rows::next_row_is, crate::proofs::Counting::entries_more))]
     fn place_command(
         &self,
         here: &mut Here<'a>,
@@ -84,7 +86,9 @@ impl<'i, 'a> Input<'i, 'a> {
         command: &'a ItemCommand,
     ) -> Result<(), Stop<'a>>
         ghost naming: { Naming }
-        ensures { Gives (item_command_step (rows_of naming self.now) self.now.provided.now line (layout_of naming here.old done.old) command.now) (layout_of naming here.new done.new) result }
+        ensures anew { here.new.anew ≤ here.old.anew + entries (length done.old.sections) (map (λ v. v.items) self.now.rows.now) }
+        ensures left { OnOk result (here.new.anew + entries (length done.new.sections) (map (λ v. v.items) self.now.rows.now) ≤ here.old.anew + entries (length done.old.sections) (map (λ v. v.items) self.now.rows.now)) }
+        ensures gives { Gives (item_command_step (rows_of naming self.now) self.now.provided.now line (layout_of naming here.old done.old) command.now) (layout_of naming here.new done.new) result }
     {
         match command {
             ItemCommand::Dot(command) => here.move_freely(done, line, command),
@@ -113,7 +117,9 @@ impl<'i, 'a> Input<'i, 'a> {
         item: &'a Item,
     ) -> Result<(), Stop<'a>>
         ghost naming: { Naming }
-        ensures { Gives (item_step (rows_of naming self.now) self.now.provided.now (layout_of naming here.old done.old) item.now) (layout_of naming here.new done.new) result }
+        ensures anew { here.new.anew ≤ here.old.anew + entries (length done.old.sections) (map (λ v. v.items) self.now.rows.now) }
+        ensures left { OnOk result (here.new.anew + entries (length done.new.sections) (map (λ v. v.items) self.now.rows.now) ≤ here.old.anew + entries (length done.old.sections) (map (λ v. v.items) self.now.rows.now)) }
+        ensures gives { Gives (item_step (rows_of naming self.now) self.now.provided.now (layout_of naming here.old done.old) item.now) (layout_of naming here.new done.new) result }
     {
         here.dots.push(here.dot)?;
         self.place_command(here, done, item.line, &item.command)
@@ -128,7 +134,9 @@ impl<'i, 'a> Input<'i, 'a> {
         items: &'a [Item],
     ) -> Result<(), Stop<'a>>
         ghost naming: { Naming }
-        ensures { Gives (run (item_step (rows_of naming self.now) self.now.provided.now) (layout_of naming here.old done.old) items.now) (layout_of naming here.new done.new) result }
+        ensures anew { here.new.anew ≤ here.old.anew + entries (length done.old.sections) (map (λ v. v.items) self.now.rows.now) }
+        ensures left { OnOk result (here.new.anew + entries (length done.new.sections) (map (λ v. v.items) self.now.rows.now) ≤ here.old.anew + entries (length done.old.sections) (map (λ v. v.items) self.now.rows.now)) }
+        ensures gives { Gives (run (item_step (rows_of naming self.now) self.now.provided.now) (layout_of naming here.old done.old) items.now) (layout_of naming here.new done.new) result }
     {
         for item in items {
             self.place_item(here, done, item)?;
@@ -145,7 +153,9 @@ impl<'i, 'a> Input<'i, 'a> {
         statement: &'a Statement,
     ) -> Result<(), Stop<'a>>
         ghost naming: { Naming }
-        ensures { Gives (statement_step (rows_of naming self.now) self.now.provided.now (layout_of naming here.old done.old) statement.now) (layout_of naming here.new done.new) result }
+        ensures anew { here.new.anew ≤ here.old.anew + entries (length done.old.sections) (map (λ v. v.items) self.now.rows.now) }
+        ensures left { OnOk result (here.new.anew + entries (length done.new.sections) (map (λ v. v.items) self.now.rows.now) ≤ here.old.anew + entries (length done.old.sections) (map (λ v. v.items) self.now.rows.now)) }
+        ensures gives { Gives (statement_step (rows_of naming self.now) self.now.provided.now (layout_of naming here.old done.old) statement.now) (layout_of naming here.new done.new) result }
     {
         match &statement.command {
             Command::Entry(_) => Ok(()),
@@ -164,7 +174,9 @@ impl<'i, 'a> Input<'i, 'a> {
         statements: &'a [Statement],
     ) -> Result<(), Stop<'a>>
         ghost naming: { Naming }
-        ensures { Gives (run (statement_step (rows_of naming self.now) self.now.provided.now) (layout_of naming here.old done.old) statements.now) (layout_of naming here.new done.new) result }
+        ensures anew { here.new.anew ≤ here.old.anew + entries (length done.old.sections) (map (λ v. v.items) self.now.rows.now) }
+        ensures left { OnOk result (here.new.anew + entries (length done.new.sections) (map (λ v. v.items) self.now.rows.now) ≤ here.old.anew + entries (length done.old.sections) (map (λ v. v.items) self.now.rows.now)) }
+        ensures gives { Gives (run (statement_step (rows_of naming self.now) self.now.provided.now) (layout_of naming here.old done.old) statements.now) (layout_of naming here.new done.new) result }
     {
         for statement in statements {
             self.place_statement(here, done, statement)?;

@@ -1,6 +1,6 @@
 //! An output section.
 
-ghost use Rattle.std.specs.Prelude.{◌≡◌, []};
+ghost use Rattle.std.specs.Prelude.{◌≡◌, ◌≤◌, ◌+◌, [], length, OnOk};
 ghost use Rattle.ldmodel.specs.Body.{body_step};
 ghost use Rattle.ldmodel.specs.Chain.{run};
 ghost use Rattle.ldmodel.specs.Placement.{opened, section_step};
@@ -24,6 +24,7 @@ impl<'a> Here<'a> {
         ensures inputs { self.new.inputs ≡ self.old.inputs }
         ensures symbols { self.new.symbols ≡ self.old.symbols }
         ensures pieces { self.new.pieces.items ≡ [] }
+        ensures anew { self.new.anew ≡ self.old.anew }
         ensures data_commands { self.new.data_commands.items ≡ [] }
     {
         self.dot = start;
@@ -42,7 +43,8 @@ impl<'a> Here<'a> {
         output: &'a OutputSection,
     ) -> Result<(), Stop<'a>>
         ghost naming: { Naming }
-        ensures { Gives (run (body_step provided.now) (opened (layout_of naming self.old done.now) (row_named naming row.now) (head_from head)) output.now.body) (body_from naming self.new done.now head.start row.now) result }
+        ensures anew { self.new.anew ≤ self.old.anew + length row.now }
+        ensures gives { Gives (run (body_step provided.now) (opened (layout_of naming self.old done.now) (row_named naming row.now) (head_from head)) output.now.body) (body_from naming self.new done.now head.start row.now) result }
     {
         let frame = Frame {
             done,
@@ -69,7 +71,9 @@ impl<'a> Here<'a> {
         output: &'a OutputSection,
     ) -> Result<(), Stop<'a>>
         ghost naming: { Naming }
-        ensures { Gives (section_step provided.now (row_named naming row.now) (layout_of naming self.old done.old) line output.now) (layout_of naming self.new done.new) result }
+        ensures anew { self.new.anew ≤ self.old.anew + length row.now }
+        ensures one { OnOk result (length done.new.sections ≡ length done.old.sections + 1) }
+        ensures gives { Gives (section_step provided.now (row_named naming row.now) (layout_of naming self.old done.old) line output.now) (layout_of naming self.new done.new) result }
     {
         let head = self.head(done, row, line, output)?;
         self.body(done, provided, row, kept, head, output)?;

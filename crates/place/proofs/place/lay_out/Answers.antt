@@ -13,7 +13,7 @@ use Rattle.place.specs.State.{layout_of}
 pub returns-clause-faulty : goal.returns-clause-faulty
 returns-clause-faulty g c =
     stops_at c.args.script.now (rows_named g.naming (map (λ v. v.items) c.args.rows.now)) (provided_names c.args.script.now c.args.provided.now) c.in-Err.stop c.reported.result
-    (elim c.in-Err.ensures [
+    (elim c.in-Err.ensures.gives [
       | inl h ↦ inl (sym (begins g.naming c.in_ok-here.here c.in_ok-done.done (rows_named g.naming (map (λ v. v.items) c.args.rows.now)) (provided_names c.args.script.now c.args.provided.now) c.args.script.now
           c.in_ok-here.ensures.dot c.in_ok-here.ensures.dots c.in_ok-here.ensures.inputs c.in_ok-here.ensures.symbols c.in_ok-done.ensures.sections c.in_ok-done.ensures.regions)
           ∙ (ap (λ (ps : List (List ℕ)). run (statement_step (rows_named g.naming (map (λ v. v.items) c.args.rows.now)) ps) (layout_of g.naming c.in_ok-here.here c.in_ok-done.done) c.args.script.now) (sym c.in_ok-provided.ensures)

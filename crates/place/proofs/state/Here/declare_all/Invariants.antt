@@ -8,6 +8,8 @@ abbrev pub ghost-declare : goal.ghost-declare
 ghost-declare g a = g.naming
 
 abbrev pub invariant-loop-region : goal.invariant-loop-region
-invariant-loop-region g l =
-    run region_step (layout_of g.naming l.self l.fn.done) l.regions
-    ≡ run region_step (layout_of g.naming l.self l.done) (drop l.region-index l.regions)
+invariant-loop-region g l = record {
+  gives : run region_step (layout_of g.naming l.self l.fn.done) l.regions
+      ≡ run region_step (layout_of g.naming l.self l.done) (drop l.region-index l.regions);
+  sections : l.done.sections ≡ l.fn.done.sections;
+}

@@ -9,8 +9,8 @@ use Rattle.place.specs.Heads.{head_from}
 use Rattle.place.specs.Keyed.{section_of}
 use Rattle.place.specs.SectionTable.{keyed}
 
-pub returns-in-Ok : goal.returns-in-Ok
-returns-in-Ok g c =
+pub returns-in-Ok-clause-gives : goal.returns-in-Ok-clause-gives
+returns-in-Ok-clause-gives g c =
     let q : PlacedSection = section_of g.naming (keyed c.close-section.result) in
     let e = end_is g.naming c.args.self.now c.args.done.now c.args.line c.args.output.now (head_from c.args.head) q c.close-section.ensures.value in
     let s : Layout = (ended_body g.naming c.args.self.now c.args.done.now).layout in
@@ -25,8 +25,8 @@ returns-in-Ok g c =
     c.in_ok-push-in-Ok.ensures.pushed
     (there ∙ sym c.max-end.ensures) last))
 
-pub returns : goal.returns
-returns g c =
+pub returns-clause-gives : goal.returns-clause-gives
+returns-clause-gives g c =
     let q : PlacedSection = section_of g.naming (keyed c.close-section.result) in
     let e = end_is g.naming c.args.self.now c.args.done.now c.args.line c.args.output.now (head_from c.args.head) q c.close-section.ensures.value in
     let s : Layout = (ended_body g.naming c.args.self.now c.args.done.now).layout in
