@@ -43,25 +43,6 @@ fn nowhere<'a>(alloc: Global, script: &'a Script) -> Result<Here<'a>, AllocError
     })
 }
 
-fn nothing<'a>(alloc: Global, script: &'a Script) -> Result<Done<'a>, AllocError>
-    ensures sections { IfOk result (λ d. d.sections ≡ []) }
-    ensures regions { IfOk result (λ d. d.regions ≡ []) }
-{
-    let sections = Sections::new(alloc, script)?;
-    Ok(Done {
-        sections,
-        regions: Regions::new(alloc, script),
-    })
-}
-
-/// The starts that an earlier layout has, and the number of the output section before which they are taken over.
-fn kept_starts<'k>(kept: Option<(&'k Placement, usize)>) -> (&'k [u64], usize) {
-    match kept {
-        Some((placement, first)) => (placement.pieces(), first),
-        None => (&[], 0),
-    }
-}
-
 /// The layout of a script, or its first fault.
 #[tactic(auto, unfolding(ldmodel::specs::Placement::placement))]
 fn lay_out(
@@ -79,8 +60,13 @@ fn lay_out(
 {
     let provided = Provided::new(alloc, script, provided)?;
     let mut here = nowhere(alloc, script)?;
-    let mut done = nothing(alloc, script)?;
-    let (starts, first) = kept_starts(kept);
+    let sections = Sections::new(alloc, script)?;
+    let regions = Regions::new(alloc, script);
+    let mut done = Done { sections, regions };
+    let (starts, first): (&[u64], usize) = match kept {
+        Some((placement, first)) => (placement.pieces(), first),
+        None => (&[], 0),
+    };
     let input = Input {
         alloc,
         provided: &provided,

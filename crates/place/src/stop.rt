@@ -3,7 +3,7 @@
 use std::alloc::{AllocError, AllocFailed};
 
 /// Why a layout stops, with names in place of their numbers.
-#[derive(Clone, Copy, Debug)]
+#[derive(Clone, Copy)]
 pub(crate) enum Stop<'a> {
     /// An expression names what is not complete where it stands.
     NotReady {

@@ -31,14 +31,6 @@ fn numbers_of(alloc: Global, sections: &[Closed<'_>]) -> Result<Vec<Placed>, All
     Ok(list)
 }
 
-fn count_of(sections: &[Closed<'_>]) -> usize {
-    let mut count: usize = 0;
-    for section in sections {
-        count = count.saturating_add(section.pieces.len());
-    }
-    count
-}
-
 fn add_starts(list: &mut Vec<u64>, pieces: &[PieceAt<'_>]) -> Result<(), AllocError>
     ensures { OnOk result (list.new.items ≡ list.old.items ++ map (λ (x : KeyedPiece). x.start) (map keyed_piece pieces.now)) }
 {
@@ -48,11 +40,11 @@ fn add_starts(list: &mut Vec<u64>, pieces: &[PieceAt<'_>]) -> Result<(), AllocEr
     Ok(())
 }
 
-/// Where the input sections start, row by row.
-fn starts_of(alloc: Global, sections: &[Closed<'_>]) -> Result<Vec<u64>, AllocError>
+/// Where the input sections start, row by row, of which there are this many.
+fn starts_of(alloc: Global, count: usize, sections: &[Closed<'_>]) -> Result<Vec<u64>, AllocError>
     ensures { IfOk result (λ v. v.items ≡ starts_in (map keyed sections.now)) }
 {
-    let mut list = Vec::with_capacity(alloc, count_of(sections))?;
+    let mut list = Vec::with_capacity(alloc, count)?;
     for section in sections {
         add_starts(&mut list, &section.pieces)?;
     }
@@ -157,7 +149,7 @@ pub(crate) fn whole(
 {
     let sections = done.sections.as_slice();
     let placed = numbers_of(alloc, sections)?;
-    let starts = starts_of(alloc, sections)?;
+    let starts = starts_of(alloc, done.sections.count(), sections)?;
     let data_commands = data_commands_of(alloc, sections)?;
     let symbols = symbols_of(alloc, script, &here.symbols)?;
     let regions = regions_of(alloc, done.regions.as_slice())?;

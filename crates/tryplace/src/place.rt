@@ -43,14 +43,15 @@ impl Rows {
 
     /// `piece SECTION STATEMENT KIND FLAGS SIZE ALIGNMENT`
     fn give_piece(&mut self, alloc: Global, mut words: Words<'_>) -> io::Result<bool> {
-        let (Some(section), Some(statement), Some(kind), Some(flags), Some(size), Some(alignment)) = (
-            words.size(),
-            words.short(),
-            words.short(),
-            words.number(),
-            words.number(),
-            words.number(),
-        ) else {
+        let (Some(section), Some(statement), Some(kind), Some(flags), Some(size), Some(alignment)) =
+            (
+                words.size(),
+                words.short(),
+                words.short(),
+                words.number(),
+                words.number(),
+                words.number(),
+            ) else {
             return Ok(false);
         };
         if section >= MAX_SECTIONS {
@@ -141,9 +142,7 @@ fn print_fault<W: Write>(fault: Fault, out: &mut W) -> io::Result<()> {
         Fault::NotReady { line, name } => writeln!(out, "F4 {line} mention {}", name.0),
         Fault::NoValue { line } => writeln!(out, "F5 {line}"),
         Fault::MovedBack { line } => writeln!(out, "F6 {line}"),
-        Fault::RegionFull { section, region } => {
-            writeln!(out, "F7 {} {}", section.0, region.0)
-        }
+        Fault::RegionFull { section, region } => { writeln!(out, "F7 {} {}", section.0, region.0) }
         Fault::PastAddressSpace { line } => writeln!(out, "F8 {line}"),
         Fault::AddressesMeet { section, earlier } => {
             writeln!(out, "F9 {} {}", section.0, earlier.0)
