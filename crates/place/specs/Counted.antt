@@ -17,6 +17,6 @@ entries k [] = 0
 entries zero (row ∷ rows) = length row + entries zero rows
 entries (suc k) (row ∷ rows) = entries k rows
 
--- at most so many are counted, and nothing else is
+-- at most this number is counted, and nothing else is
 abbrev pub CountsPieces : Counts → Counts → ℕ → Type 0
 CountsPieces old new most = (new ≡ old) ⊎ ((by : ℕ) × (by ≤ most) × (new ≡ raised old Pieces by))

@@ -37,7 +37,7 @@ body_from n h d start row = record {
 abbrev pub body_of : Naming → Here → Frame → Body
 body_of n h f = body_from n h f.done.now f.start f.row.now
 
--- the fault that stands in a stop; for want of memory there is none, and any will do
+-- the fault that stands in a stop; where memory ran out there is none, and any will do
 abbrev pub fault_of : Stop → Fault
 fault_of (stop.NotReady line name) = fault.NotReady line name.now
 fault_of (stop.NoValue line) = fault.NoValue line

@@ -11,7 +11,8 @@ symbol_of x = record { name = x.name.now; value = x.value }
 
 -- the value of the first symbol of a name
 abbrev pub value_of : List ScriptSymbol → List ℕ → Option ℕ
-value_of symbols name = option_map (λ (x : ScriptSymbol). x.value) (find (λ (x : ScriptSymbol). bytes_eq x.name name) symbols)
+value_of symbols name =
+    option_map (λ (x : ScriptSymbol). x.value) (find (λ (x : ScriptSymbol). bytes_eq x.name name) symbols)
 
 -- the table has under the number of a name the value that the name has
 pub record AreValuesOf (script : List Statement) (values : List (Option ℕ)) (symbols : List ScriptSymbol) : Type 0 where

@@ -96,7 +96,7 @@ impl<'d, 'a> Frame<'d, 'a> {
     {
         let number = here.inputs;
         let Some(next) = number.checked_add(1) else {
-            // it does not come to this: no script has so many input statements
+            // it does not come to this: no script has 2^64 input statements
             return Err(Stop::NoMemory);
         };
         self.place_pieces(here, line, number)?;

@@ -100,7 +100,7 @@ impl<'i, 'a> Input<'i, 'a> {
             }
             ItemCommand::Discard(inputs) => {
                 let Some(next) = here.inputs.checked_add(inputs.as_slice().len() as u64) else {
-                    // it does not come to this: no script has so many input statements
+                    // it does not come to this: no script has 2^64 input statements
                     return Err(Stop::NoMemory);
                 };
                 here.inputs = next;

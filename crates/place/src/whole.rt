@@ -77,7 +77,7 @@ fn data_commands_of(alloc: Global, sections: &[Closed<'_>]) -> Result<Vec<Placed
     let mut number: usize = 0;
     for section in sections {
         let Ok(index) = u32::try_from(number) else {
-            // it does not come to this: no script has so many output sections
+            // it does not come to this: no script has 2^32 output sections
             return Err(AllocError);
         };
         add_data(&mut list, OutputIndex(index), &section.data_commands)?;
