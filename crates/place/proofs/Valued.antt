@@ -1,0 +1,18 @@
+-- The number of an expression, as the code evaluates it.
+use Rattle.std.proofs.Common.{◌≡◌, ℕ, Result, refl, sym, ap, ◌∙◌}
+use Rattle.ldexpr.specs.Expressions.{Expr}
+use Rattle.ldmodel.specs.Fault.{Fault}
+use Rattle.ldmodel.specs.Layout.{Layout, number, value_at, scope_of}
+use Rattle.ldmodel.specs.Value.{Scope, ValueFault, value}
+use Rattle.ldvalue.specs.Outcomes.{outcome_of}
+use Rattle.ldvalue.specs.declared.value.ValueFault as code
+use Rattle.place.proofs.Naming.{same_scope}
+use Rattle.place.specs.Naming.{Naming}
+use Rattle.place.specs.SectionTable.{nameless}
+use Rattle.place.specs.State.{layout_of}
+use Rattle.place.specs.declared.state.Done.{Done}
+use Rattle.place.specs.declared.state.Here.{Here}
+
+pub number_is : (n : Naming) (h : Here) (d : Done) (line : ℕ) (e : Expr) (r : Result ℕ code.ValueFault) → outcome_of r ≡ value (scope_of (layout_of nameless h d)) h.dot e → value_at line (outcome_of r) ≡ number (layout_of n h d) line e
+unfolding number
+number_is n h d line e r found = ap (value_at line) (found ∙ ap (λ (s : Scope). value s h.dot e) (same_scope nameless n h d))

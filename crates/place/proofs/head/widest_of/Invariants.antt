@@ -1,0 +1,10 @@
+use Rattle.std.proofs.Common.{◌≡◌, ◌<◌, drop}
+use Rattle.ldmodel.specs.SectionHead.{widest}
+use Rattle.place.proofs.head.widest_of.Given as goal
+use Rattle.place.specs.Naming.{row_named}
+
+abbrev pub invariant-loop-piece : goal.invariant-loop-piece
+invariant-loop-piece g l = record {
+  value : widest l.alignment (row_named g.naming l.row) ≡ widest l.widest (row_named g.naming (drop l.piece-index l.row));
+  positive : 0 < l.widest;
+}

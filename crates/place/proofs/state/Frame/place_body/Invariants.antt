@@ -1,0 +1,16 @@
+use Rattle.std.proofs.Common.{◌≡◌, drop, length}
+use Rattle.ldmodel.specs.Body.{body_step}
+use Rattle.ldmodel.specs.Chain.{run}
+use Rattle.place.specs.Counted.{Counted}
+use Rattle.place.specs.State.{body_of}
+use Rattle.place.proofs.state.Frame.place_body.Given as goal
+
+abbrev pub ghost-place_statement : goal.ghost-place_statement
+ghost-place_statement g a = g.naming
+
+abbrev pub invariant-loop-statement : goal.invariant-loop-statement
+invariant-loop-statement g l = record {
+  gives : run (body_step l.self.provided.now) (body_of g.naming l.fn.here l.self) l.body
+      ≡ run (body_step l.self.provided.now) (body_of g.naming l.here l.self) (drop l.statement-index l.body);
+  counted : Counted l.fn.here l.here (length l.self.row.now);
+}

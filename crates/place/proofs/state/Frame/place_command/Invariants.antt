@@ -1,0 +1,13 @@
+use Rattle.place.proofs.state.Frame.place_command.Given as goal
+
+abbrev pub ghost-move_dot : goal.ghost-move_dot
+ghost-move_dot g a = g.naming
+
+abbrev pub ghost-common : goal.ghost-common
+ghost-common g a = g.naming
+
+abbrev pub ghost-place_data : goal.ghost-place_data
+ghost-place_data g a = g.naming
+
+abbrev pub ghost-place_input : goal.ghost-place_input
+ghost-place_input g a = g.naming

@@ -1,0 +1,4 @@
+use Rattle.place.proofs.state.Frame.place_input.Given as goal
+
+abbrev pub ghost-place_pieces : goal.ghost-place_pieces
+ghost-place_pieces g a = g.naming

@@ -1,0 +1,7 @@
+use Rattle.std.proofs.Common.{◌≡◌, ◌++◌, drop, map}
+use Rattle.place.specs.SectionTable.{keyed}
+use Rattle.place.specs.Wholes.{placed_in}
+use Rattle.place.proofs.whole.numbers_of.Given as goal
+
+abbrev pub invariant-loop-section : goal.invariant-loop-section
+invariant-loop-section l = placed_in (map keyed l.sections) ≡ l.list.items ++ placed_in (map keyed (drop l.section-index l.sections))

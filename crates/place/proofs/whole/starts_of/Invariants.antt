@@ -1,0 +1,7 @@
+use Rattle.std.proofs.Common.{◌≡◌, ◌++◌, drop, map}
+use Rattle.place.specs.SectionTable.{keyed}
+use Rattle.place.specs.Wholes.{starts_in}
+use Rattle.place.proofs.whole.starts_of.Given as goal
+
+abbrev pub invariant-loop-section : goal.invariant-loop-section
+invariant-loop-section l = starts_in (map keyed l.sections) ≡ l.list.items ++ starts_in (map keyed (drop l.section-index l.sections))

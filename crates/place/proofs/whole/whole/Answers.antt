@@ -1,0 +1,8 @@
+use Rattle.std.proofs.Common.{subst, sym, ◌∙◌, ap}
+use Rattle.place.proofs.Wholes.{ends_whole}
+use Rattle.place.proofs.whole.whole.Goals as goal
+use Rattle.place.specs.Places.{Ends}
+use Rattle.place.specs.Wholes.{placed_in}
+
+pub invariant_of-result : goal.invariant_of-result
+invariant_of-result g c = subst Ends (sym (c.in_ok-placed.ensures ∙ ap placed_in c.as_slice-sections.ensures.all)) (ends_whole _ c.as_slice-sections.ensures.ends)

@@ -1,0 +1,56 @@
+-- Where everything of a script stands, as the code keeps it.
+use Rattle.std.specs.Prelude.{◌≡◌, ℕ, ◌+◌, ◌^◌, ◌<◌, List, ⊤, map, flat_map, Result, Ok, Err}
+use Rattle.std.specs.List.{All, enumerate_from}
+use Rattle.ldtree.specs.declared.statement.Statement.{Statement}
+use Rattle.ldmodel.specs.Fault.{Fault}
+use Rattle.ldmodel.specs.FaultCode.{fault_of}
+use Rattle.ldmodel.specs.Layout.{Layout}
+use Rattle.ldmodel.specs.Lent.{data_of, numbered, placed_of, region_of, starts_of, symbol_of}
+use Rattle.ldmodel.specs.Placement.{placement}
+use Rattle.ldmodel.specs.Project.{Project}
+use Rattle.ldmodel.specs.Rows.{Piece}
+use Rattle.ldmodel.specs.declared.fault.Fault as code_fault
+use Rattle.ldmodel.specs.declared.laid.Placed.{Placed}
+use Rattle.ldmodel.specs.declared.laid.PlacedData.{PlacedData}
+use Rattle.ldmodel.specs.declared.laid.PlacedRegion.{PlacedRegion}
+use Rattle.ldmodel.specs.declared.script_symbol.ScriptSymbol.{ScriptSymbol}
+
+-- what a placement lends, part by part
+pub record Places : Type 0 where
+  pub sections : List Placed
+  pub starts : List ℕ
+  pub data_commands : List PlacedData
+  pub dots : List ℕ
+  pub symbols : List ScriptSymbol
+  pub regions : List PlacedRegion
+
+-- the end of each output section is an address
+abbrev pub Ends : List Placed → Type 0
+Ends sections = All (λ (q : Placed). q.start + q.size < 2 ^ 64) sections
+
+-- they are those of the layout of a script
+pub record AreOf (script : List Statement) (s : Layout) (p : Places) : Type 0 where
+  pub sections : p.sections ≡ map placed_of s.sections
+  pub starts : p.starts ≡ flat_map starts_of s.sections
+  pub data_commands : map data_of p.data_commands ≡ flat_map numbered (enumerate_from 0 s.sections)
+  pub dots : p.dots ≡ s.dots
+  pub symbols : map (symbol_of script) p.symbols ≡ s.symbols
+  pub regions : p.regions ≡ map region_of s.regions
+
+-- the script with these rows, in which these PROVIDEs are in force, has a layout, and these are its places
+pub record IsPlacement (script : List Statement) (rows : List (List Piece)) (provided : List (List ℕ)) (p : Places)
+    : Type 0 where
+  pub layout : Layout
+  pub placed : placement script rows provided ≡ Ok layout
+  pub places : AreOf script layout p
+
+-- a fault of the code stands for one of the definition, whatever project has the script
+abbrev pub StandsFor : List Statement → code_fault.Fault → Fault → Type 0
+StandsFor script f fault = (p : Project) (number : ℕ → ℕ) → p.script ≡ script → fault_of p number f ≡ fault
+
+-- the first fault of the layout
+pub record IsFirstFault (script : List Statement) (rows : List (List Piece)) (provided : List (List ℕ))
+    (f : code_fault.Fault) : Type 0 where
+  pub fault : Fault
+  pub stops : placement script rows provided ≡ Err fault
+  pub shown : StandsFor script f fault

@@ -1,0 +1,242 @@
+//! The body of an output section.
+
+ghost use Rattle.std.specs.Prelude.{◌^◌, ◌≤◌, IfSome, IfNone, ◌≡◌, ◌<◌, ◌+◌, length, drop, OnOk};
+ghost use Rattle.std.specs.Int.{next_multiple_of};
+ghost use Rattle.ldexpr.specs.DotForms.{dot_form};
+ghost use Rattle.ldexpr.specs.Expressions.{expr_of};
+ghost use Rattle.ldmodel.specs.Body.{advanced, body_command_step, body_step, data_step, dot_step, input_step, moved, piece_placed, piece_start, pieces_placed, set_to};
+ghost use Rattle.ldmodel.specs.Chain.{run};
+ghost use Rattle.place.specs.Counted.{Counted};
+ghost use Rattle.place.specs.Naming.{Naming, piece_named, row_named};
+ghost use Rattle.place.specs.State.{body_of, Gives};
+
+use crate::sections::{DataAt, PieceAt};
+use crate::state::{Frame, Here};
+use crate::stop::Stop;
+use ldmodel::rows::Piece;
+use ldscript::tree::{BodyCommand, BodyStatement, DotCommand, DotForm, Expr, Formula, Width};
+
+/// The start that was kept, where it is the least multiple of the alignment not below `.`.
+#[tactic(auto, using(crate::proofs::Multiples::next_multiple_is))]
+fn taken_over(kept: Option<&u64>, dot: u64, alignment: u64) -> Option<u64>
+    requires { 0 < alignment }
+    ensures { IfSome result (λ start. start ≡ next_multiple_of dot alignment) }
+{
+    let start = match kept {
+        Some(start) => *start,
+        None => return None,
+    };
+    if dot <= start && start - dot < alignment && start % alignment == 0 {
+        Some(start)
+    } else {
+        None
+    }
+}
+
+impl<'d, 'a> Frame<'d, 'a> {
+    /// Where the next entry of the row starts, and whether that was worked out anew.
+    fn start_of(&self, here: &Here<'a>, piece: &Piece) -> Option<(u64, bool)>
+        ghost naming: { Naming }
+        ensures some { IfSome result (λ s. s.0 ≡ piece_start here.now.dot (piece_named naming piece.now)) }
+        ensures none { IfNone result (2 ^ 64 ≤ piece_start here.now.dot (piece_named naming piece.now)) }
+    {
+        let alignment = piece.alignment.max(1);
+        match taken_over(self.kept.get(here.pieces.len()), here.dot, alignment) {
+            Some(start) => Some((start, false)),
+            None => match here.dot.checked_next_multiple_of(alignment) {
+                Some(start) => Some((start, true)),
+                None => None,
+            },
+        }
+    }
+
+    /// The next entry of the row takes its place.
+    #[tactic(auto, unfolding(ldmodel::specs::Body::piece_placed))]
+    fn place_piece(&self, here: &mut Here<'a>, line: u32, piece: &'a Piece) -> Result<(), Stop<'a>>
+        ghost naming: { Naming }
+        ensures gives { Gives (piece_placed line (body_of naming here.old self.now) (piece_named naming piece.now) (row_named naming (drop (length here.old.pieces.items + 1) self.now.row.now))) (body_of naming here.new self.now) result }
+        ensures one { OnOk result (length here.new.pieces.items ≡ length here.old.pieces.items + 1) }
+        ensures anew { here.new.anew + length here.old.pieces.items ≤ here.old.anew + length here.new.pieces.items }
+        ensures few { length here.new.pieces.items ≤ length here.old.pieces.items + 1 }
+    {
+        let Some((start, is_new)) = self.start_of(here, piece) else {
+            return Err(Stop::PastAddressSpace { line });
+        };
+        let Some(end) = start.checked_add(piece.size) else {
+            return Err(Stop::PastAddressSpace { line });
+        };
+        here.pieces.push(PieceAt { start, piece })?;
+        here.anew = here.anew.saturating_add(u64::from(is_new));
+        here.dot = end;
+        Ok(())
+    }
+
+    /// The entries of an input statement take their places.
+    #[tactic(auto, unfolding(ldmodel::specs::Body::pieces_placed))]
+    fn place_pieces(&self, here: &mut Here<'a>, line: u32, number: u64) -> Result<(), Stop<'a>>
+        ghost naming: { Naming }
+        ensures gives { Gives (pieces_placed line number (body_of naming here.old self.now) (row_named naming (drop (length here.old.pieces.items) self.now.row.now))) (body_of naming here.new self.now) result }
+        ensures counted { Counted here.old here.new (length self.now.row.now) }
+    {
+        while here.pieces.len() < self.row.len() {
+            let piece = &self.row[here.pieces.len()];
+            if u64::from(piece.statement.0) != number {
+                break;
+            }
+            self.place_piece(here, line, piece)?;
+        }
+        Ok(())
+    }
+
+    /// An input statement.
+    fn place_input(&self, here: &mut Here<'a>, line: u32) -> Result<(), Stop<'a>>
+        ghost naming: { Naming }
+        ensures gives { Gives (input_step line (body_of naming here.old self.now)) (body_of naming here.new self.now) result }
+        ensures counted { Counted here.old here.new (length self.now.row.now) }
+    {
+        let number = here.inputs;
+        let Some(next) = number.checked_add(1) else {
+            // it does not come to this: no script has 2^64 input statements
+            return Err(Stop::NoMemory);
+        };
+        self.place_pieces(here, line, number)?;
+        here.inputs = next;
+        Ok(())
+    }
+
+    /// BYTE, SHORT, LONG or QUAD.
+    fn place_data(
+        &self,
+        here: &mut Here<'a>,
+        line: u32,
+        width: Width,
+        formula: &'a Formula,
+    ) -> Result<(), Stop<'a>>
+        ghost naming: { Naming }
+        ensures gives { Gives (data_step line (body_of naming here.old self.now) width formula.now) (body_of naming here.new self.now) result }
+        ensures counted { Counted here.old here.new (length self.now.row.now) }
+    {
+        let value = here.formula(self.done, line, formula)?;
+        let Some(end) = here.dot.checked_add(u64::from(width.byte_count())) else {
+            return Err(Stop::PastAddressSpace { line });
+        };
+        let start = here.dot;
+        here.data_commands.push(DataAt {
+            start,
+            width,
+            value,
+        })?;
+        here.dot = end;
+        Ok(())
+    }
+
+    /// `.` goes on to a number and some more.
+    fn go_to(&self, here: &mut Here<'a>, line: u32, from: u64, more: u64) -> Result<(), Stop<'a>>
+        ghost naming: { Naming }
+        ensures gives { Gives (moved line (body_of naming here.old self.now) (from + more)) (body_of naming here.new self.now) result }
+        ensures counted { Counted here.old here.new (length self.now.row.now) }
+    {
+        let dot = here.dot;
+        let Some(to) = from.checked_add(more) else {
+            return Err(Stop::PastAddressSpace { line });
+        };
+        if to < dot {
+            return Err(Stop::MovedBack { line });
+        }
+        here.dot = to;
+        Ok(())
+    }
+
+    /// `. += e` and `. = . + e`.
+    fn advance(&self, here: &mut Here<'a>, line: u32, by: &'a Expr) -> Result<(), Stop<'a>>
+        ghost naming: { Naming }
+        ensures gives { Gives (advanced line (body_of naming here.old self.now) (expr_of by.now)) (body_of naming here.new self.now) result }
+        ensures counted { Counted here.old here.new (length self.now.row.now) }
+    {
+        let more = here.number(self.done, line, by)?;
+        let from = here.dot;
+        self.go_to(here, line, from, more)?;
+        Ok(())
+    }
+
+    /// `. = e`.
+    fn set_dot(&self, here: &mut Here<'a>, line: u32, to: &'a Expr) -> Result<(), Stop<'a>>
+        ghost naming: { Naming }
+        ensures gives { Gives (set_to line (body_of naming here.old self.now) (dot_form (expr_of to.now))) (body_of naming here.new self.now) result }
+        ensures counted { Counted here.old here.new (length self.now.row.now) }
+    {
+        match to.dot_form() {
+            Some(DotForm::Advance(by)) => self.advance(here, line, by),
+            Some(DotForm::Align(_)) => {
+                let to = here.number(self.done, line, to)?;
+                self.go_to(here, line, to, 0)
+            }
+            Some(DotForm::Offset(by)) => {
+                let by = here.number(self.done, line, by)?;
+                self.go_to(here, line, self.start, by)
+            }
+            None => Ok(()),
+        }
+    }
+
+    fn move_dot(
+        &self,
+        here: &mut Here<'a>,
+        line: u32,
+        command: &'a DotCommand,
+    ) -> Result<(), Stop<'a>>
+        ghost naming: { Naming }
+        ensures gives { Gives (dot_step line (body_of naming here.old self.now) command.now) (body_of naming here.new self.now) result }
+        ensures counted { Counted here.old here.new (length self.now.row.now) }
+    {
+        match command {
+            DotCommand::Add(by) => self.advance(here, line, by.expr()),
+            DotCommand::Set(to) => self.set_dot(here, line, to.expr()),
+        }
+    }
+
+    #[tactic(auto, unfolding(ldmodel::specs::Body::body_command_step))]
+    fn place_command(
+        &self,
+        here: &mut Here<'a>,
+        line: u32,
+        command: &'a BodyCommand,
+    ) -> Result<(), Stop<'a>>
+        ghost naming: { Naming }
+        ensures gives { Gives (body_command_step self.now.provided.now line (body_of naming here.old self.now) command.now) (body_of naming here.new self.now) result }
+        ensures counted { Counted here.old here.new (length self.now.row.now) }
+    {
+        match command {
+            BodyCommand::Dot(command) => self.move_dot(here, line, command),
+            BodyCommand::Common(command) => here.common(self.done, self.provided, line, command),
+            BodyCommand::Data(width, formula) => self.place_data(here, line, *width, formula),
+            BodyCommand::Input(_) => self.place_input(here, line),
+        }
+    }
+
+    fn place_statement(
+        &self,
+        here: &mut Here<'a>,
+        statement: &'a BodyStatement,
+    ) -> Result<(), Stop<'a>>
+        ghost naming: { Naming }
+        ensures gives { Gives (body_step self.now.provided.now (body_of naming here.old self.now) statement.now) (body_of naming here.new self.now) result }
+        ensures counted { Counted here.old here.new (length self.now.row.now) }
+    {
+        here.dots.push(here.dot)?;
+        self.place_command(here, statement.line, &statement.command)
+    }
+
+    /// The statements of the body.
+    #[tactic(auto, unfolding(ldmodel::specs::Chain::run))]
+    pub fn place_body(&self, here: &mut Here<'a>, body: &'a [BodyStatement]) -> Result<(), Stop<'a>>
+        ghost naming: { Naming }
+        ensures gives { Gives (run (body_step self.now.provided.now) (body_of naming here.old self.now) body.now) (body_of naming here.new self.now) result }
+        ensures counted { Counted here.old here.new (length self.now.row.now) }
+    {
+        for statement in body {
+            self.place_statement(here, statement)?;
+        }
+        Ok(())
+    }
+}

@@ -1,0 +1,226 @@
+//! The end of an output section.
+
+ghost use Rattle.std.specs.Prelude.{◌+◌, length, OnOk, ◌≡◌, ◌==◌, ◌&&◌, ◌||◌, if◌then◌else◌, map, not, bit_and};
+ghost use Rattle.std.specs.List.{list_any};
+ghost use Rattle.std.specs.Option.{option_copied, option_and_then};
+ghost use Rattle.ldmodel.specs.Layout.{PlacedPiece, region_named};
+ghost use Rattle.ldmodel.specs.SectionEnd.{freed_from, has_file_bytes, has_flag, is_empty, is_in_file, is_within, load_region, placed_section, section_end, with_room};
+ghost use Rattle.place.specs.Ends.{body_alone, ended_body, load_end};
+ghost use Rattle.place.specs.Heads.{head_from, Yields};
+ghost use Rattle.place.specs.Keyed.{piece_at, section_of};
+ghost use Rattle.place.specs.Naming.{Naming};
+ghost use Rattle.place.specs.RegionTable.{region_of};
+ghost use Rattle.place.specs.SectionTable.{keyed, keyed_piece, Fits};
+ghost use Rattle.place.specs.State.{layout_of, Gives};
+
+use crate::head::{Head, region_name};
+use crate::regions::{Region, Regions};
+use crate::sections::{Closed, PieceAt};
+use crate::state::{Done, Here};
+use crate::stop::Stop;
+use elfdefs::constants::{SHF_EXECINSTR, SHF_WRITE};
+use elfobj::section::SectionKind;
+use ldmodel::laid::Placed;
+use ldscript::tree::{Load, OutputSection};
+use std::alloc::Global;
+
+/// Whether an input section brings bytes into the file.
+fn is_in_file(at: &PieceAt<'_>) -> bool
+    ghost naming: { Naming }
+    ensures { result ≡ is_in_file (piece_at naming (keyed_piece at.now)) }
+{
+    !matches!(at.piece.kind, SectionKind::Nobits) && at.piece.size != 0
+}
+
+fn any_in_file(pieces: &[PieceAt<'_>]) -> bool
+    ghost naming: { Naming }
+    ensures { result ≡ list_any is_in_file (map (piece_at naming) (map keyed_piece pieces.now)) }
+{
+    for at in pieces {
+        if is_in_file(at) {
+            return true;
+        }
+    }
+    false
+}
+
+fn has_this_flag(at: &PieceAt<'_>, flag: u64) -> bool
+    ensures { result ≡ (not (bit_and at.now.piece.now.flags flag == 0) && not (at.now.piece.now.size == 0)) }
+{
+    at.piece.flags & flag != 0 && at.piece.size != 0
+}
+
+/// Whether an input section of nonzero size has a flag.
+fn any_with_flag(pieces: &[PieceAt<'_>], flag: u64) -> bool
+    ghost naming: { Naming }
+    ensures { result ≡ list_any (λ (x : PlacedPiece). not (bit_and x.piece.flags flag == 0) && not (is_empty x)) (map (piece_at naming) (map keyed_piece pieces.now)) }
+{
+    for at in pieces {
+        if has_this_flag(at, flag) {
+            return true;
+        }
+    }
+    false
+}
+
+/// The region of `AT>region`.
+fn load_region_name(section: &OutputSection) -> Option<&[u8]>
+    ensures { option_copied result ≡ load_region section.now.load }
+{
+    match &section.load {
+        Load::InRegion(name) => Some(name.as_bytes()),
+        Load::Unstated | Load::At(_) => None,
+    }
+}
+
+/// Whether a range of addresses lies in a region.
+fn is_within(region: &Region<'_>, at: u64, size: u64) -> bool
+    ensures { result ≡ is_within (region_of region.now) at size }
+{
+    let end = u128::from(at) + u128::from(size);
+    let limit = u128::from(region.origin) + u128::from(region.extent);
+    size == 0 || region.origin <= at && end <= limit
+}
+
+impl<'a> Regions<'a> {
+    /// Finds that the region that is named, if any, has room for a range of addresses of an output section.
+    fn check_room(
+        &self,
+        section: &Closed<'a>,
+        name: Option<&[u8]>,
+        at: u64,
+        size: u64,
+    ) -> Result<(), Stop<'a>>
+        ghost naming: { Naming }
+        ensures { Yields (λ _. section_of naming (keyed section.now)) (with_room (option_and_then (region_named self.now) (option_copied name.entry)) at size (section_of naming (keyed section.now))) result }
+    {
+        let Some(name) = name else {
+            return Ok(());
+        };
+        let Some(region) = self.get(name) else {
+            return Ok(());
+        };
+        if is_within(&region, at, size) {
+            Ok(())
+        } else {
+            Err(Stop::RegionFull {
+                section: section.output.name.as_bytes(),
+                region: region.name,
+            })
+        }
+    }
+
+    /// Sets the next free address of a region, if one is named.
+    fn free(&mut self, name: Option<&[u8]>, next: u64)
+        ensures { self.new ≡ freed_from (option_copied name.entry) next self.old }
+    {
+        if let Some(name) = name {
+            self.free_from(name, next);
+        }
+    }
+}
+
+impl<'a> Done<'a> {
+    /// The load end of an output section, for which its regions must have room.
+    fn load_end(
+        &self,
+        line: u32,
+        section: &Closed<'a>,
+        output: &OutputSection,
+    ) -> Result<u64, Stop<'a>>
+        ghost naming: { Naming }
+        ensures { Yields (λ x. x) (load_end line output.now self.now.regions (section_of naming (keyed section.now))) result }
+    {
+        let at = section.placed;
+        self.regions
+            .check_room(section, region_name(output), at.start, at.size)?;
+        self.regions
+            .check_room(section, load_region_name(output), at.load, at.load_size)?;
+        match at.load.checked_add(at.load_size) {
+            Some(end) => Ok(end),
+            None => Err(Stop::PastAddressSpace { line }),
+        }
+    }
+}
+
+/// A size, where a condition holds; else 0.
+fn size_if(condition: bool, size: u64) -> u64
+    ensures { result ≡ (if condition then size else 0) }
+{
+    if condition { size } else { 0 }
+}
+
+impl<'a> Here<'a> {
+    fn has_file_bytes(&self) -> bool
+        ghost naming: { Naming }
+        ensures { result ≡ has_file_bytes (body_alone naming self.now) }
+    {
+        !self.data_commands.is_empty() || any_in_file(&self.pieces)
+    }
+
+    /// Whether an output section of this size, with file bytes or not, may be written.
+    fn is_writable(&self, size: u64, has_file_bytes: bool) -> bool
+        ghost naming: { Naming }
+        ensures { result ≡ (has_flag SHF_WRITE (body_alone naming self.now) || (not (size == 0) && not has_file_bytes)) }
+    {
+        any_with_flag(&self.pieces, SHF_WRITE) || size != 0 && !has_file_bytes
+    }
+
+    /// An output section after its body, with what has been placed in it.
+    #[tactic(auto, unfolding(ldmodel::specs::SectionEnd::placed_section))]
+    fn close(&mut self, alloc: Global, output: &'a OutputSection, head: Head) -> Closed<'a>
+        ghost naming: { Naming }
+        ensures value { section_of naming (keyed result) ≡ placed_section output.now (head_from head) (body_alone naming self.old) }
+        ensures fits { Fits (keyed result) }
+        ensures dot { self.new.dot ≡ self.old.dot }
+        ensures dots { self.new.dots.items ≡ self.old.dots.items }
+        ensures inputs { self.new.inputs ≡ self.old.inputs }
+        ensures symbols { self.new.symbols ≡ self.old.symbols }
+        ensures anew { self.new.anew ≡ self.old.anew }
+    {
+        let size = self.dot.saturating_sub(head.start);
+        let has_file_bytes = self.has_file_bytes();
+        let placed = Placed {
+            start: head.start,
+            size,
+            load: head.load,
+            load_size: size_if(has_file_bytes, size),
+            alignment: head.alignment,
+            writable: self.is_writable(size, has_file_bytes),
+            executable: any_with_flag(&self.pieces, SHF_EXECINSTR),
+        };
+        Closed {
+            output,
+            placed,
+            pieces: std::mem::replace(&mut self.pieces, Vec::new(alloc)),
+            data_commands: std::mem::replace(&mut self.data_commands, Vec::new(alloc)),
+        }
+    }
+
+    /// The end of an output section.
+    pub fn end(
+        &mut self,
+        alloc: Global,
+        done: &mut Done<'a>,
+        line: u32,
+        output: &'a OutputSection,
+        head: Head,
+    ) -> Result<(), Stop<'a>>
+        ghost naming: { Naming }
+        ensures anew { self.new.anew ≡ self.old.anew }
+        ensures one { OnOk result (length done.new.sections ≡ length done.old.sections + 1) }
+        ensures gives { Gives (section_end line output.now (head_from head) (ended_body naming self.old done.old)) (layout_of naming self.new done.new) result }
+    {
+        let end = self.dot.max(head.start);
+        let section = self.close(alloc, output, head);
+        match done.load_end(line, &section, output) {
+            Ok(load_end) => {
+                done.regions.free(region_name(output), end);
+                done.regions.free(load_region_name(output), load_end);
+                done.sections.push(section)?;
+                Ok(())
+            }
+            Err(stop) => Err(stop),
+        }
+    }
+}

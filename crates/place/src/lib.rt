@@ -1,0 +1,21 @@
+//! The layout of a script: where its output sections, their input sections and its symbols stand.
+#![tactic(auto)]
+
+mod assign;
+mod body;
+mod end;
+pub mod fault;
+mod head;
+mod memory;
+pub mod place;
+pub mod placement;
+mod provided;
+mod ready;
+mod regions;
+mod script;
+mod section;
+mod sections;
+mod state;
+mod stop;
+mod symbols;
+mod whole;

@@ -1,0 +1,119 @@
+//! The layout of a script.
+
+ghost use Rattle.std.specs.Prelude.{◌≡◌, [], map, IfErr, IfOk};
+ghost use Rattle.place.specs.Counted.{CountsPieces, entries};
+ghost use Rattle.place.specs.Naming.{Naming, rows_named};
+ghost use Rattle.place.specs.Outcomes.{IsGood, IsWhy, Stops};
+ghost use Rattle.place.specs.Places.{IsPlacement};
+ghost use Rattle.place.specs.ProvidedTable.{provided_names};
+
+use crate::fault::{PlaceFault, reported};
+use crate::placement::Placement;
+use crate::provided::Provided;
+use crate::regions::Regions;
+use crate::script::Input;
+use crate::sections::Sections;
+use crate::state::{Done, Here};
+use crate::symbols::Symbols;
+use crate::whole::whole;
+use ldmodel::meter::{Count, Meter};
+use ldmodel::rows::Piece;
+use ldmodel::script_symbol::CommonIndex;
+use ldoverlap::overlaps::overlaps;
+use ldscript::script::Script;
+use std::alloc::{AllocError, Global};
+
+/// Nothing is placed yet, and `.` is 0.
+fn nowhere<'a>(alloc: Global, script: &'a Script) -> Result<Here<'a>, AllocError>
+    ensures dot { IfOk result (λ h. h.dot ≡ 0) }
+    ensures dots { IfOk result (λ h. h.dots.items ≡ []) }
+    ensures inputs { IfOk result (λ h. h.inputs ≡ 0) }
+    ensures anew { IfOk result (λ h. h.anew ≡ 0) }
+    ensures symbols { IfOk result (λ h. h.symbols ≡ []) }
+{
+    let symbols = Symbols::new(alloc, script)?;
+    Ok(Here {
+        dot: 0,
+        dots: Vec::new(alloc),
+        inputs: 0,
+        symbols,
+        pieces: Vec::new(alloc),
+        data_commands: Vec::new(alloc),
+        anew: 0,
+    })
+}
+
+/// The layout of a script, or its first fault.
+#[tactic(auto, unfolding(ldmodel::specs::Placement::placement))]
+fn lay_out(
+    alloc: Global,
+    script: &Script,
+    rows: &[Vec<Piece>],
+    provided: &[CommonIndex],
+    kept: Option<(&Placement, usize)>,
+    meter: &mut Meter,
+) -> Result<Placement, PlaceFault>
+    ghost naming: { Naming }
+    ensures counted { CountsPieces meter.old meter.new (entries 0 (map (λ v. v.items) rows.now)) }
+    ensures placed { IfOk result (λ p. IsPlacement script.now (rows_named naming (map (λ v. v.items) rows.now)) (provided_names script.now provided.now) p) }
+    ensures faulty { IfErr result (λ f. Stops script.now (rows_named naming (map (λ v. v.items) rows.now)) (provided_names script.now provided.now) f) }
+{
+    let provided = Provided::new(alloc, script, provided)?;
+    let mut here = nowhere(alloc, script)?;
+    let sections = Sections::new(alloc, script)?;
+    let regions = Regions::new(alloc, script);
+    let mut done = Done { sections, regions };
+    let (starts, first): (&[u64], usize) = match kept {
+        Some((placement, first)) => (placement.pieces(), first),
+        None => (&[], 0),
+    };
+    let input = Input {
+        alloc,
+        provided: &provided,
+        rows,
+        kept: starts,
+        first,
+    };
+    let laid = input.place_statements(&mut here, &mut done, script.statements());
+    meter.raise(Count::Pieces, here.anew);
+    match laid {
+        Ok(()) => Ok(whole(alloc, script, here, &done)?),
+        Err(stop) => Err(reported(alloc, script, stop)),
+    }
+}
+
+/// Lays a script out: one pass over its statements, in which the rows' entries take their places.
+///
+/// `rows` has one row for each output section, in the order of the script, `provided` the PROVIDEs that are in force.
+/// With `kept`, an earlier placement of the script and the number of the first row that differs from the earlier one,
+/// the starts of pieces before that row are taken over, each after a look that it is right, and all statements are
+/// evaluated anew; so the layout is the same with any `kept`. The meter counts the pieces whose starts were not taken
+/// over.
+///
+/// What the pieces' objects and sections are called does not matter: the contract holds with any names.
+///
+/// # Errors
+///
+/// `First` is the first fault of the layout (`F4` to `F8`). Without one, `Meeting` has one fault for each output section
+/// that shares an address with an earlier one (`F9`), and then one for each that shares a load address (`F10`).
+pub fn place(
+    alloc: Global,
+    script: &Script,
+    rows: &[Vec<Piece>],
+    provided: &[CommonIndex],
+    kept: Option<(&Placement, usize)>,
+    meter: &mut Meter,
+) -> Result<Placement, PlaceFault>
+    ghost naming: { Naming }
+    ensures counted { CountsPieces meter.old meter.new (entries 0 (map (λ v. v.items) rows.now)) }
+    ensures good { IfOk result (λ p. IsGood script.now (rows_named naming (map (λ v. v.items) rows.now)) (provided_names script.now provided.now) p) }
+    ensures faulty { IfErr result (λ f. IsWhy script.now (rows_named naming (map (λ v. v.items) rows.now)) (provided_names script.now provided.now) f) }
+{
+    let placement = lay_out(alloc, script, rows, provided, kept, meter)?;
+    let meeting = overlaps(alloc, placement.sections())?;
+    if meeting.as_slice().is_empty() {
+        Ok(placement)
+    } else {
+        Err(PlaceFault::Meeting(meeting))
+    }
+}

@@ -1,0 +1,186 @@
+//! The statements of a script.
+
+ghost use Rattle.std.specs.Prelude.{◌≡◌, ◌≤◌, ◌+◌, [], map, slice_index_or, length, OnOk};
+ghost use Rattle.ldmodel.specs.Chain.{run};
+ghost use Rattle.ldmodel.specs.Placement.{free_dot_step, item_command_step, item_step, statement_step};
+ghost use Rattle.place.specs.Counted.{entries};
+ghost use Rattle.place.specs.Inputs.{rows_of};
+ghost use Rattle.place.specs.Naming.{Naming};
+ghost use Rattle.place.specs.State.{layout_of, Gives};
+
+use crate::provided::Provided;
+use crate::state::{Done, Here};
+use crate::stop::Stop;
+use ldmodel::rows::Piece;
+use ldscript::tree::{Command, DotCommand, Item, ItemCommand, Statement};
+use std::alloc::Global;
+
+/// What a layout is made from, beside the script.
+#[derive(Clone, Copy)]
+pub(crate) struct Input<'i, 'a> {
+    /// Where memory comes from.
+    pub alloc: Global,
+    /// The PROVIDEs that are in force.
+    pub provided: &'i Provided<'a>,
+    /// The rows of the output sections.
+    pub rows: &'a [Vec<Piece>],
+    /// Where the entries of all rows started in an earlier layout.
+    pub kept: &'i [u64],
+    /// The number of the output section before which these are taken over.
+    pub first: usize,
+}
+
+fn row_at(rows: &[Vec<Piece>], section: usize) -> &[Piece]
+    ensures { result.now ≡ slice_index_or (map (λ v. v.items) rows.now) section [] }
+{
+    match rows.get(section) {
+        Some(row) => row,
+        None => &[],
+    }
+}
+
+impl<'a> Here<'a> {
+    /// `. = e` and `. += e` outside output sections.
+    fn move_freely(
+        &mut self,
+        done: &Done<'a>,
+        line: u32,
+        command: &'a DotCommand,
+    ) -> Result<(), Stop<'a>>
+        ghost naming: { Naming }
+        ensures anew { self.new.anew ≡ self.old.anew }
+        ensures gives { Gives (free_dot_step (layout_of naming self.old done.now) line command.now) (layout_of naming self.new done.now) result }
+    {
+        match command {
+            DotCommand::Set(to) => {
+                self.dot = self.formula(done, line, to)?;
+                Ok(())
+            }
+            DotCommand::Add(by) => {
+                let by = self.formula(done, line, by)?;
+                self.dot = self.dot.wrapping_add(by);
+                Ok(())
+            }
+        }
+    }
+}
+
+impl<'i, 'a> Input<'i, 'a> {
+    /// What is taken over in the next output section.
+    fn kept_at(&self, done: &Done<'a>) -> &'i [u64] {
+        if done.sections.len() >= self.first {
+            return &[];
+        }
+        match self.kept.get(done.sections.count()..) {
+            Some(kept) => kept,
+            None => &[],
+        }
+    }
+
+    #[tactic(auto, unfolding(ldmodel::specs::Placement::item_command_step), using(crate::proofs::Rows::next_row_is, crate::proofs::Counting::entries_more))]
+    fn place_command(
+        &self,
+        here: &mut Here<'a>,
+        done: &mut Done<'a>,
+        line: u32,
+        command: &'a ItemCommand,
+    ) -> Result<(), Stop<'a>>
+        ghost naming: { Naming }
+        ensures anew { here.new.anew ≤ here.old.anew + entries (length done.old.sections) (map (λ v. v.items) self.now.rows.now) }
+        ensures left { OnOk result (here.new.anew + entries (length done.new.sections) (map (λ v. v.items) self.now.rows.now) ≤ here.old.anew + entries (length done.old.sections) (map (λ v. v.items) self.now.rows.now)) }
+        ensures gives { Gives (item_command_step (rows_of naming self.now) self.now.provided.now line (layout_of naming here.old done.old) command.now) (layout_of naming here.new done.new) result }
+    {
+        match command {
+            ItemCommand::Dot(command) => here.move_freely(done, line, command),
+            ItemCommand::Common(command) => here.common(done, self.provided, line, command),
+            ItemCommand::Section(output) => {
+                let row = row_at(self.rows, done.sections.len());
+                let kept = self.kept_at(done);
+                here.place_section(self.alloc, done, self.provided, row, kept, line, output)
+            }
+            ItemCommand::Discard(inputs) => {
+                let Some(next) = here.inputs.checked_add(inputs.as_slice().len() as u64) else {
+                    // it does not come to this: no script has 2^64 input statements
+                    return Err(Stop::NoMemory);
+                };
+                here.inputs = next;
+                Ok(())
+            }
+        }
+    }
+
+    /// A statement of SECTIONS.
+    fn place_item(
+        &self,
+        here: &mut Here<'a>,
+        done: &mut Done<'a>,
+        item: &'a Item,
+    ) -> Result<(), Stop<'a>>
+        ghost naming: { Naming }
+        ensures anew { here.new.anew ≤ here.old.anew + entries (length done.old.sections) (map (λ v. v.items) self.now.rows.now) }
+        ensures left { OnOk result (here.new.anew + entries (length done.new.sections) (map (λ v. v.items) self.now.rows.now) ≤ here.old.anew + entries (length done.old.sections) (map (λ v. v.items) self.now.rows.now)) }
+        ensures gives { Gives (item_step (rows_of naming self.now) self.now.provided.now (layout_of naming here.old done.old) item.now) (layout_of naming here.new done.new) result }
+    {
+        here.dots.push(here.dot)?;
+        self.place_command(here, done, item.line, &item.command)
+    }
+
+    /// The statements of SECTIONS.
+    #[tactic(auto, unfolding(ldmodel::specs::Chain::run))]
+    fn place_items(
+        &self,
+        here: &mut Here<'a>,
+        done: &mut Done<'a>,
+        items: &'a [Item],
+    ) -> Result<(), Stop<'a>>
+        ghost naming: { Naming }
+        ensures anew { here.new.anew ≤ here.old.anew + entries (length done.old.sections) (map (λ v. v.items) self.now.rows.now) }
+        ensures left { OnOk result (here.new.anew + entries (length done.new.sections) (map (λ v. v.items) self.now.rows.now) ≤ here.old.anew + entries (length done.old.sections) (map (λ v. v.items) self.now.rows.now)) }
+        ensures gives { Gives (run (item_step (rows_of naming self.now) self.now.provided.now) (layout_of naming here.old done.old) items.now) (layout_of naming here.new done.new) result }
+    {
+        for item in items {
+            self.place_item(here, done, item)?;
+        }
+        Ok(())
+    }
+
+    /// A statement of the script.
+    #[tactic(auto, unfolding(ldmodel::specs::Placement::command_step))]
+    fn place_statement(
+        &self,
+        here: &mut Here<'a>,
+        done: &mut Done<'a>,
+        statement: &'a Statement,
+    ) -> Result<(), Stop<'a>>
+        ghost naming: { Naming }
+        ensures anew { here.new.anew ≤ here.old.anew + entries (length done.old.sections) (map (λ v. v.items) self.now.rows.now) }
+        ensures left { OnOk result (here.new.anew + entries (length done.new.sections) (map (λ v. v.items) self.now.rows.now) ≤ here.old.anew + entries (length done.old.sections) (map (λ v. v.items) self.now.rows.now)) }
+        ensures gives { Gives (statement_step (rows_of naming self.now) self.now.provided.now (layout_of naming here.old done.old) statement.now) (layout_of naming here.new done.new) result }
+    {
+        match &statement.command {
+            Command::Entry(_) => Ok(()),
+            Command::Memory(regions) => here.declare_all(done, regions.as_slice()),
+            Command::Sections(items) => self.place_items(here, done, items.as_slice()),
+            Command::Common(command) => here.common(done, self.provided, statement.line, command),
+        }
+    }
+
+    /// The statements of the script.
+    #[tactic(auto, unfolding(ldmodel::specs::Chain::run))]
+    pub fn place_statements(
+        &self,
+        here: &mut Here<'a>,
+        done: &mut Done<'a>,
+        statements: &'a [Statement],
+    ) -> Result<(), Stop<'a>>
+        ghost naming: { Naming }
+        ensures anew { here.new.anew ≤ here.old.anew + entries (length done.old.sections) (map (λ v. v.items) self.now.rows.now) }
+        ensures left { OnOk result (here.new.anew + entries (length done.new.sections) (map (λ v. v.items) self.now.rows.now) ≤ here.old.anew + entries (length done.old.sections) (map (λ v. v.items) self.now.rows.now)) }
+        ensures gives { Gives (run (statement_step (rows_of naming self.now) self.now.provided.now) (layout_of naming here.old done.old) statements.now) (layout_of naming here.new done.new) result }
+    {
+        for statement in statements {
+            self.place_statement(here, done, statement)?;
+        }
+        Ok(())
+    }
+}

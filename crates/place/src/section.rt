@@ -1,0 +1,83 @@
+//! An output section.
+
+ghost use Rattle.std.specs.Prelude.{◌≡◌, ◌≤◌, ◌+◌, [], length, OnOk};
+ghost use Rattle.ldmodel.specs.Body.{body_step};
+ghost use Rattle.ldmodel.specs.Chain.{run};
+ghost use Rattle.ldmodel.specs.Placement.{opened, section_step};
+ghost use Rattle.place.specs.Heads.{head_from};
+ghost use Rattle.place.specs.Naming.{Naming, row_named};
+ghost use Rattle.place.specs.State.{body_from, layout_of, Gives};
+
+use crate::head::Head;
+use crate::provided::Provided;
+use crate::state::{Done, Frame, Here};
+use crate::stop::Stop;
+use ldmodel::rows::Piece;
+use ldscript::tree::OutputSection;
+use std::alloc::Global;
+
+impl<'a> Here<'a> {
+    /// A section begins to be placed.
+    fn open(&mut self, start: u64)
+        ensures dot { self.new.dot ≡ start }
+        ensures dots { self.new.dots.items ≡ self.old.dots.items }
+        ensures inputs { self.new.inputs ≡ self.old.inputs }
+        ensures symbols { self.new.symbols ≡ self.old.symbols }
+        ensures pieces { self.new.pieces.items ≡ [] }
+        ensures anew { self.new.anew ≡ self.old.anew }
+        ensures data_commands { self.new.data_commands.items ≡ [] }
+    {
+        self.dot = start;
+        self.pieces.clear();
+        self.data_commands.clear();
+    }
+
+    /// The body of a section with this head.
+    fn body(
+        &mut self,
+        done: &Done<'a>,
+        provided: &Provided<'a>,
+        row: &'a [Piece],
+        kept: &[u64],
+        head: Head,
+        output: &'a OutputSection,
+    ) -> Result<(), Stop<'a>>
+        ghost naming: { Naming }
+        ensures anew { self.new.anew ≤ self.old.anew + length row.now }
+        ensures gives { Gives (run (body_step provided.now) (opened (layout_of naming self.old done.now) (row_named naming row.now) (head_from head)) output.now.body) (body_from naming self.new done.now head.start row.now) result }
+    {
+        let frame = Frame {
+            done,
+            provided,
+            row,
+            start: head.start,
+            kept,
+        };
+        self.open(head.start);
+        frame.place_body(self, output.body.as_slice())?;
+        Ok(())
+    }
+
+    /// An output section.
+    #[tactic(auto, unfolding(ldmodel::specs::Placement::section_step), using(crate::proofs::Ending::end_alone))]
+    pub fn place_section(
+        &mut self,
+        alloc: Global,
+        done: &mut Done<'a>,
+        provided: &Provided<'a>,
+        row: &'a [Piece],
+        kept: &[u64],
+        line: u32,
+        output: &'a OutputSection,
+    ) -> Result<(), Stop<'a>>
+        ghost naming: { Naming }
+        ensures anew { self.new.anew ≤ self.old.anew + length row.now }
+        ensures one { OnOk result (length done.new.sections ≡ length done.old.sections + 1) }
+        ensures gives { Gives (section_step provided.now (row_named naming row.now) (layout_of naming self.old done.old) line output.now) (layout_of naming self.new done.new) result }
+    {
+        let head = self.head(done, row, line, output)?;
+        self.body(done, provided, row, kept, head, output)?;
+        self.end(alloc, done, line, output, head)?;
+        Ok(())
+    }
+}

@@ -1,0 +1,190 @@
+//! The output sections that are in their places.
+
+ghost use Rattle.std.specs.Prelude.{◌≡◌, [], ◌∷◌, ◌++◌, length, map, replicate, IfOk, OnOk, IfErr, IfSome, find, bytes_eq, option_map};
+ghost use Rattle.std.specs.Option.{option_copied};
+ghost use Rattle.place.specs.Keyed.{KeyedSection};
+ghost use Rattle.place.specs.SectionTable.{keyed, difference_by, Ends, Fits};
+ghost use Rattle.place.specs.declared.stop.Stop.TheVariants.{NoMemory};
+
+use crate::stop::Stop;
+use ldmodel::laid::Placed;
+use ldmodel::rows::Piece;
+use ldscript::script::Script;
+use ldscript::tree::{OutputSection, Width};
+use std::alloc::{AllocError, Global};
+use std::marker::Model;
+
+/// An input section in its place.
+#[derive(Clone, Copy)]
+pub(crate) struct PieceAt<'a> {
+    /// Its first address.
+    pub start: u64,
+    /// Its entry of a row.
+    pub piece: &'a Piece,
+}
+
+/// A data command in its place.
+#[derive(Clone, Copy)]
+pub(crate) struct DataAt {
+    /// The address of its first byte.
+    pub start: u64,
+    /// How many bytes it has.
+    pub width: Width,
+    /// The number whose lowest bytes these are.
+    pub value: u64,
+}
+
+/// An output section in its place.
+#[derive(Drop)]
+pub(crate) struct Closed<'a> {
+    /// What the script says of it.
+    pub output: &'a OutputSection,
+    /// Its numbers.
+    pub placed: Placed,
+    /// Its input sections.
+    pub pieces: Vec<PieceAt<'a>>,
+    /// Its data commands.
+    pub data_commands: Vec<DataAt>,
+}
+
+/// The output sections that are in their places, in the order of the text, and for each memory region how far the last
+/// of those in it lies from where it is loaded.
+#[derive(Drop)]
+pub(crate) struct Sections<'a> {
+    script: &'a Script,
+    list: Vec<Closed<'a>>,
+    count: usize,
+    differences: Vec<u64>,
+    elsewhere: u64,
+}
+
+impl<'a> Model for Sections<'a> {
+    ghost use Rattle.std.specs.Prelude.{List, map};
+    ghost use Rattle.place.specs.Keyed.{KeyedSection};
+
+    ghost Value = { List KeyedSection };
+
+    ghost use Rattle.place.specs.SectionTable.{keyed, AreSectionsOf};
+
+    ghost view = { λ s. map keyed s.list.items };
+
+    ghost invariant = { λ s. AreSectionsOf s.script.now (map keyed s.list.items) s.differences.items s.elsewhere };
+}
+
+/// This many zeros.
+fn zeros(alloc: Global, count: usize) -> Result<Vec<u64>, AllocError>
+    ensures { IfOk result (λ v. v.items ≡ replicate count 0) }
+{
+    vec![in alloc; 0; count]
+}
+
+impl<'a> Sections<'a> {
+    /// No output section of this script.
+    pub fn new(alloc: Global, script: &'a Script) -> Result<Sections<'a>, AllocError>
+        ensures { IfOk result (λ s. s ≡ []) }
+    {
+        let regions = script.regions(alloc)?;
+        let differences = zeros(alloc, regions.len())?;
+        Ok(Sections {
+            script,
+            list: Vec::new(alloc),
+            count: 0,
+            differences,
+            elsewhere: 0,
+        })
+    }
+
+    /// All of them.
+    pub fn as_slice(&self) -> &[Closed<'a>]
+        ensures all { map keyed result.now ≡ self.now }
+        ensures ends { Ends self.now }
+    {
+        &self.list
+    }
+
+    /// How many there are.
+    pub fn len(&self) -> usize
+        ensures { result ≡ length self.now }
+    {
+        self.list.len()
+    }
+
+    /// How many input sections are in them.
+    pub fn count(&self) -> usize {
+        self.count
+    }
+
+    /// The numbers of the output section of a name.
+    pub fn placed(&self, name: &[u8]) -> Option<Placed>
+        ensures { result ≡ option_map (λ (x : KeyedSection). x.placed) (find (λ (x : KeyedSection). bytes_eq x.name name.now) self.now) }
+    {
+        match self.script.section_number(name) {
+            Some(number) => {
+                if number < self.list.len() {
+                    Some(self.list[number].placed)
+                } else {
+                    None
+                }
+            }
+            None => None,
+        }
+    }
+
+    /// How far the last output section of a region starts from where it is loaded, modulo 2^64; `None` for a region that
+    /// the script does not declare. Output sections that name no region count as one region.
+    pub fn difference(&self, region: Option<&[u8]>) -> Option<u64>
+        ensures { IfSome result (λ d. d ≡ difference_by self.now (option_copied region.entry)) }
+    {
+        match region {
+            None => Some(self.elsewhere),
+            Some(name) => match self.script.region_number(name) {
+                Some(number) => {
+                    if number < self.differences.len() {
+                        Some(self.differences[number])
+                    } else {
+                        None
+                    }
+                }
+                None => None,
+            },
+        }
+    }
+
+    /// One more output section. It is an error where memory ran out.
+    pub fn push(&mut self, section: Closed<'a>) -> Result<(), Stop<'a>>
+        requires { Fits (keyed section) }
+        ensures pushed { OnOk result (self.new ≡ self.old ++ keyed section.entry ∷ []) }
+        ensures refused { IfErr result (λ f. f ≡ NoMemory) }
+    {
+        // it does not come to an error here but for memory: a script has each of its output sections once, in the order
+        // of their numbers, and declares the regions that they name
+        let Some(place) = self.script.section_number(section.output.name.as_bytes()) else {
+            return Err(Stop::NoMemory);
+        };
+        if place != self.list.len() {
+            return Err(Stop::NoMemory);
+        }
+        let difference = section.placed.start.wrapping_sub(section.placed.load);
+        let count = self.count.saturating_add(section.pieces.len());
+        match &section.output.region {
+            None => {
+                self.list.push(section)?;
+                self.count = count;
+                self.elsewhere = difference;
+                Ok(())
+            }
+            Some(region) => match self.script.region_number(region.as_bytes()) {
+                Some(number) => {
+                    if number >= self.differences.len() {
+                        return Err(Stop::NoMemory);
+                    }
+                    self.list.push(section)?;
+                    self.count = count;
+                    self.differences[number] = difference;
+                    Ok(())
+                }
+                None => Err(Stop::NoMemory),
+            },
+        }
+    }
+}

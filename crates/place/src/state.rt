@@ -1,0 +1,50 @@
+//! A layout, as far as it has come.
+
+use crate::provided::Provided;
+use crate::regions::Regions;
+use crate::sections::{DataAt, PieceAt, Sections};
+use crate::symbols::Symbols;
+use ldmodel::rows::Piece;
+
+/// Where a layout has come to: what changes from statement to statement, in the body of an output section too.
+#[derive(Drop)]
+pub(crate) struct Here<'a> {
+    /// `.`, the location counter.
+    pub dot: u64,
+    /// `.` before each statement so far.
+    pub dots: Vec<u64>,
+    /// The number of the next input statement.
+    pub inputs: u64,
+    /// The symbols that have values.
+    pub symbols: Symbols<'a>,
+    /// The input sections of the present output section that have their places.
+    pub pieces: Vec<PieceAt<'a>>,
+    /// The data commands of the present output section so far.
+    pub data_commands: Vec<DataAt>,
+    /// How many input sections were placed anew.
+    pub anew: u64,
+}
+
+/// What is complete: it changes between output sections alone.
+#[derive(Drop)]
+pub(crate) struct Done<'a> {
+    /// The output sections.
+    pub sections: Sections<'a>,
+    /// The memory regions.
+    pub regions: Regions<'a>,
+}
+
+/// The present output section: what does not change while its body is placed.
+#[derive(Clone, Copy)]
+pub(crate) struct Frame<'d, 'a> {
+    /// What is complete.
+    pub done: &'d Done<'a>,
+    /// The PROVIDEs that are in force.
+    pub provided: &'d Provided<'a>,
+    /// Its row.
+    pub row: &'a [Piece],
+    /// Where it starts.
+    pub start: u64,
+    /// Where the entries of its row started in an earlier layout, as far as these may be taken over.
+    pub kept: &'d [u64],
+}

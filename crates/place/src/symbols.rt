@@ -1,0 +1,106 @@
+//! The symbols that a script has given values so far.
+
+ghost use Rattle.std.specs.Prelude.{◌≡◌, [], ◌∷◌, ◌++◌, map, IfOk, OnOk, IfErr, find, bytes_eq, option_map};
+ghost use Rattle.ldmodel.specs.Layout.{ScriptSymbol};
+ghost use Rattle.place.specs.SymbolTable.{symbol_of};
+ghost use Rattle.place.specs.Tables.{symbol_number};
+ghost use Rattle.place.specs.declared.stop.Stop.TheVariants.{NoMemory};
+
+use crate::stop::Stop;
+use ldscript::script::Script;
+use ldscript::tree::Given;
+use std::alloc::{AllocError, Global};
+use std::marker::Model;
+
+/// A symbol that the script has given a value.
+#[derive(Clone, Copy)]
+pub(crate) struct Symbol<'a> {
+    /// Its name.
+    pub name: &'a [u8],
+    /// Its value.
+    pub value: u64,
+}
+
+/// The symbols that a script has given values so far, in the order of the text. A look-up takes the time of one in the
+/// script's table of names.
+#[derive(Drop)]
+pub(crate) struct Symbols<'a> {
+    script: &'a Script,
+    list: Vec<Symbol<'a>>,
+    values: Vec<Option<u64>>,
+}
+
+impl<'a> Model for Symbols<'a> {
+    ghost use Rattle.std.specs.Prelude.{List, map};
+    ghost use Rattle.ldmodel.specs.Layout.{ScriptSymbol};
+
+    ghost Value = { List ScriptSymbol };
+
+    ghost use Rattle.place.specs.SymbolTable.{symbol_of, AreValuesOf};
+
+    ghost view = { λ s. map symbol_of s.list.items };
+
+    ghost invariant = { λ s. AreValuesOf s.script.now s.values.items (map symbol_of s.list.items) };
+}
+
+/// The number of the command that gives a symbol its value.
+pub(crate) fn symbol_number(script: &Script, name: &[u8]) -> Option<usize>
+    ensures { result ≡ symbol_number script.now name.now }
+{
+    match script.given(name) {
+        Some(Given::Assigned(number)) | Some(Given::Provided(number)) => Some(number),
+        None => None,
+    }
+}
+
+impl<'a> Symbols<'a> {
+    /// No symbol of this script, and room in the table for all.
+    pub fn new(alloc: Global, script: &'a Script) -> Result<Symbols<'a>, AllocError>
+        ensures { IfOk result (λ s. s ≡ []) }
+    {
+        let commands = script.common_commands(alloc)?;
+        let values = vec![in alloc; None; commands.len()]?;
+        Ok(Symbols {
+            script,
+            list: Vec::new(alloc),
+            values,
+        })
+    }
+
+    /// All symbols, in the order of the text.
+    pub fn as_slice(&self) -> &[Symbol<'a>]
+        ensures { map symbol_of result.now ≡ self.now }
+    {
+        &self.list
+    }
+
+    /// The value of a symbol.
+    pub fn value(&self, name: &[u8]) -> Option<u64>
+        ensures { result ≡ option_map (λ (x : ScriptSymbol). x.value) (find (λ (x : ScriptSymbol). bytes_eq x.name name.now) self.now) }
+    {
+        let number = symbol_number(self.script, name)?;
+        *self.values.get(number)?
+    }
+
+    /// Gives a symbol a value. It is an error where memory ran out.
+    pub fn assign(&mut self, name: &'a [u8], value: u64) -> Result<(), Stop<'a>>
+        ensures given { OnOk result (self.new ≡ self.old ++ record { name = name.now; value = value } ∷ []) }
+        ensures refused { IfErr result (λ f. f ≡ NoMemory) }
+    {
+        let Some(number) = symbol_number(self.script, name) else {
+            // it does not come to this: the name is one that the script gives a value, and it has a place in the table
+            return Err(Stop::NoMemory);
+        };
+        if number >= self.values.len() {
+            return Err(Stop::NoMemory);
+        }
+        self.list.push(Symbol { name, value })?;
+        match self.values[number] {
+            None => {
+                self.values[number] = Some(value);
+                Ok(())
+            }
+            Some(_) => Ok(()),
+        }
+    }
+}
