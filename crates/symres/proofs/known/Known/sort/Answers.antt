@@ -1,4 +1,3 @@
-use Rattle.std.proofs.Common.{◌∙◌, ap, map}
 use Rattle.symres.proofs.Ordered.{paired_sorted, sorted_spelled, sorted_ok}
 use Rattle.symres.proofs.known.Known.sort.Goals as goal
 
