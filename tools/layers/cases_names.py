@@ -75,6 +75,13 @@ class Trial:
         cases = [decisions.of(name).case for name in decisions.declarations]
         self.want(f"decided {len(cases)}, undefined {cases.count(Case.UNDEFINED)}")
 
+    def names(self):
+        """The same, in byte order."""
+        self.stream.line("names")
+        decisions = self.decisions()
+        names = sorted(decisions.declarations, key=lambda name: name.encode("latin-1"))
+        self.want("".join(f"{name} {self.spelled(decisions.of(name))}; " for name in names) + f"decided {len(names)}")
+
     def entry(self, declaration):
         return f"{self.entered[declaration.object]} {declaration.symbol.number}"
 
@@ -209,6 +216,7 @@ def same_name_often(trial):
     trial.decide("w", "c")
     trial.forget()
     trial.decide_keys()
+    trial.names()
 
 
 class Arithmetic:
@@ -246,7 +254,7 @@ def lists(trial):
                 trial.forget()
         trial.decide(*names)
         trial.forget()
-        trial.decide_keys()
+        trial.names()
 
 
 def fill(stream):

@@ -9,7 +9,7 @@ use Rattle.std.proofs.lemmas.List.Elements.{All-cons, All-nil, All-head, All-tai
 use Rattle.symres.specs.declared.symbol.Declared.{Declared}
 use Rattle.slab.specs.Slab.{RetainsFrom, CalledAt}
 use Rattle.symres.specs.declared.symbol.Numbered.{Numbered}
-use Rattle.symres.specs.Known.{spelled, IsSpelled, IsPaired, IsKeptWhere}
+use Rattle.symres.specs.Known.{spelled, entry_spelled, IsSpelled, IsPaired, IsKeptWhere}
 use Rattle.symres.specs.State.{IsNamed, KeepsNames}
 use Rattle.symres.specs.Numbers.{Entered, declared, own, is_named, named, entries, is_used}
 use Rattle.symres.specs.Spelled.{IsSpellable}
@@ -140,3 +140,25 @@ names_were test old new w n name h = go (test n) refl
     go : (b : Bool) → test n ≡ b → IsNamed old n name
     go true e = sym ((w n).0 e) ∙ h
     go false e = let none = (w n).1 e in absurd (cc)
+
+-- the names that stay, in their order
+pub listed_kept : (test : ℕ → Bool) (slots slots' : List (Option Name)) (es : List (Name × ℕ)) → Kept test slots slots' → All (λ (e : Name × ℕ). IsSpelled slots e.1 e.0.items) es
+    → map entry_spelled (filter (λ (e : Name × ℕ). is_some (get_or slots' e.1 None)) es) ≡ filter (λ (e : List ℕ × ℕ). test e.1) (map entry_spelled es)
+listed_kept test slots slots' [] k a = refl
+listed_kept test slots slots' (e ∷ es) k a =
+    let P : Name × ℕ → Type 0 = λ (e : Name × ℕ). IsSpelled slots e.1 e.0.items in
+    ap (λ b. map entry_spelled (cond b (e ∷ filter (λ (e : Name × ℕ). is_some (get_or slots' e.1 None)) es) (filter (λ (e : Name × ℕ). is_some (get_or slots' e.1 None)) es))) (same (test e.1) (get_or slots e.1 None) (All-head P e es a) (k e.1))
+    ∙ go (test e.1) (listed_kept test slots slots' es k (All-tail P e es a))
+  where
+    rest : List (Name × ℕ)
+    rest = filter (λ (e : Name × ℕ). is_some (get_or slots' e.1 None)) es
+
+    same : (b : Bool) (o : Option Name) → spelled o ≡ Some e.0.items → get_or slots' e.1 None ≡ cond b o None → is_some (get_or slots' e.1 None) ≡ b
+    same b None h q = absurd (cc)
+    same true (Some v) h q = ap is_some q
+    same false (Some v) h q = ap is_some q
+
+    go : (b : Bool) → map entry_spelled rest ≡ filter (λ (e : List ℕ × ℕ). test e.1) (map entry_spelled es)
+        → map entry_spelled (cond b (e ∷ rest) rest) ≡ cond b (entry_spelled e ∷ filter (λ (e : List ℕ × ℕ). test e.1) (map entry_spelled es)) (filter (λ (e : List ℕ × ℕ). test e.1) (map entry_spelled es))
+    go true r = ap (λ l. entry_spelled e ∷ l) r
+    go false r = r

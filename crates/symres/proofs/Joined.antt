@@ -10,7 +10,7 @@ use Rattle.std.proofs.lemmas.List.Elements.{filter-append, All-append, All-cons,
 use Rattle.elfobj.specs.Symbols.{NamedSymbol}
 use Rattle.ldmodel.specs.Names.{declarations_in, declarations_of, is_local, is_of_name}
 use Rattle.symres.specs.declared.symbol.Numbered.{Numbered}
-use Rattle.symres.specs.Known.{IsKeptWhere}
+use Rattle.symres.specs.Known.{KnownNames, IsConsistent, IsKeptWhere}
 use Rattle.symres.specs.Numbers.{Entered, HasRow, is_named, named, entries, is_used}
 use Rattle.symres.specs.Numbers as numbers
 use Rattle.symres.specs.Objects.{ObjectsState, CanEnter, HasKey}
@@ -60,9 +60,9 @@ none names k xs e h = λ j x l. go (get_or xs j x) (is_local (get_or xs j x).sym
     go s true v t = named_local k s v
     go s false v t = let n = t v in named_no k s (λ same. let q = sym n.1 ∙ ap (slot names) same ∙ e in absurd (cc))
 
-pub can_enter : (names : Names) (s : ObjectsState) (spare held : List ℕ) (ss : List Numbered) (symbols : List NamedSymbol) → AreDistinct names → AllSpellable names s.objects → Spells names ss symbols
-    → MayEnter (record { objects = map (spell names) s.objects; names = names; room = s.room; order_room = s.order_room; place_room = s.place_room; spare = spare; held = held }) symbols → CanEnter s ss
-can_enter names s spare held ss symbols d a p m = record {
+pub can_enter : (names : Names) (s : ObjectsState) (spare held : List ℕ) (order : List (List ℕ × ℕ)) (ss : List Numbered) (symbols : List NamedSymbol) → AreDistinct names → AllSpellable names s.objects → Spells names ss symbols
+    → MayEnter (record { objects = map (spell names) s.objects; names = names; room = s.room; order_room = s.order_room; place_room = s.place_room; spare = spare; held = held; order = order }) symbols → CanEnter s ss
+can_enter names s spare held order ss symbols d a p m = record {
   known = λ j x l v.
       let y = get_or ss j x in
       let l' : j < length symbols = omega (arith, l, ap length p.spelled, length-map ss (spell_symbol names)) in
@@ -106,9 +106,9 @@ naming_seen name (x ∷ xs) = go (is_seen x) (naming_seen name xs) refl
         ∙ ap (λ b. naming name (cond b (x ∷ filter is_seen xs) (filter is_seen xs))) (sym e)
 
 -- what is enough of an object's symbols
-enough : (names : Names) (s : ObjectsState) (spare held : List ℕ) (ss : List Numbered) (symbols : List NamedSymbol) → AreDistinct names → AllSpellable names s.objects → SpellsSeen names ss symbols → CanEnter s ss → HasList spare (length symbols)
-    → MayEnter (record { objects = map (spell names) s.objects; names = names; room = s.room; order_room = s.order_room; place_room = s.place_room; spare = spare; held = held }) symbols
-enough names s spare held ss symbols d a p c h = record {
+enough : (names : Names) (s : ObjectsState) (spare held : List ℕ) (order : List (List ℕ × ℕ)) (ss : List Numbered) (symbols : List NamedSymbol) → AreDistinct names → AllSpellable names s.objects → SpellsSeen names ss symbols → CanEnter s ss → HasList spare (length symbols)
+    → MayEnter (record { objects = map (spell names) s.objects; names = names; room = s.room; order_room = s.order_room; place_room = s.place_room; spare = spare; held = held; order = order }) symbols
+enough names s spare held order ss symbols d a p c h = record {
   known = λ j x l v. all_filter P is_seen symbols (subst (All P) p.spelled mapped) j x l (ap not v);
   room = λ n name e l.
       let x = c.room n l in
@@ -131,14 +131,14 @@ enough names s spare held ss symbols d a p c h = record {
         let v : is_local y.symbol.binding ≡ false = visible_is (is_local y.symbol.binding) (sym (p.seen j x l)) in
         (y.name, named_so names y (p.named j x l) v, c.known j x l v))
 
-pub may_enter : (names : Names) (s : ObjectsState) (spare held : List ℕ) (symbols : List NamedSymbol) → AreDistinct names → AllSpellable names s.objects → IsReady names s symbols → HasList spare (length symbols)
-    → MayEnter (record { objects = map (spell names) s.objects; names = names; room = s.room; order_room = s.order_room; place_room = s.place_room; spare = spare; held = held }) symbols
-may_enter names s spare held symbols d a r h = enough names s spare held r.0 symbols d a r.1 r.2 h
+pub may_enter : (names : Names) (s : ObjectsState) (spare held : List ℕ) (order : List (List ℕ × ℕ)) (symbols : List NamedSymbol) → AreDistinct names → AllSpellable names s.objects → IsReady names s symbols → HasList spare (length symbols)
+    → MayEnter (record { objects = map (spell names) s.objects; names = names; room = s.room; order_room = s.order_room; place_room = s.place_room; spare = spare; held = held; order = order }) symbols
+may_enter names s spare held order symbols d a r h = enough names s spare held order r.0 symbols d a r.1 r.2 h
 
 -- an object that was entered can be again
-pub may_again : (names : Names) (s : ObjectsState) (spare held : List ℕ) (ss : List Numbered) → AreDistinct names → AllSpellable names s.objects → IsSpellable names ss → CanEnter s ss → HasList spare (length (map (spell_symbol names) ss))
-    → MayEnter (record { objects = map (spell names) s.objects; names = names; room = s.room; order_room = s.order_room; place_room = s.place_room; spare = spare; held = held }) (map (spell_symbol names) ss)
-may_again names s spare held ss d a p c h = record {
+pub may_again : (names : Names) (s : ObjectsState) (spare held : List ℕ) (order : List (List ℕ × ℕ)) (ss : List Numbered) → AreDistinct names → AllSpellable names s.objects → IsSpellable names ss → CanEnter s ss → HasList spare (length (map (spell_symbol names) ss))
+    → MayEnter (record { objects = map (spell names) s.objects; names = names; room = s.room; order_room = s.order_room; place_room = s.place_room; spare = spare; held = held; order = order }) (map (spell_symbol names) ss)
+may_again names s spare held order ss d a p c h = record {
   known = All-map P (spell_symbol names) ss (λ j x l v. let y = get_or ss j x in (y.name, named_so names y (p.named j x l) v, c.known j x l v));
   room = λ n name e l.
       let x = c.room n l in
@@ -158,24 +158,37 @@ spellable_insert names os at new a n =
     let P : Entered → Type 0 = λ (o : Entered). IsSpellable names o.symbols in
     All-append P _ _ (All-take P at os a) (All-cons P new (drop at os) n (All-drop P at os a))
 
+-- where two tests agree
+filter_agrees : {X : Type 0} (p q : X → Bool) (xs : List X) → All (λ (x : X). p x ≡ q x) xs → filter p xs ≡ filter q xs
+filter_agrees p q [] h = refl
+filter_agrees p q (x ∷ xs) h =
+    ap (λ b. cond b (x ∷ filter p xs) (filter p xs)) (All-head (λ x. p x ≡ q x) x xs h) ∙ go (q x) (filter_agrees p q xs (All-tail (λ x. p x ≡ q x) x xs h))
+  where
+    go : (b : Bool) → filter p xs ≡ filter q xs → cond b (x ∷ filter p xs) (filter p xs) ≡ cond b (x ∷ filter q xs) (filter q xs)
+    go true e = ap (λ l. x ∷ l) e
+    go false e = e
+
 -- what names that have no entries leave
-pub forgets : (old new : Names) (s : ObjectsState) (spare held : List ℕ) → AreDistinct old → AllSpellable old s.objects → IsKeptWhere (λ n. is_used n s.objects) old new
-    → Forgets (record { objects = map (spell old) s.objects; names = old; room = s.room; order_room = s.order_room; place_room = s.place_room; spare = spare; held = held })
-    (record { objects = map (spell new) s.objects; names = new; room = s.room; order_room = s.order_room; place_room = s.place_room; spare = spare; held = held })
-forgets old new s spare held d a w = record {
-  names = λ n name h. by n name h (is_used n s.objects) refl ∙ ap (λ l. cond (nat_lt 0 l) (Some name) None) (sym (entries_length old n name s.objects d h a));
+pub forgets : (old new : KnownNames) (s : ObjectsState) (spare held : List ℕ) → IsConsistent old → AreDistinct old.slots → AllSpellable old.slots s.objects → IsKeptWhere (λ n. is_used n s.objects) old.slots new.slots
+    → new.order ≡ filter (λ (e : List ℕ × ℕ). is_used e.1 s.objects) old.order
+    → Forgets (record { objects = map (spell old.slots) s.objects; names = old.slots; room = s.room; order_room = s.order_room; place_room = s.place_room; spare = spare; held = held; order = old.order })
+    (record { objects = map (spell new.slots) s.objects; names = new.slots; room = s.room; order_room = s.order_room; place_room = s.place_room; spare = spare; held = held; order = new.order })
+forgets old new s spare held c d a w o = record {
+  names = λ n name h. by n name h (is_used n s.objects) refl ∙ ap (λ l. cond (nat_lt 0 l) (Some name) None) (sym (entries_length old.slots n name s.objects d h a));
   others = λ n h. other n h (is_used n s.objects) refl;
-  rest = ap (λ (os : List Table). state os) (same_objects new old s.objects (names_were (λ n. is_used n s.objects) old new w) (named_used old new s.objects w a));
+  order = o ∙ filter_agrees (λ (e : List ℕ × ℕ). is_used e.1 s.objects) (λ (e : List ℕ × ℕ). nat_lt 0 (length (entries_of e.0 (map (spell old.slots) s.objects)))) old.order
+      (λ j e l. ap (nat_lt 0) (sym (entries_length old.slots (get_or old.order j e).1 (get_or old.order j e).0 s.objects d (c.sound j e l) a)));
+  rest = ap (λ (os : List Table). state os) (same_objects new.slots old.slots s.objects (names_were (λ n. is_used n s.objects) old.slots new.slots w) (named_used old.slots new.slots s.objects w a));
 }
   where
     state : List Table → State
-    state os = record { objects = os; names = new; room = s.room; order_room = s.order_room; place_room = s.place_room; spare = spare; held = held }
+    state os = record { objects = os; names = new.slots; room = s.room; order_room = s.order_room; place_room = s.place_room; spare = spare; held = held; order = new.order }
 
-    by : (n : ℕ) (name : List ℕ) → IsNamed old n name → (b : Bool) → is_used n s.objects ≡ b → slot new n ≡ cond (is_used n s.objects) (Some name) None
+    by : (n : ℕ) (name : List ℕ) → IsNamed old.slots n name → (b : Bool) → is_used n s.objects ≡ b → slot new.slots n ≡ cond (is_used n s.objects) (Some name) None
     by n name h true e = (w n).0 e ∙ h ∙ ap (λ b. cond b (Some name) None) (sym e)
     by n name h false e = (w n).1 e ∙ ap (λ b. cond b (Some name) None) (sym e)
 
-    other : (n : ℕ) → slot old n ≡ None → (b : Bool) → is_used n s.objects ≡ b → slot new n ≡ None
+    other : (n : ℕ) → slot old.slots n ≡ None → (b : Bool) → is_used n s.objects ≡ b → slot new.slots n ≡ None
     other n h true e = (w n).0 e ∙ h
     other n h false e = (w n).1 e
 

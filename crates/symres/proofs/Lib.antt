@@ -12,3 +12,4 @@ pub mod Parked
 pub mod Spelling
 pub mod Ready
 pub mod Joined
+pub mod Ordered

@@ -1,7 +1,11 @@
 -- A table of names as callers see it (this project's own): the entered objects by their symbol tables, and what is
 -- reserved. What the entries of a table declare is in `ldmodel`.
-use Rattle.std.specs.Prelude.{◌≡◌, ℕ, ◌+◌, ◌<◌, ◌≤◌, ◌==◌, ◌&&◌, List, [], ◌∷◌, ◌++◌, Option, Some, None, false, not, length, filter, slice_index_or, slice_get, true, bytes_eq, insert, remove, nat_lt, if◌then◌else◌}
-use Rattle.std.specs.List.{All}
+use Rattle.std.specs.Prelude.{◌≡◌, ℕ, ◌+◌, ◌<◌, ◌≤◌, ◌==◌, ◌&&◌, List, [], ◌∷◌, ◌++◌, Option, Some, None, false, not, length, filter, slice_index_or, slice_get, true, bytes_eq, insert, remove, nat_lt, if◌then◌else◌, Bool}
+use Rattle.std.specs.List.{All, IsDistinct}
+use Rattle.std.specs.List.Sorted.{IsSortedBy}
+use Rattle.std.specs.Map.{lookup}
+use Rattle.std.specs.Ordering.{is_lt, nat_cmp}
+use Rattle.std.specs.Cmp.Lexicographic.{slice_cmp}
 use Rattle.elfobj.specs.Symbols.{NamedSymbol}
 use Rattle.ldmodel.specs.Names.{Declaration, declarations_of, is_of_name, is_local}
 
@@ -27,7 +31,7 @@ IsFresh key tables = All (λ (t : ℕ × List NamedSymbol). (t.0 == key) ≡ fal
 
 -- the entered objects in their order, each as its key and its symbol table; the known names under their keys; and what is
 -- reserved: for each name how many entries fit, for how many more objects there is room in the order and in the table of
--- places, and for how many symbols the lists set aside and those in use have memory
+-- places, and for how many symbols the lists set aside and those in use have memory; and the known names with their keys, each once
 pub record State : Type 0 where
   pub objects : List (ℕ × List NamedSymbol)
   pub names : List (Option (List ℕ))
@@ -36,10 +40,18 @@ pub record State : Type 0 where
   pub place_room : ℕ
   pub spare : List ℕ
   pub held : List ℕ
+  pub order : List (List ℕ × ℕ)
 
 -- what is known under a key
 abbrev pub slot : List (Option (List ℕ)) → ℕ → Option (List ℕ)
 slot names n = slice_index_or names n None
+
+-- the one name comes before the other, byte by byte
+abbrev pub comes_before : List ℕ × ℕ → List ℕ × ℕ → Bool
+comes_before x y = is_lt (slice_cmp nat_cmp x.0 y.0)
+
+abbrev pub IsInByteOrder : List (List ℕ × ℕ) → Type 0
+IsInByteOrder order = IsSortedBy comes_before order
 
 -- the key is that of the name
 abbrev pub IsNamed : List (Option (List ℕ)) → ℕ → List ℕ → Type 0
@@ -77,6 +89,12 @@ IsNamedOr names n (Some s) = IsNamed names n s.name
 abbrev pub IsNameOfSymbol : List (Option (List ℕ)) → ℕ → ℕ → List (ℕ × List NamedSymbol) → ℕ → Type 0
 IsNameOfSymbol names key number tables n = All (λ (t : ℕ × List NamedSymbol). (t.0 == key) ≡ true → IsNamedOr names n (slice_get t.1 number)) tables
 
+-- each known name stands once in the list, with its key
+pub record IsListing (names : List (Option (List ℕ))) (order : List (List ℕ × ℕ)) : Type 0 where
+  pub sound : All (λ (e : List ℕ × ℕ). IsNamed names e.1 e.0) order
+  pub complete : (n : ℕ) (name : List ℕ) → IsNamed names n name → lookup (λ (x : List ℕ). bytes_eq name x) order ≡ Some n
+  pub once : IsDistinct (λ (x y : List ℕ × ℕ). bytes_eq x.0 y.0) order
+
 -- a list set aside has memory for so many symbols
 abbrev pub HasList : List ℕ → ℕ → Type 0
 HasList spare count = (i : ℕ) × (i < length spare) × (count ≤ slice_index_or spare i 0)
@@ -111,11 +129,13 @@ pub record ParksList (old new : State) (key : ℕ) : Type 0 where
 
 -- the names, and the room for their entries, stay
 pub record IsSameBut (old new : State) : Type 0 where
+  pub order : new.order ≡ old.order
   pub names : new.names ≡ old.names
   pub room : new.room ≡ old.room
 
--- names and room are only added
+-- names and room are only added, names after those that were known
 pub record IsMore (old new : State) : Type 0 where
+  pub listed : (more : List (List ℕ × ℕ)) × (new.order ≡ old.order ++ more)
   pub names : KeepsNames old.names new.names
   pub rows : length old.room ≤ length new.room
   pub room : (k : ℕ) → k < length old.room → slice_index_or old.room k 0 ≤ slice_index_or new.room k 0
@@ -124,8 +144,10 @@ pub record IsMore (old new : State) : Type 0 where
   pub spare : (more : List ℕ) × (new.spare ≡ old.spare ++ more)
   pub held : new.held ≡ old.held
 
--- a name stays under its key where it has entries, and is dropped else; nothing else changes
+-- a name stays under its key where it has entries, and is dropped else; the others stand in the same order, and nothing else
+-- changes
 pub record Forgets (old new : State) : Type 0 where
   pub names : (n : ℕ) (name : List ℕ) → IsNamed old.names n name → slot new.names n ≡ (if nat_lt 0 (length (entries_of name old.objects)) then Some name else None)
   pub others : (n : ℕ) → slot old.names n ≡ None → slot new.names n ≡ None
-  pub rest : new ≡ record old { names = new.names }
+  pub order : new.order ≡ filter (λ (e : List ℕ × ℕ). nat_lt 0 (length (entries_of e.0 old.objects))) old.order
+  pub rest : new ≡ record old { names = new.names; order = new.order }

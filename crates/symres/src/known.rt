@@ -1,14 +1,15 @@
 //! Numbers of names. A name keeps its number until it is forgotten.
 
-ghost use Rattle.std.specs.Prelude.{◌≡◌, ◌≢◌, ◌==◌, ℕ, List, [], IfOk, Some, None, MatchOption, length, take, map, is_some, if◌then◌else◌};
+ghost use Rattle.std.specs.Prelude.{◌≡◌, ◌≢◌, ◌==◌, ℕ, List, [], IfOk, Some, None, MatchOption, OnOk, length, take, map, filter, is_some, if◌then◌else◌};
 ghost use Rattle.std.proofs.Common.{Vec, Global};
 ghost use Rattle.slab.specs.Slab.{get};
-ghost use Rattle.symres.specs.Known.{AddsNames, is_number, IsConsistent, IsKeptWhere, kept_if, number_in};
+ghost use Rattle.symres.specs.Known.{AddsNames, entry_spelled, is_number, IsConsistent, IsKeptWhere, kept_if, number_in};
 ghost use Rattle.symres.specs.Numbers.{is_used};
-ghost use Rattle.symres.specs.State.{slot, AreDistinct, IsNamed, KeepsNames, SameNames};
+ghost use Rattle.symres.specs.State.{slot, AreDistinct, IsInByteOrder, IsListing, IsNamed, KeepsNames};
 
 use crate::objects::Objects;
 use indexmap::IndexMap;
+use indexmap::map::Iter;
 use slab::Slab;
 use std::alloc::{AllocError, Global};
 use std::hash::RandomState;
@@ -109,9 +110,26 @@ impl Known {
         }
     }
 
+    /// Puts the names into byte order. Those that become known later stand after them.
+    pub fn sort(&mut self) -> Result<(), AllocError>
+        ensures sorted { OnOk result (IsInByteOrder self.new.order) }
+        ensures slots { self.new.slots ≡ self.old.slots }
+    {
+        self.numbers.sort_unstable_keys()
+    }
+
+    /// The names with their numbers.
+    pub fn iter(&self) -> Iter<'_, Vec<u8>, usize>
+        ensures names { map entry_spelled result ≡ self.now.order }
+        ensures listing { IsListing self.now.slots self.now.order }
+    {
+        self.numbers.iter()
+    }
+
     /// Forgets the names that have no entry. The others keep their numbers.
     pub fn forget_unused(&mut self, objects: &Objects)
-        ensures { IsKeptWhere (λ n. is_used n objects.now.objects) self.old.slots self.new.slots }
+        ensures kept { IsKeptWhere (λ n. is_used n objects.now.objects) self.old.slots self.new.slots }
+        ensures order { self.new.order ≡ filter (λ (e : List ℕ × ℕ). is_used e.1 objects.now.objects) self.old.order }
     {
         drop_unused(&mut self.names, objects);
         let names = &self.names;

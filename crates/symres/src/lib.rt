@@ -9,3 +9,5 @@ mod places;
 mod rows;
 mod symbol;
 mod tally;
+#[cfg(test)]
+mod tests;

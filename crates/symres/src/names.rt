@@ -1,6 +1,6 @@
 //! The names of entered objects: which definition each stands for.
 
-ghost use Rattle.std.specs.Prelude.{◌≡◌, ◌≤◌, ◌<◌, ◌+◌, ◌==◌, ℕ, List, [], length, insert, true, false, not, vec_len, vec_capacity, OnOk, OnErr, MatchOption};
+ghost use Rattle.std.specs.Prelude.{◌≡◌, ◌≤◌, ◌<◌, ◌+◌, ◌==◌, ℕ, List, [], length, insert, map, true, false, not, vec_len, vec_capacity, OnOk, OnErr, MatchOption};
 ghost use Rattle.std.specs.List.{All};
 ghost use Rattle.ldbase.specs.Raised.{raised};
 ghost use Rattle.ldbase.specs.declared.meter.Count.TheVariants as counts;
@@ -8,11 +8,11 @@ ghost use Rattle.elfobj.specs.Symbols.{NamedSymbol};
 ghost use Rattle.ldmodel.specs.HandedOver.{decision_of};
 ghost use Rattle.ldmodel.specs.Names.{decided, is_local};
 ghost use Rattle.ldmodel.specs.ScriptNames.{is_assigned, is_provided};
-ghost use Rattle.symres.specs.Known.{AddsNames};
+ghost use Rattle.symres.specs.Known.{AddsNames, entry_spelled};
 ghost use Rattle.symres.specs.Lists.{rooms, Adds};
 ghost use Rattle.symres.specs.Objects.{GrowsRoom};
 ghost use Rattle.symres.specs.Spelled.{IsReady};
-ghost use Rattle.symres.specs.State.{entries_of, Forgets, HasList, HasName, HasObject, HasSymbol, IsFresh, IsMore, IsNamed, IsNameOfSymbol, IsSameBut, KeepsNames, MayEnter, ParksList, SameNames, TakesList, without};
+ghost use Rattle.symres.specs.State.{entries_of, Forgets, HasList, HasName, HasObject, HasSymbol, IsFresh, IsInByteOrder, IsListing, IsMore, IsNamed, IsNameOfSymbol, IsSameBut, KeepsNames, MayEnter, ParksList, SameNames, TakesList, without};
 ghost use Rattle.symres.specs.declared.symbol.Numbered.{Numbered};
 
 use crate::known::Known;
@@ -22,6 +22,7 @@ use crate::symbol::Numbered;
 use crate::tally::decide;
 use elfobj::object::Object;
 use elfobj::relocation::SymbolIndex;
+use indexmap::map::Iter;
 use ldbase::memory::NoMemory;
 use ldbase::meter::{Count, Meter};
 use ldmodel::names::{Case, NameKey, ObjectKey};
@@ -79,6 +80,7 @@ impl Model for Names {
       place_room = a.objects.place_room;
       spare = rooms a.spare.items;
       held = map (λ (o : Entered). o.room) a.objects.objects;
+      order = a.known.order;
     } };
 
     ghost invariant = { λ a. IsJoined a.known.slots a.objects.objects (vec_len a.spare) (vec_capacity a.spare) };
@@ -125,6 +127,7 @@ fn make_ready_or_not(
 ) -> Result<(), NoMemory>
     ensures kept { KeepsNames known.old.slots known.new.slots }
     ensures refused { OnErr result (SameNames known.old.slots known.new.slots) }
+    ensures added { AddsNames known.old known.new }
     ensures same { GrowsRoom objects.old objects.new }
     ensures ok { OnOk result (IsReady known.new.slots objects.new object.now.symbols) }
 {
@@ -149,6 +152,7 @@ fn reserve_fields(
     requires { vec_len spare.old + length objects.old.objects ≤ vec_capacity spare.old }
     ensures kept { KeepsNames known.old.slots known.new.slots }
     ensures refused { OnErr result (SameNames known.old.slots known.new.slots) }
+    ensures added { AddsNames known.old known.new }
     ensures same { GrowsRoom objects.old objects.new }
     ensures ok { OnOk result (IsReady known.new.slots objects.new object.now.symbols) }
     ensures room { vec_len spare.new + length objects.old.objects ≤ vec_capacity spare.new }
@@ -223,6 +227,24 @@ impl Names {
         ensures { MatchOption result ((bytes : List ℕ) → IsNamed self.now.names name.0 bytes → ⊥) (λ bytes. IsNamed self.now.names name.0 bytes.now) }
     {
         self.known.name_of(name.0)
+    }
+
+    /// Puts the names into byte order: those that became known since the last call are put in among the others. An error
+    /// says that there was no memory for it; the names stand in some order then.
+    pub fn sort_names(&mut self) -> Result<(), NoMemory>
+        ensures sorted { OnOk result (IsInByteOrder self.new.order) }
+        ensures same { self.new ≡ record self.old { order = self.new.order } }
+    {
+        self.known.sort()
+    }
+
+    /// Every known name once, with the number of its key, in byte order. It takes no memory.
+    pub fn in_byte_order(&self) -> Iter<'_, Vec<u8>, usize>
+        requires { IsInByteOrder self.now.order }
+        ensures names { map entry_spelled result ≡ self.now.order }
+        ensures listing { IsListing self.now.names self.now.order }
+    {
+        self.known.iter()
     }
 
     /// The key of the name of a symbol that isn't local, of an entered object. Nothing is hashed: the time is logarithmic

@@ -5,6 +5,7 @@
 //!     withdraw KEY        takes it out
 //!     forget              forgets the names that have no entries
 //!     decide NAME ..      decides names over the entries and the script
+//!     names               all known names in byte order, each decided by its key
 //!     decide_keys         decides all known names by their keys, and prints how many were decided
 //!     repeat N KEY AT     withdraws and enters an object N times
 #![tactic(auto)]

@@ -125,6 +125,24 @@ impl Tried {
         Ok(true)
     }
 
+    /// `names`
+    fn print_names<W: Write>(&mut self, state: &State, out: &mut W) -> io::Result<bool> {
+        self.names.sort_names()?;
+        let mut meter = Meter::new();
+        for (name, key) in self.names.in_byte_order() {
+            let key = NameKey(*key);
+            if self.names.name_of(key).is_some() {
+                let decision = self.names.decide_key(&state.script, key, &mut meter);
+                print_bytes(out, name)?;
+                out.write_all(b" ")?;
+                print_case(out, decision.case())?;
+                out.write_all(b"; ")?;
+            }
+        }
+        writeln!(out, "decided {}", meter.names())?;
+        Ok(true)
+    }
+
     /// `repeat N KEY AT`
     fn repeat<W: Write>(
         &mut self,
@@ -205,6 +223,8 @@ impl Layer for Tried {
             self.decide_words(state, &mut words, out)
         } else if word == b"decide_keys".as_slice() {
             self.decide_keys(state, out)
+        } else if word == b"names".as_slice() {
+            self.print_names(state, out)
         } else if word == b"start".as_slice() {
             *self = Tried::new(alloc, self.seed);
             Ok(true)

@@ -27,7 +27,7 @@ enter-requires-clause-fresh c = fresh_key c.self.inside.known.slots c.self.insid
 pub enter-requires-clause-room : goal.enter-requires-clause-room
 enter-requires-clause-room c =
     let a = c.self.inside in
-    can_enter a.known.slots a.objects (rooms a.spare.items) (map room_in a.objects.objects) c.number_all.new.list.items c.args.object.now.symbols c.len-known.ensures.distinct c.self.invariant.named c.number_all.ensures.spelled
+    can_enter a.known.slots a.objects (rooms a.spare.items) (map room_in a.objects.objects) a.known.order c.number_all.new.list.items c.args.object.now.symbols c.len-known.ensures.distinct c.self.invariant.named c.number_all.ensures.spelled
     (rw (← c.self.view_is) at c.requires.room)
 
 pub invariant_of-self : goal.invariant_of-self

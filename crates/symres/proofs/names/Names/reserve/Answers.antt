@@ -29,4 +29,4 @@ returns-clause-ok c =
     let e = c.reserve_fields-reserved.ensures in
     let new = c.reserve_fields-reserved.new.known.slots in
     let named : AllSpellable new c.reserve_fields-reserved.new.objects.objects = subst (AllSpellable new) (sym e.same.objects) (spellable_kept a.known.slots new a.objects.objects e.kept c.self.invariant.named) in
-    both_ok c.reserve_fields-reserved.result e.ok e.list (λ r l. may_enter new c.reserve_fields-reserved.new.objects (rooms c.reserve_fields-reserved.new.spare.items) _ c.args.object.now.symbols c.len-known.ensures.distinct named r l)
+    both_ok c.reserve_fields-reserved.result e.ok e.list (λ r l. may_enter new c.reserve_fields-reserved.new.objects (rooms c.reserve_fields-reserved.new.spare.items) _ c.reserve_fields-reserved.new.known.order c.args.object.now.symbols c.len-known.ensures.distinct named r l)

@@ -67,6 +67,6 @@ returns-clause-again c =
     let mine : IsSpellable a.known.slots list.items = subst (λ (o : Entered). IsSpellable a.known.slots o.symbols) (v.is gone) (c.self.invariant.named v.at gone v.within) in
     let spare = ap rooms c.push_reserved.ensures.items ∙ rooms_push a.spare.items list in
     let long : length (map (spell_symbol a.known.slots) list.items) ≤ vec_capacity list = omega (arith, length-map list.items (spell_symbol a.known.slots), list.ok.0, list.ok.1) in
-    let m = may_again a.known.slots c.withdraw-list.new.self (rooms c.push_reserved.new.self.items) (map room_in c.withdraw-list.new.self.objects) list.items c.len-known.ensures.distinct named mine c.withdraw-list.ensures.again
+    let m = may_again a.known.slots c.withdraw-list.new.self (rooms c.push_reserved.new.self.items) (map room_in c.withdraw-list.new.self.objects) a.known.order list.items c.len-known.ensures.distinct named mine c.withdraw-list.ensures.again
     (subst (λ l. HasList l (length (map (spell_symbol a.known.slots) list.items))) (sym spare) (last_list (rooms a.spare.items) (vec_capacity list) _ long)) in
     rw (← c.self.view_is) (λ j o l q. rw (spelled_so a.known.slots c.args.key.0 list.items os c.withdraw-list.ensures.symbols j o l q) m)
