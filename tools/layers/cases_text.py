@@ -1,6 +1,6 @@
 """Cases for `trytext`: every map and every list of fault lines of the worked rows, taken back to numbers and keys; each
-of the fifteen faults in each form; and maps that no small project has. What is wanted are the calculator's texts, and for
-the others the lines that stand here."""
+of the fifteen faults in each form; and maps that no small project has. What is wanted are the calculator's texts, and
+for the others the lines that stand here."""
 from calculator import answers, edits, elf, gathering, layout, link, names, targets, tree
 from calculator.build import CODE, DATA, Rel, Sec, Sym, build
 from calculator.names import Case
@@ -161,7 +161,8 @@ class Cases:
     def link(self, title, known):
         """The texts of a link."""
         linked = link.link(known.project)
-        state = (tuple(known.objects[member.name] for member in known.project.members), known.script, linked.map, linked.faults)
+        objects = tuple(known.objects[member.name] for member in known.project.members)
+        state = (objects, known.script, linked.map, linked.faults)
         if state in self.seen or known.size() > LONGEST_CASE:
             return
         self.seen.add(state)
@@ -195,9 +196,11 @@ ASSERT(0, "second")
 FAULTS = [
     ([1, 3, 1, "script"], "F1 f a.o script"), ([1, 3, 1, 14], "F1 f a.o bb.o"), ([1, 14, 2, 3], "F1 g bb.o a.o"),
     ([2], "F2 start"), ([3, 3, "section", 1], "F3 a.o .text"), ([3, 14, "section", 2], "F3 bb.o .data"),
-    ([3, 14, "common", 1], "F3 bb.o COMMON"), ([4, 5, 1], "F4 5 .text"), ([4, 1, 0], "F4 1 later"), ([4, 5, 2], "F4 5 early"),
+    ([3, 14, "common", 1], "F3 bb.o COMMON"), ([4, 5, 1], "F4 5 .text"), ([4, 1, 0], "F4 1 later"),
+    ([4, 5, 2], "F4 5 early"),
     ([5, 4294967295], "F5 4294967295"), ([6, 10], "F6 10"), ([7, 1, 0], "F7 .data rom"), ([7, 0, 1], "F7 .text ram"),
-    ([8, 9], "F8 9"), ([9, 1, 0], "F9 .data .text"), ([10, 1, 0], "F10 .data .text"), ([11, 0, 268435457], "F11 268435457"),
+    ([8, 9], "F8 9"), ([9, 1, 0], "F9 .data .text"), ([10, 1, 0], "F10 .data .text"),
+    ([11, 0, 268435457], "F11 268435457"),
     ([11, 2 ** 64 - 1, 2 ** 64 - 1], "F11 340282366920938463463374607431768211455"),
     ([12, 3, 1, 0], "F12 a.o .text 0000000000000001 g"), ([12, 3, 1, 1], "F12 a.o .text 000000000000000a f"),
     ([13, 3, 1, 1], "F13 a.o .text 000000000000000a 1"), ([13, "entry"], "F13 entry"),
@@ -232,7 +235,8 @@ def fault_cases(found):
     found.begin("numbers and keys of nothing", known)
     for words in ([1, 4, 1, 5], [3, 3, "section", 9], [4, 1, 99], [7, 9, 9], [12, 3, 9, 0], [12, 3, 1, 9], [15, 9]):
         found.stream.line("fault", *words)
-    found.want("faults", b"F1   \nF3 a.o \nF4 1 \nF7  \nF12 a.o  0000000000000000 \nF12 a.o .text 0000000000000000 \nF15 0 \n")
+    found.want("faults", b"F1   \nF3 a.o \nF4 1 \nF7  \nF12 a.o  0000000000000000 \n"
+               b"F12 a.o .text 0000000000000000 \nF15 0 \n")
 
 
 def map_cases(found):
@@ -243,13 +247,16 @@ def map_cases(found):
                  "given e 4 script", "given f 7 provided", "given g 8 script"):
         found.stream.line(*line.split())
     found.want("map", b"entry 0000000000000000\nsymbol 0000000000000005 A script\nsymbol 0000000000000001 a a.o\n"
-               b"symbol 0000000000000006 a0 script\nsymbol ---------------- ab bb.o\nsymbol ffffffffffffffff d a.o\n"
+               b"symbol 0000000000000006 a0 script\nsymbol ---------------- ab bb.o\n"
+               b"symbol ffffffffffffffff d a.o\n"
                b"symbol 0000000000000004 e script\nsymbol 0000000000000007 f script\nsymbol 0000000000000008 g script\n")
     found.begin("sections and rows", of_two())
     found.stream.line("entry", 2 ** 64 - 1)
-    for line in ("placed 16 4096 32", "placed 0x1000 0 0x2000 w x", "piece 0x1000 0 14 section 2", "piece 0x1000 7 3 common 1"):
+    for line in ("placed 16 4096 32", "placed 0x1000 0 0x2000 w x", "piece 0x1000 0 14 section 2",
+                 "piece 0x1000 7 3 common 1"):
         found.stream.line(*line.split())
-    found.want("map", b"entry ffffffffffffffff\nsection .text 0000000000000010 0000000000000020 0000000000001000 r--\n"
+    found.want("map", b"entry ffffffffffffffff\n"
+               b"section .text 0000000000000010 0000000000000020 0000000000001000 r--\n"
                b"section .data 0000000000001000 0000000000002000 0000000000000000 rwx\n"
                b"piece 0000000000001000 0000000000000000 bb.o .data\npiece 0000000000001000 0000000000000007 a.o COMMON\n")
 

@@ -1,4 +1,5 @@
--- A text that is made: whether its bytes are written or only their number is wanted, how many it has, and those written.
+-- A text that is made: whether its bytes are written or only their number is wanted, how many it has, and those
+-- written.
 use Rattle.std.specs.Prelude.{ℕ, ◌+◌, List, ◌++◌, length, Bool, if◌then◌else◌}
 
 pub record Drafted : Type 0 where

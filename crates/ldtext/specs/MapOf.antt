@@ -1,5 +1,5 @@
 -- Which values the map of a link is made of. `number` says which place in the project the object of a key has.
-use Rattle.std.specs.Prelude.{◌≡◌, ℕ, List, ◌++◌, map, flat_map, Option, Some, None, Bool, true, All, AllPairs, Contains}
+use Rattle.std.specs.Prelude.{◌≡◌, ℕ, List, ◌++◌, map, Option, Some, None, true, All, AllPairs, Contains}
 use Rattle.std.specs.Vec.{vec_items}
 use Rattle.ldscript.specs.Numbered.{shown_sections}
 use Rattle.ldscript.specs.Numbering.{OutputSectionAt, output_sections}
@@ -12,7 +12,8 @@ use Rattle.ldmodel.specs.Names.{declared_names, decision}
 use Rattle.ldmodel.specs.OutputSymbols.{is_before, is_defined}
 use Rattle.ldmodel.specs.Project.{Project}
 use Rattle.ldmodel.specs.Rows as model
-use Rattle.ldmodel.specs.SymbolValues.{SymbolValue, Number, NotDefined, NotInOutput, entry_point, name_value, number_or_0}
+use Rattle.ldmodel.specs.SymbolValues.{SymbolValue, Number, NotDefined, NotInOutput, entry_point, name_value}
+use Rattle.ldmodel.specs.SymbolValues.{number_or_0}
 use Rattle.ldmodel.specs.declared.rows.Piece.{Piece}
 use Rattle.ldmodel.specs.declared.sections.SectionKey.{SectionKey}
 use Rattle.ldtext.specs.declared.maps.MapParts.{MapParts}
@@ -66,4 +67,5 @@ pub record IsMapOf (p : Project) (number : ℕ → ℕ) (s : Layout) (m : MapPar
   pub named : AreSymbolsOf p number s m.named.now
   pub given : AreSymbolsOf p number s m.given.now
   -- each name that stands for something is in one of the two lists
-  pub complete : (name : List ℕ) → Contains (declared_names p) name → is_defined (decision p name) ≡ true → Contains (symbol_names (m.named.now ++ m.given.now)) name
+  pub complete : (name : List ℕ) → Contains (declared_names p) name → is_defined (decision p name) ≡ true
+      → Contains (symbol_names (m.named.now ++ m.given.now)) name

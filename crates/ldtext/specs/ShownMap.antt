@@ -1,5 +1,6 @@
 -- The map by the values that the code has for it.
-use Rattle.std.specs.Prelude.{ℕ, List, [], ◌∷◌, ◌++◌, drop, flat_map, length, map, replicate, codes, Bool, if◌then◌else◌}
+use Rattle.std.specs.Prelude.{ℕ, List, [], ◌∷◌, ◌++◌, drop, flat_map, length, map, replicate, codes, Bool}
+use Rattle.std.specs.Prelude.{if◌then◌else◌}
 use Rattle.std.specs.Prelude.{Option, Some, None}
 use Rattle.std.specs.Cmp.Lexicographic.{slice_cmp}
 use Rattle.std.specs.Ordering.{nat_cmp}
@@ -39,7 +40,8 @@ pieces_text p number (x ∷ xs) [] = []
 pieces_text p number (x ∷ xs) (start ∷ starts) = piece_text p number x start ++ pieces_text p number xs starts
 
 -- output sections with their names and rows, and the addresses of all pieces
-abbrev pub sections_text : Project → (number : ℕ → ℕ) → List Placed → List OutputSectionAt → List (List Piece) → List ℕ → List ℕ
+abbrev pub sections_text : Project → (number : ℕ → ℕ) → List Placed → List OutputSectionAt → List (List Piece)
+    → List ℕ → List ℕ
 sections_text p number [] os rows starts = []
 sections_text p number (q ∷ qs) [] rows starts = []
 sections_text p number (q ∷ qs) (o ∷ os) [] starts = []
@@ -88,5 +90,6 @@ merged (x ∷ xs) ys = before x ys ++ x ∷ merged xs (after x ys)
 unfoldable pub shown_map : Project → (number : ℕ → ℕ) → MapParts → List ℕ
 shown_map p number m =
     line_of (codes "entry" ∷ hex m.entry ∷ [])
-    ++ (sections_text p number m.laid.sections.now (shown_sections m.sections.now) (map vec_items m.rows.now) m.laid.starts.now
+    ++ (sections_text p number m.laid.sections.now (shown_sections m.sections.now) (map vec_items m.rows.now)
+    m.laid.starts.now
     ++ symbols_text p number (merged m.named.now m.given.now))

@@ -1,5 +1,5 @@
-//! The texts of a link: the map (`map_text`) and the lines of faults (`fault_text`), each measured first and then made in
-//! one allocation of that size.
+//! The texts of a link: the map (`map_text`) and the lines of faults (`fault_text`), each measured first and then made
+//! in one allocation of that size.
 #![tactic(auto)]
 
 pub mod assertion;

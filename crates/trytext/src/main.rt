@@ -1,5 +1,5 @@
-//! `trytext`: tries the crate `ldtext` (map and fault lines) on a stream of commands (`trystream`). Its own commands, in
-//! which numbers stand for what the values of `ldmodel` have:
+//! `trytext`: tries the crate `ldtext` (map and fault lines) on a stream of commands (`trystream`). Its own commands,
+//! in which numbers stand for what the values of `ldmodel` have:
 //!
 //!     fault 1 KEY SYMBOL script      fault 9 SECTION EARLIER
 //!     fault 1 KEY SYMBOL FIRST       fault 10 SECTION EARLIER
@@ -14,8 +14,9 @@
 //!     entry ADDRESS
 //!     placed START SIZE LOAD [w] [x]           the next output section; a word for each flag
 //!     piece START SIZE KEY section NUMBER      in the last output section; or `common SYMBOL`
-//!     named NAME VALUE CASE                    the next name of the objects; VALUE may be `-`; CASE is `strong KEY SYMBOL`,
-//!                                              `weak KEY SYMBOL`, `common KEY SYMBOL` or one word
+//!     named NAME VALUE CASE                    the next name of the objects; VALUE may be `-`; CASE is
+//!                                              `strong KEY SYMBOL`, `weak KEY SYMBOL`, `common KEY SYMBOL` or one
+//!                                              word
 //!     given NAME VALUE CASE                    the next name of the script
 //!     map                                      the map
 //!     repeat COUNT                             makes both texts so many times, and prints their lengths
