@@ -1,2 +1,0 @@
--- The rows of a layout.
-pub mod PlacedRows
