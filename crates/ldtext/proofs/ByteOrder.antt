@@ -1,5 +1,6 @@
 -- Lists of names in byte order, each name once: such a list is known by its members.
-use Rattle.std.proofs.Common.{◌≡◌, ◌≢◌, ◌<◌, ◌⊎◌, ℕ, zero, suc, Bool, true, false, cond, not, List, [], ◌∷◌, ◌++◌, length, filter, map, get_or, refl, ap, sym, ◌∙◌, subst, inl, inr, ⊎_elim, arith}
+use Rattle.std.proofs.Common.{◌≡◌, ◌≢◌, ◌<◌, ◌⊎◌, ℕ, zero, suc, Bool, true, false, cond, not, List, [], ◌∷◌, ◌++◌}
+use Rattle.std.proofs.Common.{length, filter, map, get_or, refl, ap, sym, ◌∙◌, subst, inl, inr, ⊎_elim, arith}
 use Rattle.std.specs.Prelude.{bytes_eq, Contains, AllPairs}
 use Rattle.std.specs.Cmp.Lexicographic.{slice_cmp, nat_list_cmp_total}
 use Rattle.std.specs.Ordering.{is_lt, is_eq, nat_cmp, ordering_reverse}
@@ -40,7 +41,8 @@ reversed_greater o Equal e h = absurd (cc)
 reversed_greater o Greater e h = e
 
 pub lt_one_way : (a b : Name) → Lt a b → Lt b a → ⊥
-lt_one_way a b h k = not_itself (order a b) h (reversed_less (order a b) (order b a) (nat_list_cmp_total.antisymm a b) k)
+lt_one_way a b h k = not_itself (order a b) h
+    (reversed_less (order a b) (order b a) (nat_list_cmp_total.antisymm a b) k)
 
 pub lt_from_greater : (a b : Name) → order a b ≡ Greater → Lt b a
 lt_from_greater a b h = reversed_greater (order b a) (order a b) (nat_list_cmp_total.antisymm b a) h
@@ -92,13 +94,15 @@ pub below_all : (a : Name) (xs : List Name) → ((z : Name) → In z xs → Lt a
 below_all a [] h = tt
 below_all a (x ∷ xs) h = (h x (inl refl), below_all a xs (λ z i. h z (inr i)))
 
-rest_of : (a : Name) (xs ys : List Name) → Below a xs → ((z : Name) → In z xs → (z ≡ a) ⊎ In z ys) → (z : Name) → In z xs → In z ys
+rest_of : (a : Name) (xs ys : List Name) → Below a xs → ((z : Name) → In z xs → (z ≡ a) ⊎ In z ys) → (z : Name)
+    → In z xs → In z ys
 rest_of a xs ys b h z i = ⊎_elim
     (λ e. let l = subst (λ w. Lt a w) e (below_in a z xs b i) in absurd (lt_one_way a a l l))
     (λ j. j) (h z i)
 
 -- the same members, the same list
-pub same_list : (xs ys : List Name) → Asc xs → Asc ys → ((z : Name) → In z xs → In z ys) → ((z : Name) → In z ys → In z xs) → xs ≡ ys
+pub same_list : (xs ys : List Name) → Asc xs → Asc ys → ((z : Name) → In z xs → In z ys)
+    → ((z : Name) → In z ys → In z xs) → xs ≡ ys
 same_list [] [] s t f g = refl
 same_list [] (y ∷ ys) s t f g = absurd (g y (inl refl))
 same_list (x ∷ xs) [] s t f g = absurd (f x (inl refl))
@@ -107,13 +111,17 @@ same_list (x ∷ xs) (y ∷ ys) s t f g =
   where
     here : (((z : Name) → In z xs → In z ys) → ((z : Name) → In z ys → In z xs) → xs ≡ ys) → x ≡ y → x ∷ xs ≡ y ∷ ys
     here rest e =
-        let f2 : (z : Name) → In z xs → In z ys = rest_of x xs ys s.0 (λ z i. ⊎_elim (λ d. inl (d ∙ sym e)) (λ j. inr j) (f z (inr i))) in
-        let g2 : (z : Name) → In z ys → In z xs = rest_of y ys xs t.0 (λ z i. ⊎_elim (λ d. inl (d ∙ e)) (λ j. inr j) (g z (inr i))) in
+        let f2 : (z : Name) → In z xs → In z ys =
+        rest_of x xs ys s.0 (λ z i. ⊎_elim (λ d. inl (d ∙ sym e)) (λ j. inr j) (f z (inr i))) in
+        let g2 : (z : Name) → In z ys → In z xs =
+        rest_of y ys xs t.0 (λ z i. ⊎_elim (λ d. inl (d ∙ e)) (λ j. inr j) (g z (inr i))) in
         ap (λ w. w ∷ xs) e ∙ ap (λ zs. y ∷ zs) (rest f2 g2)
 
-    both : (((z : Name) → In z xs → In z ys) → ((z : Name) → In z ys → In z xs) → xs ≡ ys) → (x ≡ y) ⊎ In x ys → x ∷ xs ≡ y ∷ ys
+    both : (((z : Name) → In z xs → In z ys) → ((z : Name) → In z ys → In z xs) → xs ≡ ys) → (x ≡ y) ⊎ In x ys → x ∷ xs
+        ≡ y ∷ ys
     both rest (inl e) = here rest e
-    both rest (inr i) = ⊎_elim (λ e. here rest (sym e)) (λ j. absurd (lt_one_way x y (below_in x y xs s.0 j) (below_in y x ys t.0 i))) (g y (inl refl))
+    both rest (inr i) = ⊎_elim (λ e. here rest (sym e)) (λ j.
+        absurd (lt_one_way x y (below_in x y xs s.0 j) (below_in y x ys t.0 i))) (g y (inl refl))
 
 -- ---- sorting
 
@@ -121,7 +129,8 @@ pub in_inserted : (z x : Name) (ys : List Name) → In z (insert_by is_before x 
 in_inserted z x [] i = i
 in_inserted z x (y ∷ ys) i = go (is_before y x) i (in_inserted z x ys)
   where
-    go : (b : Bool) → In z (cond b (y ∷ insert_by is_before x ys) (x ∷ y ∷ ys)) → (In z (insert_by is_before x ys) → (z ≡ x) ⊎ In z ys) → (z ≡ x) ⊎ In z (y ∷ ys)
+    go : (b : Bool) → In z (cond b (y ∷ insert_by is_before x ys) (x ∷ y ∷ ys))
+        → (In z (insert_by is_before x ys) → (z ≡ x) ⊎ In z ys) → (z ≡ x) ⊎ In z (y ∷ ys)
     go true (inl e) rest = inr (inl e)
     go true (inr j) rest = ⊎_elim (λ e. inl e) (λ k. inr (inr k)) (rest j)
     go false j rest = j
@@ -130,7 +139,8 @@ pub inserted_in : (z x : Name) (ys : List Name) → (z ≡ x) ⊎ In z ys → In
 inserted_in z x [] i = i
 inserted_in z x (y ∷ ys) i = go (is_before y x) i (inserted_in z x ys)
   where
-    go : (b : Bool) → (z ≡ x) ⊎ In z (y ∷ ys) → ((z ≡ x) ⊎ In z ys → In z (insert_by is_before x ys)) → In z (cond b (y ∷ insert_by is_before x ys) (x ∷ y ∷ ys))
+    go : (b : Bool) → (z ≡ x) ⊎ In z (y ∷ ys) → ((z ≡ x) ⊎ In z ys → In z (insert_by is_before x ys))
+        → In z (cond b (y ∷ insert_by is_before x ys) (x ∷ y ∷ ys))
     go true (inl e) rest = inr (rest (inl e))
     go true (inr (inl e)) rest = inl e
     go true (inr (inr j)) rest = inr (rest (inr j))
@@ -140,9 +150,12 @@ pub inserted_asc : (x : Name) (ys : List Name) → Asc ys → (In x ys → ⊥) 
 inserted_asc x [] s n = (tt, tt)
 inserted_asc x (y ∷ ys) s n = go (is_before y x) refl (inserted_asc x ys s.1 (λ i. n (inr i)))
   where
-    go : (b : Bool) → is_before y x ≡ b → Asc (insert_by is_before x ys) → Asc (cond b (y ∷ insert_by is_before x ys) (x ∷ y ∷ ys))
+    go : (b : Bool) → is_before y x ≡ b → Asc (insert_by is_before x ys)
+        → Asc (cond b (y ∷ insert_by is_before x ys) (x ∷ y ∷ ys))
     go true e rest = (
-      below_all y (insert_by is_before x ys) (λ z i. ⊎_elim (λ d. subst (λ w. Lt y w) (sym d) (lt_from_before y x e)) (λ j. below_in y z ys s.0 j) (in_inserted z x ys i)),
+      below_all y (insert_by is_before x ys) (λ z i.
+          ⊎_elim (λ d. subst (λ w. Lt y w) (sym d) (lt_from_before y x e)) (λ j.
+          below_in y z ys s.0 j) (in_inserted z x ys i)),
       rest,
     )
     go false e rest =
@@ -176,7 +189,8 @@ pub in_filtered : (p : Name → Bool) (z : Name) (xs : List Name) → In z (filt
 in_filtered p z [] i = absurd i
 in_filtered p z (x ∷ xs) i = go (p x) refl i (in_filtered p z xs)
   where
-    go : (b : Bool) → p x ≡ b → In z (cond b (x ∷ filter p xs) (filter p xs)) → (In z (filter p xs) → In z xs × (p z ≡ true)) → In z (x ∷ xs) × (p z ≡ true)
+    go : (b : Bool) → p x ≡ b → In z (cond b (x ∷ filter p xs) (filter p xs))
+        → (In z (filter p xs) → In z xs × (p z ≡ true)) → In z (x ∷ xs) × (p z ≡ true)
     go true e (inl d) rest = (inl d, subst (λ w. p w ≡ true) (sym d) e)
     go true e (inr j) rest = (inr (rest j).0, (rest j).1)
     go false e j rest = (inr (rest j).0, (rest j).1)
@@ -185,7 +199,8 @@ pub filtered_in : (p : Name → Bool) (z : Name) (xs : List Name) → In z xs �
 filtered_in p z [] i h = absurd i
 filtered_in p z (x ∷ xs) i h = go (p x) refl i (λ j. filtered_in p z xs j h)
   where
-    go : (b : Bool) → p x ≡ b → (z ≡ x) ⊎ In z xs → (In z xs → In z (filter p xs)) → In z (cond b (x ∷ filter p xs) (filter p xs))
+    go : (b : Bool) → p x ≡ b → (z ≡ x) ⊎ In z xs → (In z xs → In z (filter p xs))
+        → In z (cond b (x ∷ filter p xs) (filter p xs))
     go true e (inl d) rest = inl d
     go true e (inr j) rest = inr (rest j)
     go false e (inl d) rest = absurd (true≢false (sym (subst (λ w. p w ≡ true) d h) ∙ e))
@@ -226,7 +241,10 @@ other_of x z n = go (bytes_eq x z) refl
 
 pub distinct_once : (xs : List Name) → Once (distinct xs)
 distinct_once [] = tt
-distinct_once (x ∷ xs) = ((λ i. not_other x (in_filtered (other x) x (distinct xs) i).1), filtered_once (other x) (distinct xs) (distinct_once xs))
+distinct_once (x ∷ xs) = (
+  (λ i. not_other x (in_filtered (other x) x (distinct xs) i).1),
+  filtered_once (other x) (distinct xs) (distinct_once xs),
+)
 
 pub in_distinct : (z : Name) (xs : List Name) → In z (distinct xs) → In z xs
 in_distinct z [] i = i
@@ -256,12 +274,14 @@ append_in z (x ∷ xs) ys (inl (inl e)) = inl e
 append_in z (x ∷ xs) ys (inl (inr i)) = inr (append_in z xs ys (inl i))
 append_in z (x ∷ xs) ys (inr i) = inr (append_in z xs ys (inr i))
 
-pub append_asc : (xs : List Name) (m : Name) (ys : List Name) → Asc xs → ((z : Name) → In z xs → Lt z m) → Asc (m ∷ ys) → Asc (xs ++ m ∷ ys)
+pub append_asc : (xs : List Name) (m : Name) (ys : List Name) → Asc xs → ((z : Name) → In z xs → Lt z m) → Asc (m ∷ ys)
+    → Asc (xs ++ m ∷ ys)
 append_asc [] m ys s h t = t
 append_asc (x ∷ xs) m ys s h t = (
   below_all x (xs ++ m ∷ ys)
       (λ z i. ⊎_elim (λ j. below_in x z xs s.0 j)
-      (λ j. ⊎_elim (λ e. subst (λ w. Lt x w) (sym e) (h x (inl refl))) (λ k. lt_trans x m z (h x (inl refl)) (below_in m z ys t.0 k)) j)
+      (λ j. ⊎_elim (λ e. subst (λ w. Lt x w) (sym e) (h x (inl refl))) (λ k.
+      lt_trans x m z (h x (inl refl)) (below_in m z ys t.0 k)) j)
       (in_append z xs (m ∷ ys) i)),
   append_asc xs m ys s.1 (λ z i. h z (inr i)) t,
 )

@@ -1,5 +1,6 @@
 -- Bytes added one part after another are added together.
-use Rattle.std.proofs.Common.{◌≡◌, ◌+◌, ℕ, List, [], ◌∷◌, ◌++◌, length, refl, ap, sym, ◌∙◌, subst, append_assoc, append-nil, length-append, arith, Bool, true, false, cond}
+use Rattle.std.proofs.Common.{◌≡◌, ◌+◌, ℕ, List, [], ◌∷◌, ◌++◌, length, refl, ap, sym, ◌∙◌, subst, append_assoc}
+use Rattle.std.proofs.Common.{append-nil, length-append, arith, Bool, true, false, cond}
 use Rattle.ldtext.specs.Drafts.{Drafted, added}
 
 written_twice : (b : Bool) (bs xs ys : List ℕ)
@@ -24,7 +25,8 @@ added_none d =
     rw (size, written_none d.is_written d.bytes) refl
 
 -- what is added is the front of what was still to be added
-pub added_step : (d e : Drafted) (x rest whole : List ℕ) (end : Drafted) → e ≡ added d x → whole ≡ x ++ rest → added d whole ≡ end → added e rest ≡ end
+pub added_step : (d e : Drafted) (x rest whole : List ℕ) (end : Drafted) → e ≡ added d x → whole ≡ x ++ rest
+    → added d whole ≡ end → added e rest ≡ end
 added_step d e x rest whole end h w i =
     ap (λ z. added z rest) h ∙ added_twice d x rest ∙ ap (added d) (sym w) ∙ i
 
@@ -37,11 +39,13 @@ pub added_end : (d : Drafted) (rest : List ℕ) (end : Drafted) → rest ≡ [] 
 added_end d rest end h i = sym (added_none d) ∙ ap (added d) (sym h) ∙ i
 
 -- a text that is written from nothing
-pub written_whole : (d start : Drafted) (text : List ℕ) → start ≡ record { is_written = true; size = 0; bytes = [] } → d ≡ added start text → d.bytes ≡ text
+pub written_whole : (d start : Drafted) (text : List ℕ) → start ≡ record { is_written = true; size = 0; bytes = [] }
+    → d ≡ added start text → d.bytes ≡ text
 unfolding added
 written_whole d start text s e = ap (λ x. x.bytes) (e ∙ ap (λ x. added x text) s)
 
 -- three parts, one after the other
-pub added_three : (d e f : Drafted) (x y z : List ℕ) → e ≡ added d x → f ≡ added e y → (P : Drafted → Type 0) → P (added f z) → P (added d (x ++ (y ++ z)))
+pub added_three : (d e f : Drafted) (x y z : List ℕ) → e ≡ added d x → f ≡ added e y → (P : Drafted → Type 0)
+    → P (added f z) → P (added d (x ++ (y ++ z)))
 added_three d e f x y z a b P p =
     subst P (ap (λ w. added w z) (b ∙ ap (λ w. added w y) a) ∙ added_twice (added d x) y z ∙ added_twice d x (y ++ z)) p

@@ -1,7 +1,9 @@
 -- What is left of a table, entry by entry.
-use Rattle.std.proofs.Common.{◌≡◌, ◌<◌, ◌≤◌, ◌+◌, ℕ, zero, suc, List, [], ◌∷◌, length, map, drop, get_or, refl, ap, sym, ◌∙◌, arith}
+use Rattle.std.proofs.Common.{◌≡◌, ◌<◌, ◌≤◌, ◌+◌, ℕ, zero, suc, List, [], ◌∷◌, length, map, drop, get_or, refl, ap, sym}
+use Rattle.std.proofs.Common.{◌∙◌, arith}
 
-pub some_left : {X Y : Type 0} (f : X → Y) (xs : List X) (k : ℕ) (x : X) → k < length xs → x ≡ get_or xs k x → drop k (map f xs) ≡ f x ∷ drop (k + 1) (map f xs)
+pub some_left : {X Y : Type 0} (f : X → Y) (xs : List X) (k : ℕ) (x : X) → k < length xs → x ≡ get_or xs k x
+    → drop k (map f xs) ≡ f x ∷ drop (k + 1) (map f xs)
 some_left f [] k x h e = absurd (omega (arith, h))
 some_left f (y ∷ ys) zero x h e = ap (λ z. f z ∷ map f ys) (sym e)
 some_left f (y ∷ ys) (suc k) x h e =

@@ -22,7 +22,8 @@ fn add_assertion<'a>(
     list: &mut Vec<AssertionAt<'a>>,
     command: &CommonAt<'a>,
 ) -> Result<(), NoMemory>
-    ensures { OnOk result (shown_assertions list.new.items ≡ shown_assertions list.old.items ++ asserted_by command.now.line command.now.command.now) }
+    ensures { OnOk result (shown_assertions list.new.items ≡ shown_assertions list.old.items
+        ++ asserted_by command.now.line command.now.command.now) }
 {
     match command.command {
         Common::Assert(assertion) => {

@@ -1,7 +1,8 @@
 //! The line of a fault.
 
 ghost use Rattle.std.specs.Prelude.{◌≡◌, OnOk, [], ◌∷◌, codes, decimal};
-ghost use Rattle.ldmodel.specs.FaultCode.{definer_of, kind_of, missing_at, name_of_symbol, offset_of, overflow_at, place_of, symbol_of, undefined_at};
+ghost use Rattle.ldmodel.specs.FaultCode.{definer_of, kind_of, missing_at, name_of_symbol, offset_of, overflow_at};
+ghost use Rattle.ldmodel.specs.FaultCode.{place_of, symbol_of, undefined_at};
 ghost use Rattle.ldmodel.specs.FaultText.{definer_word, fault_words, relocation_number};
 ghost use Rattle.ldmodel.specs.Lines.{line_of};
 ghost use Rattle.ldmodel.specs.NameFaults.{object_name};
@@ -95,7 +96,11 @@ fn put_duplicate<M: Members>(
     entry: Entry,
     first: Definer,
 ) -> Result<(), NoMemory>
-    ensures { OnOk result (draft.new ≡ added draft.old (line_of (codes "F1" ∷ name_of_symbol (M.project members.now) (M.number members.now entry.key) entry.symbol ∷ object_name (M.project members.now) (M.number members.now entry.key) ∷ definer_word (definer_of (M.project members.now) (M.number members.now) first) ∷ []))) }
+    ensures { OnOk result (draft.new
+        ≡ added draft.old (line_of
+        (codes "F1" ∷ name_of_symbol (M.project members.now) (M.number members.now entry.key) entry.symbol ∷
+        object_name (M.project members.now) (M.number members.now entry.key) ∷ definer_word
+        (definer_of (M.project members.now) (M.number members.now) first) ∷ []))) }
 {
     let object = ObjectKey(entry.key);
     let name = symbol_name(members, object, SymbolIndex(entry.symbol));
@@ -112,7 +117,9 @@ fn put_duplicate<M: Members>(
 
 /// `F12 OBJECT SECTION OFFSET NAME`
 fn put_undefined<M: Members>(draft: &mut Draft, members: &M, site: SiteKey) -> Result<(), NoMemory>
-    ensures { OnOk result (draft.new ≡ added draft.old (line_of (fault_words (undefined_at (M.project members.now) (place_of (M.number members.now) site))))) }
+    ensures { OnOk result (draft.new
+        ≡ added draft.old (line_of
+        (fault_words (undefined_at (M.project members.now) (place_of (M.number members.now) site))))) }
 {
     let relocation = relocation_or_none(members, site);
     let name = symbol_name(members, site.object, relocation.symbol);
@@ -130,7 +137,9 @@ fn put_undefined<M: Members>(draft: &mut Draft, members: &M, site: SiteKey) -> R
 
 /// `F13 OBJECT SECTION OFFSET INDEX`
 fn put_missing<M: Members>(draft: &mut Draft, members: &M, site: SiteKey) -> Result<(), NoMemory>
-    ensures { OnOk result (draft.new ≡ added draft.old (line_of (fault_words (missing_at (M.project members.now) (place_of (M.number members.now) site))))) }
+    ensures { OnOk result (draft.new
+        ≡ added draft.old (line_of
+        (fault_words (missing_at (M.project members.now) (place_of (M.number members.now) site))))) }
 {
     let relocation = relocation_or_none(members, site);
     put_line(
@@ -152,7 +161,9 @@ fn put_overflow<M: Members>(
     site: SiteKey,
     value: u64,
 ) -> Result<(), NoMemory>
-    ensures { OnOk result (draft.new ≡ added draft.old (line_of (fault_words (overflow_at (M.project members.now) (place_of (M.number members.now) site) value)))) }
+    ensures { OnOk result (draft.new
+        ≡ added draft.old (line_of
+        (fault_words (overflow_at (M.project members.now) (place_of (M.number members.now) site) value)))) }
 {
     let relocation = relocation_or_none(members, site);
     put_line(
@@ -177,7 +188,8 @@ pub fn put_fault<M: Members>(
     fault: Fault,
 ) -> Result<(), NoMemory>
     requires { AreNamesOf (M.project members.now) names.now }
-    ensures { OnOk result (draft.new ≡ added draft.old (line_of_fault (M.project members.now) (M.number members.now) fault)) }
+    ensures { OnOk result (draft.new
+        ≡ added draft.old (line_of_fault (M.project members.now) (M.number members.now) fault)) }
 {
     match fault {
         Fault::DuplicateDefinition { entry, first } => put_duplicate(draft, members, entry, first),

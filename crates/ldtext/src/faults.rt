@@ -22,7 +22,8 @@ fn put_faults<M: Members>(
     faults: &[Fault],
 ) -> Result<(), NoMemory>
     requires { AreNamesOf (M.project members.now) names.now }
-    ensures { OnOk result (draft.new ≡ added draft.old (fault_text (map (fault_of (M.project members.now) (M.number members.now)) faults.now))) }
+    ensures { OnOk result (draft.new
+        ≡ added draft.old (fault_text (map (fault_of (M.project members.now) (M.number members.now)) faults.now))) }
 {
     for fault in faults {
         put_fault(draft, names, members, *fault)?;
@@ -42,7 +43,8 @@ pub fn fault_text<M: Members>(
     members: &M,
 ) -> Result<Vec<u8>, NoMemory>
     requires { AreNamesOf (M.project members.now) names.now }
-    ensures { IfOk result (λ text. text.items ≡ fault_text (map (fault_of (M.project members.now) (M.number members.now)) faults.now)) }
+    ensures { IfOk result (λ text. text.items
+        ≡ fault_text (map (fault_of (M.project members.now) (M.number members.now)) faults.now)) }
 {
     let mut measured = Draft::to_measure(alloc);
     put_faults(&mut measured, names, members, faults)?;

@@ -73,7 +73,8 @@ fn put_piece<M: Members>(
     piece: &Piece,
     start: u64,
 ) -> Result<(), NoMemory>
-    ensures { OnOk result (draft.new ≡ added draft.old (piece_text (M.project members.now) (M.number members.now) piece.now start)) }
+    ensures { OnOk result (draft.new
+        ≡ added draft.old (piece_text (M.project members.now) (M.number members.now) piece.now start)) }
 {
     put_line(
         draft,
@@ -94,7 +95,8 @@ fn put_pieces<'a, M: Members>(
     row: &[Piece],
     starts: &'a [u64],
 ) -> Result<&'a [u64], NoMemory>
-    ensures text { OnOk result (draft.new ≡ added draft.old (pieces_text (M.project members.now) (M.number members.now) row.now starts.now)) }
+    ensures text { OnOk result (draft.new
+        ≡ added draft.old (pieces_text (M.project members.now) (M.number members.now) row.now starts.now)) }
     ensures rest { IfOk result (λ rest. rest.now ≡ drop (length row.now) starts.now) }
 {
     let mut rest = starts;
@@ -114,7 +116,9 @@ fn put_sections<M: Members>(
     members: &M,
     parts: &MapParts<'_>,
 ) -> Result<(), NoMemory>
-    ensures { OnOk result (draft.new ≡ added draft.old (sections_text (M.project members.now) (M.number members.now) parts.now.laid.sections.now (shown_sections parts.now.sections.now) (map vec_items parts.now.rows.now) parts.now.laid.starts.now)) }
+    ensures { OnOk result (draft.new
+        ≡ added draft.old (sections_text (M.project members.now) (M.number members.now) parts.now.laid.sections.now
+        (shown_sections parts.now.sections.now) (map vec_items parts.now.rows.now) parts.now.laid.starts.now)) }
 {
     let mut starts = parts.laid.starts;
     // three tables side by side
@@ -134,7 +138,8 @@ fn put_sections<M: Members>(
 
 /// The lines of the map.
 fn put_map<M: Members>(draft: &mut Draft, members: &M, parts: &MapParts<'_>) -> Result<(), NoMemory>
-    ensures { OnOk result (draft.new ≡ added draft.old (shown_map (M.project members.now) (M.number members.now) parts.now)) }
+    ensures { OnOk result (draft.new
+        ≡ added draft.old (shown_map (M.project members.now) (M.number members.now) parts.now)) }
 {
     put_line(draft, &[Word::Bytes(b"entry"), Word::Hex(parts.entry)])?;
     put_sections(draft, members, parts)?;
@@ -152,7 +157,8 @@ pub fn map_text<M: Members>(
     parts: &MapParts<'_>,
     members: &M,
 ) -> Result<Vec<u8>, NoMemory>
-    ensures { (s : Layout) → IsMapOf (M.project members.now) (M.number members.now) s parts.now → IfOk result (λ text. text.items ≡ map_text (M.project members.now) s) }
+    ensures { (s : Layout) → IsMapOf (M.project members.now) (M.number members.now) s parts.now
+        → IfOk result (λ text. text.items ≡ map_text (M.project members.now) s) }
 {
     let mut measured = Draft::to_measure(alloc);
     put_map(&mut measured, members, parts)?;

@@ -15,7 +15,8 @@ use ldmodel::sections::{Part, SectionKey};
 /// The place of a section among those of an object.
 fn find_section(object: &Object, number: SectionIndex) -> Option<LinkedIndex>
     ensures found { IfSome result (λ i. i.0 < length object.now.sections) }
-    ensures is { MatchOption result (numbered object.now.sections number ≡ None) (λ i. numbered object.now.sections number ≡ slice_get object.now.sections i.0) }
+    ensures is { MatchOption result (numbered object.now.sections number ≡ None) (λ i.
+        numbered object.now.sections number ≡ slice_get object.now.sections i.0) }
 {
     // what it says of their order is wanted for the proof: only one has this number
     let _in_order = object.sections();

@@ -4,7 +4,8 @@ ghost use Rattle.std.specs.Prelude.{◌≡◌, ℕ, List, slice_get, [], unwrap_
 ghost use Rattle.std.specs.Option.{option_map};
 ghost use Rattle.std.specs.Borrow.{Bor};
 ghost use Rattle.ldscript.specs.Numbered.{shown_regions, shown_sections};
-ghost use Rattle.ldtext.specs.Naming.{assertion_line, assertion_message, shown_assertions, shown_names, section_name, region_name};
+ghost use Rattle.ldtext.specs.Naming.{assertion_line, assertion_message, shown_assertions, shown_names, section_name};
+ghost use Rattle.ldtext.specs.Naming.{region_name};
 
 use crate::assertion::AssertionAt;
 use ldmodel::fault::{AssertionIndex, MentionIndex};
@@ -70,7 +71,8 @@ impl<'a> ScriptNames<'a> {
     /// The line of an ASSERT and its message; 0 and no bytes for a number of none.
     pub(crate) fn assertion(&self, number: AssertionIndex) -> (u32, &'a [u8])
         ensures line { result.0 ≡ assertion_line (slice_get (shown_assertions self.now.assertions.now) number.0) }
-        ensures message { result.1.now ≡ assertion_message (slice_get (shown_assertions self.now.assertions.now) number.0) }
+        ensures message { result.1.now
+            ≡ assertion_message (slice_get (shown_assertions self.now.assertions.now) number.0) }
     {
         match self.assertions.get(number.0 as usize) {
             Some(found) => (found.line, found.assertion.message.as_bytes()),

@@ -45,7 +45,8 @@ fn put_named<'a>(
     name: &'a [u8],
     owner: &'a [u8],
 ) -> Result<(), NoMemory>
-    ensures { OnOk result (draft.new ≡ added draft.old (line_of (codes "symbol" ∷ value_text value ∷ name.now ∷ owner.now ∷ []))) }
+    ensures { OnOk result (draft.new
+        ≡ added draft.old (line_of (codes "symbol" ∷ value_text value ∷ name.now ∷ owner.now ∷ []))) }
 {
     match value {
         Some(value) => put_line(
@@ -76,7 +77,8 @@ fn put_symbol<M: Members>(
     members: &M,
     symbol: &MapSymbol<'_>,
 ) -> Result<(), NoMemory>
-    ensures { OnOk result (draft.new ≡ added draft.old (symbol_text (M.project members.now) (M.number members.now) symbol.now)) }
+    ensures { OnOk result (draft.new
+        ≡ added draft.old (symbol_text (M.project members.now) (M.number members.now) symbol.now)) }
 {
     match symbol.case {
         Case::Undefined => Ok(()),
@@ -98,7 +100,8 @@ fn put_all<M: Members>(
     members: &M,
     symbols: &[MapSymbol<'_>],
 ) -> Result<(), NoMemory>
-    ensures { OnOk result (draft.new ≡ added draft.old (symbols_text (M.project members.now) (M.number members.now) symbols.now)) }
+    ensures { OnOk result (draft.new
+        ≡ added draft.old (symbols_text (M.project members.now) (M.number members.now) symbols.now)) }
 {
     for symbol in symbols {
         put_symbol(draft, members, symbol)?;
@@ -116,7 +119,9 @@ fn put_before<M: Members>(
     symbol: &MapSymbol<'_>,
 ) -> Result<usize, NoMemory>
     requires { from ≤ length given.now }
-    ensures text { OnOk result (draft.new ≡ added draft.old (symbols_text (M.project members.now) (M.number members.now) (before symbol.now (drop from given.now)))) }
+    ensures text { OnOk result (draft.new
+        ≡ added draft.old (symbols_text (M.project members.now) (M.number members.now)
+        (before symbol.now (drop from given.now)))) }
     ensures rest { IfOk result (λ next. drop next given.now ≡ after symbol.now (drop from given.now)) }
     ensures within { IfOk result (λ next. next ≤ length given.now) }
 {
@@ -139,7 +144,8 @@ pub(crate) fn put_symbols<M: Members>(
     named: &[MapSymbol<'_>],
     given: &[MapSymbol<'_>],
 ) -> Result<(), NoMemory>
-    ensures { OnOk result (draft.new ≡ added draft.old (symbols_text (M.project members.now) (M.number members.now) (merged named.now given.now))) }
+    ensures { OnOk result (draft.new
+        ≡ added draft.old (symbols_text (M.project members.now) (M.number members.now) (merged named.now given.now))) }
 {
     let mut next = 0;
     for symbol in named {

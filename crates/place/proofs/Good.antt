@@ -1,5 +1,6 @@
 -- A layout in which no output sections meet.
-use Rattle.std.proofs.Common.{◌≡◌, ◌≢◌, ℕ, ◌==◌, Bool, true, false, List, [], ◌∷◌, map, length, Err, ◌⊎◌, inl, inr, refl, sym, ap, ◌∙◌, arith}
+use Rattle.std.proofs.Common.{◌≡◌, ◌≢◌, ℕ, ◌==◌, Bool, true, false, List, [], ◌∷◌, map, length, Err, ◌⊎◌, inl, inr}
+use Rattle.std.proofs.Common.{refl, sym, ap, ◌∙◌, arith}
 use Rattle.std.proofs.lemmas.Bool.{eqb-true, eqb-false}
 use Rattle.ldmodel.specs.Chain.{run}
 use Rattle.ldmodel.specs.Placement.{placement, statement_step}
@@ -25,12 +26,15 @@ use Rattle.place.proofs.Outputs.{outputs_are}
 use Rattle.place.specs.Outcomes.{IsGood, AreMeetings, Reports, Stops}
 use Rattle.place.specs.Places.{IsPlacement, Places}
 
-module _ (script : List Statement) (rows : List (List Piece)) (provided : List (List ℕ)) (p : Places) (i : IsPlacement script rows provided p) (fs : List code_fault.Fault) (o : AreOverlaps p.sections fs) where
+module _ (script : List Statement) (rows : List (List Piece)) (provided : List (List ℕ)) (p : Places)
+    (i : IsPlacement script rows provided p) (fs : List code_fault.Fault) (o : AreOverlaps p.sections fs) where
   abbrev alone : Project
   alone = record { objects = []; script = script; options = default_options }
 
   met : (q : Project) (number : ℕ → ℕ) → q.script ≡ script → map (fault_of q number) fs ≡ overlaps i.layout.sections
-  met q number e = o q number i.layout.sections (sym i.places.sections) (outputs_are script rows provided i.layout i.placed ∙ ap (λ (s : List Statement). map (λ (x : OutputSectionAt). x.section.name) (output_sections s)) (sym e))
+  met q number e = o q number i.layout.sections (sym i.places.sections)
+      (outputs_are script rows provided i.layout i.placed
+      ∙ ap (λ (s : List Statement). map (λ (x : OutputSectionAt). x.section.name) (output_sections s)) (sym e))
 
   pub is_good : fs ≡ [] → IsGood script rows provided p
   is_good none = record {
@@ -53,16 +57,21 @@ module _ (script : List Statement) (rows : List (List Piece)) (provided : List (
       emptied (g ∷ gs) e = absurd (let no : ⊥ = cc in no)
 
 -- where a layout begins
-pub begins : (n : Naming) (h : Here) (d : Done) (rows : List (List Piece)) (provided : List (List ℕ)) (script : List Statement)
+pub begins : (n : Naming) (h : Here) (d : Done) (rows : List (List Piece)) (provided : List (List ℕ))
+    (script : List Statement)
     → h.dot ≡ 0 → h.dots.items ≡ [] → h.inputs ≡ 0 → h.symbols ≡ [] → d.sections ≡ [] → d.regions ≡ []
     → run (statement_step rows provided) (layout_of n h d) script ≡ placement script rows provided
 unfolding placement
 begins n h d rows provided script a b c e f g = rw (a, b, c, e, f, g) refl
 
-pub stops_at : (script : List Statement) (rows : List (List Piece)) (provided : List (List ℕ)) (s : Stop) (r : PlaceFault)
-    → (placement script rows provided ≡ Err (fault_named s)) ⊎ (s ≡ stop.NoMemory) → Reports script (fault_named s) r → (s ≡ stop.NoMemory → r ≡ place_fault.NoMemory) → Stops script rows provided r
-stops_at script rows provided s (place_fault.First f) (inl h) shown memory = record { fault = fault_named s; stops = h; shown = shown }
-stops_at script rows provided s (place_fault.First f) (inr m) shown memory = let e = memory m in absurd (let no : ⊥ = cc in no)
+pub stops_at : (script : List Statement) (rows : List (List Piece)) (provided : List (List ℕ)) (s : Stop)
+    (r : PlaceFault)
+    → (placement script rows provided ≡ Err (fault_named s)) ⊎ (s ≡ stop.NoMemory) → Reports script (fault_named s) r
+    → (s ≡ stop.NoMemory → r ≡ place_fault.NoMemory) → Stops script rows provided r
+stops_at script rows provided s (place_fault.First f) (inl h) shown memory =
+    record { fault = fault_named s; stops = h; shown = shown }
+stops_at script rows provided s (place_fault.First f) (inr m) shown memory = let e = memory m in
+    absurd (let no : ⊥ = cc in no)
 stops_at script rows provided s (place_fault.Meeting fs) h shown memory = absurd shown
 stops_at script rows provided s place_fault.NoMemory h shown memory = tt
 

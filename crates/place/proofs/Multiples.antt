@@ -1,7 +1,8 @@
 -- The least multiple of a number not below another is the only one less than the number above it.
 use Rattle.std.proofs.Common.{◌≡◌, ℕ, ◌+◌, ◌*◌, ◌-◌, ◌%◌, ◌/◌, ◌≤◌, ◌<◌, ap, ◌∙◌, ⊎_elim, arith}
 use Rattle.std.specs.Int.{next_multiple_of}
-use Rattle.std.proofs.Math.Nat.{mod_self, mod-lt, mod-eq_of_lt, mul-mod_left, mul-le-mul_right, sub-zero, eq-zero-or-pos}
+use Rattle.std.proofs.Math.Nat.{mod_self, mod-lt, mod-eq_of_lt, mul-mod_left, mul-le-mul_right, sub-zero}
+use Rattle.std.proofs.Math.Nat.{eq-zero-or-pos}
 use Rattle.std.proofs.lemmas.Nat.{div-add-mod'}
 use Rattle.std.proofs.lemmas.Bool.{cases_lt}
 
@@ -54,10 +55,14 @@ next_multiple_is a x y pos multiple above near =
     let w : next_multiple_of x a < x + a = z.near in
     let up : x ≤ next_multiple_of x a = z.above in
     ⊎_elim
-    (λ (l : y < next_multiple_of x a). absurd (let far : y + a ≤ next_multiple_of x a = apart a y (next_multiple_of x a) multiple z.multiple l in omega (arith, far, w, above)))
+    (λ (l : y < next_multiple_of x a).
+    absurd (let far : y + a ≤ next_multiple_of x a = apart a y (next_multiple_of x a) multiple z.multiple l in
+    omega (arith, far, w, above)))
     (λ (g : next_multiple_of x a ≤ y).
     ⊎_elim
-    (λ (l : next_multiple_of x a < y). absurd (let far : next_multiple_of x a + a ≤ y = apart a (next_multiple_of x a) y z.multiple multiple l in omega (arith, far, up, above, near)))
+    (λ (l : next_multiple_of x a < y).
+    absurd (let far : next_multiple_of x a + a ≤ y = apart a (next_multiple_of x a) y z.multiple multiple l in
+    omega (arith, far, up, above, near)))
     (λ (h : y ≤ next_multiple_of x a). omega (arith, g, h))
     (cases_lt (next_multiple_of x a) y))
     (cases_lt y (next_multiple_of x a))

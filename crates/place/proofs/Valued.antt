@@ -13,6 +13,8 @@ use Rattle.place.specs.State.{layout_of}
 use Rattle.place.specs.declared.state.Done.{Done}
 use Rattle.place.specs.declared.state.Here.{Here}
 
-pub number_is : (n : Naming) (h : Here) (d : Done) (line : ℕ) (e : Expr) (r : Result ℕ code.ValueFault) → outcome_of r ≡ value (scope_of (layout_of nameless h d)) h.dot e → value_at line (outcome_of r) ≡ number (layout_of n h d) line e
+pub number_is : (n : Naming) (h : Here) (d : Done) (line : ℕ) (e : Expr) (r : Result ℕ code.ValueFault) → outcome_of r
+    ≡ value (scope_of (layout_of nameless h d)) h.dot e → value_at line (outcome_of r) ≡ number (layout_of n h d) line e
 unfolding number
-number_is n h d line e r found = ap (value_at line) (found ∙ ap (λ (s : Scope). value s h.dot e) (same_scope nameless n h d))
+number_is n h d line e r found =
+    ap (value_at line) (found ∙ ap (λ (s : Scope). value s h.dot e) (same_scope nameless n h d))

@@ -1,5 +1,6 @@
 -- The parts of all output sections, by the layout that they stand for.
-use Rattle.std.proofs.Common.{◌≡◌, ℕ, zero, suc, arith, ◌+◌, List, [], ◌∷◌, ◌++◌, map, refl, sym, ap, ◌∙◌, ◌<◌, length, get_or, drop, append_assoc}
+use Rattle.std.proofs.Common.{◌≡◌, ℕ, zero, suc, arith, ◌+◌, List, [], ◌∷◌, ◌++◌, map, refl, sym, ap, ◌∙◌, ◌<◌, length}
+use Rattle.std.proofs.Common.{get_or, drop, append_assoc}
 use Rattle.std.proofs.lemmas.List.{drop_more}
 use Rattle.place.specs.SectionTable.{keyed, keyed_piece}
 use Rattle.place.specs.declared.sections.Closed.{Closed}
@@ -17,24 +18,32 @@ pub placed_whole : (n : Naming) (xs : List KeyedSection) → placed_in xs ≡ ma
 placed_whole n [] = refl
 placed_whole n (x ∷ xs) = ap (λ l. x.placed ∷ l) (placed_whole n xs)
 
-starts_whole_in : (n : Naming) (ps : List KeyedPiece) → map (λ (p : KeyedPiece). p.start) ps ≡ map (λ (p : PlacedPiece). p.start) (map (piece_at n) ps)
+starts_whole_in : (n : Naming) (ps : List KeyedPiece) → map (λ (p : KeyedPiece). p.start) ps
+    ≡ map (λ (p : PlacedPiece). p.start) (map (piece_at n) ps)
 starts_whole_in n [] = refl
 starts_whole_in n (p ∷ ps) = ap (λ l. p.start ∷ l) (starts_whole_in n ps)
 
 pub starts_whole : (n : Naming) (xs : List KeyedSection) → starts_in xs ≡ flat_map starts_of (map (section_of n) xs)
 starts_whole n [] = refl
 starts_whole n (x ∷ xs) =
-    ap (λ l. l ++ starts_in xs) (starts_whole_in n x.pieces) ∙ ap (λ l. starts_of (section_of n x) ++ l) (starts_whole n xs)
+    ap (λ l. l ++ starts_in xs) (starts_whole_in n x.pieces)
+    ∙ ap (λ l. starts_of (section_of n x) ++ l) (starts_whole n xs)
 
-pub data_whole : (n : Naming) (k : ℕ) (xs : List KeyedSection) → all_data_in k xs ≡ flat_map numbered (enumerate_from k (map (section_of n) xs))
+pub data_whole : (n : Naming) (k : ℕ) (xs : List KeyedSection) → all_data_in k xs
+    ≡ flat_map numbered (enumerate_from k (map (section_of n) xs))
 data_whole n k [] = refl
 data_whole n k (x ∷ xs) = ap (λ l. data_in k x.data_commands ++ l) (data_whole n (k + 1) xs)
 
 -- one more section's starts
-pub starts_more : (xs : List Closed) (i : ℕ) (x : Closed) (all old new : List ℕ) → i < length xs → x ≡ get_or xs i x → all ≡ old ++ starts_in (map keyed (drop i xs)) → new ≡ old ++ map (λ (p : KeyedPiece). p.start) (map keyed_piece x.pieces.items) → all ≡ new ++ starts_in (map keyed (drop (i + 1) xs))
+pub starts_more : (xs : List Closed) (i : ℕ) (x : Closed) (all old new : List ℕ) → i < length xs → x ≡ get_or xs i x
+    → all ≡ old ++ starts_in (map keyed (drop i xs)) → new ≡ old
+    ++ map (λ (p : KeyedPiece). p.start) (map keyed_piece x.pieces.items) → all ≡ new
+    ++ starts_in (map keyed (drop (i + 1) xs))
 starts_more xs i x all old new l at h e =
     let here : drop i xs ≡ x ∷ drop (i + 1) xs = drop_more xs i x l ∙ ap (λ y. y ∷ drop (i + 1) xs) (sym at) in
-    h ∙ (ap (λ ys. old ++ starts_in (map keyed ys)) here ∙ (sym (append_assoc old (map (λ (p : KeyedPiece). p.start) (map keyed_piece x.pieces.items)) (starts_in (map keyed (drop (i + 1) xs)))) ∙ ap (λ ys. ys ++ starts_in (map keyed (drop (i + 1) xs))) (sym e)))
+    h ∙ (ap (λ ys. old ++ starts_in (map keyed ys)) here
+    ∙ (sym (append_assoc old (map (λ (p : KeyedPiece). p.start) (map keyed_piece x.pieces.items))
+    (starts_in (map keyed (drop (i + 1) xs)))) ∙ ap (λ ys. ys ++ starts_in (map keyed (drop (i + 1) xs))) (sym e)))
 
 pub ends_whole : (xs : List KeyedSection) → KeyedEnds xs → Ends (placed_in xs)
 ends_whole [] h k d l = absurd (omega arith)

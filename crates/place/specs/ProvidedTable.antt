@@ -1,5 +1,6 @@
 -- The table of the PROVIDEs that are in force.
-use Rattle.std.specs.Prelude.{◌≡◌, ℕ, ◌<◌, List, [], ◌∷◌, ◌++◌, length, map, Some, Bool, false, slice_get, slice_index_or, bytes_eq}
+use Rattle.std.specs.Prelude.{◌≡◌, ℕ, ◌<◌, List, [], ◌∷◌, ◌++◌, length, map, Some, Bool, false, slice_get}
+use Rattle.std.specs.Prelude.{slice_index_or, bytes_eq}
 use Rattle.std.specs.List.{list_any}
 use Rattle.std.specs.Option.{option_map_or}
 use Rattle.ldtree.specs.Numbering.{CommonAt, common_commands}
@@ -23,4 +24,5 @@ pub record AreInForce (script : List Statement) (table : List Bool) (names : Lis
 
 -- a new table says so of one name more
 abbrev pub Marks : List Statement → List Bool → List Bool → List ℕ → Type 0
-Marks script old new name = (names : List (List ℕ)) → AreInForce script old names → AreInForce script new (names ++ name ∷ [])
+Marks script old new name = (names : List (List ℕ)) → AreInForce script old names
+    → AreInForce script new (names ++ name ∷ [])

@@ -14,7 +14,8 @@ impl<'a> Here<'a> {
     /// `NAME = e`.
     fn assign(&mut self, done: &Done<'a>, line: u32, a: &'a Assignment) -> Result<(), Stop<'a>>
         ghost naming: { Naming }
-        ensures gives { Gives (assigned (layout_of naming self.old done.now) line a.now) (layout_of naming self.new done.now) result }
+        ensures gives { Gives (assigned (layout_of naming self.old done.now) line a.now)
+            (layout_of naming self.new done.now) result }
         ensures pieces { self.new.pieces.items ≡ self.old.pieces.items }
         ensures data_commands { self.new.data_commands.items ≡ self.old.data_commands.items }
         ensures anew { self.new.anew ≡ self.old.anew }
@@ -34,7 +35,8 @@ impl<'a> Here<'a> {
         command: &'a Common,
     ) -> Result<(), Stop<'a>>
         ghost naming: { Naming }
-        ensures gives { Gives (common_step provided.now (layout_of naming self.old done.now) line command.now) (layout_of naming self.new done.now) result }
+        ensures gives { Gives (common_step provided.now (layout_of naming self.old done.now) line command.now)
+            (layout_of naming self.new done.now) result }
         ensures pieces { self.new.pieces.items ≡ self.old.pieces.items }
         ensures data_commands { self.new.data_commands.items ≡ self.old.data_commands.items }
         ensures anew { self.new.anew ≡ self.old.anew }

@@ -4,7 +4,8 @@ ghost use Rattle.std.specs.Prelude.{◌^◌, ◌≤◌, IfSome, IfNone, ◌≡�
 ghost use Rattle.std.specs.Int.{next_multiple_of};
 ghost use Rattle.ldexpr.specs.DotForms.{dot_form};
 ghost use Rattle.ldexpr.specs.Expressions.{expr_of};
-ghost use Rattle.ldmodel.specs.Body.{advanced, body_command_step, body_step, data_step, dot_step, input_step, moved, piece_placed, piece_start, pieces_placed, set_to};
+ghost use Rattle.ldmodel.specs.Body.{advanced, body_command_step, body_step, data_step, dot_step, input_step, moved};
+ghost use Rattle.ldmodel.specs.Body.{piece_placed, piece_start, pieces_placed, set_to};
 ghost use Rattle.ldmodel.specs.Chain.{run};
 ghost use Rattle.place.specs.Counted.{Counted};
 ghost use Rattle.place.specs.Naming.{Naming, piece_named, row_named};
@@ -54,7 +55,10 @@ impl<'d, 'a> Frame<'d, 'a> {
     #[tactic(auto, unfolding(ldmodel::specs::Body::piece_placed))]
     fn place_piece(&self, here: &mut Here<'a>, line: u32, piece: &'a Piece) -> Result<(), Stop<'a>>
         ghost naming: { Naming }
-        ensures gives { Gives (piece_placed line (body_of naming here.old self.now) (piece_named naming piece.now) (row_named naming (drop (length here.old.pieces.items + 1) self.now.row.now))) (body_of naming here.new self.now) result }
+        ensures gives { Gives
+            (piece_placed line (body_of naming here.old self.now) (piece_named naming piece.now)
+            (row_named naming (drop (length here.old.pieces.items + 1) self.now.row.now)))
+            (body_of naming here.new self.now) result }
         ensures one { OnOk result (length here.new.pieces.items ≡ length here.old.pieces.items + 1) }
         ensures anew { here.new.anew + length here.old.pieces.items ≤ here.old.anew + length here.new.pieces.items }
         ensures few { length here.new.pieces.items ≤ length here.old.pieces.items + 1 }
@@ -75,7 +79,10 @@ impl<'d, 'a> Frame<'d, 'a> {
     #[tactic(auto, unfolding(ldmodel::specs::Body::pieces_placed))]
     fn place_pieces(&self, here: &mut Here<'a>, line: u32, number: u64) -> Result<(), Stop<'a>>
         ghost naming: { Naming }
-        ensures gives { Gives (pieces_placed line number (body_of naming here.old self.now) (row_named naming (drop (length here.old.pieces.items) self.now.row.now))) (body_of naming here.new self.now) result }
+        ensures gives { Gives
+            (pieces_placed line number (body_of naming here.old self.now)
+            (row_named naming (drop (length here.old.pieces.items) self.now.row.now)))
+            (body_of naming here.new self.now) result }
         ensures counted { Counted here.old here.new (length self.now.row.now) }
     {
         while here.pieces.len() < self.row.len() {
@@ -91,7 +98,8 @@ impl<'d, 'a> Frame<'d, 'a> {
     /// An input statement.
     fn place_input(&self, here: &mut Here<'a>, line: u32) -> Result<(), Stop<'a>>
         ghost naming: { Naming }
-        ensures gives { Gives (input_step line (body_of naming here.old self.now)) (body_of naming here.new self.now) result }
+        ensures gives { Gives (input_step line (body_of naming here.old self.now)) (body_of naming here.new self.now)
+            result }
         ensures counted { Counted here.old here.new (length self.now.row.now) }
     {
         let number = here.inputs;
@@ -113,7 +121,8 @@ impl<'d, 'a> Frame<'d, 'a> {
         formula: &'a Formula,
     ) -> Result<(), Stop<'a>>
         ghost naming: { Naming }
-        ensures gives { Gives (data_step line (body_of naming here.old self.now) width formula.now) (body_of naming here.new self.now) result }
+        ensures gives { Gives (data_step line (body_of naming here.old self.now) width formula.now)
+            (body_of naming here.new self.now) result }
         ensures counted { Counted here.old here.new (length self.now.row.now) }
     {
         let value = here.formula(self.done, line, formula)?;
@@ -133,7 +142,8 @@ impl<'d, 'a> Frame<'d, 'a> {
     /// `.` goes on to a number and some more.
     fn go_to(&self, here: &mut Here<'a>, line: u32, from: u64, more: u64) -> Result<(), Stop<'a>>
         ghost naming: { Naming }
-        ensures gives { Gives (moved line (body_of naming here.old self.now) (from + more)) (body_of naming here.new self.now) result }
+        ensures gives { Gives (moved line (body_of naming here.old self.now) (from + more))
+            (body_of naming here.new self.now) result }
         ensures counted { Counted here.old here.new (length self.now.row.now) }
     {
         let dot = here.dot;
@@ -150,7 +160,8 @@ impl<'d, 'a> Frame<'d, 'a> {
     /// `. += e` and `. = . + e`.
     fn advance(&self, here: &mut Here<'a>, line: u32, by: &'a Expr) -> Result<(), Stop<'a>>
         ghost naming: { Naming }
-        ensures gives { Gives (advanced line (body_of naming here.old self.now) (expr_of by.now)) (body_of naming here.new self.now) result }
+        ensures gives { Gives (advanced line (body_of naming here.old self.now) (expr_of by.now))
+            (body_of naming here.new self.now) result }
         ensures counted { Counted here.old here.new (length self.now.row.now) }
     {
         let more = here.number(self.done, line, by)?;
@@ -162,7 +173,8 @@ impl<'d, 'a> Frame<'d, 'a> {
     /// `. = e`.
     fn set_dot(&self, here: &mut Here<'a>, line: u32, to: &'a Expr) -> Result<(), Stop<'a>>
         ghost naming: { Naming }
-        ensures gives { Gives (set_to line (body_of naming here.old self.now) (dot_form (expr_of to.now))) (body_of naming here.new self.now) result }
+        ensures gives { Gives (set_to line (body_of naming here.old self.now) (dot_form (expr_of to.now)))
+            (body_of naming here.new self.now) result }
         ensures counted { Counted here.old here.new (length self.now.row.now) }
     {
         match to.dot_form() {
@@ -186,7 +198,8 @@ impl<'d, 'a> Frame<'d, 'a> {
         command: &'a DotCommand,
     ) -> Result<(), Stop<'a>>
         ghost naming: { Naming }
-        ensures gives { Gives (dot_step line (body_of naming here.old self.now) command.now) (body_of naming here.new self.now) result }
+        ensures gives { Gives (dot_step line (body_of naming here.old self.now) command.now)
+            (body_of naming here.new self.now) result }
         ensures counted { Counted here.old here.new (length self.now.row.now) }
     {
         match command {
@@ -203,7 +216,9 @@ impl<'d, 'a> Frame<'d, 'a> {
         command: &'a BodyCommand,
     ) -> Result<(), Stop<'a>>
         ghost naming: { Naming }
-        ensures gives { Gives (body_command_step self.now.provided.now line (body_of naming here.old self.now) command.now) (body_of naming here.new self.now) result }
+        ensures gives { Gives
+            (body_command_step self.now.provided.now line (body_of naming here.old self.now) command.now)
+            (body_of naming here.new self.now) result }
         ensures counted { Counted here.old here.new (length self.now.row.now) }
     {
         match command {
@@ -220,7 +235,8 @@ impl<'d, 'a> Frame<'d, 'a> {
         statement: &'a BodyStatement,
     ) -> Result<(), Stop<'a>>
         ghost naming: { Naming }
-        ensures gives { Gives (body_step self.now.provided.now (body_of naming here.old self.now) statement.now) (body_of naming here.new self.now) result }
+        ensures gives { Gives (body_step self.now.provided.now (body_of naming here.old self.now) statement.now)
+            (body_of naming here.new self.now) result }
         ensures counted { Counted here.old here.new (length self.now.row.now) }
     {
         here.dots.push(here.dot)?;
@@ -231,7 +247,8 @@ impl<'d, 'a> Frame<'d, 'a> {
     #[tactic(auto, unfolding(ldmodel::specs::Chain::run))]
     pub fn place_body(&self, here: &mut Here<'a>, body: &'a [BodyStatement]) -> Result<(), Stop<'a>>
         ghost naming: { Naming }
-        ensures gives { Gives (run (body_step self.now.provided.now) (body_of naming here.old self.now) body.now) (body_of naming here.new self.now) result }
+        ensures gives { Gives (run (body_step self.now.provided.now) (body_of naming here.old self.now) body.now)
+            (body_of naming here.new self.now) result }
         ensures counted { Counted here.old here.new (length self.now.row.now) }
     {
         for statement in body {

@@ -4,7 +4,8 @@ ghost use Rattle.std.specs.Prelude.{◌+◌, length, OnOk, ◌≡◌, ◌==◌, 
 ghost use Rattle.std.specs.List.{list_any};
 ghost use Rattle.std.specs.Option.{option_copied, option_and_then};
 ghost use Rattle.ldmodel.specs.Layout.{PlacedPiece, region_named};
-ghost use Rattle.ldmodel.specs.SectionEnd.{freed_from, has_file_bytes, has_flag, is_empty, is_in_file, is_within, load_region, placed_section, section_end, with_room};
+ghost use Rattle.ldmodel.specs.SectionEnd.{freed_from, has_file_bytes, has_flag, is_empty, is_in_file, is_within};
+ghost use Rattle.ldmodel.specs.SectionEnd.{load_region, placed_section, section_end, with_room};
 ghost use Rattle.place.specs.Ends.{body_alone, ended_body, load_end};
 ghost use Rattle.place.specs.Heads.{head_from, Yields};
 ghost use Rattle.place.specs.Keyed.{piece_at, section_of};
@@ -53,7 +54,8 @@ fn has_this_flag(at: &PieceAt<'_>, flag: u64) -> bool
 /// Whether an input section of nonzero size has a flag.
 fn any_with_flag(pieces: &[PieceAt<'_>], flag: u64) -> bool
     ghost naming: { Naming }
-    ensures { result ≡ list_any (λ (x : PlacedPiece). not (bit_and x.piece.flags flag == 0) && not (is_empty x)) (map (piece_at naming) (map keyed_piece pieces.now)) }
+    ensures { result ≡ list_any (λ (x : PlacedPiece). not (bit_and x.piece.flags flag == 0)
+        && not (is_empty x)) (map (piece_at naming) (map keyed_piece pieces.now)) }
 {
     for at in pieces {
         if has_this_flag(at, flag) {
@@ -92,7 +94,9 @@ impl<'a> Regions<'a> {
         size: u64,
     ) -> Result<(), Stop<'a>>
         ghost naming: { Naming }
-        ensures { Yields (λ _. section_of naming (keyed section.now)) (with_room (option_and_then (region_named self.now) (option_copied name.entry)) at size (section_of naming (keyed section.now))) result }
+        ensures { Yields (λ _. section_of naming (keyed section.now))
+            (with_room (option_and_then (region_named self.now) (option_copied name.entry)) at size
+            (section_of naming (keyed section.now))) result }
     {
         let Some(name) = name else {
             return Ok(());
@@ -129,7 +133,8 @@ impl<'a> Done<'a> {
         output: &OutputSection,
     ) -> Result<u64, Stop<'a>>
         ghost naming: { Naming }
-        ensures { Yields (λ x. x) (load_end line output.now self.now.regions (section_of naming (keyed section.now))) result }
+        ensures { Yields (λ x. x) (load_end line output.now self.now.regions (section_of naming (keyed section.now)))
+            result }
     {
         let at = section.placed;
         self.regions
@@ -170,7 +175,8 @@ impl<'a> Here<'a> {
     #[tactic(auto, unfolding(ldmodel::specs::SectionEnd::placed_section))]
     fn close(&mut self, alloc: Global, output: &'a OutputSection, head: Head) -> Closed<'a>
         ghost naming: { Naming }
-        ensures value { section_of naming (keyed result) ≡ placed_section output.now (head_from head) (body_alone naming self.old) }
+        ensures value { section_of naming (keyed result)
+            ≡ placed_section output.now (head_from head) (body_alone naming self.old) }
         ensures fits { Fits (keyed result) }
         ensures dot { self.new.dot ≡ self.old.dot }
         ensures dots { self.new.dots.items ≡ self.old.dots.items }
@@ -209,7 +215,8 @@ impl<'a> Here<'a> {
         ghost naming: { Naming }
         ensures anew { self.new.anew ≡ self.old.anew }
         ensures one { OnOk result (length done.new.sections ≡ length done.old.sections + 1) }
-        ensures gives { Gives (section_end line output.now (head_from head) (ended_body naming self.old done.old)) (layout_of naming self.new done.new) result }
+        ensures gives { Gives (section_end line output.now (head_from head) (ended_body naming self.old done.old))
+            (layout_of naming self.new done.new) result }
     {
         let end = self.dot.max(head.start);
         let section = self.close(alloc, output, head);

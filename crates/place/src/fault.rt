@@ -53,7 +53,9 @@ fn mention(alloc: Global, script: &Script, name: &[u8]) -> Option<MentionIndex>
 /// The number of the output section of a name.
 #[tactic(auto, using(crate::proofs::Numbers::section_named_by))]
 fn output(script: &Script, name: &[u8]) -> Option<OutputIndex>
-    ensures { IfSome result (λ k. option_map_or (λ (x : OutputSectionAt). x.section.name) (slice_get (output_sections script.now) k.0) [] ≡ name.now) }
+    ensures { IfSome result (λ k.
+        option_map_or (λ (x : OutputSectionAt). x.section.name) (slice_get (output_sections script.now) k.0) []
+        ≡ name.now) }
 {
     match script.section_number(name) {
         Some(number) => match u32::try_from(number) {
@@ -67,7 +69,8 @@ fn output(script: &Script, name: &[u8]) -> Option<OutputIndex>
 /// The number of the memory region of a name.
 #[tactic(auto, using(crate::proofs::Numbers::region_named_by))]
 fn region(script: &Script, name: &[u8]) -> Option<RegionIndex>
-    ensures { IfSome result (λ k. option_map_or (λ (x : Region). x.name) (slice_get (regions script.now) k.0) [] ≡ name.now) }
+    ensures { IfSome result (λ k. option_map_or (λ (x : Region). x.name) (slice_get (regions script.now) k.0) []
+        ≡ name.now) }
 {
     match script.region_number(name) {
         Some(number) => match u32::try_from(number) {

@@ -4,7 +4,8 @@ ghost use Rattle.std.specs.Prelude.{◌≡◌, ◌<◌, IfOk, Ok};
 ghost use Rattle.std.specs.Int.{next_multiple_of};
 ghost use Rattle.std.specs.Option.{option_copied, option_map_or};
 ghost use Rattle.ldmodel.specs.Layout.{MemoryRegion, address, region_named};
-ghost use Rattle.ldmodel.specs.SectionHead.{first_free, given, given_alignment, given_load, head_of, load_address, next_free, number_if_given, start_of, unstated_load, widest};
+ghost use Rattle.ldmodel.specs.SectionHead.{first_free, given, given_alignment, given_load, head_of, load_address};
+ghost use Rattle.ldmodel.specs.SectionHead.{next_free, number_if_given, start_of, unstated_load, widest};
 ghost use Rattle.place.specs.Heads.{given_of, head_from, Yields};
 ghost use Rattle.place.specs.Naming.{Naming, row_named};
 ghost use Rattle.place.specs.State.{layout_of, outcome};
@@ -160,7 +161,8 @@ impl<'a> Here<'a> {
     ) -> Result<u64, Stop<'a>>
         ghost naming: { Naming }
         requires { 0 < alignment }
-        ensures { outcome result ≡ start_of (layout_of naming self.now done.now) line section.now.region given alignment }
+        ensures { outcome result
+            ≡ start_of (layout_of naming self.now done.now) line section.now.region given alignment }
     {
         match given {
             Some(start) => Ok(start),
@@ -181,7 +183,8 @@ impl<'a> Here<'a> {
         start: u64,
     ) -> Result<u64, Stop<'a>>
         ghost naming: { Naming }
-        ensures { Yields (λ x. x) (Ok (unstated_load (layout_of naming self.now done.now) section.now.region given start)) result }
+        ensures { Yields (λ x.
+            x) (Ok (unstated_load (layout_of naming self.now done.now) section.now.region given start)) result }
     {
         match given {
             Some(_) => Ok(start),
@@ -206,7 +209,9 @@ impl<'a> Here<'a> {
     ) -> Result<u64, Stop<'a>>
         ghost naming: { Naming }
         requires { 0 < alignment }
-        ensures { Yields (λ x. x) (load_address (layout_of naming self.now done.now) line section.now (given_of given) alignment start) result }
+        ensures { Yields (λ x.
+            x) (load_address (layout_of naming self.now done.now) line section.now (given_of given) alignment start)
+            result }
     {
         match &section.load {
             Load::InRegion(name) => align(line, done.next_free(name.as_bytes()), alignment),
@@ -227,7 +232,8 @@ impl<'a> Here<'a> {
         section: &'a OutputSection,
     ) -> Result<Head, Stop<'a>>
         ghost naming: { Naming }
-        ensures { Yields head_from (head_of (layout_of naming self.now done.now) (row_named naming row.now) line section.now) result }
+        ensures { Yields head_from
+            (head_of (layout_of naming self.now done.now) (row_named naming row.now) line section.now) result }
     {
         let given = self.given(done, line, section)?;
         let alignment = widest_of(given.alignment, row);

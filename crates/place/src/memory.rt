@@ -16,7 +16,8 @@ impl<'a> Here<'a> {
     fn declare(&self, done: &mut Done<'a>, region: &'a Region) -> Result<(), Stop<'a>>
         ghost naming: { Naming }
         ensures sections { done.new.sections ≡ done.old.sections }
-        ensures gives { Gives (region_step (layout_of naming self.now done.old) region.now) (layout_of naming self.now done.new) result }
+        ensures gives { Gives (region_step (layout_of naming self.now done.old) region.now)
+            (layout_of naming self.now done.new) result }
     {
         let origin = self.formula(done, region.line, &region.origin)?;
         let extent = self.formula(done, region.line, &region.extent)?;
@@ -29,7 +30,8 @@ impl<'a> Here<'a> {
     pub fn declare_all(&self, done: &mut Done<'a>, regions: &'a [Region]) -> Result<(), Stop<'a>>
         ghost naming: { Naming }
         ensures sections { done.new.sections ≡ done.old.sections }
-        ensures gives { Gives (run region_step (layout_of naming self.now done.old) regions.now) (layout_of naming self.now done.new) result }
+        ensures gives { Gives (run region_step (layout_of naming self.now done.old) regions.now)
+            (layout_of naming self.now done.new) result }
     {
         for region in regions {
             self.declare(done, region)?;

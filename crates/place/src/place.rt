@@ -55,8 +55,11 @@ fn lay_out(
 ) -> Result<Placement, PlaceFault>
     ghost naming: { Naming }
     ensures counted { CountsPieces meter.old meter.new (entries 0 (map (λ v. v.items) rows.now)) }
-    ensures placed { IfOk result (λ p. IsPlacement script.now (rows_named naming (map (λ v. v.items) rows.now)) (provided_names script.now provided.now) p) }
-    ensures faulty { IfErr result (λ f. Stops script.now (rows_named naming (map (λ v. v.items) rows.now)) (provided_names script.now provided.now) f) }
+    ensures placed { IfOk result (λ p.
+        IsPlacement script.now (rows_named naming (map (λ v. v.items) rows.now))
+        (provided_names script.now provided.now) p) }
+    ensures faulty { IfErr result (λ f.
+        Stops script.now (rows_named naming (map (λ v. v.items) rows.now)) (provided_names script.now provided.now) f) }
 {
     let provided = Provided::new(alloc, script, provided)?;
     let mut here = nowhere(alloc, script)?;
@@ -94,7 +97,8 @@ fn lay_out(
 ///
 /// # Errors
 ///
-/// `First` is the first fault of the layout (`F4` to `F8`). Without one, `Meeting` has one fault for each output section
+/// `First` is the first fault of the layout (`F4` to `F8`). Without one, `Meeting` has one fault for each output
+/// section
 /// that shares an address with an earlier one (`F9`), and then one for each that shares a load address (`F10`).
 pub fn place(
     alloc: Global,
@@ -106,8 +110,10 @@ pub fn place(
 ) -> Result<Placement, PlaceFault>
     ghost naming: { Naming }
     ensures counted { CountsPieces meter.old meter.new (entries 0 (map (λ v. v.items) rows.now)) }
-    ensures good { IfOk result (λ p. IsGood script.now (rows_named naming (map (λ v. v.items) rows.now)) (provided_names script.now provided.now) p) }
-    ensures faulty { IfErr result (λ f. IsWhy script.now (rows_named naming (map (λ v. v.items) rows.now)) (provided_names script.now provided.now) f) }
+    ensures good { IfOk result (λ p.
+        IsGood script.now (rows_named naming (map (λ v. v.items) rows.now)) (provided_names script.now provided.now) p) }
+    ensures faulty { IfErr result (λ f.
+        IsWhy script.now (rows_named naming (map (λ v. v.items) rows.now)) (provided_names script.now provided.now) f) }
 {
     let placement = lay_out(alloc, script, rows, provided, kept, meter)?;
     let meeting = overlaps(alloc, placement.sections())?;

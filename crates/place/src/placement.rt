@@ -29,7 +29,15 @@ impl Model for Placement {
 
     ghost use Rattle.place.specs.Places.{Ends};
 
-    ghost view = { λ p. record { sections = p.sections.items; starts = p.starts.items; data_commands = p.data_commands.items; dots = p.dots.items; symbols = p.symbols.items; regions = p.regions.items } };
+    ghost view = { λ p. record {
+      sections = p.sections.items;
+      starts = p.starts.items;
+      data_commands =
+          p.data_commands.items;
+      dots = p.dots.items;
+      symbols = p.symbols.items;
+      regions = p.regions.items;
+    } };
 
     ghost invariant = { λ p. Ends p.sections.items };
 }
@@ -70,7 +78,8 @@ impl Placement {
         &self.starts
     }
 
-    /// `.` before a statement of SECTIONS or, right after an output section's own, of its body; they are numbered from 0.
+    /// `.` before a statement of SECTIONS or, right after an output section's own, of its body; they are numbered from
+    /// 0.
     pub fn dot(&self, statement: usize) -> Option<u64>
         ensures { result ≡ slice_get self.now.dots statement }
     {

@@ -77,7 +77,8 @@ impl<'a> Regions<'a> {
 
     /// One more region, whose next free address is where it begins. It is an error where memory ran out.
     pub fn push(&mut self, name: &'a [u8], origin: u64, extent: u64) -> Result<(), Stop<'a>>
-        ensures pushed { OnOk result (self.new ≡ self.old ++ record { name = name.now; origin = origin; extent = extent; next = origin } ∷ []) }
+        ensures pushed { OnOk result (self.new ≡ self.old
+            ++ record { name = name.now; origin = origin; extent = extent; next = origin } ∷ []) }
         ensures refused { IfErr result (λ f. f ≡ NoMemory) }
     {
         if self.script.region_number(name) != Some(self.list.len()) {

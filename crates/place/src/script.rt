@@ -49,7 +49,8 @@ impl<'a> Here<'a> {
     ) -> Result<(), Stop<'a>>
         ghost naming: { Naming }
         ensures anew { self.new.anew ≡ self.old.anew }
-        ensures gives { Gives (free_dot_step (layout_of naming self.old done.now) line command.now) (layout_of naming self.new done.now) result }
+        ensures gives { Gives (free_dot_step (layout_of naming self.old done.now) line command.now)
+            (layout_of naming self.new done.now) result }
     {
         match command {
             DotCommand::Set(to) => {
@@ -86,9 +87,14 @@ impl<'i, 'a> Input<'i, 'a> {
         command: &'a ItemCommand,
     ) -> Result<(), Stop<'a>>
         ghost naming: { Naming }
-        ensures anew { here.new.anew ≤ here.old.anew + entries (length done.old.sections) (map (λ v. v.items) self.now.rows.now) }
-        ensures left { OnOk result (here.new.anew + entries (length done.new.sections) (map (λ v. v.items) self.now.rows.now) ≤ here.old.anew + entries (length done.old.sections) (map (λ v. v.items) self.now.rows.now)) }
-        ensures gives { Gives (item_command_step (rows_of naming self.now) self.now.provided.now line (layout_of naming here.old done.old) command.now) (layout_of naming here.new done.new) result }
+        ensures anew { here.new.anew ≤ here.old.anew + entries (length done.old.sections)
+            (map (λ v. v.items) self.now.rows.now) }
+        ensures left { OnOk result
+            (here.new.anew + entries (length done.new.sections) (map (λ v. v.items) self.now.rows.now) ≤ here.old.anew
+            + entries (length done.old.sections) (map (λ v. v.items) self.now.rows.now)) }
+        ensures gives { Gives
+            (item_command_step (rows_of naming self.now) self.now.provided.now line
+            (layout_of naming here.old done.old) command.now) (layout_of naming here.new done.new) result }
     {
         match command {
             ItemCommand::Dot(command) => here.move_freely(done, line, command),
@@ -117,9 +123,14 @@ impl<'i, 'a> Input<'i, 'a> {
         item: &'a Item,
     ) -> Result<(), Stop<'a>>
         ghost naming: { Naming }
-        ensures anew { here.new.anew ≤ here.old.anew + entries (length done.old.sections) (map (λ v. v.items) self.now.rows.now) }
-        ensures left { OnOk result (here.new.anew + entries (length done.new.sections) (map (λ v. v.items) self.now.rows.now) ≤ here.old.anew + entries (length done.old.sections) (map (λ v. v.items) self.now.rows.now)) }
-        ensures gives { Gives (item_step (rows_of naming self.now) self.now.provided.now (layout_of naming here.old done.old) item.now) (layout_of naming here.new done.new) result }
+        ensures anew { here.new.anew ≤ here.old.anew + entries (length done.old.sections)
+            (map (λ v. v.items) self.now.rows.now) }
+        ensures left { OnOk result
+            (here.new.anew + entries (length done.new.sections) (map (λ v. v.items) self.now.rows.now) ≤ here.old.anew
+            + entries (length done.old.sections) (map (λ v. v.items) self.now.rows.now)) }
+        ensures gives { Gives
+            (item_step (rows_of naming self.now) self.now.provided.now (layout_of naming here.old done.old) item.now)
+            (layout_of naming here.new done.new) result }
     {
         here.dots.push(here.dot)?;
         self.place_command(here, done, item.line, &item.command)
@@ -134,9 +145,14 @@ impl<'i, 'a> Input<'i, 'a> {
         items: &'a [Item],
     ) -> Result<(), Stop<'a>>
         ghost naming: { Naming }
-        ensures anew { here.new.anew ≤ here.old.anew + entries (length done.old.sections) (map (λ v. v.items) self.now.rows.now) }
-        ensures left { OnOk result (here.new.anew + entries (length done.new.sections) (map (λ v. v.items) self.now.rows.now) ≤ here.old.anew + entries (length done.old.sections) (map (λ v. v.items) self.now.rows.now)) }
-        ensures gives { Gives (run (item_step (rows_of naming self.now) self.now.provided.now) (layout_of naming here.old done.old) items.now) (layout_of naming here.new done.new) result }
+        ensures anew { here.new.anew ≤ here.old.anew + entries (length done.old.sections)
+            (map (λ v. v.items) self.now.rows.now) }
+        ensures left { OnOk result
+            (here.new.anew + entries (length done.new.sections) (map (λ v. v.items) self.now.rows.now) ≤ here.old.anew
+            + entries (length done.old.sections) (map (λ v. v.items) self.now.rows.now)) }
+        ensures gives { Gives
+            (run (item_step (rows_of naming self.now) self.now.provided.now) (layout_of naming here.old done.old)
+            items.now) (layout_of naming here.new done.new) result }
     {
         for item in items {
             self.place_item(here, done, item)?;
@@ -153,9 +169,14 @@ impl<'i, 'a> Input<'i, 'a> {
         statement: &'a Statement,
     ) -> Result<(), Stop<'a>>
         ghost naming: { Naming }
-        ensures anew { here.new.anew ≤ here.old.anew + entries (length done.old.sections) (map (λ v. v.items) self.now.rows.now) }
-        ensures left { OnOk result (here.new.anew + entries (length done.new.sections) (map (λ v. v.items) self.now.rows.now) ≤ here.old.anew + entries (length done.old.sections) (map (λ v. v.items) self.now.rows.now)) }
-        ensures gives { Gives (statement_step (rows_of naming self.now) self.now.provided.now (layout_of naming here.old done.old) statement.now) (layout_of naming here.new done.new) result }
+        ensures anew { here.new.anew ≤ here.old.anew + entries (length done.old.sections)
+            (map (λ v. v.items) self.now.rows.now) }
+        ensures left { OnOk result
+            (here.new.anew + entries (length done.new.sections) (map (λ v. v.items) self.now.rows.now) ≤ here.old.anew
+            + entries (length done.old.sections) (map (λ v. v.items) self.now.rows.now)) }
+        ensures gives { Gives
+            (statement_step (rows_of naming self.now) self.now.provided.now (layout_of naming here.old done.old)
+            statement.now) (layout_of naming here.new done.new) result }
     {
         match &statement.command {
             Command::Entry(_) => Ok(()),
@@ -174,9 +195,14 @@ impl<'i, 'a> Input<'i, 'a> {
         statements: &'a [Statement],
     ) -> Result<(), Stop<'a>>
         ghost naming: { Naming }
-        ensures anew { here.new.anew ≤ here.old.anew + entries (length done.old.sections) (map (λ v. v.items) self.now.rows.now) }
-        ensures left { OnOk result (here.new.anew + entries (length done.new.sections) (map (λ v. v.items) self.now.rows.now) ≤ here.old.anew + entries (length done.old.sections) (map (λ v. v.items) self.now.rows.now)) }
-        ensures gives { Gives (run (statement_step (rows_of naming self.now) self.now.provided.now) (layout_of naming here.old done.old) statements.now) (layout_of naming here.new done.new) result }
+        ensures anew { here.new.anew ≤ here.old.anew + entries (length done.old.sections)
+            (map (λ v. v.items) self.now.rows.now) }
+        ensures left { OnOk result
+            (here.new.anew + entries (length done.new.sections) (map (λ v. v.items) self.now.rows.now) ≤ here.old.anew
+            + entries (length done.old.sections) (map (λ v. v.items) self.now.rows.now)) }
+        ensures gives { Gives
+            (run (statement_step (rows_of naming self.now) self.now.provided.now) (layout_of naming here.old done.old)
+            statements.now) (layout_of naming here.new done.new) result }
     {
         for statement in statements {
             self.place_statement(here, done, statement)?;

@@ -44,7 +44,10 @@ impl<'a> Here<'a> {
     ) -> Result<(), Stop<'a>>
         ghost naming: { Naming }
         ensures anew { self.new.anew ≤ self.old.anew + length row.now }
-        ensures gives { Gives (run (body_step provided.now) (opened (layout_of naming self.old done.now) (row_named naming row.now) (head_from head)) output.now.body) (body_from naming self.new done.now head.start row.now) result }
+        ensures gives { Gives
+            (run (body_step provided.now)
+            (opened (layout_of naming self.old done.now) (row_named naming row.now) (head_from head)) output.now.body)
+            (body_from naming self.new done.now head.start row.now) result }
     {
         let frame = Frame {
             done,
@@ -73,7 +76,9 @@ impl<'a> Here<'a> {
         ghost naming: { Naming }
         ensures anew { self.new.anew ≤ self.old.anew + length row.now }
         ensures one { OnOk result (length done.new.sections ≡ length done.old.sections + 1) }
-        ensures gives { Gives (section_step provided.now (row_named naming row.now) (layout_of naming self.old done.old) line output.now) (layout_of naming self.new done.new) result }
+        ensures gives { Gives
+            (section_step provided.now (row_named naming row.now) (layout_of naming self.old done.old) line output.now)
+            (layout_of naming self.new done.new) result }
     {
         let head = self.head(done, row, line, output)?;
         self.body(done, provided, row, kept, head, output)?;

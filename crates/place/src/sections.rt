@@ -1,6 +1,7 @@
 //! The output sections that are in their places.
 
-ghost use Rattle.std.specs.Prelude.{◌≡◌, [], ◌∷◌, ◌++◌, length, map, replicate, IfOk, OnOk, IfErr, IfSome, find, bytes_eq, option_map};
+ghost use Rattle.std.specs.Prelude.{◌≡◌, [], ◌∷◌, ◌++◌, length, map, replicate, IfOk, OnOk, IfErr, IfSome, find};
+ghost use Rattle.std.specs.Prelude.{bytes_eq, option_map};
 ghost use Rattle.std.specs.Option.{option_copied};
 ghost use Rattle.place.specs.Keyed.{KeyedSection};
 ghost use Rattle.place.specs.SectionTable.{keyed, difference_by, Ends, Fits};
@@ -116,7 +117,8 @@ impl<'a> Sections<'a> {
 
     /// The numbers of the output section of a name.
     pub fn placed(&self, name: &[u8]) -> Option<Placed>
-        ensures { result ≡ option_map (λ (x : KeyedSection). x.placed) (find (λ (x : KeyedSection). bytes_eq x.name name.now) self.now) }
+        ensures { result ≡ option_map (λ (x : KeyedSection).
+            x.placed) (find (λ (x : KeyedSection). bytes_eq x.name name.now) self.now) }
     {
         match self.script.section_number(name) {
             Some(number) => {
@@ -130,7 +132,8 @@ impl<'a> Sections<'a> {
         }
     }
 
-    /// How far the last output section of a region starts from where it is loaded, modulo 2^64; `None` for a region that
+    /// How far the last output section of a region starts from where it is loaded, modulo 2^64; `None` for a region
+    /// that
     /// the script does not declare. Output sections that name no region count as one region.
     pub fn difference(&self, region: Option<&[u8]>) -> Option<u64>
         ensures { IfSome result (λ d. d ≡ difference_by self.now (option_copied region.entry)) }

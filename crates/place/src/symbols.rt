@@ -76,7 +76,8 @@ impl<'a> Symbols<'a> {
 
     /// The value of a symbol.
     pub fn value(&self, name: &[u8]) -> Option<u64>
-        ensures { result ≡ option_map (λ (x : ScriptSymbol). x.value) (find (λ (x : ScriptSymbol). bytes_eq x.name name.now) self.now) }
+        ensures { result ≡ option_map (λ (x : ScriptSymbol).
+            x.value) (find (λ (x : ScriptSymbol). bytes_eq x.name name.now) self.now) }
     {
         let number = symbol_number(self.script, name)?;
         *self.values.get(number)?

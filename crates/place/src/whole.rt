@@ -32,7 +32,8 @@ fn numbers_of(alloc: Global, sections: &[Closed<'_>]) -> Result<Vec<Placed>, All
 }
 
 fn add_starts(list: &mut Vec<u64>, pieces: &[PieceAt<'_>]) -> Result<(), AllocError>
-    ensures { OnOk result (list.new.items ≡ list.old.items ++ map (λ (x : KeyedPiece). x.start) (map keyed_piece pieces.now)) }
+    ensures { OnOk result (list.new.items ≡ list.old.items
+        ++ map (λ (x : KeyedPiece). x.start) (map keyed_piece pieces.now)) }
 {
     for at in pieces {
         list.push(at.start)?;

@@ -1,4 +1,6 @@
-use Rattle.std.proofs.Common.{◌≡◌, ◌<◌, ◌≤◌, ◌+◌, ℕ, zero, suc, Bool, true, false, cond, eqb, not, ◌&&◌, length, get_or, set, Vec, Global, List, [], ◌∷◌, ◌++◌, map, filter, refl, ap, sym, ◌∙◌, subst, ⊎_elim, arith, Result, Ok, Err, OnOk}
+use Rattle.std.proofs.Common.{◌≡◌, ◌<◌, ◌≤◌, ◌+◌, ℕ, zero, suc, Bool, true, false, cond, eqb, not, ◌&&◌, length, get_or}
+use Rattle.std.proofs.Common.{set, Vec, Global, List, [], ◌∷◌, ◌++◌, map, filter, refl, ap, sym, ◌∙◌, subst, ⊎_elim}
+use Rattle.std.proofs.Common.{arith, Result, Ok, Err, OnOk}
 use Rattle.std.specs.Prelude.{count_by}
 use Rattle.std.specs.List.{All, remove}
 use Rattle.std.specs.Vec.{vec_len, vec_capacity}
@@ -21,37 +23,55 @@ use Rattle.symres.proofs.Naming.{named_no, named_past}
 -- a name that no symbol has
 pub named_none : (k : ℕ) (ss : List Numbered) → All (λ (s : Numbered). is_named k s ≡ false) ss → named k ss ≡ []
 named_none k [] h = refl
-named_none k (s ∷ ss) h = ap (λ b. cond b (s ∷ named k ss) (named k ss)) (All-head (λ (s : Numbered). is_named k s ≡ false) s ss h) ∙ named_none k ss (All-tail (λ (s : Numbered). is_named k s ≡ false) s ss h)
+named_none k (s ∷ ss) h =
+    ap (λ b. cond b (s ∷ named k ss) (named k ss)) (All-head (λ (s : Numbered). is_named k s ≡ false) s ss h)
+    ∙ named_none k ss (All-tail (λ (s : Numbered). is_named k s ≡ false) s ss h)
 
-pub entries_none : (k : ℕ) (os : List Entered) → All (λ (o : Entered). All (λ (s : Numbered). is_named k s ≡ false) o.symbols) os → entries k os ≡ []
+pub entries_none : (k : ℕ) (os : List Entered)
+    → All (λ (o : Entered). All (λ (s : Numbered). is_named k s ≡ false) o.symbols) os → entries k os ≡ []
 entries_none k [] h = refl
 entries_none k (o ∷ os) h =
     let P : Entered → Type 0 = λ (o : Entered). All (λ (s : Numbered). is_named k s ≡ false) o.symbols in
-    ap (λ l. map (declared o.key) l ++ entries k os) (named_none k o.symbols (All-head P o os h)) ∙ entries_none k os (All-tail P o os h)
+    ap (λ l. map (declared o.key) l ++ entries k os) (named_none k o.symbols (All-head P o os h))
+    ∙ entries_none k os (All-tail P o os h)
 
 -- a name past the table
-pub entries_past : (n k : ℕ) (os : List Entered) → n ≤ k → All (λ (o : Entered). All (HasRow n) o.symbols) os → entries k os ≡ []
-entries_past n k os w h = entries_none k os (λ j o l i s m. named_past n k (get_or (get_or os j o).symbols i s) w (h j o l i s m))
+pub entries_past : (n k : ℕ) (os : List Entered) → n ≤ k → All (λ (o : Entered). All (HasRow n) o.symbols) os
+    → entries k os ≡ []
+entries_past n k os w h =
+    entries_none k os (λ j o l i s m. named_past n k (get_or (get_or os j o).symbols i s) w (h j o l i s m))
 
 pub grow_start : (rows : List (Vec Declared Global)) → RowsGrow rows rows
-grow_start rows = record { long = omega arith; items = λ k d h. refl; room = λ k d h. omega arith; fresh = λ k d h l. absurd (omega arith) }
+grow_start rows = record {
+  long = omega arith;
+  items = λ k d h. refl;
+  room = λ k d h. omega arith;
+  fresh = λ k d h l.
+      absurd (omega arith);
+}
 
 last : (mid : List (Vec Declared Global)) (row d : Vec Declared Global) → get_or (mid ++ row ∷ []) (length mid) d ≡ row
 last [] row d = refl
 last (x ∷ mid) row d = last mid row d
 
-pub grow_push : (old mid new : List (Vec Declared Global)) (row : Vec Declared Global) → RowsGrow old mid → new ≡ mid ++ row ∷ [] → row.items ≡ [] → RowsGrow old new
+pub grow_push : (old mid new : List (Vec Declared Global)) (row : Vec Declared Global) → RowsGrow old mid → new ≡ mid
+    ++ row ∷ [] → row.items ≡ [] → RowsGrow old new
 grow_push old mid new row g e r = subst (RowsGrow old) (sym e) record {
   long = omega (arith, g.long, length-append mid (row ∷ []));
-  items = λ k d h. ap (λ (v : Vec Declared Global). v.items) (get_or_append_left mid (row ∷ []) d k (omega (arith, g.long))) ∙ g.items k d h;
-  room = λ k d h. subst (λ (v : Vec Declared Global). vec_capacity (get_or old k d) ≤ vec_capacity v) (sym (get_or_append_left mid (row ∷ []) d k (omega (arith, g.long)))) (g.room k d h);
+  items = λ k d h. ap (λ (v : Vec Declared Global).
+      v.items) (get_or_append_left mid (row ∷ []) d k (omega (arith, g.long))) ∙ g.items k d h;
+  room = λ k d h. subst (λ (v : Vec Declared Global). vec_capacity (get_or old k d) ≤ vec_capacity v)
+      (sym (get_or_append_left mid (row ∷ []) d k (omega (arith, g.long)))) (g.room k d h);
   fresh = λ k d h l. ⊎_elim
       (λ low. ap (λ (v : Vec Declared Global). v.items) (get_or_append_left mid (row ∷ []) d k low) ∙ g.fresh k d h low)
-      (λ high. let at : k ≡ length mid = omega (arith, length-append mid (row ∷ [])) in ap (λ (v : Vec Declared Global). v.items) (ap (λ q. get_or (mid ++ row ∷ []) q d) at ∙ last mid row d) ∙ r)
+      (λ high. let at : k ≡ length mid = omega (arith, length-append mid (row ∷ [])) in
+      ap (λ (v : Vec Declared Global). v.items) (ap (λ q. get_or (mid ++ row ∷ []) q d) at ∙ last mid row d) ∙ r)
       (cases_lt k (length mid));
 }
 
-pub grow_set : (old mid : List (Vec Declared Global)) (n : ℕ) (v l : Vec Declared Global) → RowsGrow old mid → n < length mid → v ≡ get_or mid n v → l.items ≡ v.items → vec_capacity v ≤ vec_capacity l → RowsGrow old (set mid n l)
+pub grow_set : (old mid : List (Vec Declared Global)) (n : ℕ) (v l : Vec Declared Global) → RowsGrow old mid
+    → n < length mid → v ≡ get_or mid n v → l.items ≡ v.items → vec_capacity v ≤ vec_capacity l
+    → RowsGrow old (set mid n l)
 grow_set old mid n v l g w e i c = record {
   long = omega (arith, g.long, length-set mid n l);
   items = λ k d h. items k d (omega (arith, g.long)) ∙ g.items k d h;
@@ -65,13 +85,16 @@ grow_set old mid n v l g w e i c = record {
     here : (k : ℕ) (d : Vec Declared Global) → k < length mid → k ≡ n → get_or mid k d ≡ v
     here k d h same = get_or_default mid k d v h ∙ ap (λ q. get_or mid q v) same ∙ sym e
 
-    items : (k : ℕ) (d : Vec Declared Global) → k < length mid → (get_or (set mid n l) k d).items ≡ (get_or mid k d).items
+    items : (k : ℕ) (d : Vec Declared Global) → k < length mid → (get_or (set mid n l) k d).items
+        ≡ (get_or mid k d).items
     items k d h = ⊎_elim
-        (λ same. ap (λ (x : Vec Declared Global). x.items) (there k d same) ∙ i ∙ ap (λ (x : Vec Declared Global). x.items) (sym (here k d h same)))
+        (λ same. ap (λ (x : Vec Declared Global). x.items) (there k d same) ∙ i
+        ∙ ap (λ (x : Vec Declared Global). x.items) (sym (here k d h same)))
         (λ ne. ap (λ (x : Vec Declared Global). x.items) (get_or-set_other mid n k l d ne))
         (cases_eq k n)
 
-    room : (k : ℕ) (d : Vec Declared Global) → k < length mid → vec_capacity (get_or mid k d) ≤ vec_capacity (get_or (set mid n l) k d)
+    room : (k : ℕ) (d : Vec Declared Global) → k < length mid
+        → vec_capacity (get_or mid k d) ≤ vec_capacity (get_or (set mid n l) k d)
     room k d h = ⊎_elim
         (λ same. omega (arith, c, ap vec_capacity (there k d same), ap vec_capacity (here k d h same)))
         (λ ne. omega (arith, ap vec_capacity (get_or-set_other mid n k l d ne)))
@@ -79,49 +102,62 @@ grow_set old mid n v l g w e i c = record {
 
 -- the rows of these symbols have room for all that have their name
 pub record Roomy (all ss : List Numbered) (rows : List (Vec Declared Global)) : Type 0 where
-  pub room : (k : ℕ) (d : Vec Declared Global) → k < length rows → has_name k ss ≡ true → vec_len (get_or rows k d) + length (named k all) ≤ vec_capacity (get_or rows k d)
+  pub room : (k : ℕ) (d : Vec Declared Global) → k < length rows → has_name k ss ≡ true
+      → vec_len (get_or rows k d) + length (named k all) ≤ vec_capacity (get_or rows k d)
 
 pub roomy_start : (all : List Numbered) (rows : List (Vec Declared Global)) → Roomy all [] rows
 roomy_start all rows = record { room = λ k d h e. absurd (cc) }
 
-pub roomy_step : (all ss ss' : List Numbered) (s : Numbered) (mid : List (Vec Declared Global)) (v l : Vec Declared Global) (count : ℕ) → ss' ≡ ss ++ s ∷ [] → s.name < length mid → v ≡ get_or mid s.name v
-    → vec_len l + count ≤ vec_capacity l → count ≡ length (named s.name all) → Roomy all ss mid → Roomy all ss' (set mid s.name l)
+pub roomy_step : (all ss ss' : List Numbered) (s : Numbered) (mid : List (Vec Declared Global))
+    (v l : Vec Declared Global) (count : ℕ) → ss' ≡ ss ++ s ∷ [] → s.name < length mid → v ≡ get_or mid s.name v
+    → vec_len l + count ≤ vec_capacity l → count ≡ length (named s.name all) → Roomy all ss mid
+    → Roomy all ss' (set mid s.name l)
 roomy_step all ss ss' s mid v l count e w i c n r = record {
   room = λ k d h q. ⊎_elim
       (λ same.
-      let at : get_or (set mid s.name l) k d ≡ l = ap (λ j. get_or (set mid s.name l) j d) same ∙ get_or-set_same mid s.name l d w in
+      let at : get_or (set mid s.name l) k d ≡ l = ap (λ j. get_or (set mid s.name l) j d) same
+      ∙ get_or-set_same mid s.name l d w in
       omega (arith, ap vec_len at, ap vec_capacity at, n, ap (λ j. length (named j all)) same, c))
       (λ ne.
       let at : get_or (set mid s.name l) k d ≡ get_or mid k d = get_or-set_other mid s.name k l d ne in
-      let was : has_name k ss ≡ true = sym (ap (has_name k) e ∙ named_now k ss s false (named_no k s (λ p. ne (sym p)))) ∙ q in
+      let was : has_name k ss ≡ true =
+      sym (ap (has_name k) e ∙ named_now k ss s false (named_no k s (λ p. ne (sym p)))) ∙ q in
       let old = r.room k d (omega (arith, length-set mid s.name l)) was in
       omega (arith, ap vec_len at, ap vec_capacity at, old))
       (cases_eq k s.name);
 }
 
-pub roomy_end : (all : List Numbered) (rows : List (Vec Declared Global)) → Roomy all all rows → ((v : Vec Declared Global) → vec_len v ≤ vec_capacity v) → HasRoom rows all
+pub roomy_end : (all : List Numbered) (rows : List (Vec Declared Global)) → Roomy all all rows
+    → ((v : Vec Declared Global) → vec_len v ≤ vec_capacity v) → HasRoom rows all
 roomy_end all rows r small = λ k d h. go k d h (has_name k all) refl
   where
-    go : (k : ℕ) (d : Vec Declared Global) → k < length rows → (b : Bool) → has_name k all ≡ b → vec_len (get_or rows k d) + length (named k all) ≤ vec_capacity (get_or rows k d)
+    go : (k : ℕ) (d : Vec Declared Global) → k < length rows → (b : Bool) → has_name k all ≡ b
+        → vec_len (get_or rows k d) + length (named k all) ≤ vec_capacity (get_or rows k d)
     go k d h true e = r.room k d h e
     go k d h false e = omega (arith, ap length (unnamed k all e), small (get_or rows k d))
 
-same_names : (k : ℕ) (ss : List Numbered) → All (λ (s : Numbered). not (is_local s.symbol.binding) ≡ true) ss → filter (λ (s : Numbered). eqb s.name k) ss ≡ named k ss
+same_names : (k : ℕ) (ss : List Numbered) → All (λ (s : Numbered). not (is_local s.symbol.binding) ≡ true) ss
+    → filter (λ (s : Numbered). eqb s.name k) ss ≡ named k ss
 same_names k [] h = refl
 same_names k (s ∷ ss) h =
     let P : Numbered → Type 0 = λ (s : Numbered). not (is_local s.symbol.binding) ≡ true in
-    ap (λ b. cond b (s ∷ filter (λ (x : Numbered). eqb x.name k) ss) (filter (λ (x : Numbered). eqb x.name k) ss)) (sym (ap (λ b. b && eqb s.name k) (All-head P s ss h)))
+    ap (λ b. cond b (s ∷ filter (λ (x : Numbered). eqb x.name k) ss) (filter (λ (x : Numbered). eqb x.name k) ss))
+    (sym (ap (λ b. b && eqb s.name k) (All-head P s ss h)))
     ∙ go (is_named k s) (same_names k ss (All-tail P s ss h))
   where
-    go : (b : Bool) → filter (λ (x : Numbered). eqb x.name k) ss ≡ named k ss → cond b (s ∷ filter (λ (x : Numbered). eqb x.name k) ss) (filter (λ (x : Numbered). eqb x.name k) ss) ≡ cond b (s ∷ named k ss) (named k ss)
+    go : (b : Bool) → filter (λ (x : Numbered). eqb x.name k) ss ≡ named k ss
+        → cond b (s ∷ filter (λ (x : Numbered). eqb x.name k) ss) (filter (λ (x : Numbered). eqb x.name k) ss)
+        ≡ cond b (s ∷ named k ss) (named k ss)
     go true e = ap (λ l. s ∷ l) e
     go false e = e
 
 -- where no symbol is local, the name alone tells
-pub count_named : (k : ℕ) (ss : List Numbered) → All (λ (s : Numbered). not (is_local s.symbol.binding) ≡ true) ss → count_by (λ (s : Numbered). eqb s.name k) ss ≡ length (named k ss)
+pub count_named : (k : ℕ) (ss : List Numbered) → All (λ (s : Numbered). not (is_local s.symbol.binding) ≡ true) ss
+    → count_by (λ (s : Numbered). eqb s.name k) ss ≡ length (named k ss)
 count_named k ss h = sym (length-filter (λ (s : Numbered). eqb s.name k) ss) ∙ ap length (same_names k ss h)
 
-pub kept_grown : (os : List Entered) (rows rows' : List (Vec Declared Global)) (place : List Place) → IsKept os rows place → RowsGrow rows rows' → IsKept os rows' place
+pub kept_grown : (os : List Entered) (rows rows' : List (Vec Declared Global)) (place : List Place)
+    → IsKept os rows place → RowsGrow rows rows' → IsKept os rows' place
 kept_grown os rows rows' place k g = record {
   table = record {
     row = λ n d h. ⊎_elim
@@ -133,11 +169,14 @@ kept_grown os rows rows' place k g = record {
   numbered = k.numbered;
 }
 
-pub room_grown : (rows rows' : List (Vec Declared Global)) → RowsGrow rows rows' → (k : ℕ) → k < length (map (λ (v : Vec Declared Global). vec_capacity v) rows)
-    → get_or (map (λ (v : Vec Declared Global). vec_capacity v) rows) k 0 ≤ get_or (map (λ (v : Vec Declared Global). vec_capacity v) rows') k 0
+pub room_grown : (rows rows' : List (Vec Declared Global)) → RowsGrow rows rows' → (k : ℕ)
+    → k < length (map (λ (v : Vec Declared Global). vec_capacity v) rows)
+    → get_or (map (λ (v : Vec Declared Global). vec_capacity v) rows) k 0 ≤ get_or
+    (map (λ (v : Vec Declared Global). vec_capacity v) rows') k 0
 room_grown [] rows' g k h = absurd (omega (arith, h))
 room_grown (r ∷ rows) rows' g k h =
-    let h' : k < length (r ∷ rows) = omega (arith, length-map (r ∷ rows) (λ (v : Vec Declared Global). vec_capacity v)) in
+    let h' : k < length (r ∷ rows) =
+    omega (arith, length-map (r ∷ rows) (λ (v : Vec Declared Global). vec_capacity v)) in
     let a = get_or-map (λ (v : Vec Declared Global). vec_capacity v) (r ∷ rows) k r 0 h' in
     let b = get_or-map (λ (v : Vec Declared Global). vec_capacity v) rows' k r 0 (omega (arith, g.long)) in
     omega (arith, a, b, g.room k r h')
@@ -146,23 +185,36 @@ pub both_ok : {E A B C : Type 0} (r : Result (Unit {0}) E) → OnOk r A → OnOk
 both_ok (Ok x) a b f = f a b
 both_ok (Err e) a b f = tt
 
-pub all_ok : {E A B C D : Type 0} (r : Result (Unit {0}) E) → OnOk r A → OnOk r B → OnOk r C → (A → B → C → D) → OnOk r D
+pub all_ok : {E A B C D : Type 0} (r : Result (Unit {0}) E) → OnOk r A → OnOk r B → OnOk r C → (A → B → C → D)
+    → OnOk r D
 all_ok (Ok x) a b c f = f a b c
 all_ok (Err e) a b c f = tt
 
 -- what the rows say of the room, the state says
-pub can_enter : (os : List Entered) (rows : List (Vec Declared Global)) (place : List Place) (left free : ℕ) (symbols : List Numbered) → IsKept os rows place → ((v : Vec Declared Global) → vec_len v ≡ length v.items)
+pub can_enter : (os : List Entered) (rows : List (Vec Declared Global)) (place : List Place) (left free : ℕ)
+    (symbols : List Numbered) → IsKept os rows place → ((v : Vec Declared Global) → vec_len v ≡ length v.items)
     → HasRoom rows symbols → All (HasRow (length rows)) symbols → 0 < left → 0 < free
-    → CanEnter (record { objects = os; room = map (λ (v : Vec Declared Global). vec_capacity v) rows; order_room = left; place_room = free }) symbols
+    → CanEnter (record {
+      objects = os;
+      room = map (λ (v : Vec Declared Global). vec_capacity v) rows;
+      order_room =
+          left;
+      place_room = free;
+    }) symbols
 can_enter os rows place left free symbols k len h n o f = record {
-  known = λ j x l v. let lt = n j x l v in omega (arith, lt, length-map rows (λ (v : Vec Declared Global). vec_capacity v));
-  room = λ j l. room rows (λ i d m. ap length (k.table.row i d m)) h j (omega (arith, length-map rows (λ (v : Vec Declared Global). vec_capacity v)));
+  known = λ j x l v. let lt = n j x l v in
+      omega (arith, lt, length-map rows (λ (v : Vec Declared Global). vec_capacity v));
+  room = λ j l. room rows (λ i d m. ap length (k.table.row i d m)) h j
+      (omega (arith, length-map rows (λ (v : Vec Declared Global). vec_capacity v)));
   order = o;
   places = f;
 }
   where
-    room : (rs : List (Vec Declared Global)) → ((i : ℕ) (d : Vec Declared Global) → i < length rs → length (get_or rs i d).items ≡ length (entries i os)) → HasRoom rs symbols → (j : ℕ) → j < length rs
-        → length (entries j os) + length (named j symbols) ≤ get_or (map (λ (v : Vec Declared Global). vec_capacity v) rs) j 0
+    room : (rs : List (Vec Declared Global))
+        → ((i : ℕ) (d : Vec Declared Global) → i < length rs → length (get_or rs i d).items ≡ length (entries i os))
+        → HasRoom rs symbols → (j : ℕ) → j < length rs
+        → length (entries j os) + length (named j symbols) ≤ get_or
+        (map (λ (v : Vec Declared Global). vec_capacity v) rs) j 0
     room [] t h j l = absurd (omega (arith, l))
     room (r ∷ rs) t h j l =
         let a = h j r l in
@@ -175,28 +227,50 @@ own_length : (k key : ℕ) (ss : List Numbered) → length (own k key ss) ≡ le
 own_length k key ss = length-map (named k ss) (declared key)
 
 -- the entries that an object leaves
-pub entries_removed : (k : ℕ) (os : List Entered) (at : ℕ) (o : Entered) → at < length os → get_or os at o ≡ o → length (entries k os) ≡ length (entries k (remove os at)) + length (named k o.symbols)
+pub entries_removed : (k : ℕ) (os : List Entered) (at : ℕ) (o : Entered) → at < length os → get_or os at o ≡ o
+    → length (entries k os) ≡ length (entries k (remove os at)) + length (named k o.symbols)
 entries_removed k [] at o h e = absurd (omega (arith, h))
 entries_removed k (x ∷ os) zero o h e =
     let same : x ≡ o = e in
-    omega (arith, length-append (own k x.key x.symbols) (entries k os), own_length k x.key x.symbols, ap (λ (y : Entered). length (named k y.symbols)) same)
+    omega (
+      arith,
+      length-append (own k x.key x.symbols) (entries k os),
+      own_length k x.key x.symbols,
+      ap (λ (y : Entered). length (named k y.symbols)) same,
+    )
 entries_removed k (x ∷ os) (suc n) o h e =
-    omega (arith, entries_removed k os n o (omega (arith, h)) e, length-append (own k x.key x.symbols) (entries k os), length-append (own k x.key x.symbols) (entries k (remove os n)))
+    omega (
+      arith,
+      entries_removed k os n o (omega (arith, h)) e,
+      length-append (own k x.key x.symbols) (entries k os),
+      length-append (own k x.key x.symbols) (entries k (remove os n)),
+    )
 
-pub again : (os : List Entered) (rows : List (Vec Declared Global)) (place : List Place) (left free at : ℕ) (o : Entered) → IsKept os rows place → ((v : Vec Declared Global) → (vec_len v ≡ length v.items) × (vec_len v ≤ vec_capacity v))
+pub again : (os : List Entered) (rows : List (Vec Declared Global)) (place : List Place) (left free at : ℕ)
+    (o : Entered) → IsKept os rows place
+    → ((v : Vec Declared Global) → (vec_len v ≡ length v.items) × (vec_len v ≤ vec_capacity v))
     → at < length os → ((d : Entered) → get_or os at d ≡ o) → 0 < left → 0 < free
-    → CanEnter (record { objects = remove os at; room = map (λ (v : Vec Declared Global). vec_capacity v) rows; order_room = left; place_room = free }) o.symbols
+    → CanEnter (record {
+      objects = remove os at;
+      room = map (λ (v : Vec Declared Global). vec_capacity v) rows;
+      order_room = left;
+      place_room = free;
+    }) o.symbols
 again os rows place left free at o k small h e left' free' = record {
   known = λ j x l v.
       let lt = subst (λ (y : Entered). All (HasRow (length rows)) y.symbols) (e o) (k.known at o h) j x l v in
       omega (arith, lt, length-map rows (λ (v : Vec Declared Global). vec_capacity v));
-  room = λ j l. room rows (λ i d m. ap length (k.table.row i d m)) j (omega (arith, length-map rows (λ (v : Vec Declared Global). vec_capacity v)));
+  room = λ j l. room rows (λ i d m. ap length (k.table.row i d m)) j
+      (omega (arith, length-map rows (λ (v : Vec Declared Global). vec_capacity v)));
   order = left';
   places = free';
 }
   where
-    room : (rs : List (Vec Declared Global)) → ((i : ℕ) (d : Vec Declared Global) → i < length rs → length (get_or rs i d).items ≡ length (entries i os)) → (j : ℕ) → j < length rs
-        → length (entries j (remove os at)) + length (named j o.symbols) ≤ get_or (map (λ (v : Vec Declared Global). vec_capacity v) rs) j 0
+    room : (rs : List (Vec Declared Global))
+        → ((i : ℕ) (d : Vec Declared Global) → i < length rs → length (get_or rs i d).items ≡ length (entries i os))
+        → (j : ℕ) → j < length rs
+        → length (entries j (remove os at)) + length (named j o.symbols) ≤ get_or
+        (map (λ (v : Vec Declared Global). vec_capacity v) rs) j 0
     room [] t j l = absurd (omega (arith, l))
     room (r ∷ rs) t j l =
         let b = t j r l in

@@ -1,5 +1,6 @@
 -- Names in byte order.
-use Rattle.std.proofs.Common.{◌≡◌, ◌<◌, ◌+◌, ℕ, Bool, false, length, get_or, Vec, Global, List, [], ◌∷◌, map, ap, sym, ◌∙◌, arith, Option, Some, None, Result, Ok, Err, OnOk}
+use Rattle.std.proofs.Common.{◌≡◌, ◌<◌, ◌+◌, ℕ, Bool, false, length, get_or, Vec, Global, List, [], ◌∷◌, map, ap, sym}
+use Rattle.std.proofs.Common.{◌∙◌, arith, Option, Some, None, Result, Ok, Err, OnOk}
 use Rattle.std.specs.Prelude.{bytes_eq}
 use Rattle.std.specs.List.{IsDistinct, AllByRecursion}
 use Rattle.std.specs.List.Sorted.{IsPermutation, IsSortedBy}
@@ -15,20 +16,25 @@ abbrev Name : Type 0
 Name = Vec ℕ Global
 
 pub paired_sorted : (es es' : List (Name × ℕ)) (slots : List (Option Name)) → IsPaired es slots → IsPermutation es es'
-    → ((q : Name) → lookup (λ (k : Name). bytes_eq q.items k.items) es' ≡ lookup (λ (k : Name). bytes_eq q.items k.items) es) → IsPaired es' slots
+    → ((q : Name) → lookup (λ (k : Name). bytes_eq q.items k.items) es'
+    ≡ lookup (λ (k : Name). bytes_eq q.items k.items) es) → IsPaired es' slots
 paired_sorted es es' slots p m g = record {
   sound = All-permutation (λ (e : Name × ℕ). IsSpelled slots e.1 e.0.items) es es' m p.sound;
   complete = λ n name h. at n name (get_or slots n None) h (p.complete n name h);
 }
   where
-    at : (n : ℕ) (name : List ℕ) (o : Option Name) → spelled o ≡ Some name → number_in name es ≡ Some n → number_in name es' ≡ Some n
+    at : (n : ℕ) (name : List ℕ) (o : Option Name) → spelled o ≡ Some name → number_in name es ≡ Some n
+        → number_in name es' ≡ Some n
     at n name None h q = absurd (cc)
-    at n name (Some v) h q = let is : v.items ≡ name = cc in ap (λ l. number_in l es') (sym is) ∙ g v ∙ ap (λ l. number_in l es) is ∙ q
+    at n name (Some v) h q = let is : v.items ≡ name = cc in ap (λ l. number_in l es') (sym is) ∙ g v
+        ∙ ap (λ l. number_in l es) is ∙ q
 
 abbrev before : Name → Name → Bool
 before x y = is_lt (slice_cmp nat_cmp x.items y.items)
 
-pub sorted_spelled : (es : List (Name × ℕ)) → IsSortedBy (λ (x y : Name). is_lt (slice_cmp nat_cmp x.items y.items)) (map (λ (e : Name × ℕ). e.0) es) → IsInByteOrder (map entry_spelled es)
+pub sorted_spelled : (es : List (Name × ℕ))
+    → IsSortedBy (λ (x y : Name). is_lt (slice_cmp nat_cmp x.items y.items)) (map (λ (e : Name × ℕ). e.0) es)
+    → IsInByteOrder (map entry_spelled es)
 sorted_spelled [] s = λ k d l h. absurd (omega (arith, h))
 sorted_spelled (e ∷ es) s = λ k d l h.
     let len = length-map (e ∷ es) entry_spelled in
@@ -39,23 +45,29 @@ sorted_spelled (e ∷ es) s = λ k d l h.
     let b = get_or-map entry_spelled (e ∷ es) k e d w' in
     let a' = get_or-map (λ (e : Name × ℕ). e.0) (e ∷ es) (k + 1) e e.0 w in
     let b' = get_or-map (λ (e : Name × ℕ). e.0) (e ∷ es) k e e.0 w' in
-    ap (λ x. comes_before x (get_or (map entry_spelled (e ∷ es)) k d)) a ∙ ap (λ y. comes_before (entry_spelled (get_or (e ∷ es) (k + 1) e)) y) b
-    ∙ sym (ap (λ x. before x (get_or (map (λ (e : Name × ℕ). e.0) (e ∷ es)) k e.0)) a' ∙ ap (λ y. before (get_or (e ∷ es) (k + 1) e).0 y) b')
+    ap (λ x. comes_before x (get_or (map entry_spelled (e ∷ es)) k d)) a
+    ∙ ap (λ y. comes_before (entry_spelled (get_or (e ∷ es) (k + 1) e)) y) b
+    ∙ sym (ap (λ x. before x (get_or (map (λ (e : Name × ℕ). e.0) (e ∷ es)) k e.0)) a'
+    ∙ ap (λ y. before (get_or (e ∷ es) (k + 1) e).0 y) b')
     ∙ s k e.0 l (omega (arith, h, len, len'))
 
 pub sorted_ok : {E A B : Type 0} (r : Result (Unit {0}) E) → (A → B) → OnOk r A → OnOk r B
 sorted_ok (Ok x) f a = f a
 sorted_ok (Err e) f a = tt
 
-others_mapped : (x : Name × ℕ) (es : List (Name × ℕ)) → AllByRecursion (λ (y : Name). bytes_eq x.0.items y.items ≡ false) (map (λ (e : Name × ℕ). e.0) es)
+others_mapped : (x : Name × ℕ) (es : List (Name × ℕ))
+    → AllByRecursion (λ (y : Name). bytes_eq x.0.items y.items ≡ false) (map (λ (e : Name × ℕ). e.0) es)
     → AllByRecursion (λ (y : List ℕ × ℕ). bytes_eq (entry_spelled x).0 y.0 ≡ false) (map entry_spelled es)
 others_mapped x [] a = a
 others_mapped x (e ∷ es) a = (a.0, others_mapped x es a.1)
 
-pub once_mapped : (es : List (Name × ℕ)) → IsDistinct (λ (x y : Name). bytes_eq x.items y.items) (map (λ (e : Name × ℕ). e.0) es) → IsDistinct (λ (x y : List ℕ × ℕ). bytes_eq x.0 y.0) (map entry_spelled es)
+pub once_mapped : (es : List (Name × ℕ))
+    → IsDistinct (λ (x y : Name). bytes_eq x.items y.items) (map (λ (e : Name × ℕ). e.0) es)
+    → IsDistinct (λ (x y : List ℕ × ℕ). bytes_eq x.0 y.0) (map entry_spelled es)
 unfolding IsDistinct
 once_mapped [] d = d
 once_mapped (e ∷ es) d = (others_mapped e es d.0, once_mapped es d.1)
 
-pub listing : (k : KnownNames) → IsConsistent k → IsDistinct (λ (x y : List ℕ × ℕ). bytes_eq x.0 y.0) k.order → IsListing k.slots k.order
+pub listing : (k : KnownNames) → IsConsistent k → IsDistinct (λ (x y : List ℕ × ℕ). bytes_eq x.0 y.0) k.order
+    → IsListing k.slots k.order
 listing k c d = record { sound = c.sound; complete = c.complete; once = d }

@@ -3,7 +3,14 @@ use Rattle.std.proofs.Common.{◌∙◌, refl, arith}
 use Rattle.symres.specs.Objects.{ObjectsState, GrowsRoom}
 
 pub grows_refl : (s : ObjectsState) → GrowsRoom s s
-grows_refl s = record { objects = refl; rows = omega arith; room = λ k h. omega arith; order = omega arith; places = omega arith }
+grows_refl s = record {
+  objects = refl;
+  rows = omega arith;
+  room = λ k h. omega arith;
+  order = omega arith;
+  places =
+      omega arith;
+}
 
 pub grows_trans : (a b c : ObjectsState) → GrowsRoom a b → GrowsRoom b c → GrowsRoom a c
 grows_trans a b c g h = record {

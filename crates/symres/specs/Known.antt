@@ -1,5 +1,6 @@
 -- What the two tables of names say of each other.
-use Rattle.std.specs.Prelude.{◌≡◌, ◌==◌, if◌then◌else◌, ℕ, List, Option, Some, None, ◌++◌, slice_index_or, bytes_eq, Bool, true, false}
+use Rattle.std.specs.Prelude.{◌≡◌, ◌==◌, if◌then◌else◌, ℕ, List, Option, Some, None, ◌++◌, slice_index_or, bytes_eq}
+use Rattle.std.specs.Prelude.{Bool, true, false}
 use Rattle.std.specs.List.{All}
 use Rattle.std.specs.Map.{lookup}
 use Rattle.std.proofs.Common.{Vec, Global}
@@ -44,7 +45,8 @@ pub record IsPaired (es : List (Vec ℕ Global × ℕ)) (slots : List (Option (V
 -- the same of names as callers see them
 pub record IsConsistent (k : KnownNames) : Type 0 where
   pub sound : All (λ (e : List ℕ × ℕ). IsNamed k.slots e.1 e.0) k.order
-  pub complete : (n : ℕ) (name : List ℕ) → IsNamed k.slots n name → lookup (λ (x : List ℕ). bytes_eq name x) k.order ≡ Some n
+  pub complete : (n : ℕ) (name : List ℕ) → IsNamed k.slots n name → lookup (λ (x : List ℕ). bytes_eq name x) k.order
+      ≡ Some n
 
 -- a name stays where its number passes the test, and is dropped else
 abbrev pub IsKeptWhere : (ℕ → Bool) → List (Option (List ℕ)) → List (Option (List ℕ)) → Type 0

@@ -1,5 +1,6 @@
 -- The entries of names by the numbers of names.
-use Rattle.std.specs.Prelude.{ℕ, ◌≡◌, ◌+◌, ◌-◌, ◌<◌, ◌≤◌, Bool, ◌||◌, ◌&&◌, not, nat_lt, ◌==◌, true, false, List, [], ◌∷◌, ◌++◌, length, map, remove, slice_index_or}
+use Rattle.std.specs.Prelude.{ℕ, ◌≡◌, ◌+◌, ◌-◌, ◌<◌, ◌≤◌, Bool, ◌||◌, ◌&&◌, not, nat_lt, ◌==◌, true, false, List, []}
+use Rattle.std.specs.Prelude.{◌∷◌, ◌++◌, length, map, remove, slice_index_or}
 use Rattle.std.specs.List.{filter, All}
 use Rattle.std.specs.Vec.{vec_len, vec_capacity}
 use Rattle.std.proofs.Common.{Vec, Global}
@@ -61,12 +62,15 @@ pub record IsSplit (places : List Place) (at key : ℕ) (xs ys : List Entered) :
 
 -- each row takes those of the symbols that have its name, with no allocation
 abbrev pub HasRoom : List (Vec Declared Global) → List Numbered → Type 0
-HasRoom table symbols = (k : ℕ) (d : Vec Declared Global) → k < length table → vec_len (slice_index_or table k d) + length (named k symbols) ≤ vec_capacity (slice_index_or table k d)
+HasRoom table symbols = (k : ℕ) (d : Vec Declared Global) → k < length table
+    → vec_len (slice_index_or table k d) + length (named k symbols) ≤ vec_capacity (slice_index_or table k d)
 
--- each row keeps its capacity, and has so many more declarations
+-- each row keeps its capacity, and has that number of declarations more
 pub record Grows (old new : List (Vec Declared Global)) (symbols : List Numbered) : Type 0 where
   pub long : length new ≡ length old
-  pub row : (k : ℕ) (d : Vec Declared Global) → k < length old → (vec_capacity (slice_index_or new k d) ≡ vec_capacity (slice_index_or old k d)) × (vec_len (slice_index_or new k d) ≡ vec_len (slice_index_or old k d) + length (named k symbols))
+  pub row : (k : ℕ) (d : Vec Declared Global) → k < length old
+      → (vec_capacity (slice_index_or new k d) ≡ vec_capacity (slice_index_or old k d))
+      × (vec_len (slice_index_or new k d) ≡ vec_len (slice_index_or old k d) + length (named k symbols))
 
 -- the declarations of other objects
 abbrev pub others : ℕ → List Declared → List Declared
@@ -79,7 +83,8 @@ without key os = filter (λ (o : Entered). not (o.key == key)) os
 -- each row keeps its capacity
 pub record KeepsRoom (old new : List (Vec Declared Global)) : Type 0 where
   pub long : length new ≡ length old
-  pub row : (k : ℕ) (d : Vec Declared Global) → k < length old → vec_capacity (slice_index_or new k d) ≡ vec_capacity (slice_index_or old k d)
+  pub row : (k : ℕ) (d : Vec Declared Global) → k < length old → vec_capacity (slice_index_or new k d)
+      ≡ vec_capacity (slice_index_or old k d)
 
 -- an object of the key has these symbols
 abbrev pub HasSymbols : ℕ → List Numbered → List Entered → Type 0
@@ -95,8 +100,10 @@ pub record Leaves (os os' : List Entered) (o : Entered) : Type 0 where
 -- each row has its declarations and no less memory, and new rows are empty
 pub record RowsGrow (old new : List (Vec Declared Global)) : Type 0 where
   pub long : length old ≤ length new
-  pub items : (k : ℕ) (d : Vec Declared Global) → k < length old → (slice_index_or new k d).items ≡ (slice_index_or old k d).items
-  pub room : (k : ℕ) (d : Vec Declared Global) → k < length old → vec_capacity (slice_index_or old k d) ≤ vec_capacity (slice_index_or new k d)
+  pub items : (k : ℕ) (d : Vec Declared Global) → k < length old → (slice_index_or new k d).items
+      ≡ (slice_index_or old k d).items
+  pub room : (k : ℕ) (d : Vec Declared Global) → k < length old
+      → vec_capacity (slice_index_or old k d) ≤ vec_capacity (slice_index_or new k d)
   pub fresh : (k : ℕ) (d : Vec Declared Global) → length old ≤ k → k < length new → (slice_index_or new k d).items ≡ []
 
 -- the name has an entry

@@ -18,7 +18,8 @@ pub record ObjectsState : Type 0 where
 -- an object can be entered with no allocation
 pub record CanEnter (s : ObjectsState) (symbols : List Numbered) : Type 0 where
   pub known : All (HasRow (length s.room)) symbols
-  pub room : (k : ℕ) → k < length s.room → length (entries k s.objects) + length (named k symbols) ≤ slice_index_or s.room k 0
+  pub room : (k : ℕ) → k < length s.room
+      → length (entries k s.objects) + length (named k symbols) ≤ slice_index_or s.room k 0
   pub order : 0 < s.order_room
   pub places : 0 < s.place_room
 
@@ -26,7 +27,8 @@ pub record CanEnter (s : ObjectsState) (symbols : List Numbered) : Type 0 where
 pub record IsNumbered (places : List Place) (os : List Entered) : Type 0 where
   pub sorted : AreSorted places
   pub at : (j : ℕ) (o : Entered) → j < length os → place_of places (slice_index_or os j o).key ≡ Some j
-  pub only : (key j : ℕ) → place_of places key ≡ Some j → (j < length os) × ((o : Entered) → (slice_index_or os j o).key ≡ key)
+  pub only : (key j : ℕ) → place_of places key ≡ Some j → (j < length os)
+      × ((o : Entered) → (slice_index_or os j o).key ≡ key)
 
 pub record IsKept (os : List Entered) (rows : List (Vec Declared Global)) (places : List Place) : Type 0 where
   pub table : IsTable rows os

@@ -1,5 +1,6 @@
 -- The symbol tables that numbers of names stand for.
-use Rattle.std.specs.Prelude.{ℕ, ◌≡◌, ◌+◌, ◌≤◌, List, [], ◌∷◌, Option, Some, None, Bool, true, false, not, length, map, filter, if◌then◌else◌}
+use Rattle.std.specs.Prelude.{ℕ, ◌≡◌, ◌+◌, ◌≤◌, List, [], ◌∷◌, Option, Some, None, Bool, true, false, not, length, map}
+use Rattle.std.specs.Prelude.{filter, if◌then◌else◌}
 use Rattle.std.specs.List.{All}
 use Rattle.elfobj.specs.Symbols.{NamedSymbol}
 use Rattle.ldmodel.specs.Names.{is_local}
@@ -15,7 +16,8 @@ text (Some name) = name
 
 -- a local symbol has no name here
 abbrev pub spell_symbol : List (Option (List ℕ)) → Numbered → NamedSymbol
-spell_symbol names s = record { name = if is_local s.symbol.binding then [] else text (slot names s.name); symbol = s.symbol }
+spell_symbol names s =
+    record { name = if is_local s.symbol.binding then [] else text (slot names s.name); symbol = s.symbol }
 
 abbrev pub spell : List (Option (List ℕ)) → Entered → ℕ × List NamedSymbol
 spell names o = (o.key, map (spell_symbol names) o.symbols)

@@ -1,6 +1,8 @@
 -- A table of names as callers see it (this project's own): the entered objects by their symbol tables, and what is
 -- reserved. What the entries of a table declare is in `ldmodel`.
-use Rattle.std.specs.Prelude.{◌≡◌, ℕ, ◌+◌, ◌<◌, ◌≤◌, ◌==◌, ◌&&◌, List, [], ◌∷◌, ◌++◌, Option, Some, None, false, not, length, filter, slice_index_or, slice_get, true, bytes_eq, insert, remove, nat_lt, if◌then◌else◌, Bool}
+use Rattle.std.specs.Prelude.{◌≡◌, ℕ, ◌+◌, ◌<◌, ◌≤◌, ◌==◌, ◌&&◌, List, [], ◌∷◌, ◌++◌, Option, Some, None, false, not}
+use Rattle.std.specs.Prelude.{length, filter, slice_index_or, slice_get, true, bytes_eq, insert, remove, nat_lt}
+use Rattle.std.specs.Prelude.{if◌then◌else◌, Bool}
 use Rattle.std.specs.List.{All, IsDistinct}
 use Rattle.std.specs.List.Sorted.{IsSortedBy}
 use Rattle.std.specs.Map.{lookup}
@@ -23,15 +25,19 @@ without key tables = filter (λ (t : ℕ × List NamedSymbol). not (t.0 == key))
 
 -- an object of the key is entered
 abbrev pub HasObject : ℕ → List (ℕ × List NamedSymbol) → Type 0
-HasObject key tables = (j : ℕ) × (j < length tables) × ((t : ℕ × List NamedSymbol) → (slice_index_or tables j t).0 ≡ key)
+HasObject key tables = (j : ℕ) × (j < length tables)
+    × ((t : ℕ × List NamedSymbol) → (slice_index_or tables j t).0 ≡ key)
 
 -- no object of the key is entered
 abbrev pub IsFresh : ℕ → List (ℕ × List NamedSymbol) → Type 0
 IsFresh key tables = All (λ (t : ℕ × List NamedSymbol). (t.0 == key) ≡ false) tables
 
--- the entered objects in their order, each as its key and its symbol table; the known names under their keys; and what is
--- reserved: for each name how many entries fit, for how many more objects there is room in the order and in the table of
--- places, and for how many symbols the lists set aside and those in use have memory; and the known names with their keys, each once
+-- the entered objects in their order, each as its key and its symbol table; the known names under their keys; and what
+-- is
+-- reserved: for each name how many entries fit, for how many more objects there is room in the order and in the table
+-- of
+-- places, and for how many symbols the lists set aside and those in use have memory; and the known names with their
+-- keys, each once
 pub record State : Type 0 where
   pub objects : List (ℕ × List NamedSymbol)
   pub names : List (Option (List ℕ))
@@ -79,7 +85,8 @@ IsSeenOr (Some s) = is_local s.symbol.binding ≡ false
 
 -- the object of the key has a symbol of this number that isn't local
 abbrev pub HasSymbol : ℕ → ℕ → List (ℕ × List NamedSymbol) → Type 0
-HasSymbol key number tables = All (λ (t : ℕ × List NamedSymbol). (t.0 == key) ≡ true → IsSeenOr (slice_get t.1 number)) tables
+HasSymbol key number tables =
+    All (λ (t : ℕ × List NamedSymbol). (t.0 == key) ≡ true → IsSeenOr (slice_get t.1 number)) tables
 
 abbrev pub IsNamedOr : List (Option (List ℕ)) → ℕ → Option NamedSymbol → Type 0
 IsNamedOr names n None = ⊥
@@ -87,12 +94,14 @@ IsNamedOr names n (Some s) = IsNamed names n s.name
 
 -- the key is that of the name of this symbol of the object of the key
 abbrev pub IsNameOfSymbol : List (Option (List ℕ)) → ℕ → ℕ → List (ℕ × List NamedSymbol) → ℕ → Type 0
-IsNameOfSymbol names key number tables n = All (λ (t : ℕ × List NamedSymbol). (t.0 == key) ≡ true → IsNamedOr names n (slice_get t.1 number)) tables
+IsNameOfSymbol names key number tables n =
+    All (λ (t : ℕ × List NamedSymbol). (t.0 == key) ≡ true → IsNamedOr names n (slice_get t.1 number)) tables
 
 -- each known name stands once in the list, with its key
 pub record IsListing (names : List (Option (List ℕ))) (order : List (List ℕ × ℕ)) : Type 0 where
   pub sound : All (λ (e : List ℕ × ℕ). IsNamed names e.1 e.0) order
-  pub complete : (n : ℕ) (name : List ℕ) → IsNamed names n name → lookup (λ (x : List ℕ). bytes_eq name x) order ≡ Some n
+  pub complete : (n : ℕ) (name : List ℕ) → IsNamed names n name → lookup (λ (x : List ℕ). bytes_eq name x) order
+      ≡ Some n
   pub once : IsDistinct (λ (x y : List ℕ × ℕ). bytes_eq x.0 y.0) order
 
 -- a list set aside has memory for so many symbols
@@ -106,7 +115,8 @@ HasNumber s name = (n : ℕ) × IsNamed s.names n name × (n < length s.room)
 -- an object with this symbol table can be entered, and no memory is taken
 pub record MayEnter (s : State) (symbols : List NamedSymbol) : Type 0 where
   pub known : All (λ (x : NamedSymbol). is_local x.symbol.binding ≡ false → HasNumber s x.name) symbols
-  pub room : (n : ℕ) (name : List ℕ) → IsNamed s.names n name → n < length s.room → length (entries_of name s.objects) + length (naming name symbols) ≤ slice_index_or s.room n 0
+  pub room : (n : ℕ) (name : List ℕ) → IsNamed s.names n name → n < length s.room
+      → length (entries_of name s.objects) + length (naming name symbols) ≤ slice_index_or s.room n 0
   pub order : 0 < s.order_room
   pub places : 0 < s.place_room
   pub list : HasList s.spare (length symbols)
@@ -144,10 +154,12 @@ pub record IsMore (old new : State) : Type 0 where
   pub spare : (more : List ℕ) × (new.spare ≡ old.spare ++ more)
   pub held : new.held ≡ old.held
 
--- a name stays under its key where it has entries, and is dropped else; the others stand in the same order, and nothing else
+-- a name stays under its key where it has entries, and is dropped else; the others stand in the same order, and nothing
+-- else
 -- changes
 pub record Forgets (old new : State) : Type 0 where
-  pub names : (n : ℕ) (name : List ℕ) → IsNamed old.names n name → slot new.names n ≡ (if nat_lt 0 (length (entries_of name old.objects)) then Some name else None)
+  pub names : (n : ℕ) (name : List ℕ) → IsNamed old.names n name → slot new.names n
+      ≡ (if nat_lt 0 (length (entries_of name old.objects)) then Some name else None)
   pub others : (n : ℕ) → slot old.names n ≡ None → slot new.names n ≡ None
   pub order : new.order ≡ filter (λ (e : List ℕ × ℕ). nat_lt 0 (length (entries_of e.0 old.objects))) old.order
   pub rest : new ≡ record old { names = new.names; order = new.order }

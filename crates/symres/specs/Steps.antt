@@ -10,13 +10,16 @@ use Rattle.symres.specs.declared.symbol.Numbered.{Numbered}
 use Rattle.symres.specs.Numbers.{Entered, IsSplit, IsTable, KeepsRoom, entries, is_named, others, own}
 
 -- the rows have so many of the object's symbols, after those of the objects in front
-pub record Rows (places : List Place) (at key : ℕ) (ss : List Numbered) (old new : List (Vec Declared Global)) : Type 0 where
-  pub are : (xs ys : List Entered) → IsSplit places at key xs ys → IsTable old (xs ++ ys)
-      → (k : ℕ) (d : Vec Declared Global) → k < length old → (slice_index_or new k d).items ≡ (entries k xs ++ own k key ss) ++ entries k ys
+pub record Rows (places : List Place) (at key : ℕ) (ss : List Numbered) (old new : List (Vec Declared Global)) : Type 0
+  where
+    pub are : (xs ys : List Entered) → IsSplit places at key xs ys → IsTable old (xs ++ ys)
+        → (k : ℕ) (d : Vec Declared Global) → k < length old → (slice_index_or new k d).items
+        ≡ (entries k xs ++ own k key ss) ++ entries k ys
 
 -- if the symbol isn't local, its row has room for one more
 abbrev pub HasRoomForOne : List (Vec Declared Global) → Numbered → Type 0
-HasRoomForOne table s = is_local s.symbol.binding ≡ false → (d : Vec Declared Global) → vec_len (slice_index_or table s.name d) < vec_capacity (slice_index_or table s.name d)
+HasRoomForOne table s = is_local s.symbol.binding ≡ false → (d : Vec Declared Global)
+    → vec_len (slice_index_or table s.name d) < vec_capacity (slice_index_or table s.name d)
 
 abbrev pub cleared : ℕ → Bool → List Declared → List Declared
 cleared key b ds = if b then others key ds else ds
@@ -27,4 +30,5 @@ has_name k ss = list_any (is_named k) ss
 -- the rows of these symbols have lost the declarations of the key
 pub record Cleared (key : ℕ) (ss : List Numbered) (old new : List (Vec Declared Global)) : Type 0 where
   pub room : KeepsRoom old new
-  pub row : (k : ℕ) (d : Vec Declared Global) → k < length old → (slice_index_or new k d).items ≡ cleared key (has_name k ss) (slice_index_or old k d).items
+  pub row : (k : ℕ) (d : Vec Declared Global) → k < length old → (slice_index_or new k d).items
+      ≡ cleared key (has_name k ss) (slice_index_or old k d).items

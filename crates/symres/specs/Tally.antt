@@ -1,14 +1,16 @@
 -- What a pass over the entries of a name keeps.
 use Rattle.std.specs.Prelude.{ℕ, List, [], ◌∷◌, Option, Some, None, length, filter, nat_lt}
 use Rattle.std.specs.List.{list_any}
-use Rattle.ldmodel.specs.Names.{Declaration, is_strong, is_common, is_weak, is_undefined, greatest, common_size, common_alignment}
+use Rattle.ldmodel.specs.Names.{Declaration, is_strong, is_common, is_weak, is_undefined, greatest, common_size}
+use Rattle.ldmodel.specs.Names.{common_alignment}
 use Rattle.ldmodel.specs.declared.names.Entry.{Entry}
 use Rattle.symres.specs.declared.symbol.Declared.{Declared}
 use Rattle.symres.specs.declared.tally.Tally.{Tally}
 
 -- a declaration of a name, where objects have their keys as numbers
 abbrev pub declaration_of : List ℕ → Declared → Declaration
-declaration_of name d = record { entry = record { object = d.entry.key; symbol = d.entry.symbol }; name = name; symbol = d.symbol }
+declaration_of name d =
+    record { entry = record { object = d.entry.key; symbol = d.entry.symbol }; name = name; symbol = d.symbol }
 
 -- the entry of the first
 abbrev pub first : List Declaration → Option Entry

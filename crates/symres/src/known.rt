@@ -1,9 +1,11 @@
 //! Numbers of names. A name keeps its number until it is forgotten.
 
-ghost use Rattle.std.specs.Prelude.{◌≡◌, ◌≢◌, ◌==◌, ℕ, List, [], IfOk, Some, None, MatchOption, OnOk, length, take, map, filter, is_some, if◌then◌else◌};
+ghost use Rattle.std.specs.Prelude.{◌≡◌, ◌≢◌, ◌==◌, ℕ, List, [], IfOk, Some, None, MatchOption, OnOk, length, take};
+ghost use Rattle.std.specs.Prelude.{map, filter, is_some, if◌then◌else◌};
 ghost use Rattle.std.proofs.Common.{Vec, Global};
 ghost use Rattle.slab.specs.Slab.{get};
-ghost use Rattle.symres.specs.Known.{AddsNames, entry_spelled, is_number, IsConsistent, IsKeptWhere, kept_if, number_in};
+ghost use Rattle.symres.specs.Known.{AddsNames, entry_spelled, is_number, IsConsistent, IsKeptWhere, kept_if};
+ghost use Rattle.symres.specs.Known.{number_in};
 ghost use Rattle.symres.specs.Numbers.{is_used};
 ghost use Rattle.symres.specs.State.{slot, AreDistinct, IsInByteOrder, IsListing, IsNamed, KeepsNames};
 
@@ -55,7 +57,8 @@ fn is_numbered(numbers: &IndexMap<Vec<u8>, usize, RandomState>, number: usize, n
 }
 
 fn drop_unnumbered(names: &mut Slab<Vec<u8>>, numbers: &IndexMap<Vec<u8>, usize, RandomState>)
-    ensures { (n : ℕ) → get names.new n ≡ kept_if (λ (v : Vec ℕ Global). is_number n (number_in v.items numbers.now.entries)) (get names.old n) }
+    ensures { (n : ℕ) → get names.new n
+        ≡ kept_if (λ (v : Vec ℕ Global). is_number n (number_in v.items numbers.now.entries)) (get names.old n) }
 {
     names.retain(|number, name| is_numbered(numbers, number, name.as_slice()));
 }
@@ -82,7 +85,8 @@ impl Known {
 
     /// The number of a name.
     pub fn number_of(&self, name: &[u8]) -> Option<usize>
-        ensures number { MatchOption result ((n : ℕ) → slot self.now.slots n ≢ Some name.now) (λ n. IsNamed self.now.slots n name.now) }
+        ensures number { MatchOption result ((n : ℕ) → slot self.now.slots n ≢ Some name.now) (λ n.
+            IsNamed self.now.slots n name.now) }
         ensures distinct { AreDistinct self.now.slots }
     {
         self.numbers.get(name).copied()
@@ -90,7 +94,8 @@ impl Known {
 
     /// The name of a number.
     pub fn name_of(&self, number: usize) -> Option<&[u8]>
-        ensures { MatchOption result ((name : List ℕ) → slot self.now.slots number ≢ Some name) (λ name. IsNamed self.now.slots number name.now) }
+        ensures { MatchOption result ((name : List ℕ) → slot self.now.slots number ≢ Some name) (λ name.
+            IsNamed self.now.slots number name.now) }
     {
         match self.names.get(number) {
             Some(name) => Some(name.as_slice()),

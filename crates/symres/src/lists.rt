@@ -1,6 +1,7 @@
 //! Lists of numbered symbols that are set aside, so that entering an object takes no memory.
 
-ghost use Rattle.std.specs.Prelude.{◌≡◌, ◌≤◌, ◌<◌, ◌+◌, ◌++◌, ℕ, List, [], length, map, remove, take, vec_len, vec_capacity, OnOk, slice_index_or, true, false};
+ghost use Rattle.std.specs.Prelude.{◌≡◌, ◌≤◌, ◌<◌, ◌+◌, ◌++◌, ℕ, List, [], length, map, remove, take, vec_len};
+ghost use Rattle.std.specs.Prelude.{vec_capacity, OnOk, slice_index_or, true, false};
 ghost use Rattle.std.specs.List.{All};
 ghost use Rattle.std.proofs.Common.{Vec, Global};
 ghost use Rattle.elfobj.specs.Symbols.{NamedSymbol};
@@ -67,8 +68,10 @@ pub fn park(spare: &mut Vec<Vec<Numbered>>, count: usize, entered: usize) -> Res
 /// A symbol of an object, by the number of its name.
 fn numbered(known: &Known, object: &Object, number: u32) -> Numbered
     requires within { number < length object.now.symbols }
-    requires known { (d : NamedSymbol) → is_local (slice_index_or object.now.symbols number d).symbol.binding ≡ false → (n : ℕ) × IsNamed known.now.slots n (slice_index_or object.now.symbols number d).name }
-    ensures spelled { (d : NamedSymbol) → spell_symbol known.now.slots result ≡ slice_index_or object.now.symbols number d }
+    requires known { (d : NamedSymbol) → is_local (slice_index_or object.now.symbols number d).symbol.binding ≡ false
+        → (n : ℕ) × IsNamed known.now.slots n (slice_index_or object.now.symbols number d).name }
+    ensures spelled { (d : NamedSymbol) → spell_symbol known.now.slots result
+        ≡ slice_index_or object.now.symbols number d }
     ensures named { HasName known.now.slots result }
     ensures number { result.number ≡ number }
 {
@@ -92,7 +95,8 @@ fn numbered(known: &Known, object: &Object, number: u32) -> Numbered
 
 /// Writes the symbols of an object by the numbers of their names.
 pub fn number_all(known: &Known, object: &Object, list: &mut Vec<Numbered>)
-    requires known { All (λ (s : NamedSymbol). is_local s.symbol.binding ≡ false → (n : ℕ) × IsNamed known.now.slots n s.name) object.now.symbols }
+    requires known { All (λ (s : NamedSymbol). is_local s.symbol.binding ≡ false → (n : ℕ)
+        × IsNamed known.now.slots n s.name) object.now.symbols }
     requires empty { list.old.items ≡ [] }
     requires room { length object.now.symbols ≤ vec_capacity list.old }
     ensures spelled { Spells known.now.slots list.new.items object.now.symbols }
@@ -111,7 +115,8 @@ fn add_seen(
     list: &mut Vec<Numbered>,
 ) -> Result<(), AllocError>
     requires { number < length object.now.symbols }
-    ensures spelled { OnOk result (SpellsSeen known.old.slots list.old.items (take number object.now.symbols) → SpellsSeen known.new.slots list.new.items (take (number + 1) object.now.symbols)) }
+    ensures spelled { OnOk result (SpellsSeen known.old.slots list.old.items (take number object.now.symbols)
+        → SpellsSeen known.new.slots list.new.items (take (number + 1) object.now.symbols)) }
     ensures kept { KeepsNames known.old.slots known.new.slots }
     ensures added { AddsNames known.old known.new }
 {

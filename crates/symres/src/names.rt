@@ -1,6 +1,7 @@
 //! The names of entered objects: which definition each stands for.
 
-ghost use Rattle.std.specs.Prelude.{◌≡◌, ◌≤◌, ◌<◌, ◌+◌, ◌==◌, ℕ, List, [], length, insert, map, true, false, not, vec_len, vec_capacity, OnOk, OnErr, MatchOption};
+ghost use Rattle.std.specs.Prelude.{◌≡◌, ◌≤◌, ◌<◌, ◌+◌, ◌==◌, ℕ, List, [], length, insert, map, true, false, not};
+ghost use Rattle.std.specs.Prelude.{vec_len, vec_capacity, OnOk, OnErr, MatchOption};
 ghost use Rattle.std.specs.List.{All};
 ghost use Rattle.ldbase.specs.Raised.{raised};
 ghost use Rattle.ldbase.specs.declared.meter.Count.TheVariants as counts;
@@ -12,7 +13,9 @@ ghost use Rattle.symres.specs.Known.{AddsNames, entry_spelled};
 ghost use Rattle.symres.specs.Lists.{rooms, Adds};
 ghost use Rattle.symres.specs.Objects.{GrowsRoom};
 ghost use Rattle.symres.specs.Spelled.{IsReady};
-ghost use Rattle.symres.specs.State.{entries_of, Forgets, HasList, HasName, HasObject, HasSymbol, IsFresh, IsInByteOrder, IsListing, IsMore, IsNamed, IsNameOfSymbol, IsSameBut, KeepsNames, MayEnter, ParksList, SameNames, TakesList, without};
+ghost use Rattle.symres.specs.State.{entries_of, Forgets, HasList, HasName, HasObject, HasSymbol, IsFresh};
+ghost use Rattle.symres.specs.State.{IsInByteOrder, IsListing, IsMore, IsNamed, IsNameOfSymbol, IsSameBut, KeepsNames};
+ghost use Rattle.symres.specs.State.{MayEnter, ParksList, SameNames, TakesList, without};
 ghost use Rattle.symres.specs.declared.symbol.Numbered.{Numbered};
 
 use crate::known::Known;
@@ -193,7 +196,9 @@ impl Names {
 
     /// Decides a name over the entries of all entered objects and the script, and counts it. It takes no memory.
     pub fn decide(&self, script: &Script, name: &[u8], meter: &mut Meter) -> Decision
-        ensures case { decision_of (λ key. key) result ≡ decided (is_assigned script.now name.now) (is_provided script.now name.now) (entries_of name.now self.now.objects) }
+        ensures case { decision_of (λ key. key) result
+            ≡ decided (is_assigned script.now name.now) (is_provided script.now name.now)
+            (entries_of name.now self.now.objects) }
         ensures counted { meter.new ≡ raised meter.old counts.Names 1 }
     {
         meter.raise(Count::Names, 1);
@@ -211,7 +216,8 @@ impl Names {
     /// The same by the key of the name, without hashing.
     pub fn decide_key(&self, script: &Script, name: NameKey, meter: &mut Meter) -> Decision
         requires { HasName self.now.names name.0 }
-        ensures case { (bytes : List ℕ) → IsNamed self.now.names name.0 bytes → decision_of (λ key. key) result ≡ decided (is_assigned script.now bytes) (is_provided script.now bytes) (entries_of bytes self.now.objects) }
+        ensures case { (bytes : List ℕ) → IsNamed self.now.names name.0 bytes → decision_of (λ key. key) result
+            ≡ decided (is_assigned script.now bytes) (is_provided script.now bytes) (entries_of bytes self.now.objects) }
         ensures counted { meter.new ≡ raised meter.old counts.Names 1 }
     {
         meter.raise(Count::Names, 1);
@@ -224,12 +230,14 @@ impl Names {
 
     /// The name of a key, while it is known.
     pub fn name_of(&self, name: NameKey) -> Option<&[u8]>
-        ensures { MatchOption result ((bytes : List ℕ) → IsNamed self.now.names name.0 bytes → ⊥) (λ bytes. IsNamed self.now.names name.0 bytes.now) }
+        ensures { MatchOption result ((bytes : List ℕ) → IsNamed self.now.names name.0 bytes → ⊥) (λ bytes.
+            IsNamed self.now.names name.0 bytes.now) }
     {
         self.known.name_of(name.0)
     }
 
-    /// Puts the names into byte order: those that became known since the last call are put in among the others. An error
+    /// Puts the names into byte order: those that became known since the last call are put in among the others. An
+    /// error
     /// says that there was no memory for it; the names stand in some order then.
     pub fn sort_names(&mut self) -> Result<(), NoMemory>
         ensures sorted { OnOk result (IsInByteOrder self.new.order) }
@@ -247,7 +255,8 @@ impl Names {
         self.known.iter()
     }
 
-    /// The key of the name of a symbol that isn't local, of an entered object. Nothing is hashed: the time is logarithmic
+    /// The key of the name of a symbol that isn't local, of an entered object. Nothing is hashed: the time is
+    /// logarithmic
     /// in the number of objects.
     pub fn key_of(&self, object: ObjectKey, symbol: SymbolIndex) -> NameKey
         requires entered { HasObject object.0 self.now.objects }
@@ -298,7 +307,8 @@ impl Names {
         ensures order { self.new.order_room ≡ self.old.order_room + 1 }
         ensures places { self.new.place_room ≡ self.old.place_room + 1 }
         ensures list { ParksList self.old self.new key.0 }
-        ensures again { All (λ (t : ℕ × List NamedSymbol). (t.0 == key.0) ≡ true → MayEnter self.new t.1) self.old.objects }
+        ensures again { All (λ (t : ℕ × List NamedSymbol). (t.0 == key.0) ≡ true → MayEnter self.new t.1)
+            self.old.objects }
         ensures others { (symbols : List NamedSymbol) → MayEnter self.old symbols → MayEnter self.new symbols }
     {
         let _known = self.known.len();

@@ -1,10 +1,12 @@
 //! The entered objects in their order, with the entries that they give the names.
 
-ghost use Rattle.std.specs.Prelude.{◌≡◌, ◌<◌, ◌≤◌, ◌+◌, ◌==◌, ◌∷◌, ◌++◌, ℕ, List, [], length, insert, true, false, not, slice_index_or, slice_get, vec_len, vec_capacity, OnOk};
+ghost use Rattle.std.specs.Prelude.{◌≡◌, ◌<◌, ◌≤◌, ◌+◌, ◌==◌, ◌∷◌, ◌++◌, ℕ, List, [], length, insert, true, false, not};
+ghost use Rattle.std.specs.Prelude.{slice_index_or, slice_get, vec_len, vec_capacity, OnOk};
 ghost use Rattle.std.specs.List.{All};
 ghost use Rattle.ldmodel.specs.Names.{is_local};
 ghost use Rattle.symres.specs.Objects.{CanEnter, GrowsRoom, HasKey};
-ghost use Rattle.symres.specs.Numbers.{Entered, entries, HasRoom, HasRow, HasSymbols, is_used, Leaves, RowsGrow, without};
+ghost use Rattle.symres.specs.Numbers.{Entered, entries, HasRoom, HasRow, HasSymbols, is_used, Leaves, RowsGrow};
+ghost use Rattle.symres.specs.Numbers.{without};
 ghost use Rattle.symres.specs.declared.symbol.Declared.{Declared};
 ghost use Rattle.symres.specs.declared.symbol.Numbered.{Numbered};
 
@@ -153,7 +155,8 @@ impl Objects {
         requires at { at ≤ length self.old.objects }
         requires fresh { All (λ (o : Entered). (o.key == key) ≡ false) self.old.objects }
         requires room { CanEnter self.old symbols.items }
-        ensures objects { self.new.objects ≡ insert self.old.objects at (record { key = key; symbols = symbols.items; room = vec_capacity symbols }) }
+        ensures objects { self.new.objects
+            ≡ insert self.old.objects at (record { key = key; symbols = symbols.items; room = vec_capacity symbols }) }
         ensures room { self.new.room ≡ self.old.room }
         ensures order { self.new.order_room + 1 ≡ self.old.order_room }
         ensures places { self.new.place_room + 1 ≡ self.old.place_room }
@@ -169,7 +172,8 @@ impl Objects {
     pub fn withdraw(&mut self, key: usize) -> Vec<Numbered>
         requires { HasKey key self.old.objects }
         ensures objects { self.new.objects ≡ without key self.old.objects }
-        ensures leaves { Leaves self.old.objects self.new.objects (record { key = key; symbols = result.items; room = vec_capacity result }) }
+        ensures leaves { Leaves self.old.objects self.new.objects
+            (record { key = key; symbols = result.items; room = vec_capacity result }) }
         ensures room { self.new.room ≡ self.old.room }
         ensures order { self.new.order_room ≡ self.old.order_room + 1 }
         ensures places { self.new.place_room ≡ self.old.place_room + 1 }

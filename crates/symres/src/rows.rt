@@ -1,13 +1,15 @@
 //! The rows of names: the entries of each, in object order and then symbol order.
 
 ghost use Rattle.indexmap.specs.IndexMap.{get};
-ghost use Rattle.std.specs.Prelude.{unwrap_or, count_by, nat_eq, ◌==◌, IfOk, OnOk, ◌≡◌, ◌<◌, ◌≤◌, ◌+◌, ◌++◌, ◌∷◌, [], ℕ, List, length, insert, not, vec_len, vec_capacity, true};
+ghost use Rattle.std.specs.Prelude.{unwrap_or, count_by, nat_eq, ◌==◌, IfOk, OnOk, ◌≡◌, ◌<◌, ◌≤◌, ◌+◌, ◌++◌, ◌∷◌, []};
+ghost use Rattle.std.specs.Prelude.{ℕ, List, length, insert, not, vec_len, vec_capacity, true};
 ghost use Rattle.std.specs.List.{All};
 ghost use Rattle.std.proofs.Common.{Vec, Global};
 ghost use Rattle.ldmodel.specs.Names.{is_local};
 ghost use Rattle.symres.specs.declared.symbol.Declared.{Declared};
 ghost use Rattle.symres.specs.declared.symbol.Numbered.{Numbered};
-ghost use Rattle.symres.specs.Numbers.{before, declared, Entered, Grows, HasRoom, HasRow, HasSymbols, IsPlace, IsSplit, IsTable, KeepsRoom, others, RowsGrow, without};
+ghost use Rattle.symres.specs.Numbers.{before, declared, Entered, Grows, HasRoom, HasRow, HasSymbols, IsPlace, IsSplit};
+ghost use Rattle.symres.specs.Numbers.{IsTable, KeepsRoom, others, RowsGrow, without};
 ghost use Rattle.symres.specs.Places.{AreSorted};
 ghost use Rattle.symres.specs.Steps.{Cleared, HasRoomForOne, Rows};
 
@@ -39,7 +41,8 @@ fn place_for(row: &[Declared], places: &[Place], at: usize, key: usize) -> usize
 fn add(row: &mut Vec<Declared>, places: &[Place], at: usize, key: usize, symbol: Numbered)
     requires sorted { AreSorted places.now }
     requires room { vec_len row.old < vec_capacity row.old }
-    ensures items { (n : ℕ) × (IsPlace places.now at key row.old.items n) × (row.new.items ≡ insert row.old.items n (declared key symbol)) }
+    ensures items { (n : ℕ) × (IsPlace places.now at key row.old.items n)
+        × (row.new.items ≡ insert row.old.items n (declared key symbol)) }
     ensures capacity { vec_capacity row.new ≡ vec_capacity row.old }
     ensures len { vec_len row.new ≡ vec_len row.old + 1 }
 {
@@ -65,8 +68,11 @@ fn add_visible(
     requires sorted { AreSorted places.now }
     requires known { HasRow (length table.old.items) symbol }
     requires room { HasRoomForOne table.old.items symbol }
-    ensures rows { (ss : List Numbered) (was : List (Vec Declared Global)) → Grows was table.old.items ss → Rows places.now at key ss was table.old.items → Rows places.now at key (ss ++ symbol ∷ []) was table.new.items }
-    ensures grows { (ss : List Numbered) (was : List (Vec Declared Global)) → Grows was table.old.items ss → Grows was table.new.items (ss ++ symbol ∷ []) }
+    ensures rows { (ss : List Numbered) (was : List (Vec Declared Global)) → Grows was table.old.items ss
+        → Rows places.now at key ss was table.old.items
+        → Rows places.now at key (ss ++ symbol ∷ []) was table.new.items }
+    ensures grows { (ss : List Numbered) (was : List (Vec Declared Global)) → Grows was table.old.items ss
+        → Grows was table.new.items (ss ++ symbol ∷ []) }
 {
     if is_visible(&symbol.symbol) {
         add(&mut table[symbol.name], places, at, key, symbol);
@@ -84,7 +90,8 @@ pub fn add_all(
     requires sorted { AreSorted places.now }
     requires known { All (HasRow (length table.old.items)) symbols.now }
     requires room { HasRoom table.old.items symbols.now }
-    ensures table { (xs ys : List Entered) → IsSplit places.now at key xs ys → IsTable table.old.items (xs ++ ys) → (room : ℕ) → IsTable table.new.items (xs ++ record { key = key; symbols = symbols.now; room = room } ∷ ys) }
+    ensures table { (xs ys : List Entered) → IsSplit places.now at key xs ys → IsTable table.old.items (xs ++ ys)
+        → (room : ℕ) → IsTable table.new.items (xs ++ record { key = key; symbols = symbols.now; room = room } ∷ ys) }
     ensures grows { Grows table.old.items table.new.items symbols.now }
 {
     for symbol in symbols {
@@ -102,7 +109,8 @@ fn drop_key(row: &mut Vec<Declared>, key: usize)
 /// Takes what an object declares out of the row of one of its symbols.
 fn remove_visible(table: &mut Vec<Vec<Declared>>, key: usize, symbol: Numbered)
     requires { HasRow (length table.old.items) symbol }
-    ensures { (ss : List Numbered) (was : List (Vec Declared Global)) → Cleared key ss was table.old.items → Cleared key (ss ++ symbol ∷ []) was table.new.items }
+    ensures { (ss : List Numbered) (was : List (Vec Declared Global)) → Cleared key ss was table.old.items
+        → Cleared key (ss ++ symbol ∷ []) was table.new.items }
 {
     if is_visible(&symbol.symbol) {
         drop_key(&mut table[symbol.name], key);
@@ -112,7 +120,8 @@ fn remove_visible(table: &mut Vec<Vec<Declared>>, key: usize, symbol: Numbered)
 /// Takes out what an object declares.
 pub fn remove_all(table: &mut Vec<Vec<Declared>>, key: usize, symbols: &[Numbered])
     requires known { All (HasRow (length table.old.items)) symbols.now }
-    ensures table { (os : List Entered) → HasSymbols key symbols.now os → IsTable table.old.items os → IsTable table.new.items (without key os) }
+    ensures table { (os : List Entered) → HasSymbols key symbols.now os → IsTable table.old.items os
+        → IsTable table.new.items (without key os) }
     ensures room { KeepsRoom table.old.items table.new.items }
 {
     for symbol in symbols {
@@ -122,7 +131,8 @@ pub fn remove_all(table: &mut Vec<Vec<Declared>>, key: usize, symbols: &[Numbere
 
 /// How many of the symbols have each name.
 fn count_all(alloc: Global, symbols: &[Numbered]) -> Result<IndexMap<usize, usize>, AllocError>
-    ensures { IfOk result (λ m. (k : ℕ) → unwrap_or (get nat_eq m k) 0 ≡ count_by (λ (s : Numbered). s.name == k) symbols.now) }
+    ensures { IfOk result (λ m. (k : ℕ) → unwrap_or (get nat_eq m k) 0
+        ≡ count_by (λ (s : Numbered). s.name == k) symbols.now) }
 {
     let mut counts = IndexMap::new(alloc);
     for symbol in symbols {

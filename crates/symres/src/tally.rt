@@ -43,7 +43,8 @@ impl Tally {
 
     /// Adds an entry that stands after those seen so far.
     fn add(&mut self, declared: &Declared)
-        ensures { (name : List ℕ) (seen : List Declaration) → self.old ≡ tally_of seen → self.new ≡ tally_of (seen ++ declaration_of name declared.now ∷ []) }
+        ensures { (name : List ℕ) (seen : List Declaration) → self.old ≡ tally_of seen → self.new
+            ≡ tally_of (seen ++ declaration_of name declared.now ∷ []) }
     {
         match declared.symbol.place {
             SymbolPlace::Undefined => self.undefined = true,
@@ -61,7 +62,8 @@ impl Tally {
     /// The same for a definition that isn't common.
     fn add_definition(&mut self, declared: &Declared)
         requires { is_placed declared.now.symbol.place ≡ true }
-        ensures { (name : List ℕ) (seen : List Declaration) → self.old ≡ tally_of seen → self.new ≡ tally_of (seen ++ declaration_of name declared.now ∷ []) }
+        ensures { (name : List ℕ) (seen : List Declaration) → self.old ≡ tally_of seen → self.new
+            ≡ tally_of (seen ++ declaration_of name declared.now ∷ []) }
     {
         match declared.symbol.binding {
             Binding::Global => {
@@ -82,7 +84,8 @@ impl Tally {
     /// What the entries seen say, where the script gives the name so.
     #[tactic(auto, unfolding(ldmodel::specs::Names::decided))]
     fn case(&self, given: Option<Given>) -> Case
-        ensures { (seen : List Declaration) → self.now ≡ tally_of seen → decision_of (λ key. key) result ≡ decided (is_assignment given) (is_provision given) seen }
+        ensures { (seen : List Declaration) → self.now ≡ tally_of seen → decision_of (λ key. key) result
+            ≡ decided (is_assignment given) (is_provision given) seen }
     {
         let assigned = is_assigned(given);
         if self.several || (self.strong.is_some() && assigned) {
@@ -134,7 +137,8 @@ ghost use Rattle.symres.specs.Tally.{declaration_of};
 
 /// What a name stands for by its entries, in object order and then symbol order, and by what the script gives.
 pub fn decide(given: Option<Given>, declared: &[Declared]) -> Case
-    ensures { (name : List ℕ) → decision_of (λ key. key) result ≡ decided (is_assignment given) (is_provision given) (map (declaration_of name) declared.now) }
+    ensures { (name : List ℕ) → decision_of (λ key. key) result
+        ≡ decided (is_assignment given) (is_provision given) (map (declaration_of name) declared.now) }
 {
     let mut tally = Tally::new();
     for entry in declared {

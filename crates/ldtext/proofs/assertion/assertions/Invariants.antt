@@ -6,4 +6,6 @@ use Rattle.ldtext.specs.Naming.{shown_assertions}
 use Rattle.ldtext.proofs.assertion.assertions.Given as goal
 
 abbrev pub invariant-loop-command : goal.invariant-loop-command
-invariant-loop-command l = shown_assertions l.list.items ++ asserted_in (shown_commons (drop l.command-index l.commands)) ≡ shown_assertions l.initial.list.items ++ asserted_in (shown_commons l.commands)
+invariant-loop-command l = shown_assertions l.list.items
+    ++ asserted_in (shown_commons (drop l.command-index l.commands)) ≡ shown_assertions l.initial.list.items
+    ++ asserted_in (shown_commons l.commands)

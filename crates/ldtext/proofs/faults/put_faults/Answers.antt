@@ -12,7 +12,8 @@ use Rattle.ldtext.proofs.faults.put_faults.Goals as goal
 abbrev text : Project → (number : ℕ → ℕ) → List Fault → List ℕ
 text p number faults = fault_text (map (fault_of p number) faults)
 
-text_more : (p : Project) (number : ℕ → ℕ) (f : Fault) (fs : List Fault) → text p number (f ∷ fs) ≡ line_of_fault p number f ++ text p number fs
+text_more : (p : Project) (number : ℕ → ℕ) (f : Fault) (fs : List Fault) → text p number (f ∷ fs)
+    ≡ line_of_fault p number f ++ text p number fs
 unfolding fault_text
 text_more p number f fs = refl
 
@@ -25,12 +26,14 @@ loop-fault-preserved g c =
     let p = g.M.Members.project c.args.members.now in
     let number = g.M.Members.number c.args.members.now in
     added_step _ _ _ _ _ _ c.in_ok-put_fault.ensures
-    (at_drop_more (text p number) c.args.faults.now c.loop-fault.fault-index _ c.loop-fault-test.true ∙ text_more p number _ _)
+    (at_drop_more (text p number) c.args.faults.now c.loop-fault.fault-index _ c.loop-fault-test.true
+    ∙ text_more p number _ _)
     c.loop-fault.invariant
 
 pub returns : goal.returns
 returns g c =
     let p = g.M.Members.project c.args.members.now in
     let number = g.M.Members.number c.args.members.now in
-    added_end _ _ _ (at_drop_all (text p number) c.args.faults.now c.loop-fault.fault-index c.loop-fault-test.false ∙ text_none p number)
+    added_end _ _ _ (at_drop_all (text p number) c.args.faults.now c.loop-fault.fault-index c.loop-fault-test.false
+    ∙ text_none p number)
     c.loop-fault.invariant

@@ -6,4 +6,8 @@ use Rattle.ldtext.specs.Drafts.{added}
 use Rattle.ldtext.proofs.faults.put_faults.Given as goal
 
 abbrev pub invariant-loop-fault : goal.invariant-loop-fault
-invariant-loop-fault g l = added l.draft (fault_text (map (fault_of (g.M.Members.project l.members) (g.M.Members.number l.members)) (drop l.fault-index l.faults))) ≡ added l.initial.draft (fault_text (map (fault_of (g.M.Members.project l.members) (g.M.Members.number l.members)) l.faults))
+invariant-loop-fault g l =
+    added l.draft (fault_text
+    (map (fault_of (g.M.Members.project l.members) (g.M.Members.number l.members)) (drop l.fault-index l.faults)))
+    ≡ added l.initial.draft
+    (fault_text (map (fault_of (g.M.Members.project l.members) (g.M.Members.number l.members)) l.faults))

@@ -1,5 +1,6 @@
 -- A hex digit is four bits.
-use Rattle.std.proofs.Common.{rules, ◌≡◌, ◌/◌, ◌%◌, ◌^◌, ◌<◌, ◌≤◌, ℕ, zero, suc, ◌+◌, ◌-◌, ◌*◌, Bool, true, false, cond, nat_lt, refl, ap, ◌∙◌, sym, arith}
+use Rattle.std.proofs.Common.{rules, ◌≡◌, ◌/◌, ◌%◌, ◌^◌, ◌<◌, ◌≤◌, ℕ, zero, suc, ◌+◌, ◌-◌, ◌*◌, Bool, true, false, cond}
+use Rattle.std.proofs.Common.{nat_lt, refl, ap, ◌∙◌, sym, arith}
 use lib.Pow.{pow-add}
 use Rattle.ldmodel.specs.Lines.{hex_digit}
 use Rattle.ldtext.proofs.hex.digit.Goals as goal
@@ -8,7 +9,8 @@ sixteenths : (k : ℕ) → 2 ^ (4 * k) ≡ 16 ^ k
 sixteenths zero = refl
 sixteenths (suc k) =
     let e : 4 * suc k ≡ 4 * k + 4 = omega arith in
-    ap (λ n. 2 ^ n) e ∙ pow-add 2 (4 * k) 4 ∙ ap (λ n. n * 16) (sixteenths k) ∙ sym (pow-add 16 k 1) ∙ ap (λ n. 16 ^ n) (omega arith)
+    ap (λ n. 2 ^ n) e ∙ pow-add 2 (4 * k) 4 ∙ ap (λ n. n * 16) (sixteenths k) ∙ sym (pow-add 16 k 1)
+    ∙ ap (λ n. 16 ^ n) (omega arith)
 
 low : (d : ℕ) → d < 10 → 48 + d ≡ hex_digit d
 low d h = search (rules, h)

@@ -16,5 +16,6 @@ returns c =
     ∙ added_twice c.put_word.new.draft (spaced_words others) (10 ∷ [])
     ∙ start
     ∙ added_twice c.args.draft.now (shown first) (spaced_words others ++ 10 ∷ [])
-    ∙ ap (added c.args.draft.now) (spelled first others ∙ ap (λ ws. line_of (map shown ws)) (sym c.in-Some.ensures.cases.0)) in
+    ∙ ap (added c.args.draft.now) (spelled first others
+    ∙ ap (λ ws. line_of (map shown ws)) (sym c.in-Some.ensures.cases.0)) in
     subst (λ d. OnOk c.put-2.result (c.put-2.new.self ≡ d)) whole c.put-2.ensures

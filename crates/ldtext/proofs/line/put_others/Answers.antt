@@ -12,4 +12,5 @@ loop-word-preserved c =
 
 pub returns : goal.returns
 returns c =
-    added_end _ _ _ (at_drop_all spaced_words c.args.words.now c.loop-word.word-index c.loop-word-test.false) c.loop-word.invariant
+    added_end _ _ _ (at_drop_all spaced_words c.args.words.now c.loop-word.word-index c.loop-word-test.false)
+    c.loop-word.invariant

@@ -5,4 +5,5 @@ use Rattle.ldtext.specs.LineWords.{spaced_words}
 use Rattle.ldtext.proofs.line.put_others.Given as goal
 
 abbrev pub invariant-loop-word : goal.invariant-loop-word
-invariant-loop-word l = added l.draft (spaced_words (drop l.word-index l.words)) ≡ added l.initial.draft (spaced_words l.words)
+invariant-loop-word l = added l.draft (spaced_words (drop l.word-index l.words))
+    ≡ added l.initial.draft (spaced_words l.words)

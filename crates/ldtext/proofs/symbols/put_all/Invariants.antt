@@ -5,4 +5,7 @@ use Rattle.ldtext.specs.ShownMap.{symbols_text}
 use Rattle.ldtext.proofs.symbols.put_all.Given as goal
 
 abbrev pub invariant-loop-symbol : goal.invariant-loop-symbol
-invariant-loop-symbol g l = added l.draft (symbols_text (g.M.Members.project l.members) (g.M.Members.number l.members) (drop l.symbol-index l.symbols)) ≡ added l.initial.draft (symbols_text (g.M.Members.project l.members) (g.M.Members.number l.members) l.symbols)
+invariant-loop-symbol g l =
+    added l.draft (symbols_text (g.M.Members.project l.members) (g.M.Members.number l.members)
+    (drop l.symbol-index l.symbols))
+    ≡ added l.initial.draft (symbols_text (g.M.Members.project l.members) (g.M.Members.number l.members) l.symbols)

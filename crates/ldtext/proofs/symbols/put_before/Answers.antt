@@ -13,9 +13,11 @@ loop-i-preserved g c =
     let number = g.M.Members.number c.args.members.now in
     record {
       text = added_step _ _ _ _ _ _ c.in_ok-put_symbol-in-Less.ensures
-          (ap (symbols_text p number) (before_less c.args.symbol.now c.args.given.now c.loop-i.i _ c.loop-i-test.true order))
+          (ap (symbols_text p number)
+          (before_less c.args.symbol.now c.args.given.now c.loop-i.i _ c.loop-i-test.true order))
           c.loop-i.invariant.text;
-      rest = sym (after_less c.args.symbol.now c.args.given.now c.loop-i.i _ c.loop-i-test.true order) ∙ c.loop-i.invariant.rest;
+      rest = sym (after_less c.args.symbol.now c.args.given.now c.loop-i.i _ c.loop-i-test.true order)
+          ∙ c.loop-i.invariant.rest;
     }
 
 pub returns-in-Equal-clause-text : goal.returns-in-Equal-clause-text
@@ -23,7 +25,8 @@ returns-in-Equal-clause-text g c =
     let order = sym c.cmp.ensures ∙ c.in-Equal.is in
     let p = g.M.Members.project c.args.members.now in
     let number = g.M.Members.number c.args.members.now in
-    added_end _ _ _ (ap (symbols_text p number) (before_equal c.args.symbol.now c.args.given.now c.loop-i.i _ c.loop-i-test.true order))
+    added_end _ _ _ (ap (symbols_text p number)
+    (before_equal c.args.symbol.now c.args.given.now c.loop-i.i _ c.loop-i-test.true order))
     c.loop-i.invariant.text
 
 pub returns-in-Equal-clause-rest : goal.returns-in-Equal-clause-rest
@@ -36,17 +39,20 @@ returns-in-Greater-clause-text g c =
     let order = sym c.cmp.ensures ∙ c.in-Greater.is in
     let p = g.M.Members.project c.args.members.now in
     let number = g.M.Members.number c.args.members.now in
-    added_end _ _ _ (ap (symbols_text p number) (before_greater c.args.symbol.now c.args.given.now c.loop-i.i _ c.loop-i-test.true order))
+    added_end _ _ _ (ap (symbols_text p number)
+    (before_greater c.args.symbol.now c.args.given.now c.loop-i.i _ c.loop-i-test.true order))
     c.loop-i.invariant.text
 
 pub returns-in-Greater-clause-rest : goal.returns-in-Greater-clause-rest
 returns-in-Greater-clause-rest g c =
     let order = sym c.cmp.ensures ∙ c.in-Greater.is in
-    sym (after_greater c.args.symbol.now c.args.given.now c.loop-i.i _ c.loop-i-test.true order) ∙ c.loop-i.invariant.rest
+    sym (after_greater c.args.symbol.now c.args.given.now c.loop-i.i _ c.loop-i-test.true order)
+    ∙ c.loop-i.invariant.rest
 
 pub returns-clause-text : goal.returns-clause-text
 returns-clause-text g c =
     let p = g.M.Members.project c.args.members.now in
     let number = g.M.Members.number c.args.members.now in
-    added_end _ _ _ (ap (symbols_text p number) (at_drop_all (before c.args.symbol.now) c.args.given.now c.loop-i.i c.loop-i-test.false))
+    added_end _ _ _ (ap (symbols_text p number)
+    (at_drop_all (before c.args.symbol.now) c.args.given.now c.loop-i.i c.loop-i-test.false))
     c.loop-i.invariant.text

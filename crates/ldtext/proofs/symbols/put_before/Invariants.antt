@@ -6,6 +6,10 @@ use Rattle.ldtext.proofs.symbols.put_before.Given as goal
 
 abbrev pub invariant-loop-i : goal.invariant-loop-i
 invariant-loop-i g l = record {
-  text : added l.draft (symbols_text (g.M.Members.project l.members) (g.M.Members.number l.members) (before l.symbol (drop l.i l.given))) ≡ added l.initial.draft (symbols_text (g.M.Members.project l.members) (g.M.Members.number l.members) (before l.symbol (drop l.from l.given)));
+  text : added l.draft (symbols_text (g.M.Members.project l.members) (g.M.Members.number l.members)
+      (before l.symbol (drop l.i l.given)))
+      ≡ added l.initial.draft
+      (symbols_text (g.M.Members.project l.members) (g.M.Members.number l.members)
+      (before l.symbol (drop l.from l.given)));
   rest : after l.symbol (drop l.i l.given) ≡ after l.symbol (drop l.from l.given);
 }

@@ -6,6 +6,9 @@ use Rattle.ldtext.proofs.symbols.put_symbols.Given as goal
 
 abbrev pub invariant-loop-symbol : goal.invariant-loop-symbol
 invariant-loop-symbol g l = record {
-  text : added l.draft (symbols_text (g.M.Members.project l.members) (g.M.Members.number l.members) (merged (drop l.symbol-index l.named) (drop l.next l.given))) ≡ added l.initial.draft (symbols_text (g.M.Members.project l.members) (g.M.Members.number l.members) (merged l.named l.given));
+  text : added l.draft (symbols_text (g.M.Members.project l.members) (g.M.Members.number l.members)
+      (merged (drop l.symbol-index l.named) (drop l.next l.given)))
+      ≡ added l.initial.draft
+      (symbols_text (g.M.Members.project l.members) (g.M.Members.number l.members) (merged l.named l.given));
   within : l.next ≤ length l.given;
 }

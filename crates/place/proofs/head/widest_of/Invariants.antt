@@ -5,6 +5,7 @@ use Rattle.place.specs.Naming.{row_named}
 
 abbrev pub invariant-loop-piece : goal.invariant-loop-piece
 invariant-loop-piece g l = record {
-  value : widest l.alignment (row_named g.naming l.row) ≡ widest l.widest (row_named g.naming (drop l.piece-index l.row));
+  value : widest l.alignment (row_named g.naming l.row)
+      ≡ widest l.widest (row_named g.naming (drop l.piece-index l.row));
   positive : 0 < l.widest;
 }

@@ -12,12 +12,25 @@ use Rattle.place.specs.State.{layout_of}
 
 pub returns-clause-faulty : goal.returns-clause-faulty
 returns-clause-faulty g c =
-    stops_at c.args.script.now (rows_named g.naming (map (λ v. v.items) c.args.rows.now)) (provided_names c.args.script.now c.args.provided.now) c.in-Err.stop c.reported.result
+    stops_at c.args.script.now (rows_named g.naming (map (λ v. v.items) c.args.rows.now))
+    (provided_names c.args.script.now c.args.provided.now) c.in-Err.stop c.reported.result
     (elim c.in-Err.ensures.gives [
-      | inl h ↦ inl (sym (begins g.naming c.in_ok-here.here (record { sections = c.in_ok-sections.sections; regions = c.new-regions.result }) (rows_named g.naming (map (λ v. v.items) c.args.rows.now)) (provided_names c.args.script.now c.args.provided.now) c.args.script.now
-          c.in_ok-here.ensures.dot c.in_ok-here.ensures.dots c.in_ok-here.ensures.inputs c.in_ok-here.ensures.symbols c.in_ok-sections.ensures c.new-regions.ensures)
-          ∙ (ap (λ (ps : List (List ℕ)). run (statement_step (rows_named g.naming (map (λ v. v.items) c.args.rows.now)) ps) (layout_of g.naming c.in_ok-here.here (record { sections = c.in_ok-sections.sections; regions = c.new-regions.result })) c.args.script.now) (sym c.in_ok-provided.ensures)
-          ∙ (ap (λ (xs : List Statement). run (statement_step (rows_named g.naming (map (λ v. v.items) c.args.rows.now)) c.in_ok-provided.provided) (layout_of g.naming c.in_ok-here.here (record { sections = c.in_ok-sections.sections; regions = c.new-regions.result })) xs) (sym c.statements.ensures.value)
+      | inl h ↦ inl (sym (begins g.naming c.in_ok-here.here
+          (record { sections = c.in_ok-sections.sections; regions = c.new-regions.result })
+          (rows_named g.naming (map (λ v. v.items) c.args.rows.now))
+          (provided_names c.args.script.now c.args.provided.now) c.args.script.now
+          c.in_ok-here.ensures.dot c.in_ok-here.ensures.dots c.in_ok-here.ensures.inputs c.in_ok-here.ensures.symbols
+          c.in_ok-sections.ensures c.new-regions.ensures)
+          ∙ (ap (λ (ps : List (List ℕ)).
+          run (statement_step (rows_named g.naming (map (λ v. v.items) c.args.rows.now)) ps)
+          (layout_of g.naming c.in_ok-here.here
+          (record { sections = c.in_ok-sections.sections; regions = c.new-regions.result })) c.args.script.now)
+          (sym c.in_ok-provided.ensures)
+          ∙ (ap (λ (xs : List Statement).
+          run (statement_step (rows_named g.naming (map (λ v. v.items) c.args.rows.now)) c.in_ok-provided.provided)
+          (layout_of g.naming c.in_ok-here.here
+          (record { sections = c.in_ok-sections.sections; regions = c.new-regions.result })) xs)
+          (sym c.statements.ensures.value)
           ∙ h)))
       | inr m ↦ inr m
     ])

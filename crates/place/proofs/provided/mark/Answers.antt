@@ -13,4 +13,5 @@ returns-else-place-len c =
     marks_past c.args.script.now c.args.in_force.now.items c.args.name.now c.in-Some.place (sym c.in-Some.ensures) l
 
 pub returns-in_default : goal.returns-in_default
-returns-in_default c = marks_unknown c.args.script.now c.args.in_force.now.items c.args.name.now (sym c.in_default.ensures)
+returns-in_default c =
+    marks_unknown c.args.script.now c.args.in_force.now.items c.args.name.now (sym c.in_default.ensures)

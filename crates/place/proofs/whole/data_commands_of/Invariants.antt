@@ -6,6 +6,7 @@ use Rattle.place.proofs.whole.data_commands_of.Given as goal
 
 abbrev pub invariant-loop-section : goal.invariant-loop-section
 invariant-loop-section l = record {
-  commands : all_data_in 0 (map keyed l.sections) ≡ map data_of l.list.items ++ all_data_in l.number (map keyed (drop l.section-index l.sections));
+  commands : all_data_in 0 (map keyed l.sections) ≡ map data_of l.list.items
+      ++ all_data_in l.number (map keyed (drop l.section-index l.sections));
   number : l.number ≡ l.section-index;
 }

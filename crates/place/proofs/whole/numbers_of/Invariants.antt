@@ -4,4 +4,5 @@ use Rattle.place.specs.Wholes.{placed_in}
 use Rattle.place.proofs.whole.numbers_of.Given as goal
 
 abbrev pub invariant-loop-section : goal.invariant-loop-section
-invariant-loop-section l = placed_in (map keyed l.sections) ≡ l.list.items ++ placed_in (map keyed (drop l.section-index l.sections))
+invariant-loop-section l = placed_in (map keyed l.sections) ≡ l.list.items
+    ++ placed_in (map keyed (drop l.section-index l.sections))

@@ -4,4 +4,5 @@ use Rattle.place.specs.RegionTable.{region_of}
 use Rattle.place.proofs.whole.regions_of.Given as goal
 
 abbrev pub invariant-loop-region : goal.invariant-loop-region
-invariant-loop-region l = map numbers (map region_of l.regions) ≡ l.list.items ++ map numbers (map region_of (drop l.region-index l.regions))
+invariant-loop-region l = map numbers (map region_of l.regions) ≡ l.list.items
+    ++ map numbers (map region_of (drop l.region-index l.regions))

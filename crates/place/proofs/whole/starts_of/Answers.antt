@@ -7,6 +7,10 @@ use Rattle.place.specs.Wholes.{starts_in}
 
 pub loop-section-preserved : goal.loop-section-preserved
 loop-section-preserved c =
-    starts_more c.args.sections.now c.loop-section.section-index c.section-item.result (starts_in (map keyed c.args.sections.now))
-    c.loop-section.list.items c.add_starts.new.list.items c.loop-section-test.true c.section-item.is c.loop-section.invariant
-    (c.in_ok-add_starts.ensures ∙ ap (λ l. c.loop-section.list.items ++ map (λ (p : KeyedPiece). p.start) (map keyed_piece l)) c.deref.ensures.value)
+    starts_more c.args.sections.now c.loop-section.section-index c.section-item.result
+    (starts_in (map keyed c.args.sections.now))
+    c.loop-section.list.items c.add_starts.new.list.items c.loop-section-test.true c.section-item.is
+    c.loop-section.invariant
+    (c.in_ok-add_starts.ensures
+    ∙ ap (λ l. c.loop-section.list.items ++ map (λ (p : KeyedPiece). p.start) (map keyed_piece l))
+    c.deref.ensures.value)

@@ -4,4 +4,5 @@ use Rattle.place.specs.Wholes.{starts_in}
 use Rattle.place.proofs.whole.starts_of.Given as goal
 
 abbrev pub invariant-loop-section : goal.invariant-loop-section
-invariant-loop-section l = starts_in (map keyed l.sections) ≡ l.list.items ++ starts_in (map keyed (drop l.section-index l.sections))
+invariant-loop-section l = starts_in (map keyed l.sections) ≡ l.list.items
+    ++ starts_in (map keyed (drop l.section-index l.sections))

@@ -5,4 +5,6 @@ use Rattle.place.specs.Places.{Ends}
 use Rattle.place.specs.Wholes.{placed_in}
 
 pub invariant_of-result : goal.invariant_of-result
-invariant_of-result g c = subst Ends (sym (c.in_ok-placed.ensures ∙ ap placed_in c.as_slice-sections.ensures.all)) (ends_whole _ c.as_slice-sections.ensures.ends)
+invariant_of-result g c =
+    subst Ends (sym (c.in_ok-placed.ensures ∙ ap placed_in c.as_slice-sections.ensures.all))
+    (ends_whole _ c.as_slice-sections.ensures.ends)

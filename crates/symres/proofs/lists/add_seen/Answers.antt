@@ -13,9 +13,14 @@ pub returns-then-not-is_visible-clause-spelled : goal.returns-then-not-is_visibl
 returns-then-not-is_visible-clause-spelled c = λ p.
     let xs = c.args.object.now.symbols in
     let symbol = get_or c.symbols.result.now c.args.number nothing.symbol in
-    let is : symbol ≡ (get_or xs c.args.number no_symbol).symbol = symbol_is c.symbols.result.now xs c.args.number nothing.symbol no_symbol c.symbols.ensures.value c.requires in
-    let seen : is_seen (get_or xs c.args.number no_symbol) ≡ false = ap (λ (y : Symbol). not (is_local y.binding)) (sym is) ∙ sym c.if-not-is_visible.ensures in
-    subst (SpellsSeen c.args.known.now.slots c.args.list.now.items) (sym (take_more xs c.args.number no_symbol c.requires)) (seen_skip c.args.known.now.slots c.args.list.now.items (take c.args.number xs) (get_or xs c.args.number no_symbol) seen p)
+    let is : symbol ≡ (get_or xs c.args.number no_symbol).symbol =
+    symbol_is c.symbols.result.now xs c.args.number nothing.symbol no_symbol c.symbols.ensures.value c.requires in
+    let seen : is_seen (get_or xs c.args.number no_symbol) ≡ false =
+    ap (λ (y : Symbol). not (is_local y.binding)) (sym is) ∙ sym c.if-not-is_visible.ensures in
+    subst (SpellsSeen c.args.known.now.slots c.args.list.now.items)
+    (sym (take_more xs c.args.number no_symbol c.requires))
+    (seen_skip c.args.known.now.slots c.args.list.now.items (take c.args.number xs)
+    (get_or xs c.args.number no_symbol) seen p)
 
 pub returns-clause-spelled : goal.returns-clause-spelled
 returns-clause-spelled c = λ p.
@@ -23,11 +28,17 @@ returns-clause-spelled c = λ p.
     let symbol = get_or c.symbols.result.now c.args.number nothing.symbol in
     let new = c.add.new.self.slots in
     let s : Numbered = record { name = c.in_ok-name.name; number = c.args.number; symbol = symbol } in
-    let is : symbol ≡ (get_or xs c.args.number no_symbol).symbol = symbol_is c.symbols.result.now xs c.args.number nothing.symbol no_symbol c.symbols.ensures.value c.requires in
+    let is : symbol ≡ (get_or xs c.args.number no_symbol).symbol =
+    symbol_is c.symbols.result.now xs c.args.number nothing.symbol no_symbol c.symbols.ensures.value c.requires in
     let visible : not (is_local symbol.binding) ≡ true = sym c.if-not-is_visible.ensures in
-    let seen : is_seen (get_or xs c.args.number no_symbol) ≡ true = ap (λ (y : Symbol). not (is_local y.binding)) (sym is) ∙ visible in
-    let named : IsNamed new s.name (get_or xs c.args.number no_symbol).name = c.in_ok-name.ensures.ok ∙ ap Some (sym (name_is xs c.args.number c.name_of.result.now no_symbol c.name_of.ensures c.requires)) in
+    let seen : is_seen (get_or xs c.args.number no_symbol) ≡ true =
+    ap (λ (y : Symbol). not (is_local y.binding)) (sym is) ∙ visible in
+    let named : IsNamed new s.name (get_or xs c.args.number no_symbol).name = c.in_ok-name.ensures.ok
+    ∙ ap Some (sym (name_is xs c.args.number c.name_of.result.now no_symbol c.name_of.ensures c.requires)) in
     let local : is_local (get_or xs c.args.number no_symbol).symbol.binding ≡ false = visible_is _ (sym seen) in
     subst (λ ys. SpellsSeen new ys (take (c.args.number + 1) xs)) (sym c.in_ok-push.ensures.items)
     (subst (SpellsSeen new (c.args.list.now.items ++ s ∷ [])) (sym (take_more xs c.args.number no_symbol c.requires))
-    (seen_push c.args.known.now.slots new c.args.list.now.items (take c.args.number xs) s (get_or xs c.args.number no_symbol) c.add.ensures.kept seen (spelled_seen new s (get_or xs c.args.number no_symbol) is local named) (λ v. ((get_or xs c.args.number no_symbol).name, named)) visible p))
+    (seen_push c.args.known.now.slots new c.args.list.now.items (take c.args.number xs) s
+    (get_or xs c.args.number no_symbol) c.add.ensures.kept seen
+    (spelled_seen new s (get_or xs c.args.number no_symbol) is local named) (λ v.
+    ((get_or xs c.args.number no_symbol).name, named)) visible p))

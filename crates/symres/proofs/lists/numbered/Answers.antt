@@ -8,16 +8,27 @@ use Rattle.symres.proofs.lists.numbered.Goals as goal
 pub unreachable-requires : goal.unreachable-requires
 unreachable-requires c =
     let xs = c.args.object.now.symbols in
-    let is : get_or c.symbols.result.now c.args.number nothing.symbol ≡ (get_or xs c.args.number no_symbol).symbol = symbol_is c.symbols.result.now xs c.args.number nothing.symbol no_symbol c.symbols.ensures.value c.requires.within in
-    let seen : is_local (get_or xs c.args.number no_symbol).symbol.binding ≡ false = ap (λ (y : Symbol). is_local y.binding) (sym is) ∙ visible_is (is_local (get_or c.symbols.result.now c.args.number nothing.symbol).binding) c.if-not-is_visible.ensures in
+    let is : get_or c.symbols.result.now c.args.number nothing.symbol ≡ (get_or xs c.args.number no_symbol).symbol =
+    symbol_is c.symbols.result.now xs c.args.number nothing.symbol no_symbol c.symbols.ensures.value
+    c.requires.within in
+    let seen : is_local (get_or xs c.args.number no_symbol).symbol.binding ≡ false =
+    ap (λ (y : Symbol). is_local y.binding) (sym is)
+    ∙ visible_is (is_local (get_or c.symbols.result.now c.args.number nothing.symbol).binding)
+    c.if-not-is_visible.ensures in
     let k = c.requires.known no_symbol seen in
-    c.in-None.ensures.number k.0 (k.1 ∙ ap Some (name_is xs c.args.number c.name_of.result.now no_symbol c.name_of.ensures c.requires.within))
+    c.in-None.ensures.number k.0 (k.1
+    ∙ ap Some (name_is xs c.args.number c.name_of.result.now no_symbol c.name_of.ensures c.requires.within))
 
 pub returns-clause-spelled : goal.returns-clause-spelled
 returns-clause-spelled c = λ d.
     let xs = c.args.object.now.symbols in
     let symbol = get_or c.symbols.result.now c.args.number nothing.symbol in
-    let is : symbol ≡ (get_or xs c.args.number d).symbol = symbol_is c.symbols.result.now xs c.args.number nothing.symbol d c.symbols.ensures.value c.requires.within in
-    let seen : is_local (get_or xs c.args.number d).symbol.binding ≡ false = ap (λ (y : Symbol). is_local y.binding) (sym is) ∙ visible_is (is_local symbol.binding) c.if-not-is_visible.ensures in
-    spelled_seen c.args.known.now.slots (record { name = c.in-Some.name; number = c.args.number; symbol = symbol }) (get_or xs c.args.number d) is seen
-    (c.in-Some.ensures.number ∙ ap Some (sym (name_is xs c.args.number c.name_of.result.now d c.name_of.ensures c.requires.within)))
+    let is : symbol ≡ (get_or xs c.args.number d).symbol =
+    symbol_is c.symbols.result.now xs c.args.number nothing.symbol d c.symbols.ensures.value c.requires.within in
+    let seen : is_local (get_or xs c.args.number d).symbol.binding ≡ false =
+    ap (λ (y : Symbol). is_local y.binding) (sym is)
+    ∙ visible_is (is_local symbol.binding) c.if-not-is_visible.ensures in
+    spelled_seen c.args.known.now.slots (record { name = c.in-Some.name; number = c.args.number; symbol = symbol })
+    (get_or xs c.args.number d) is seen
+    (c.in-Some.ensures.number
+    ∙ ap Some (sym (name_is xs c.args.number c.name_of.result.now d c.name_of.ensures c.requires.within)))

@@ -13,6 +13,7 @@ returns-clause-taken c =
     record {
       from = at;
       within = omega (arith, lt, length-map ls room_of);
-      is = get_or-map room_of ls at c.remove-list.result 0 lt ∙ ap room_of (sym c.remove-list.ensures.value) ∙ sym c.clear.ensures.capacity;
+      is = get_or-map room_of ls at c.remove-list.result 0 lt ∙ ap room_of (sym c.remove-list.ensures.value)
+          ∙ sym c.clear.ensures.capacity;
       rest = ap rooms c.remove-list.ensures.items ∙ map-remove room_of ls at;
     }

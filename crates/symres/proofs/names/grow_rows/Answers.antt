@@ -21,5 +21,6 @@ loop-symbol-preserved c =
 
 pub returns-clause-ok : goal.returns-clause-ok
 returns-clause-ok c =
-    let all : take c.loop-symbol.symbol-index c.args.symbols.now ≡ c.args.symbols.now = take_all _ c.args.symbols.now c.loop-symbol-test.false in
+    let all : take c.loop-symbol.symbol-index c.args.symbols.now ≡ c.args.symbols.now =
+    take_all _ c.args.symbols.now c.loop-symbol-test.false in
     subst (All (λ (s : Numbered). s.name < length c.loop-symbol.objects.room)) all c.loop-symbol.invariant.within

@@ -9,7 +9,8 @@ returns-in-Err-clause-added c =
     let k0 = c.args.known.now in
     let k1 = c.make_ready.new.known in
     let k2 = c.drop_newer.new.self in
-    let order : k2.order ≡ k0.order = c.drop_newer.ensures ∙ ap (λ n. take n k1.order) c.len-count.ensures.len ∙ ap (take (length k0.order)) c.in-Err.ensures.added.1 ∙ take_first k0.order c.in-Err.ensures.added.0 in
+    let order : k2.order ≡ k0.order = c.drop_newer.ensures ∙ ap (λ n. take n k1.order) c.len-count.ensures.len
+    ∙ ap (take (length k0.order)) c.in-Err.ensures.added.1 ∙ take_first k0.order c.in-Err.ensures.added.0 in
     ([], order ∙ sym (append-nil k0.order))
 
 pub returns-in-Err-clause-refused : goal.returns-in-Err-clause-refused
@@ -17,7 +18,8 @@ returns-in-Err-clause-refused c =
     let k0 = c.args.known.now in
     let k1 = c.make_ready.new.known in
     let k2 = c.drop_newer.new.self in
-    let order : k2.order ≡ k0.order = c.drop_newer.ensures ∙ ap (λ n. take n k1.order) c.len-count.ensures.len ∙ ap (take (length k0.order)) c.in-Err.ensures.added.1 ∙ take_first k0.order c.in-Err.ensures.added.0 in
+    let order : k2.order ≡ k0.order = c.drop_newer.ensures ∙ ap (λ n. take n k1.order) c.len-count.ensures.len
+    ∙ ap (take (length k0.order)) c.in-Err.ensures.added.1 ∙ take_first k0.order c.in-Err.ensures.added.0 in
     same_names k0 k2 c.len-count.ensures.consistent c.len-known.ensures.consistent order
 
 pub returns-in-Err-clause-kept : goal.returns-in-Err-clause-kept

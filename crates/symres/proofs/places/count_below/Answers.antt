@@ -12,12 +12,14 @@ loop-low-preserved-then-places-middle c =
     let i = c.loop-low.invariant in
     let ps = c.args.places.now in
     let m : ℕ = c.loop-low.low + (c.loop-low.high - c.loop-low.low) / 2 in
-    let lt : c.loop-low.low + (c.loop-low.high - c.loop-low.low) / 2 < c.loop-low.high = omega (arith, c.loop-low-test.true) in
+    let lt : c.loop-low.low + (c.loop-low.high - c.loop-low.low) / 2 < c.loop-low.high =
+    omega (arith, c.loop-low-test.true) in
     let in_list : c.loop-low.low + (c.loop-low.high - c.loop-low.low) / 2 < length ps = omega (arith, lt, i.within) in
     record {
       ordered = omega (arith, lt);
       within = i.within;
-      below = below_middle ps c.args.key m c.requires in_list (λ d. omega (arith, ap (λ (p : Place). p.key) (get_or_default ps m d nowhere in_list), c.if-places-middle.true));
+      below = below_middle ps c.args.key m c.requires in_list (λ d.
+          omega (arith, ap (λ (p : Place). p.key) (get_or_default ps m d nowhere in_list), c.if-places-middle.true));
       rest = i.rest;
     }
 
@@ -26,10 +28,12 @@ loop-low-preserved c =
     let i = c.loop-low.invariant in
     let ps = c.args.places.now in
     let m : ℕ = c.loop-low.low + (c.loop-low.high - c.loop-low.low) / 2 in
-    let lt : c.loop-low.low + (c.loop-low.high - c.loop-low.low) / 2 < c.loop-low.high = omega (arith, c.loop-low-test.true) in
+    let lt : c.loop-low.low + (c.loop-low.high - c.loop-low.low) / 2 < c.loop-low.high =
+    omega (arith, c.loop-low-test.true) in
     record {
       ordered = omega arith;
       within = omega (arith, lt, i.within);
       below = i.below;
-      rest = above_middle ps c.args.key m c.requires (λ d h. omega (arith, ap (λ (p : Place). p.key) (get_or_default ps m d nowhere h), c.if-places-middle.false));
+      rest = above_middle ps c.args.key m c.requires (λ d h.
+          omega (arith, ap (λ (p : Place). p.key) (get_or_default ps m d nowhere h), c.if-places-middle.false));
     }

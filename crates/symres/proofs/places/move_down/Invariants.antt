@@ -5,6 +5,7 @@ use Rattle.symres.proofs.places.move_down.Given as goal
 
 abbrev pub invariant-loop-place : goal.invariant-loop-place
 invariant-loop-place l = record {
-  done : (k : ℕ) (d : Place) → k < l.place-index → ((get_or l.places k d).key ≡ (get_or l.fn.places k d).key) × ((get_or l.places k d).at ≡ down l.at (get_or l.fn.places k d).at);
+  done : (k : ℕ) (d : Place) → k < l.place-index → ((get_or l.places k d).key ≡ (get_or l.fn.places k d).key)
+      × ((get_or l.places k d).at ≡ down l.at (get_or l.fn.places k d).at);
   left : (k : ℕ) (d : Place) → l.place-index ≤ k → k < length l.places → get_or l.places k d ≡ get_or l.fn.places k d;
 }

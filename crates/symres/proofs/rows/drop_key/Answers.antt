@@ -4,4 +4,6 @@ use Rattle.symres.specs.declared.symbol.Declared.{Declared}
 use Rattle.symres.proofs.rows.drop_key.Goals as goal
 
 pub returns-clause-items : goal.returns-clause-items
-returns-clause-items c = filter_same _ (λ (d : Declared). not (eqb d.entry.key c.args.key)) _ (λ x b f r. search rules) _ _ c.retain.ensures.filtered
+returns-clause-items c =
+    filter_same _ (λ (d : Declared). not (eqb d.entry.key c.args.key)) _ (λ x b f r.
+    search rules) _ _ c.retain.ensures.filtered

@@ -6,7 +6,8 @@ use Rattle.symres.proofs.rows.place_for.Given as goal
 abbrev pub invariant-loop-number : goal.invariant-loop-number
 invariant-loop-number l = record {
   within : l.number ≤ length l.row;
-  behind : (k : ℕ) (d : Declared) → l.number ≤ k → k < length l.row → before l.places l.at l.key (get_or l.row k d) ≡ false;
+  behind : (k : ℕ) (d : Declared) → l.number ≤ k → k < length l.row → before l.places l.at l.key (get_or l.row k d)
+      ≡ false;
 }
 
 abbrev pub decreases-loop-number : goal.decreases-loop-number

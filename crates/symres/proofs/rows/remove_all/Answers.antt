@@ -12,11 +12,14 @@ pub loop-symbol-preserved : goal.loop-symbol-preserved
 loop-symbol-preserved c =
     let i = c.loop-symbol.symbol-index in
     let ss = c.args.symbols.now in
-    subst (λ xs. Cleared c.args.key xs c.args.table.now.items c.remove_visible.new.table.items) (sym (take_more ss i nothing c.loop-symbol-test.true))
+    subst (λ xs. Cleared c.args.key xs c.args.table.now.items c.remove_visible.new.table.items)
+    (sym (take_more ss i nothing c.loop-symbol-test.true))
     (c.remove_visible.ensures (take i ss) c.args.table.now.items c.loop-symbol.invariant)
 
 pub returns-clause-table : goal.returns-clause-table
 returns-clause-table c =
-    let all : take c.loop-symbol.symbol-index c.args.symbols.now ≡ c.args.symbols.now = take_all _ c.args.symbols.now c.loop-symbol-test.false in
-    let end = subst (λ ss. Cleared c.args.key ss c.args.table.now.items c.loop-symbol.table.items) all c.loop-symbol.invariant in
+    let all : take c.loop-symbol.symbol-index c.args.symbols.now ≡ c.args.symbols.now =
+    take_all _ c.args.symbols.now c.loop-symbol-test.false in
+    let end = subst (λ ss. Cleared c.args.key ss c.args.table.now.items c.loop-symbol.table.items) all
+    c.loop-symbol.invariant in
     cleared_end _ _ _ _ end

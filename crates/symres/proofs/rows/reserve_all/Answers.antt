@@ -10,20 +10,29 @@ pub loop-symbol-preserved : goal.loop-symbol-preserved
 loop-symbol-preserved c =
     let inv = c.loop-symbol.invariant in
     let i = c.loop-symbol.symbol-index in
-    let seen : is_local (get_or c.args.symbols.now i nothing).symbol.binding ≡ false = visible_is (is_local (get_or c.args.symbols.now i nothing).symbol.binding) (sym (c.requires.visible i nothing c.loop-symbol-test.true)) in
+    let seen : is_local (get_or c.args.symbols.now i nothing).symbol.binding ≡ false =
+    visible_is (is_local (get_or c.args.symbols.now i nothing).symbol.binding)
+    (sym (c.requires.visible i nothing c.loop-symbol-test.true)) in
     let known = c.requires.known i nothing c.loop-symbol-test.true seen in
     let s = get_or c.args.symbols.now i nothing in
     let mid = c.loop-symbol.table.items in
     let w : s.name < length mid = omega (arith, known, inv.grow.long) in
     let count : c.unwrap_or-count.result ≡ length (named s.name c.args.symbols.now) =
-    c.unwrap_or-count.ensures ∙ ap (λ r. unwrap_or r 0) (c.copied.ensures ∙ c.get.ensures.value) ∙ c.in_ok-counts.ensures s.name ∙ count_named s.name c.args.symbols.now c.requires.visible in
+    c.unwrap_or-count.ensures ∙ ap (λ r. unwrap_or r 0) (c.copied.ensures ∙ c.get.ensures.value)
+    ∙ c.in_ok-counts.ensures s.name ∙ count_named s.name c.args.symbols.now c.requires.visible in
     record {
-      grow = grow_set c.args.table.now.items mid s.name c.index_mut.result.now c.reserve.new.self inv.grow w c.index_mut.ensures.value c.reserve.ensures.items c.reserve.ensures.capacity;
-      roomy = roomy_step c.args.symbols.now (take i c.args.symbols.now) (take (i + 1) c.args.symbols.now) s mid c.index_mut.result.now c.reserve.new.self c.unwrap_or-count.result
-          (take_more c.args.symbols.now i nothing c.loop-symbol-test.true) w c.index_mut.ensures.value c.in_ok-reserve.ensures.ok count inv.roomy;
+      grow = grow_set c.args.table.now.items mid s.name c.index_mut.result.now c.reserve.new.self inv.grow w
+          c.index_mut.ensures.value c.reserve.ensures.items c.reserve.ensures.capacity;
+      roomy = roomy_step c.args.symbols.now (take i c.args.symbols.now) (take (i + 1) c.args.symbols.now) s mid
+          c.index_mut.result.now c.reserve.new.self c.unwrap_or-count.result
+          (take_more c.args.symbols.now i nothing c.loop-symbol-test.true) w c.index_mut.ensures.value
+          c.in_ok-reserve.ensures.ok count inv.roomy;
     }
 
 pub returns-clause-room : goal.returns-clause-room
 returns-clause-room c =
-    let all : take c.loop-symbol.symbol-index c.args.symbols.now ≡ c.args.symbols.now = take_all _ c.args.symbols.now c.loop-symbol-test.false in
-    roomy_end c.args.symbols.now c.loop-symbol.table.items (subst (λ ss. Roomy c.args.symbols.now ss c.loop-symbol.table.items) all c.loop-symbol.invariant.roomy) (λ v. omega (arith, v.ok.0, v.ok.1))
+    let all : take c.loop-symbol.symbol-index c.args.symbols.now ≡ c.args.symbols.now =
+    take_all _ c.args.symbols.now c.loop-symbol-test.false in
+    roomy_end c.args.symbols.now c.loop-symbol.table.items
+    (subst (λ ss. Roomy c.args.symbols.now ss c.loop-symbol.table.items) all c.loop-symbol.invariant.roomy) (λ v.
+    omega (arith, v.ok.0, v.ok.1))

@@ -8,4 +8,5 @@ loop-entry-preserved c = λ name.
     let i = c.loop-entry.entry-index in
     let ds = c.args.declared.now in
     c.add.ensures name (map (declaration_of name) (take i ds)) (c.loop-entry.invariant name)
-    ∙ ap tally_of (sym (ap (map (declaration_of name)) (take_more ds i _ c.loop-entry-test.true) ∙ map-append (declaration_of name) (take i ds) _))
+    ∙ ap tally_of (sym (ap (map (declaration_of name)) (take_more ds i _ c.loop-entry-test.true)
+    ∙ map-append (declaration_of name) (take i ds) _))

@@ -10,7 +10,9 @@ pub fault_text-requires : goal.fault_text-requires
 fault_text-requires c = record {
   sections = ap shown_sections c.deref-2.ensures.value ∙ c.in_ok-sections.ensures;
   regions = ap shown_regions c.deref-3.ensures.value ∙ c.in_ok-regions.ensures;
-  assertions = ap shown_assertions c.deref-4.ensures.value ∙ c.in_ok-asserts.ensures ∙ ap asserted_in (ap shown_commons c.deref.ensures.value ∙ c.in_ok-commands.ensures);
-  mentioned = ap shown_names c.deref-5.ensures.value ∙ c.in_ok-mentioned.ensures ∙ ap mentioned_names c.statements.ensures.value;
+  assertions = ap shown_assertions c.deref-4.ensures.value ∙ c.in_ok-asserts.ensures
+      ∙ ap asserted_in (ap shown_commons c.deref.ensures.value ∙ c.in_ok-commands.ensures);
+  mentioned = ap shown_names c.deref-5.ensures.value ∙ c.in_ok-mentioned.ensures
+      ∙ ap mentioned_names c.statements.ensures.value;
   entry = c.entry_name.ensures;
 }

@@ -5,4 +5,5 @@ use Rattle.place.specs.SectionTable.{nameless}
 use Rattle.place.proofs.ready.ReadyScope.section.Goals as goal
 
 pub returns : goal.returns
-returns c = ap (option_map asked) c.placed.ensures ∙ numbers_found nameless c.args.self.now.done.now.sections c.args.name.now
+returns c = ap (option_map asked) c.placed.ensures
+    ∙ numbers_found nameless c.args.self.now.done.now.sections c.args.name.now

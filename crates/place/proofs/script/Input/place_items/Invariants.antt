@@ -12,7 +12,8 @@ ghost-place_item g a = g.naming
 abbrev pub invariant-loop-item : goal.invariant-loop-item
 invariant-loop-item g l = record {
   gives : run (item_step (rows_of g.naming l.self) l.self.provided.now) (layout_of g.naming l.fn.here l.fn.done) l.items
-      ≡ run (item_step (rows_of g.naming l.self) l.self.provided.now) (layout_of g.naming l.here l.done) (drop l.item-index l.items);
+      ≡ run (item_step (rows_of g.naming l.self) l.self.provided.now) (layout_of g.naming l.here l.done)
+      (drop l.item-index l.items);
   anew : l.here.anew + entries (length l.done.sections) (map (λ v. v.items) l.self.rows.now)
       ≤ l.fn.here.anew + entries (length l.fn.done.sections) (map (λ v. v.items) l.self.rows.now);
 }

@@ -11,8 +11,10 @@ ghost-place_statement g a = g.naming
 
 abbrev pub invariant-loop-statement : goal.invariant-loop-statement
 invariant-loop-statement g l = record {
-  gives : run (statement_step (rows_of g.naming l.self) l.self.provided.now) (layout_of g.naming l.fn.here l.fn.done) l.statements
-      ≡ run (statement_step (rows_of g.naming l.self) l.self.provided.now) (layout_of g.naming l.here l.done) (drop l.statement-index l.statements);
+  gives : run (statement_step (rows_of g.naming l.self) l.self.provided.now) (layout_of g.naming l.fn.here l.fn.done)
+      l.statements
+      ≡ run (statement_step (rows_of g.naming l.self) l.self.provided.now) (layout_of g.naming l.here l.done)
+      (drop l.statement-index l.statements);
   anew : l.here.anew + entries (length l.done.sections) (map (λ v. v.items) l.self.rows.now)
       ≤ l.fn.here.anew + entries (length l.fn.done.sections) (map (λ v. v.items) l.self.rows.now);
 }

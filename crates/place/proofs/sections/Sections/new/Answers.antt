@@ -2,4 +2,6 @@ use Rattle.place.proofs.FoundSections.{no_sections}
 use Rattle.place.proofs.sections.Sections.new.Goals as goal
 
 pub invariant_of-result : goal.invariant_of-result
-invariant_of-result c = no_sections c.args.script.now c.new.result.items c.in_ok-differences.differences.items c.len.result c.new.ensures.items c.in_ok-differences.ensures
+invariant_of-result c =
+    no_sections c.args.script.now c.new.result.items c.in_ok-differences.differences.items c.len.result
+    c.new.ensures.items c.in_ok-differences.ensures

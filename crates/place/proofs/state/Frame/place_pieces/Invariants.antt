@@ -10,8 +10,10 @@ ghost-place_piece g a = g.naming
 
 abbrev pub invariant-loop-here : goal.invariant-loop-here
 invariant-loop-here g l = record {
-  gives : pieces_placed l.line l.number (body_of g.naming l.fn.here l.self) (row_named g.naming (drop (length l.fn.here.pieces.items) l.self.row.now))
-      ≡ pieces_placed l.line l.number (body_of g.naming l.here l.self) (row_named g.naming (drop (length l.here.pieces.items) l.self.row.now));
+  gives : pieces_placed l.line l.number (body_of g.naming l.fn.here l.self)
+      (row_named g.naming (drop (length l.fn.here.pieces.items) l.self.row.now))
+      ≡ pieces_placed l.line l.number (body_of g.naming l.here l.self)
+      (row_named g.naming (drop (length l.here.pieces.items) l.self.row.now));
   counted : Counted l.fn.here l.here (length l.self.row.now);
 }
 

@@ -12,14 +12,19 @@ use Rattle.place.specs.SectionTable.{keyed}
 pub returns-in-Ok-clause-gives : goal.returns-in-Ok-clause-gives
 returns-in-Ok-clause-gives g c =
     let q : PlacedSection = section_of g.naming (keyed c.close-section.result) in
-    let e = end_is g.naming c.args.self.now c.args.done.now c.args.line c.args.output.now (head_from c.args.head) q c.close-section.ensures.value in
+    let e = end_is g.naming c.args.self.now c.args.done.now c.args.line c.args.output.now (head_from c.args.head) q
+    c.close-section.ensures.value in
     let s : Layout = (ended_body g.naming c.args.self.now c.args.done.now).layout in
-    let there = ends_there g.naming c.args.self.now c.args.output.now (head_from c.args.head) q c.close-section.ensures.value in
+    let there = ends_there g.naming c.args.self.now c.args.output.now (head_from c.args.head) q
+    c.close-section.ensures.value in
     let last = load_end_is c.args.line c.args.output.now c.args.done.now q c.in-Ok.load_end c.in-Ok.ensures in
     e ∙ (ap (λ r. and_then r (λ (_ : ℕ). Ok (with_section s c.args.output.now q))) c.in-Ok.ensures
-    ∙ ap (λ (t : Layout). Ok t) (joined g.naming c.args.self.now c.close-section.new.self c.args.done.now c.args.output.now (keyed c.close-section.result)
+    ∙ ap (λ (t : Layout).
+    Ok t) (joined g.naming c.args.self.now c.close-section.new.self c.args.done.now c.args.output.now
+    (keyed c.close-section.result)
     c.push.new.self c.free.new.self c.free-in-Ok.new.self c.max-end.result c.in-Ok.load_end
-    c.close-section.ensures.dot c.close-section.ensures.dots c.close-section.ensures.inputs c.close-section.ensures.symbols
+    c.close-section.ensures.dot c.close-section.ensures.dots c.close-section.ensures.inputs
+    c.close-section.ensures.symbols
     (c.free.ensures ∙ ap (λ r. freed_from r c.max-end.result c.args.done.now.regions) c.region_name.ensures)
     (c.free-in-Ok.ensures ∙ ap (λ r. freed_from r c.in-Ok.load_end c.free.new.self) c.load_region_name.ensures)
     c.in_ok-push-in-Ok.ensures.pushed
@@ -28,6 +33,10 @@ returns-in-Ok-clause-gives g c =
 pub returns-clause-gives : goal.returns-clause-gives
 returns-clause-gives g c =
     let q : PlacedSection = section_of g.naming (keyed c.close-section.result) in
-    let e = end_is g.naming c.args.self.now c.args.done.now c.args.line c.args.output.now (head_from c.args.head) q c.close-section.ensures.value in
+    let e = end_is g.naming c.args.self.now c.args.done.now c.args.line c.args.output.now (head_from c.args.head) q
+    c.close-section.ensures.value in
     let s : Layout = (ended_body g.naming c.args.self.now c.args.done.now).layout in
-    elim c.in-Err.ensures [ inl h ↦ inl (e ∙ ap (λ r. and_then r (λ (_ : ℕ). Ok (with_section s c.args.output.now q))) h) | inr h ↦ inr h ]
+    elim c.in-Err.ensures [
+      | inl h ↦ inl (e ∙ ap (λ r. and_then r (λ (_ : ℕ). Ok (with_section s c.args.output.now q))) h)
+      | inr h ↦ inr h
+    ]

@@ -4,7 +4,10 @@ use Rattle.symres.proofs.Cutting.{paired_cut, map_take}
 use Rattle.symres.proofs.known.Known.drop_newer.Goals as goal
 
 pub invariant_of-self : goal.invariant_of-self
-invariant_of-self c = paired_cut c.args.count c.self.inside.numbers.entries c.truncate.new.self.entries c.self.inside.names.slots c.drop_unnumbered.new.names.slots c.self.invariant c.truncate.ensures.entries c.drop_unnumbered.ensures
+invariant_of-self c =
+    paired_cut c.args.count c.self.inside.numbers.entries c.truncate.new.self.entries c.self.inside.names.slots
+    c.drop_unnumbered.new.names.slots c.self.invariant c.truncate.ensures.entries c.drop_unnumbered.ensures
 
 pub returns : goal.returns
-returns c = ap (map entry_spelled) c.truncate.ensures.entries ∙ map_take c.args.count c.self.inside.numbers.entries ∙ ap (λ (k : KnownNames). take c.args.count k.order) c.self.view_is
+returns c = ap (map entry_spelled) c.truncate.ensures.entries ∙ map_take c.args.count c.self.inside.numbers.entries
+    ∙ ap (λ (k : KnownNames). take c.args.count k.order) c.self.view_is

@@ -11,4 +11,6 @@ returns-clause-names c = ap (map entry_spelled) c.iter.ensures.rest ∙ ap (λ (
 pub returns-clause-listing : goal.returns-clause-listing
 returns-clause-listing c =
     let a = c.self.inside in
-    subst (λ (k : KnownNames). IsListing k.slots k.order) c.self.view_is (listing _ (consistent a.numbers.entries a.names.slots c.self.invariant) (once_mapped a.numbers.entries c.iter.ensures.unique))
+    subst (λ (k : KnownNames). IsListing k.slots k.order) c.self.view_is
+    (listing _ (consistent a.numbers.entries a.names.slots c.self.invariant)
+    (once_mapped a.numbers.entries c.iter.ensures.unique))

@@ -12,7 +12,9 @@ invariant_of-self c =
     let a = c.self.inside in
     let e = c.reserve_fields-reserved.ensures in
     record {
-      named = subst (AllSpellable c.reserve_fields-reserved.new.known.slots) (sym e.same.objects) (spellable_kept a.known.slots c.reserve_fields-reserved.new.known.slots a.objects.objects e.kept c.self.invariant.named);
+      named = subst (AllSpellable c.reserve_fields-reserved.new.known.slots) (sym e.same.objects)
+          (spellable_kept a.known.slots c.reserve_fields-reserved.new.known.slots a.objects.objects e.kept
+          c.self.invariant.named);
       lists = omega (arith, e.room, ap length e.same.objects);
     }
 
@@ -21,12 +23,18 @@ returns-clause-objects c =
     let a = c.self.inside in
     let e = c.reserve_fields-reserved.ensures in
     let new = c.reserve_fields-reserved.new.known.slots in
-    ap (map (spell new)) e.same.objects ∙ sym (same_objects a.known.slots new a.objects.objects e.kept c.self.invariant.named) ∙ ap (λ (s : State). s.objects) c.self.view_is
+    ap (map (spell new)) e.same.objects
+    ∙ sym (same_objects a.known.slots new a.objects.objects e.kept c.self.invariant.named)
+    ∙ ap (λ (s : State). s.objects) c.self.view_is
 
 pub returns-clause-ok : goal.returns-clause-ok
 returns-clause-ok c =
     let a = c.self.inside in
     let e = c.reserve_fields-reserved.ensures in
     let new = c.reserve_fields-reserved.new.known.slots in
-    let named : AllSpellable new c.reserve_fields-reserved.new.objects.objects = subst (AllSpellable new) (sym e.same.objects) (spellable_kept a.known.slots new a.objects.objects e.kept c.self.invariant.named) in
-    both_ok c.reserve_fields-reserved.result e.ok e.list (λ r l. may_enter new c.reserve_fields-reserved.new.objects (rooms c.reserve_fields-reserved.new.spare.items) _ c.reserve_fields-reserved.new.known.order c.args.object.now.symbols c.len-known.ensures.distinct named r l)
+    let named : AllSpellable new c.reserve_fields-reserved.new.objects.objects =
+    subst (AllSpellable new) (sym e.same.objects)
+    (spellable_kept a.known.slots new a.objects.objects e.kept c.self.invariant.named) in
+    both_ok c.reserve_fields-reserved.result e.ok e.list (λ r l.
+    may_enter new c.reserve_fields-reserved.new.objects (rooms c.reserve_fields-reserved.new.spare.items) _
+    c.reserve_fields-reserved.new.known.order c.args.object.now.symbols c.len-known.ensures.distinct named r l)

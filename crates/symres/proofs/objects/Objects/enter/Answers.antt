@@ -11,7 +11,9 @@ use Rattle.symres.proofs.objects.Objects.enter.Goals as goal
 pub move_up-requires : goal.move_up-requires
 move_up-requires c =
     let a = c.self.inside in
-    rw c.deref_mut.ensures.value (places_fit a.places.items a.order.items 18446744073709551615 c.self.invariant.numbered (omega (arith, a.order.ok.0, a.order.ok.1)))
+    rw c.deref_mut.ensures.value
+    (places_fit a.places.items a.order.items 18446744073709551615 c.self.invariant.numbered
+    (omega (arith, a.order.ok.0, a.order.ok.1)))
 
 pub invariant_of-self : goal.invariant_of-self
 invariant_of-self c =
@@ -19,20 +21,36 @@ invariant_of-self c =
     let os = a.order.items in
     let v = c.self.view_is in
     let k : IsKept os a.rows.items a.places.items = c.self.invariant in
-    let new : Entered = record { key = c.args.key; symbols = c.args.symbols.items; room = vec_capacity c.args.symbols } in
+    let new : Entered = record { key = c.args.key; symbols = c.args.symbols.items; room = vec_capacity c.args.symbols }
+    in
     let at : c.args.at ≤ length os = rw (← v) at c.requires.at in
     let fresh : All (λ (o : Entered). eqb o.key c.args.key ≡ false) os = rw (← v) at c.requires.fresh in
-    let known : All (HasRow (length a.rows.items)) c.args.symbols.items = λ j x l s. omega (arith, c.requires.room.known j x l s, ap (λ (s : ObjectsState). length s.room) v, length-map a.rows.items (λ (row : Vec Declared Global). vec_capacity row)) in
-    let whole : IsTable a.rows.items (take c.args.at os ++ drop c.args.at os) = subst (IsTable a.rows.items) (sym (take-append-drop c.args.at os)) k.table in
-    let added = c.add_all.ensures.table (take c.args.at os) (drop c.args.at os) (rw c.deref.ensures.value (split_at a.places.items c.args.at c.args.key os k.numbered at fresh)) whole (vec_capacity c.args.symbols) in
+    let known : All (HasRow (length a.rows.items)) c.args.symbols.items = λ j x l s.
+    omega (
+      arith,
+      c.requires.room.known j x l s,
+      ap (λ (s : ObjectsState). length s.room) v,
+      length-map a.rows.items (λ (row : Vec Declared Global). vec_capacity row),
+    ) in
+    let whole : IsTable a.rows.items (take c.args.at os ++ drop c.args.at os) =
+    subst (IsTable a.rows.items) (sym (take-append-drop c.args.at os)) k.table in
+    let added = c.add_all.ensures.table (take c.args.at os) (drop c.args.at os)
+    (rw c.deref.ensures.value (split_at a.places.items c.args.at c.args.key os k.numbered at fresh)) whole
+    (vec_capacity c.args.symbols) in
     let items = rw c.unwrap-2.ensures at c.insert-2.ensures.items in
     let places = rw c.unwrap.ensures at c.insert.ensures.items in
     let table : IsTable c.add_all.new.table.items (insert os c.args.at new) = rw c.deref-2.ensures.value at added in
-    let written' = written a.places.len c.move_up.new.places a.places.items (omega (arith, c.move_up.ensures.long, ap length c.deref_mut.ensures.value, a.places.ok.0)) (omega (arith, a.places.ok.0)) in
-    rw (items, places, written') (kept_after a.places.items c.move_up.new.places c.count_below-number.result c.args.at new os a.rows.items c.add_all.new.table.items k
-    (rw c.deref_mut.ensures.value at c.move_up.ensures) (rw c.deref-3.ensures.value at c.count_below-number.ensures) at fresh known c.add_all.ensures.grows.long table)
+    let written' = written a.places.len c.move_up.new.places a.places.items
+    (omega (arith, c.move_up.ensures.long, ap length c.deref_mut.ensures.value, a.places.ok.0))
+    (omega (arith, a.places.ok.0)) in
+    rw (items, places, written')
+    (kept_after a.places.items c.move_up.new.places c.count_below-number.result c.args.at new os a.rows.items
+    c.add_all.new.table.items k
+    (rw c.deref_mut.ensures.value at c.move_up.ensures) (rw c.deref-3.ensures.value at c.count_below-number.ensures) at
+    fresh known c.add_all.ensures.grows.long table)
 
 pub returns-clause-room : goal.returns-clause-room
 returns-clause-room c =
-    rooms c.self.inside.rows.items c.add_all.new.table.items c.add_all.ensures.grows.long (λ k d l. (c.add_all.ensures.grows.row k d l).0)
+    rooms c.self.inside.rows.items c.add_all.new.table.items c.add_all.ensures.grows.long (λ k d l.
+    (c.add_all.ensures.grows.row k d l).0)
     ∙ ap (λ (s : ObjectsState). s.room) c.self.view_is

@@ -7,5 +7,7 @@ use Rattle.symres.proofs.objects.Objects.row.Goals as goal
 pub returns-in-None : goal.returns-in-None
 returns-in-None c =
     let a = c.self.inside in
-    let w : length a.rows.items ≤ c.args.name = omega (arith, c.in-None.ensures.lookup, ap length c.deref.ensures.value) in
-    sym (entries_past (length a.rows.items) c.args.name a.order.items w c.self.invariant.known) ∙ ap (λ (s : ObjectsState). entries c.args.name s.objects) c.self.view_is
+    let w : length a.rows.items ≤ c.args.name =
+    omega (arith, c.in-None.ensures.lookup, ap length c.deref.ensures.value) in
+    sym (entries_past (length a.rows.items) c.args.name a.order.items w c.self.invariant.known)
+    ∙ ap (λ (s : ObjectsState). entries c.args.name s.objects) c.self.view_is
