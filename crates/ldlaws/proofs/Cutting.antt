@@ -1,8 +1,11 @@
 -- No spelling of a command begins another, so no stream is cut into commands in two ways.
-use Rattle.std.proofs.Common.{◌≡◌, ◌≢◌, ℕ, zero, suc, ◌+◌, ◌%◌, ◌^◌, Bool, true, false, not, ◌&&◌, ◌==◌, ◌<◌, List, [], ◌∷◌, ◌++◌, length, codes, decimal, flat_map, refl, sym, ap, arith, ◌∙◌, append_assoc}
+use Rattle.std.proofs.Common.{◌≡◌, ◌≢◌, ℕ, zero, suc, ◌+◌, ◌%◌, ◌^◌, Bool, true, false, not, ◌&&◌, ◌==◌, ◌<◌, List, []}
+use Rattle.std.proofs.Common.{◌∷◌, ◌++◌, length, codes, decimal, flat_map, refl, sym, ap, arith, ◌∙◌, append_assoc}
 use Rattle.std.proofs.lemmas.Fmt.{decimal_by_steps, decimal_injective}
 use Rattle.std.proofs.lemmas.Bool.{false≢true, eq-eqb}
-use Rattle.ldmodel.specs.Commands.{Query, Image, Map, Faults, Command, Edit, Ask, edit_line, query_line, line, edit_payload, payload, spelling, HasNo, IsWord, IsPayload, HasWords, IsCommand, AreCommands, BeginsCommand}
+use Rattle.ldmodel.specs.Commands.{Query, Image, Map, Faults, Command, Edit, Ask, edit_line, query_line, line}
+use Rattle.ldmodel.specs.Commands.{edit_payload, payload, spelling, HasNo, IsWord, IsPayload, HasWords, IsCommand}
+use Rattle.ldmodel.specs.Commands.{AreCommands, BeginsCommand}
 use Rattle.ldmodel.specs.Edits.{Change, Add, Replace, Move, Remove, SetScript}
 
 no_append : (b : ℕ) (xs ys : List ℕ) → HasNo b xs → HasNo b ys → HasNo b (xs ++ ys)
@@ -112,8 +115,11 @@ no_space_number n h = decimal_no 32 n (omega arith) h
 
 no_feed_words : (c : Change) → HasWords c → HasNo 10 (words c)
 no_feed_words (Add name at bytes) h =
-    no_append 10 name _ h.0.no_feed (after_space _ (no_append 10 (decimal at) _ (no_feed_number at h.1) (after_space _ (no_feed_number (length bytes) (small bytes h.2)))))
-no_feed_words (Replace name bytes) h = no_append 10 name _ h.0.no_feed (after_space _ (no_feed_number (length bytes) (small bytes h.1)))
+    no_append 10 name _ h.0.no_feed
+    (after_space _ (no_append 10 (decimal at) _ (no_feed_number at h.1)
+    (after_space _ (no_feed_number (length bytes) (small bytes h.2)))))
+no_feed_words (Replace name bytes) h =
+    no_append 10 name _ h.0.no_feed (after_space _ (no_feed_number (length bytes) (small bytes h.1)))
 no_feed_words (Move name to) h = no_append 10 name _ h.0.no_feed (after_space _ (no_feed_number to h.1))
 no_feed_words (Remove name) h = h.no_feed
 no_feed_words (SetScript text) h = no_feed_number (length text) (small text h)
@@ -130,7 +136,8 @@ no_feed_query Faults = no_by_test 10 (codes "faults") refl
 
 no_feed : (c : Command) → IsCommand c → HasNo 10 (line c)
 unfolding line
-no_feed (Edit c) h = rw (line_of c) (no_append 10 (first_word c) _ (no_feed_first c) (after_space _ (no_feed_words c h.words)))
+no_feed (Edit c) h = rw (line_of c)
+    (no_append 10 (first_word c) _ (no_feed_first c) (after_space _ (no_feed_words c h.words)))
 no_feed (Ask q) h = no_feed_query q
 
 -- a name and what follows it
@@ -138,7 +145,8 @@ one_name : (a b x y : List ℕ) → IsWord a → IsWord b → a ++ 32 ∷ x ≡ 
 one_name a b x y h k e = first_cut 32 a b x y h.no_space k.no_space e
 
 -- equal payloads, where their lengths are spelled alike
-one_payload : (a b x y : List ℕ) → IsPayload a → IsPayload b → decimal (length a) ≡ decimal (length b) → a ++ x ≡ b ++ y → (a ≡ b) × (x ≡ y)
+one_payload : (a b x y : List ℕ) → IsPayload a → IsPayload b → decimal (length a) ≡ decimal (length b) → a ++ x ≡ b
+    ++ y → (a ≡ b) × (x ≡ y)
 one_payload a b x y h k l e = cut_at a b x y (decimal_injective (length a) (length b) (small a h) (small b k) l) e
 
 -- two texts that differ at a place
@@ -154,10 +162,12 @@ abbrev Same : Change → Change → List ℕ → List ℕ → Type 0
 Same c d x y = (c ≡ d) × (x ≡ y)
 
 -- edits with the same first word, the same words after it, and payloads that begin one text
-one_edit : (c d : Change) (x y : List ℕ) → HasWords c → HasWords d → first_word c ≡ first_word d → words c ≡ words d → edit_payload c ++ x ≡ edit_payload d ++ y → Same c d x y
+one_edit : (c d : Change) (x y : List ℕ) → HasWords c → HasWords d → first_word c ≡ first_word d → words c ≡ words d
+    → edit_payload c ++ x ≡ edit_payload d ++ y → Same c d x y
 one_edit (Add name at bytes) (Add name' at' bytes') x y h k w e p =
     let first = one_name name name' _ _ h.0 k.0 e in
-    let second = first_cut 32 (decimal at) (decimal at') _ _ (no_space_number at h.1) (no_space_number at' k.1) first.1 in
+    let second = first_cut 32 (decimal at) (decimal at') _ _ (no_space_number at h.1) (no_space_number at' k.1) first.1
+    in
     let same_at : at ≡ at' = decimal_injective at at' h.1 k.1 second.0 in
     let payloads = one_payload bytes bytes' x y h.2 k.2 second.1 p in
     (let f = first.0 in let g = payloads.0 in cc, payloads.1)
@@ -206,31 +216,41 @@ one_query Faults Map e = absurd (apart 0 _ _ e refl)
 one_query Faults Faults e = refl
 
 -- commands of one line, and payloads that begin one text
-one_command : (c d : Command) (x y : List ℕ) → IsCommand c → IsCommand d → line c ≡ line d → payload c ++ x ≡ payload d ++ y → (c ≡ d) × (x ≡ y)
+one_command : (c d : Command) (x y : List ℕ) → IsCommand c → IsCommand d → line c ≡ line d → payload c ++ x ≡ payload d
+    ++ y → (c ≡ d) × (x ≡ y)
 unfolding line
 one_command (Edit c) (Edit d) x y h k e p =
-    let cut = first_cut 32 (first_word c) (first_word d) (words c) (words d) (one_word c) (one_word d) (sym (line_of c) ∙ e ∙ line_of d) in
+    let cut = first_cut 32 (first_word c) (first_word d) (words c) (words d) (one_word c) (one_word d) (sym (line_of c)
+    ∙ e ∙ line_of d) in
     let same = one_edit c d x y h.words k.words cut.0 cut.1 p in
     (ap Edit same.0, same.1)
-one_command (Edit c) (Ask q) x y h k e p = absurd (no_cut 32 (query_line q) (first_word c) (words c) (no_space_query q) (sym e ∙ line_of c))
-one_command (Ask q) (Edit c) x y h k e p = absurd (no_cut 32 (query_line q) (first_word c) (words c) (no_space_query q) (e ∙ line_of c))
+one_command (Edit c) (Ask q) x y h k e p =
+    absurd (no_cut 32 (query_line q) (first_word c) (words c) (no_space_query q) (sym e ∙ line_of c))
+one_command (Ask q) (Edit c) x y h k e p =
+    absurd (no_cut 32 (query_line q) (first_word c) (words c) (no_space_query q) (e ∙ line_of c))
 one_command (Ask q) (Ask r) x y h k e p = (ap Ask (one_query q r e), p)
 
 spelled : (c : Command) (more : List ℕ) → spelling c ++ more ≡ line c ++ 10 ∷ (payload c ++ more)
 spelled c more = append_assoc (line c) (10 ∷ payload c) more
 
-pub one_first : (c d : Command) (x y : List ℕ) → IsCommand c → IsCommand d → spelling c ++ x ≡ spelling d ++ y → (c ≡ d) × (x ≡ y)
+pub one_first : (c d : Command) (x y : List ℕ) → IsCommand c → IsCommand d → spelling c ++ x ≡ spelling d ++ y
+    → (c ≡ d) × (x ≡ y)
 one_first c d x y i j e =
-    let cut = first_cut 10 (line c) (line d) (payload c ++ x) (payload d ++ y) (no_feed c i) (no_feed d j) (sym (spelled c x) ∙ e ∙ spelled d y) in
+    let cut = first_cut 10 (line c) (line d) (payload c ++ x) (payload d ++ y) (no_feed c i) (no_feed d j)
+    (sym (spelled c x) ∙ e ∙ spelled d y) in
     one_command c d x y i j cut.0 cut.1
 
-first_of : (c : Command) (cs : List Command) (tail : List ℕ) → flat_map spelling (c ∷ cs) ++ tail ≡ spelling c ++ (flat_map spelling cs ++ tail)
+first_of : (c : Command) (cs : List Command) (tail : List ℕ) → flat_map spelling (c ∷ cs) ++ tail ≡ spelling c
+    ++ (flat_map spelling cs ++ tail)
 first_of c cs tail = append_assoc (spelling c) (flat_map spelling cs) tail
 
-begun : (c : Command) (cs : List Command) (text tail : List ℕ) → IsCommand c → text ≡ flat_map spelling (c ∷ cs) ++ tail → (BeginsCommand text → ⊥) → ⊥
-begun c cs text tail i e none = none (record { command = c; more = flat_map spelling cs ++ tail; is = i; cut = e ∙ first_of c cs tail })
+begun : (c : Command) (cs : List Command) (text tail : List ℕ) → IsCommand c → text ≡ flat_map spelling (c ∷ cs)
+    ++ tail → (BeginsCommand text → ⊥) → ⊥
+begun c cs text tail i e none =
+    none (record { command = c; more = flat_map spelling cs ++ tail; is = i; cut = e ∙ first_of c cs tail })
 
-pub one_cutting : (cs ds : List Command) (tail rest : List ℕ) → AreCommands cs → AreCommands ds → (BeginsCommand tail → ⊥) → (BeginsCommand rest → ⊥)
+pub one_cutting : (cs ds : List Command) (tail rest : List ℕ) → AreCommands cs → AreCommands ds
+    → (BeginsCommand tail → ⊥) → (BeginsCommand rest → ⊥)
     → flat_map spelling cs ++ tail ≡ flat_map spelling ds ++ rest → (cs ≡ ds) × (tail ≡ rest)
 one_cutting [] [] tail rest i j m n e = (refl, e)
 one_cutting [] (d ∷ ds) tail rest i j m n e = absurd (begun d ds tail rest j.0 e m)

@@ -1,5 +1,6 @@
 -- What one statement does to a layout and to the body of an output section.
-use Rattle.std.proofs.Common.{◌≡◌, ℕ, ◌+◌, ◌%◌, ◌^◌, ◌≤◌, ◌==◌, nat_lt, Bool, true, false, cond, List, [], ◌∷◌, length, Option, Some, None, Result, Ok, Err, refl, ap, ◌∙◌, subst, arith, bytes_eq}
+use Rattle.std.proofs.Common.{◌≡◌, ℕ, ◌+◌, ◌%◌, ◌^◌, ◌≤◌, ◌==◌, nat_lt, Bool, true, false, cond, List, [], ◌∷◌, length}
+use Rattle.std.proofs.Common.{Option, Some, None, Result, Ok, Err, refl, ap, ◌∙◌, subst, arith, bytes_eq}
 use Rattle.std.specs.List.{list_any}
 use Rattle.std.proofs.lemmas.Bool.{ltb-false}
 use Rattle.byteorder.specs.Endian.{little_bytes}
@@ -19,7 +20,8 @@ use Rattle.ldtree.specs.declared.section.Width.{Width}
 use Rattle.ldtree.specs.declared.section.Width.TheVariants.{Byte, Short, Long, Quad}
 use Rattle.ldtree.specs.declared.statement.Region.{Region}
 use Rattle.ldmodel.specs.Assigning.{assigned, common_step}
-use Rattle.ldmodel.specs.Body.{Body, piece_placed, pieces_placed, body_command_step, with_dot, with_data, data_step, moved, advanced, set_to, dot_step, body_step}
+use Rattle.ldmodel.specs.Body.{Body, piece_placed, pieces_placed, body_command_step, with_dot, with_data, data_step}
+use Rattle.ldmodel.specs.Body.{moved, advanced, set_to, dot_step, body_step}
 use Rattle.ldmodel.specs.Chain.{and_then, run}
 use Rattle.ldmodel.specs.Fault.{Fault, MovedBack, PastAddressSpace}
 use Rattle.ldmodel.specs.Layout.{Layout, PlacedSection, address, number, with_symbol}
@@ -64,7 +66,11 @@ pub record Kept (s t : Layout) : Type 0 where
   pub dots : s.dots ≡ t.dots
 
 pub kept_same : (s t : Layout) → s ≡ t → Kept s t
-kept_same s t e = record { sections = ap (λ (u : Layout). u.sections) e; inputs = ap (λ (u : Layout). u.inputs) e; dots = ap (λ (u : Layout). u.dots) e }
+kept_same s t e = record {
+  sections = ap (λ (u : Layout). u.sections) e;
+  inputs = ap (λ (u : Layout). u.inputs) e;
+  dots = ap (λ (u : Layout). u.dots) e;
+}
 
 pub kept_all : (s t u : Layout) → Kept s t → Kept t u → Kept s u
 kept_all s t u h k = record { sections = h.sections ∙ k.sections; inputs = h.inputs ∙ k.inputs; dots = h.dots ∙ k.dots }
@@ -79,7 +85,8 @@ assigned_named s line a t e =
     let k = came (number s line a.value) (λ x. Ok (with_symbol s a.name x)) t e in
     named a.name k.value (let f = k.gives in cc)
 
-pub common_named : (provided : List (List ℕ)) (s : Layout) (line : ℕ) (c : Common) (t : Layout) → common_step provided s line c ≡ Ok t → Named s t
+pub common_named : (provided : List (List ℕ)) (s : Layout) (line : ℕ) (c : Common) (t : Layout)
+    → common_step provided s line c ≡ Ok t → Named s t
 unfolding common_step
 common_named provided s line (common.Assign a) t e = assigned_named s line a t e
 common_named provided s line (common.Provide a) t e = go (list_any (bytes_eq a.name) provided) e
@@ -96,17 +103,22 @@ named_kept s t (named name x e) = subst (Kept s) e (record { sections = refl; in
 pub free_dot_kept : (s : Layout) (line : ℕ) (c : DotCommand) (t : Layout) → free_dot_step s line c ≡ Ok t → Kept s t
 free_dot_kept s line (Set e) t h =
     let k = came (number s line e) (λ x. Ok (record s { dot = x })) t h in
-    subst (Kept s) (let f : record s { dot = k.value } ≡ t = (let g = k.gives in cc) in f) (record { sections = refl; inputs = refl; dots = refl })
+    subst (Kept s) (let f : record s { dot = k.value } ≡ t = (let g = k.gives in cc) in
+    f) (record { sections = refl; inputs = refl; dots = refl })
 free_dot_kept s line (Add e) t h =
     let k = came (number s line e) (λ x. Ok (record s { dot = (s.dot + x) % 2 ^ 64 })) t h in
-    subst (Kept s) (let f : record s { dot = (s.dot + k.value) % 2 ^ 64 } ≡ t = (let g = k.gives in cc) in f) (record { sections = refl; inputs = refl; dots = refl })
+    subst (Kept s) (let f : record s { dot = (s.dot + k.value) % 2 ^ 64 } ≡ t = (let g = k.gives in cc) in
+    f) (record { sections = refl; inputs = refl; dots = refl })
 
 pub region_kept : (s : Layout) (r : Region) (t : Layout) → region_step s r ≡ Ok t → Kept s t
 unfolding region_step
 region_kept s r t e =
-    let first = came (number s r.line r.origin) (λ origin. and_then (number s r.line r.extent) (λ extent. Ok (with_region s r.name origin extent))) t e in
-    let second = came (number s r.line r.extent) (λ extent. Ok (with_region s r.name first.value extent)) t first.gives in
-    subst (Kept s) (let f : with_region s r.name first.value second.value ≡ t = (let g = second.gives in cc) in f) (record { sections = refl; inputs = refl; dots = refl })
+    let first = came (number s r.line r.origin) (λ origin.
+    and_then (number s r.line r.extent) (λ extent. Ok (with_region s r.name origin extent))) t e in
+    let second = came (number s r.line r.extent) (λ extent. Ok (with_region s r.name first.value extent)) t first.gives
+    in
+    subst (Kept s) (let f : with_region s r.name first.value second.value ≡ t = (let g = second.gives in cc) in
+    f) (record { sections = refl; inputs = refl; dots = refl })
 
 -- a statement of a body that is no input statement: it does nothing, gives a symbol a value, moves `.` on, or adds data
 pub data Quiet (b c : Body) : Type 0 where
@@ -118,7 +130,8 @@ pub data Quiet (b c : Body) : Type 0 where
 moved_quiet : (line : ℕ) (b : Body) (to : ℕ) (c : Body) → moved line b to ≡ Ok c → Quiet b c
 moved_quiet line b to c e = go (nat_lt to b.layout.dot) refl e
   where
-    go : (t : Bool) → nat_lt to b.layout.dot ≡ t → cond t (Err (MovedBack line)) (and_then (address line to) (λ x. Ok (with_dot b x))) ≡ Ok c → Quiet b c
+    go : (t : Bool) → nat_lt to b.layout.dot ≡ t
+        → cond t (Err (MovedBack line)) (and_then (address line to) (λ x. Ok (with_dot b x))) ≡ Ok c → Quiet b c
     go true h k = absurd (let none : ⊥ = cc in none)
     go false h k =
         let at = came (address line to) (λ x. Ok (with_dot b x)) c k in
@@ -144,7 +157,8 @@ pub dot_quiet : (line : ℕ) (b : Body) (d : DotCommand) (c : Body) → dot_step
 dot_quiet line b (Add e) c h = advanced_quiet line b e c h
 dot_quiet line b (Set e) c h = set_quiet line b (dot_form e) c h
 
-pub common_quiet : (provided : List (List ℕ)) (line : ℕ) (b : Body) (d : Common) (c : Body) → and_then (common_step provided b.layout line d) (λ s. Ok (record b { layout = s })) ≡ Ok c → Quiet b c
+pub common_quiet : (provided : List (List ℕ)) (line : ℕ) (b : Body) (d : Common) (c : Body)
+    → and_then (common_step provided b.layout line d) (λ s. Ok (record b { layout = s })) ≡ Ok c → Quiet b c
 common_quiet provided line b d c h =
     let k = came (common_step provided b.layout line d) (λ s. Ok (record b { layout = s })) c h in
     renamed k.value (common_named provided b.layout line d k.value k.is) (let f = k.gives in cc)
@@ -157,15 +171,20 @@ bytes_of_width Quad x = refl
 
 pub data_quiet : (line : ℕ) (b : Body) (w : Width) (e : Expr) (c : Body) → data_step line b w e ≡ Ok c → Quiet b c
 data_quiet line b w e c h =
-    let k = came (number b.layout line e) (λ x. and_then (address line (b.layout.dot + byte_count w)) (λ end. Ok (with_dot (with_data b (little_bytes (byte_count w) x)) end))) c h in
+    let k = came (number b.layout line e) (λ x.
+    and_then (address line (b.layout.dot + byte_count w)) (λ end.
+    Ok (with_dot (with_data b (little_bytes (byte_count w) x)) end))) c h in
     let bytes : List ℕ = little_bytes (byte_count w) k.value in
-    let l = came (address line (b.layout.dot + byte_count w)) (λ end. Ok (with_dot (with_data b bytes) end)) c k.gives in
-    let end : b.layout.dot + length bytes ≡ l.value = ap (λ n. b.layout.dot + n) (bytes_of_width w k.value) ∙ same_address line (b.layout.dot + byte_count w) l.value l.is in
+    let l = came (address line (b.layout.dot + byte_count w)) (λ end. Ok (with_dot (with_data b bytes) end)) c k.gives
+    in
+    let end : b.layout.dot + length bytes ≡ l.value = ap (λ n. b.layout.dot + n) (bytes_of_width w k.value)
+    ∙ same_address line (b.layout.dot + byte_count w) l.value l.is in
     let after : with_dot (with_data b bytes) l.value ≡ c = (let f = l.gives in cc) in
     added bytes (ap (with_dot (with_data b bytes)) end ∙ after)
 
 -- an output section that was placed: its head, its body, and what is added
-pub record SectionPlaced (provided : List (List ℕ)) (row : List Piece) (s : Layout) (o : OutputSection) (t : Layout) : Type 0 where
+pub record SectionPlaced (provided : List (List ℕ)) (row : List Piece) (s : Layout) (o : OutputSection) (t : Layout) :
+    Type 0 where
   pub head : Head
   pub last : Body
   pub body : run (body_step provided) (opened s row head) o.body ≡ Ok last
@@ -181,28 +200,40 @@ module _ (line : ℕ) (o : OutputSection) (b : Body) (q : PlacedSection) where
   abbrev with_start : PlacedSection → Result Layout Fault
   with_start p = and_then (with_room (find_region b.layout (load_region o.load)) q.load q.load_size q) with_load
 
-  ended_after : (t : Layout) → and_then (with_room (find_region b.layout o.region) q.start q.size q) with_start ≡ Ok t → with_section b.layout o q ≡ t
+  ended_after : (t : Layout) → and_then (with_room (find_region b.layout o.region) q.start q.size q) with_start ≡ Ok t
+      → with_section b.layout o q ≡ t
   ended_after t e =
       let k = came (with_room (find_region b.layout o.region) q.start q.size q) with_start t e in
       let l = came (with_room (find_region b.layout (load_region o.load)) q.load q.load_size q) with_load t k.gives in
       let m = came (address line (q.load + q.load_size)) with_end t l.gives in
       let f = m.gives in cc
 
-pub section_placed : (provided : List (List ℕ)) (row : List Piece) (s : Layout) (line : ℕ) (o : OutputSection) (t : Layout) → section_step provided row s line o ≡ Ok t → SectionPlaced provided row s o t
+pub section_placed : (provided : List (List ℕ)) (row : List Piece) (s : Layout) (line : ℕ) (o : OutputSection)
+    (t : Layout) → section_step provided row s line o ≡ Ok t → SectionPlaced provided row s o t
 unfolding section_step section_end
 section_placed provided row s line o t e =
-    let h = came (head_of s row line o) (λ h. and_then (run (body_step provided) (opened s row h) o.body) (λ b. section_end line o h b)) t e in
-    let b = came (run (body_step provided) (opened s row h.value) o.body) (λ b. section_end line o h.value b) t h.gives in
-    record { head = h.value; last = b.value; body = b.is; after = ended_after line o b.value (placed_section o h.value b.value) t b.gives }
+    let h = came (head_of s row line o) (λ h.
+    and_then (run (body_step provided) (opened s row h) o.body) (λ b. section_end line o h b)) t e in
+    let b = came (run (body_step provided) (opened s row h.value) o.body) (λ b. section_end line o h.value b) t h.gives
+    in
+    record {
+      head = h.value;
+      last = b.value;
+      body = b.is;
+      after =
+          ended_after line o b.value (placed_section o h.value b.value) t b.gives;
+    }
 
 -- what the placing of one entry keeps, that of an input statement keeps
-pub pieces_by : (line n : ℕ) (I : Body → Type 0) → ((b : Body) (p : Piece) (rest : List Piece) (c : Body) → PieceTo b p rest c → I b → I c)
+pub pieces_by : (line n : ℕ) (I : Body → Type 0)
+    → ((b : Body) (p : Piece) (rest : List Piece) (c : Body) → PieceTo b p rest c → I b → I c)
     → (ps : List Piece) (b c : Body) → pieces_placed line n b ps ≡ Ok c → I b → I c
 unfolding pieces_placed
 pieces_by line n I each [] b c e h = let same : b ≡ c = cc in subst I same h
 pieces_by line n I each (p ∷ ps) b c e h = go (p.statement == n) e (λ d g i. pieces_by line n I each ps d c g i)
   where
-    go : (t : Bool) → cond t (and_then (piece_placed line b p ps) (λ d. pieces_placed line n d ps)) (Ok b) ≡ Ok c → ((d : Body) → pieces_placed line n d ps ≡ Ok c → I d → I c) → I c
+    go : (t : Bool) → cond t (and_then (piece_placed line b p ps) (λ d. pieces_placed line n d ps)) (Ok b) ≡ Ok c
+        → ((d : Body) → pieces_placed line n d ps ≡ Ok c → I d → I c) → I c
     go true k more =
         let d = came (piece_placed line b p ps) (λ d. pieces_placed line n d ps) c k in
         more d.value d.gives (each b p ps d.value (piece_to line b p ps d.value d.is) h)
@@ -210,7 +241,8 @@ pieces_by line n I each (p ∷ ps) b c e h = go (p.statement == n) e (λ d g i. 
 
 -- what quiet statements and entries keep, every statement of a body keeps
 pub command_by : (provided : List (List ℕ)) (I : Body → Type 0) → ((b c : Body) → Quiet b c → I b → I c)
-    → ((b : Body) (p : Piece) (rest : List Piece) (c : Body) → PieceTo b p rest c → I b → I c) → ((b c : Body) → I c → I (past_inputs b c))
+    → ((b : Body) (p : Piece) (rest : List Piece) (c : Body) → PieceTo b p rest c → I b → I c)
+    → ((b c : Body) → I c → I (past_inputs b c))
     → (line : ℕ) (b : Body) (x : BodyCommand) (c : Body) → body_command_step provided line b x ≡ Ok c → I b → I c
 unfolding body_command_step
 command_by provided I quiet piece past line b (body.Dot d) c e h = quiet b c (dot_quiet line b d c e) h

@@ -1,5 +1,6 @@
 -- The first input statement that takes a section.
-use Rattle.std.proofs.Common.{◌≡◌, ◌+◌, ◌↔◌, ℕ, Bool, true, false, cond, not, List, [], ◌∷◌, ◌++◌, length, refl, ap, sym, ◌∙◌, subst, ⊎_elim, arith, Option, Some, None, MatchOption}
+use Rattle.std.proofs.Common.{◌≡◌, ◌+◌, ◌↔◌, ℕ, Bool, true, false, cond, not, List, [], ◌∷◌, ◌++◌, length, refl, ap}
+use Rattle.std.proofs.Common.{sym, ◌∙◌, subst, ⊎_elim, arith, Option, Some, None, MatchOption}
 use Rattle.std.specs.List.{Contains, list_any, position, position_from}
 use Rattle.std.proofs.lemmas.Bool.{and_parts, and_from, true≢false, false_from_ne_true}
 use Rattle.std.proofs.lemmas.Iterator.Adapters.{position_from-zero}
@@ -31,7 +32,8 @@ module _ {X : Type 0} (p : X → Bool) (P : X → Type 0) (decides : (x : X) →
   not_held x e h = true≢false (sym ((decides x).1 h) ∙ e)
 
   none_more : (y : X) (ys : List X) → p y ≡ false → HasNone P ys → HasNone P (y ∷ ys)
-  none_more y ys e none x c h = ⊎_elim (λ same. not_held y e (subst P (sym same) h)) (λ rest. none x rest h) (first_or_later y ys x c)
+  none_more y ys e none x c h =
+      ⊎_elim (λ same. not_held y e (subst P (sym same) h)) (λ rest. none x rest h) (first_or_later y ys x c)
 
   first_more : (y : X) (ys : List X) (i n : ℕ) → p y ≡ false → IsFirst P ys (i + 1) n → IsFirst P (y ∷ ys) i n
   first_more y ys i n e f = record {
@@ -44,7 +46,8 @@ module _ {X : Type 0} (p : X → Bool) (P : X → Type 0) (decides : (x : X) →
     earlier = none_more y f.before e f.earlier;
   }
 
-  more : (y : X) (ys : List X) (i : ℕ) (o : Option ℕ) → p y ≡ false → MatchOption o (HasNone P ys) (IsFirst P ys (i + 1)) → MatchOption o (HasNone P (y ∷ ys)) (IsFirst P (y ∷ ys) i)
+  more : (y : X) (ys : List X) (i : ℕ) (o : Option ℕ) → p y ≡ false
+      → MatchOption o (HasNone P ys) (IsFirst P ys (i + 1)) → MatchOption o (HasNone P (y ∷ ys)) (IsFirst P (y ∷ ys) i)
   more y ys i None e m = none_more y ys e m
   more y ys i (Some n) e m = first_more y ys i n e m
 
@@ -66,7 +69,8 @@ module _ {X : Type 0} (p : X → Bool) (P : X → Type 0) (decides : (x : X) →
       go false e rest = more y ys i (position_from p (i + 1) ys) e rest
 
   first_position : (xs : List X) → MatchOption (position p xs) (HasNone P xs) (IsFirst P xs 0)
-  first_position xs = subst (λ o. MatchOption o (HasNone P xs) (IsFirst P xs 0)) (sym (position_from-zero p xs)) (first_from xs 0)
+  first_position xs = subst (λ o. MatchOption o (HasNone P xs) (IsFirst P xs 0)) (sym (position_from-zero p xs))
+      (first_from xs 0)
 
 abbrev pub MatchIsDecided : Type 0
 MatchIsDecided = (pattern : List pattern.Part) (name : List ℕ) → (is_match pattern name ≡ true) ↔ Matches pattern name
@@ -84,7 +88,8 @@ module _ (decided : MatchIsDecided) (file section : List ℕ) where
       let both = and_parts (is_match w.pattern section) (not (is_any_match w.excluded file)) h in
       record {
         matches = (decided w.pattern section).0 both.0;
-        included = λ x c m. true≢false (sym (any_in (λ x. is_match x file) w.excluded x c ((decided x file).1 m)) ∙ from_not (is_any_match w.excluded file) both.1);
+        included = λ x c m. true≢false (sym (any_in (λ x. is_match x file) w.excluded x c ((decided x file).1 m))
+            ∙ from_not (is_any_match w.excluded file) both.1);
       }
 
   none_excludes : (w : SectionWord) → WordTakes file section w → is_any_match w.excluded file ≡ false
@@ -93,7 +98,8 @@ module _ (decided : MatchIsDecided) (file section : List ℕ) where
       t.included x.member x.among ((decided x.member file).0 x.passes))
 
   taken_word_is : (w : SectionWord) → WordTakes file section w → word_takes file section w ≡ true
-  taken_word_is w t = and_from (is_match w.pattern section) (not (is_any_match w.excluded file)) ((decided w.pattern section).1 t.matches) (not_false (is_any_match w.excluded file) (none_excludes w t))
+  taken_word_is w t = and_from (is_match w.pattern section) (not (is_any_match w.excluded file))
+      ((decided w.pattern section).1 t.matches) (not_false (is_any_match w.excluded file) (none_excludes w t))
 
   is_taken : (i : Input) → takes file section i ≡ true → Takes file section i
   is_taken i h =
@@ -105,8 +111,10 @@ module _ (decided : MatchIsDecided) (file section : List ℕ) where
       }
 
   taken_is : (i : Input) → Takes file section i → takes file section i ≡ true
-  taken_is i t = and_from (is_match i.file file) (list_any (word_takes file section) i.sections) ((decided i.file file).1 t.of_file)
-      (any_in (word_takes file section) i.sections t.word.1 (t.word.0, t.word.2, t.word.3) (taken_word_is t.word.1 t.word.4))
+  taken_is i t = and_from (is_match i.file file) (list_any (word_takes file section) i.sections)
+      ((decided i.file file).1 t.of_file)
+      (any_in (word_takes file section) i.sections t.word.1 (t.word.0, t.word.2, t.word.3)
+      (taken_word_is t.word.1 t.word.4))
 
   abbrev takes_at : InputStatementAt → Bool
   takes_at i = takes file section i.input
@@ -114,7 +122,8 @@ module _ (decided : MatchIsDecided) (file section : List ℕ) where
   abbrev TakesAt : InputStatementAt → Type 0
   TakesAt i = Takes file section i.input
 
-  is_first : (script : List Statement) (n : ℕ) → IsFirst TakesAt (input_statements script) 0 n → IsFirstMatch script file section n
+  is_first : (script : List Statement) (n : ℕ) → IsFirst TakesAt (input_statements script) 0 n
+      → IsFirstMatch script file section n
   is_first script n f = record {
     before = f.before;
     statement = f.member;
@@ -125,10 +134,16 @@ module _ (decided : MatchIsDecided) (file section : List ℕ) where
     earlier = f.earlier;
   }
 
-  as_first : (script : List Statement) (o : Option ℕ) → MatchOption o (HasNone TakesAt (input_statements script)) (IsFirst TakesAt (input_statements script) 0) → MatchOption o (IsUnmatched script file section) (IsFirstMatch script file section)
+  as_first : (script : List Statement) (o : Option ℕ)
+      → MatchOption o (HasNone TakesAt (input_statements script)) (IsFirst TakesAt (input_statements script) 0)
+      → MatchOption o (IsUnmatched script file section) (IsFirstMatch script file section)
   as_first script None m = m
   as_first script (Some n) m = is_first script n m
 
-  pub first_match_is : (script : List Statement) → MatchOption (first_match script file section) (IsUnmatched script file section) (IsFirstMatch script file section)
+  pub first_match_is : (script : List Statement)
+      → MatchOption (first_match script file section) (IsUnmatched script file section)
+      (IsFirstMatch script file section)
   unfolding first_match
-  first_match_is script = as_first script (position takes_at (input_statements script)) (first_position takes_at TakesAt (λ i. (is_taken i.input, taken_is i.input)) (input_statements script))
+  first_match_is script =
+      as_first script (position takes_at (input_statements script))
+      (first_position takes_at TakesAt (λ i. (is_taken i.input, taken_is i.input)) (input_statements script))

@@ -14,7 +14,8 @@ before q g = record { first = q; others = sections_in g }
 abbrev put : Bool → PlacedSection → Group → List Group → List Group
 put b q g gs = if b then before q g ∷ gs else (alone q ∷ g ∷ gs)
 
-front_parts : (q : PlacedSection) (gs : List Group) → flat_map sections_in (with_front q gs) ≡ q ∷ flat_map sections_in gs
+front_parts : (q : PlacedSection) (gs : List Group) → flat_map sections_in (with_front q gs)
+    ≡ q ∷ flat_map sections_in gs
 front_parts q [] = refl
 front_parts q (g ∷ gs) = by (shares_segment q g.first)
   where
@@ -69,18 +70,22 @@ put_alone : (p : PlacedSection) (gs : List Group) → Neighbours AreApart (alone
 put_alone p [] h = refl
 put_alone p (g ∷ gs) h = ap (λ b. put b p g gs) (h.0)
 
-put_before : (p q : PlacedSection) (qs : List PlacedSection) (gs : List Group) → Shares p q → with_front p (group_of q qs ∷ gs) ≡ group_of p (q ∷ qs) ∷ gs
+put_before : (p q : PlacedSection) (qs : List PlacedSection) (gs : List Group) → Shares p q
+    → with_front p (group_of q qs ∷ gs) ≡ group_of p (q ∷ qs) ∷ gs
 put_before p q qs gs h = ap (λ b. put b p (group_of q qs) gs) h
 
 tail_apart : (g : Group) (gs : List Group) → Neighbours AreApart (g ∷ gs) → Neighbours AreApart gs
 tail_apart g [] h = tt
 tail_apart g (f ∷ gs) h = h.1
 
-shorter_apart : (p q : PlacedSection) (qs : List PlacedSection) (gs : List Group) → Neighbours AreApart (group_of p (q ∷ qs) ∷ gs) → Neighbours AreApart (group_of q qs ∷ gs)
+shorter_apart : (p q : PlacedSection) (qs : List PlacedSection) (gs : List Group)
+    → Neighbours AreApart (group_of p (q ∷ qs) ∷ gs) → Neighbours AreApart (group_of q qs ∷ gs)
 shorter_apart p q qs [] h = tt
 shorter_apart p q qs (f ∷ gs) h = h
 
-joined : (p : PlacedSection) (qs : List PlacedSection) (gs : List Group) → Neighbours Shares (p ∷ qs) → Neighbours AreApart (group_of p qs ∷ gs) → groups (flat_map sections_in gs) ≡ gs → groups (p ∷ (qs ++ flat_map sections_in gs)) ≡ group_of p qs ∷ gs
+joined : (p : PlacedSection) (qs : List PlacedSection) (gs : List Group) → Neighbours Shares (p ∷ qs)
+    → Neighbours AreApart (group_of p qs ∷ gs) → groups (flat_map sections_in gs) ≡ gs
+    → groups (p ∷ (qs ++ flat_map sections_in gs)) ≡ group_of p qs ∷ gs
 unfolding groups
 joined p [] gs t a e = ap (with_front p) e ∙ put_alone p gs a
 joined p (q ∷ qs) gs t a e =

@@ -16,8 +16,10 @@ pub all_are : (p : Project) → p.options.gc ≡ false → live p ≡ candidates
 unfolding live
 all_are p gc = ap (λ b. cond b (reached (is_root p) (refers_to p) (candidates p)) (candidates p)) gc
 
-pub collected : (p : Project) (s : InputSection) → p.options.gc ≡ true → Contains (live p) s ↔ Path (is_root p) (refers_to p) (candidates p) s
-collected p s gc = subst (λ l. Contains l s ↔ Path (is_root p) (refers_to p) (candidates p) s) (sym (collected_is p gc)) (reached_by_path (is_root p) (refers_to p) (candidates p) s)
+pub collected : (p : Project) (s : InputSection) → p.options.gc ≡ true
+    → Contains (live p) s ↔ Path (is_root p) (refers_to p) (candidates p) s
+collected p s gc = subst (λ l. Contains l s ↔ Path (is_root p) (refers_to p) (candidates p) s)
+    (sym (collected_is p gc)) (reached_by_path (is_root p) (refers_to p) (candidates p) s)
 
 filter_all : {X : Type 0} (xs : List X) → xs ≡ filter (λ x. true) xs
 filter_all [] = refl

@@ -1,7 +1,8 @@
 -- The least multiple of a number not below another: there is one, and no other.
 use Rattle.std.proofs.Common.{◌≡◌, ℕ, ◌+◌, ◌*◌, ◌-◌, ◌%◌, ◌/◌, ◌≤◌, ◌<◌, ap, ◌∙◌, ⊎_elim, arith}
 use Rattle.std.specs.Int.{next_multiple_of}
-use Rattle.std.proofs.Math.Nat.{mod_self, mod-lt, mod-eq_of_lt, mul-mod_left, mul-le-mul_right, sub-zero, eq-zero-or-pos}
+use Rattle.std.proofs.Math.Nat.{mod_self, mod-lt, mod-eq_of_lt, mul-mod_left, mul-le-mul_right, sub-zero}
+use Rattle.std.proofs.Math.Nat.{eq-zero-or-pos}
 use Rattle.std.proofs.lemmas.Nat.{div-add-mod'}
 use Rattle.std.proofs.lemmas.Bool.{cases_lt}
 use Rattle.ldlaws.specs.Placed.{IsLeastMultiple}
@@ -55,7 +56,9 @@ least_multiple a x pos =
       above = y.above;
       multiple = y.multiple;
       least = λ n h e. ⊎_elim
-          (λ (l : n < next_multiple_of x a). absurd (let far : n + a ≤ next_multiple_of x a = apart a n (next_multiple_of x a) e y.multiple l in let near : next_multiple_of x a < x + a = y.near in omega (arith, far, near, h)))
+          (λ (l : n < next_multiple_of x a).
+          absurd (let far : n + a ≤ next_multiple_of x a = apart a n (next_multiple_of x a) e y.multiple l in
+          let near : next_multiple_of x a < x + a = y.near in omega (arith, far, near, h)))
           (λ (g : next_multiple_of x a ≤ n). g)
           (cases_lt n (next_multiple_of x a));
     }

@@ -1,5 +1,7 @@
 -- No two entries of the rows are of one input section.
-use Rattle.std.proofs.Common.{◌≡◌, ◌⊎◌, inl, inr, ℕ, zero, suc, ◌+◌, ◌<◌, ◌≤◌, ◌==◌, Bool, true, false, cond, ◌&&◌, List, [], ◌∷◌, ◌++◌, length, map, filter, flat_map, Option, Some, None, refl, sym, ap, ◌∙◌, subst, arith, bytes_eq}
+use Rattle.std.proofs.Common.{◌≡◌, ◌⊎◌, inl, inr, ℕ, zero, suc, ◌+◌, ◌<◌, ◌≤◌, ◌==◌, Bool, true, false, cond, ◌&&◌}
+use Rattle.std.proofs.Common.{List, [], ◌∷◌, ◌++◌, length, map, filter, flat_map, Option, Some, None, refl, sym, ap}
+use Rattle.std.proofs.Common.{◌∙◌, subst, arith, bytes_eq}
 use Rattle.std.specs.List.{Contains, enumerate_from, range_with_len}
 use Rattle.std.specs.Option.{option_map_or}
 use Rattle.std.proofs.lemmas.Bool.{true≢false, eqb-true, eq-eqb}
@@ -12,7 +14,8 @@ use Rattle.ldmodel.specs.FileLayout.{Each}
 use Rattle.ldmodel.specs.FirstMatch.{first_match}
 use Rattle.ldmodel.specs.Live.{live}
 use Rattle.ldmodel.specs.Project.{Project}
-use Rattle.ldmodel.specs.Rows.{Piece, below, is_in_section, is_taken_by, piece_of, pieces_in, row, rows, sorted_pieces, taken}
+use Rattle.ldmodel.specs.Rows.{Piece, below, is_in_section, is_taken_by, piece_of, pieces_in, row, rows, sorted_pieces}
+use Rattle.ldmodel.specs.Rows.{taken}
 use Rattle.ldmodel.specs.Sections.{InputSection, is_same_part}
 use Rattle.ldmodel.specs.declared.sections.Part.{Part}
 use Rattle.ldmodel.specs.declared.sections.Part.TheVariants.{InTable, InCommon}
@@ -25,9 +28,11 @@ use Rattle.ldlaws.proofs.PieceBytes.{both_of, later_filtered, of_both}
 use Rattle.ldlaws.proofs.Untouched.{same_part}
 
 -- members that a relation of earlier and later ones holds of in neither way are one
-unique : {X : Type 0} (R : X → X → Type 0) (xs : List X) (s t : X) → EachLater R xs → Contains xs s → Contains xs t → (R s t → ⊥) → (R t s → ⊥) → s ≡ t
+unique : {X : Type 0} (R : X → X → Type 0) (xs : List X) (s t : X) → EachLater R xs → Contains xs s → Contains xs t
+    → (R s t → ⊥) → (R t s → ⊥) → s ≡ t
 unique R [] s t h c d m n = absurd (none_in_nil s c)
-unique {X} R (x ∷ xs) s t h c d m n = go (first_or_later x xs s c) (first_or_later x xs t d) (λ a b. unique R xs s t h.1 a b m n)
+unique {X} R (x ∷ xs) s t h c d m n =
+    go (first_or_later x xs s c) (first_or_later x xs t d) (λ a b. unique R xs s t h.1 a b m n)
   where
     go : (x ≡ s) ⊎ Contains xs s → (x ≡ t) ⊎ Contains xs t → (Contains xs s → Contains xs t → s ≡ t) → s ≡ t
     go (inl e) (inl f) rest = sym e ∙ f
@@ -52,16 +57,26 @@ turned object other a b h = go (is_one other object b a) refl
         let k = both_of (bytes_eq other object) (is_same_part b a) e in
         let names : object ≡ other = sym ((bytes_eq-Decides other object).0 k.0) in
         let parts : a ≡ b = sym (same_part b a k.1) in
-        let one : is_one object other a b ≡ true = of_both (bytes_eq object other) (is_same_part a b) ((bytes_eq-Decides object other).1 names) (ap (λ m. is_same_part m b) parts ∙ own_part b) in
+        let one : is_one object other a b ≡ true =
+        of_both (bytes_eq object other) (is_same_part a b) ((bytes_eq-Decides object other).1 names)
+        (ap (λ m. is_same_part m b) parts ∙ own_part b) in
         absurd (true≢false (sym one ∙ h))
 
 ranging : (a n : ℕ) → Each (λ k. a ≤ k) (range_with_len a n)
 ranging a zero = tt
-ranging a (suc n) = (omega arith, each_member (λ k. a ≤ k) (range_with_len (a + 1) n) (λ k c. let l = member_of (λ m. a + 1 ≤ m) (range_with_len (a + 1) n) k (ranging (a + 1) n) c in omega (arith, l)))
+ranging a (suc n) = (
+  omega arith,
+  each_member (λ k. a ≤ k) (range_with_len (a + 1) n) (λ k c. let l =
+      member_of (λ m. a + 1 ≤ m) (range_with_len (a + 1) n) k (ranging (a + 1) n) c in omega (arith, l)),
+)
 
 range_rising : (a n : ℕ) → EachLater (λ j k. j < k) (range_with_len a n)
 range_rising a zero = tt
-range_rising a (suc n) = (each_member (λ k. a < k) (range_with_len (a + 1) n) (λ k c. let l = member_of (λ m. a + 1 ≤ m) (range_with_len (a + 1) n) k (ranging (a + 1) n) c in omega (arith, l)), range_rising (a + 1) n)
+range_rising a (suc n) = (
+  each_member (λ k. a < k) (range_with_len (a + 1) n) (λ k c. let l =
+      member_of (λ m. a + 1 ≤ m) (range_with_len (a + 1) n) k (ranging (a + 1) n) c in omega (arith, l)),
+  range_rising (a + 1) n,
+)
 
 pub joined_map : {X Y : Type 0} (f : X → List Y) (xs : List X) → flat_map (λ r. r) (map f xs) ≡ flat_map f xs
 joined_map f [] = refl
@@ -81,20 +96,24 @@ module _ (p : Project) (names : AreNamesDistinct p.objects) (numbers : AreNumber
 
   origin : (n : ℕ) (i : InputStatementAt) (x : Piece) → Contains (sorted_pieces p n i) x → Origin n x
   origin n i x c =
-      let k = in_map (piece_of n) (filter (is_taken_by p n) (live p)) x (sorted_in (below i.input.sort) (taken p n) x c) in
+      let k = in_map (piece_of n) (filter (is_taken_by p n) (live p)) x
+      (sorted_in (below i.input.sort) (taken p n) x c) in
       let m = in_filter (is_taken_by p n) (live p) k.origin k.among in
       record { section = k.origin; among = m.0; takes = m.1; gives = k.gives }
 
   one_taker : (n m : ℕ) (s : InputSection) → is_taken_by p n s ≡ true → is_taken_by p m s ≡ true → n ≡ m
   one_taker n m s e f = go (first_match p.script s.object s.name) e f
     where
-      go : (o : Option ℕ) → option_map_or (λ k. k == n) o false ≡ true → option_map_or (λ k. k == m) o false ≡ true → n ≡ m
+      go : (o : Option ℕ) → option_map_or (λ k. k == n) o false ≡ true → option_map_or (λ k. k == m) o false ≡ true → n
+          ≡ m
       go None a b = absurd (true≢false (sym a))
       go (Some k) a b = sym (eqb-true k n a) ∙ eqb-true k m b
 
-  one_section : (s t : InputSection) → Contains (live p) s → Contains (live p) t → is_one s.object t.object s.id.part t.id.part ≡ true → s ≡ t
+  one_section : (s t : InputSection) → Contains (live p) s → Contains (live p) t
+      → is_one s.object t.object s.id.part t.id.part ≡ true → s ≡ t
   one_section s t c d e =
-      unique Apart (live p) s t (live_apart p names numbers) c d (λ h. true≢false (sym e ∙ h)) (λ h. true≢false (sym e ∙ turned t.object s.object t.id.part s.id.part h))
+      unique Apart (live p) s t (live_apart p names numbers) c d (λ h. true≢false (sym e ∙ h)) (λ h.
+      true≢false (sym e ∙ turned t.object s.object t.id.part s.id.part h))
 
   -- entries of different statements
   across : (n m : ℕ) (x y : Piece) → Origin n x → Origin m y → (n ≡ m → ⊥) → Differ x y
@@ -103,15 +122,18 @@ module _ (p : Project) (names : AreNamesDistinct p.objects) (numbers : AreNumber
       go : (t : Bool) → is_one x.object y.object x.part y.part ≡ t → is_one x.object y.object x.part y.part ≡ false
       go false e = e
       go true e =
-          let left : is_one a.section.object y.object a.section.id.part y.part ≡ true = ap (λ (z : Piece). is_one z.object y.object z.part y.part) a.gives ∙ e in
-          let both : is_one a.section.object b.section.object a.section.id.part b.section.id.part ≡ true = ap (λ (z : Piece). is_one a.section.object z.object a.section.id.part z.part) b.gives ∙ left in
+          let left : is_one a.section.object y.object a.section.id.part y.part ≡ true =
+          ap (λ (z : Piece). is_one z.object y.object z.part y.part) a.gives ∙ e in
+          let both : is_one a.section.object b.section.object a.section.id.part b.section.id.part ≡ true =
+          ap (λ (z : Piece). is_one a.section.object z.object a.section.id.part z.part) b.gives ∙ left in
           let same : a.section ≡ b.section = one_section a.section b.section a.among b.among both in
           absurd (h (one_taker n m a.section a.takes (ap (is_taken_by p m) same ∙ b.takes)))
 
   own_entries : (n : ℕ) (i : InputStatementAt) → EachLater Differ (sorted_pieces p n i)
   own_entries n i =
       sorted Differ (λ x y h. turned x.object y.object x.part y.part h) (below i.input.sort) (taken p n)
-      (later_map (piece_of n) Differ (filter (is_taken_by p n) (live p)) (later_filtered Apart (is_taken_by p n) (live p) (live_apart p names numbers)))
+      (later_map (piece_of n) Differ (filter (is_taken_by p n) (live p))
+      (later_filtered Apart (is_taken_by p n) (live p) (live_apart p names numbers)))
 
   abbrev statements : List (ℕ × InputStatementAt)
   statements = enumerate_from 0 (input_statements p.script)
@@ -123,18 +145,23 @@ module _ (p : Project) (names : AreNamesDistinct p.objects) (numbers : AreNumber
       go true = own_entries i.0 i.1
       go false = tt
 
-  in_pieces : (k : ℕ) (i : ℕ × InputStatementAt) (x : Piece) → Contains (pieces_in p k i) x → (is_in_section k i.1.place ≡ true) × Origin i.0 x
+  in_pieces : (k : ℕ) (i : ℕ × InputStatementAt) (x : Piece) → Contains (pieces_in p k i) x
+      → (is_in_section k i.1.place ≡ true) × Origin i.0 x
   in_pieces k i x c = go (is_in_section k i.1.place) refl c
     where
-      go : (t : Bool) → is_in_section k i.1.place ≡ t → Contains (cond t (sorted_pieces p i.0 i.1) []) x → (is_in_section k i.1.place ≡ true) × Origin i.0 x
+      go : (t : Bool) → is_in_section k i.1.place ≡ t → Contains (cond t (sorted_pieces p i.0 i.1) []) x
+          → (is_in_section k i.1.place ≡ true) × Origin i.0 x
       go true e d = (e, origin i.0 i.1 x d)
       go false e d = absurd (none_in_nil x d)
 
   row_apart : (k : ℕ) → EachLater Differ (row p k)
   row_apart k =
-      later_flat_map Differ (pieces_in p k) statements (each_member (λ i. EachLater Differ (pieces_in p k i)) statements (λ i c. entries_in k i))
-      (later_imply (λ (a b : ℕ × InputStatementAt). a.0 < b.0) (λ a b. (u v : Piece) → Contains (pieces_in p k a) u → Contains (pieces_in p k b) v → Differ u v)
-      (λ a b l u v c d. across a.0 b.0 u v (in_pieces k a u c).1 (in_pieces k b v d).1 (λ e. omega (arith, l, e))) statements (rising 0 (input_statements p.script)))
+      later_flat_map Differ (pieces_in p k) statements
+      (each_member (λ i. EachLater Differ (pieces_in p k i)) statements (λ i c. entries_in k i))
+      (later_imply (λ (a b : ℕ × InputStatementAt). a.0 < b.0) (λ a b. (u v : Piece) → Contains (pieces_in p k a) u
+      → Contains (pieces_in p k b) v → Differ u v)
+      (λ a b l u v c d. across a.0 b.0 u v (in_pieces k a u c).1 (in_pieces k b v d).1 (λ e. omega (arith, l, e)))
+      statements (rising 0 (input_statements p.script)))
 
   -- entries of different rows
   rows_differ : (j k : ℕ) → j < k → (u v : Piece) → Contains (row p j) u → Contains (row p k) v → Differ u v
@@ -144,13 +171,22 @@ module _ (p : Project) (names : AreNamesDistinct p.objects) (numbers : AreNumber
       let first = in_pieces j a.origin u a.gives in
       let second = in_pieces k b.origin v b.gives in
       across (a.origin.0) (b.origin.0) u v first.1 second.1 (λ e.
-      let same : a.origin ≡ b.origin = unique (λ (x y : ℕ × InputStatementAt). x.0 < y.0) statements a.origin b.origin (rising 0 (input_statements p.script)) a.among b.among (λ m. omega (arith, m, e)) (λ m. omega (arith, m, e)) in
-      let sections : j ≡ k = in_section j k b.origin.1.place (ap (λ (x : ℕ × InputStatementAt). is_in_section j x.1.place) (sym same) ∙ first.0) second.0 in
+      let same : a.origin ≡ b.origin =
+      unique (λ (x y : ℕ × InputStatementAt). x.0 < y.0) statements a.origin b.origin
+      (rising 0 (input_statements p.script)) a.among b.among (λ m. omega (arith, m, e)) (λ m.
+      omega (arith, m, e)) in
+      let sections : j ≡ k =
+      in_section j k b.origin.1.place (ap (λ (x : ℕ × InputStatementAt). is_in_section j x.1.place) (sym same)
+      ∙ first.0) second.0 in
       omega (arith, l, sections))
 
   pub once_in_rows : EachLater Differ (flat_map (λ r. r) (rows p))
   unfolding rows
   once_in_rows =
       subst (EachLater Differ) (sym (joined_map (row p) (range_with_len 0 (length (output_sections p.script)))))
-      (later_flat_map Differ (row p) (range_with_len 0 (length (output_sections p.script))) (each_member (λ k. EachLater Differ (row p k)) (range_with_len 0 (length (output_sections p.script))) (λ k c. row_apart k))
-      (later_imply (λ j k. j < k) (λ j k. (u v : Piece) → Contains (row p j) u → Contains (row p k) v → Differ u v) rows_differ (range_with_len 0 (length (output_sections p.script))) (range_rising 0 (length (output_sections p.script)))))
+      (later_flat_map Differ (row p) (range_with_len 0 (length (output_sections p.script)))
+      (each_member (λ k. EachLater Differ (row p k)) (range_with_len 0 (length (output_sections p.script))) (λ k c.
+      row_apart k))
+      (later_imply (λ j k. j < k) (λ j k. (u v : Piece) → Contains (row p j) u → Contains (row p k) v
+      → Differ u v) rows_differ (range_with_len 0 (length (output_sections p.script)))
+      (range_rising 0 (length (output_sections p.script)))))

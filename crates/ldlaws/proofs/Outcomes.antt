@@ -11,9 +11,11 @@ use Rattle.ldtree.specs.declared.statement.Statement.{Statement}
 use Rattle.ldscript.specs.Grammar.{script}
 use Rattle.ldscript.specs.Script.{IsTree, IsNoTree, IsClashing, IsMisplacing, IsScript, IsRefusal}
 use Rattle.ldscript.specs.declared.refusal.ScriptRefusal.{ScriptRefusal}
-use Rattle.ldscript.specs.declared.refusal.ScriptRefusal.TheVariants.{NotTokens, NotAScript, Repeated, MisplacedDot, Limit, NoMemory}
+use Rattle.ldscript.specs.declared.refusal.ScriptRefusal.TheVariants.{NotTokens, NotAScript, Repeated, MisplacedDot}
+use Rattle.ldscript.specs.declared.refusal.ScriptRefusal.TheVariants.{Limit, NoMemory}
 use Rattle.ldmodel.specs.Project.{Project}
-use Rattle.ldmodel.specs.Edits.{Change, Add, Replace, Move, Remove, SetScript, Refusal, NotAScript, Accepts, Refuses, RefusesObject, RefusesScript, After}
+use Rattle.ldmodel.specs.Edits.{Change, Add, Replace, Move, Remove, SetScript, Refusal, NotAScript, Accepts, Refuses}
+use Rattle.ldmodel.specs.Edits.{RefusesObject, RefusesScript, After}
 
 abbrev pub OneCut : Type 0
 OneCut = (text : List ℕ) (ls ms : List Lexeme) → IsCut text ls → IsCut text ms → ls ≡ ms
@@ -27,7 +29,8 @@ pub record HasOneOutcome (p : Project) (c : Change) : Type 0 where
   pub not_both : (q : Project) (r : Refusal) → Accepts p c q → Refuses p c r → ⊥
   pub one_refusal : (r s : Refusal) → Refuses p c r → Refuses p c s → r ≡ s
 
-after : (p : Project) (c : Change) → HasOneOutcome p c → (x y : Result Project Refusal) → After p c x → After p c y → x ≡ y
+after : (p : Project) (c : Change) → HasOneOutcome p c → (x y : Result Project Refusal) → After p c x → After p c y → x
+    ≡ y
 after p c h (Ok q) (Ok r) x y = ap Ok (h.one_project q r x.1 y.1)
 after p c h (Ok q) (Err r) x (inl y) = cc (x.0, y)
 after p c h (Ok q) (Err r) x (inr y) = absurd (h.not_both q r x.1 y.1)
@@ -76,7 +79,8 @@ module _ (one_cut : OneCut) (one_tree : OneTree) (text : List ℕ) where
 
   not_past_limits : (ls : List Lexeme) → IsTokens text ls → IsTokenRefusal text token.Limit → ⊥
   not_past_limits ls t (inl long) = omega (arith, t.short, long)
-  not_past_limits ls t (inr x) = x.past (subst (λ l. IsWithinLimits (tokens_of l)) (one_cut text ls x.lexemes t.cut x.cut) t.limits)
+  not_past_limits ls t (inr x) =
+      x.past (subst (λ l. IsWithinLimits (tokens_of l)) (one_cut text ls x.lexemes t.cut x.cut) t.limits)
 
   no_tokens_or_limit : IsTokenRefusal text token.NotAToken → IsTokenRefusal text token.Limit → ⊥
   no_tokens_or_limit x (inl long) = omega (arith, x.0, long)
@@ -90,9 +94,11 @@ module _ (one_cut : OneCut) (one_tree : OneTree) (text : List ℕ) where
   not_clashing s t none x = none (subst HasClash (one_tree text x.statements s x.tree t) x.clash)
 
   not_misplacing : (s : List Statement) → IsTree text s → has_misplaced_dot s ≡ false → IsMisplacing text → ⊥
-  not_misplacing s t none x = true≢false (sym x.misplaced ∙ ap has_misplaced_dot (one_tree text x.statements s x.tree t) ∙ none)
+  not_misplacing s t none x =
+      true≢false (sym x.misplaced ∙ ap has_misplaced_dot (one_tree text x.statements s x.tree t) ∙ none)
 
-  read_not_refused : (s : List Statement) (why : ScriptRefusal) → why ≢ NoMemory → IsScript text s → IsRefusal text why → ⊥
+  read_not_refused : (s : List Statement) (why : ScriptRefusal) → why ≢ NoMemory → IsScript text s → IsRefusal text why
+      → ⊥
   read_not_refused s NotTokens n x y = not_no_tokens x.tree.lexemes x.tree.tokens y
   read_not_refused s NotAScript n x y = not_no_tree s x.tree y
   read_not_refused s Repeated n x y = not_clashing s x.tree x.no_clash y
@@ -156,5 +162,6 @@ outcome cuts trees p (Move name to) = of_move p name to
 outcome cuts trees p (Remove name) = of_removal p name
 outcome cuts trees p (SetScript text) = of_script cuts trees text p
 
-pub one_outcome : OneCut → OneTree → (p : Project) (c : Change) (x y : Result Project Refusal) → After p c x → After p c y → x ≡ y
+pub one_outcome : OneCut → OneTree → (p : Project) (c : Change) (x y : Result Project Refusal) → After p c x
+    → After p c y → x ≡ y
 one_outcome cuts trees p c = after p c (outcome cuts trees p c)

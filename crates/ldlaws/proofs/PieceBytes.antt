@@ -1,15 +1,20 @@
 -- The byte of the image in an input section with file bytes.
-use Rattle.std.proofs.Common.{◌≡◌, ℕ, suc, ◌+◌, ◌-◌, ◌*◌, ◌<◌, ◌≤◌, ◌==◌, nat_lt, nat_le, Bool, true, false, cond, not, ◌&&◌, List, [], ◌∷◌, ◌++◌, length, map, filter, find, flat_map, slice_index, Some, refl, sym, ap, ◌∙◌, subst, arith, bytes_eq, length-append}
+use Rattle.std.proofs.Common.{◌≡◌, ℕ, suc, ◌+◌, ◌-◌, ◌*◌, ◌<◌, ◌≤◌, ◌==◌, nat_lt, nat_le, Bool, true, false, cond, not}
+use Rattle.std.proofs.Common.{◌&&◌, List, [], ◌∷◌, ◌++◌, length, map, filter, find, flat_map, slice_index, Some, refl}
+use Rattle.std.proofs.Common.{sym, ap, ◌∙◌, subst, arith, bytes_eq, length-append}
 use Rattle.std.specs.List.{Contains}
 use Rattle.std.specs.Option.{option_map_or}
 use Rattle.std.proofs.lemmas.Bool.{true≢false, false≢true, lt-ltb, le-leb, le-ltb, ltb-true, leb-true, eqb-true}
 use Rattle.std.proofs.lemmas.Slice.Eq.{bytes_eq-Decides}
 use Rattle.ldmodel.specs.FileLayout.{Each}
 use Rattle.ldmodel.specs.Headers.{elf_header, program_header, program_headers, ascending}
-use Rattle.ldmodel.specs.Image.{byte_at, byte_past_headers, covering_data, covering_piece, covers, headers, output_byte, part_byte, section_at, tail_at, byte_among}
+use Rattle.ldmodel.specs.Image.{byte_at, byte_past_headers, covering_data, covering_piece, covers, headers, output_byte}
+use Rattle.ldmodel.specs.Image.{part_byte, section_at, tail_at, byte_among}
 use Rattle.ldmodel.specs.Layout.{Layout, PlacedPiece, PlacedSection}
 use Rattle.ldmodel.specs.Project.{Project}
-use Rattle.ldmodel.specs.Segments.{Group, Segment, SectionInFile, file_offset, groups, has_file_bytes, headers_end, in_file, in_segment, loaded_end, begun, begun_from, file_end, nonempty, sections_in, segments}
+use Rattle.ldmodel.specs.Segments.{Group, Segment, SectionInFile, file_offset, groups, has_file_bytes, headers_end}
+use Rattle.ldmodel.specs.Segments.{in_file, in_segment, loaded_end, begun, begun_from, file_end, nonempty, sections_in}
+use Rattle.ldmodel.specs.Segments.{segments}
 use Rattle.ldmodel.specs.Sorting.{insert_by, sort_by}
 use Rattle.ldlaws.specs.FileOrder.{AreInFileOrder, end_in_file}
 use Rattle.ldlaws.specs.ImageBytes.{AreNamed, offset_in_file}
@@ -21,11 +26,13 @@ use Rattle.ldlaws.proofs.Members.{filter_in, in_filter}
 
 -- ---- the headers
 
-length_inserted : {X : Type 0} (below : X → X → Bool) (x : X) (xs : List X) → length (insert_by below x xs) ≡ suc (length xs)
+length_inserted : {X : Type 0} (below : X → X → Bool) (x : X) (xs : List X) → length (insert_by below x xs)
+    ≡ suc (length xs)
 length_inserted below x [] = refl
 length_inserted below x (y ∷ ys) = go (below y x) (length_inserted below x ys)
   where
-    go : (b : Bool) → length (insert_by below x ys) ≡ suc (length ys) → length (cond b (y ∷ insert_by below x ys) (x ∷ y ∷ ys)) ≡ suc (length (y ∷ ys))
+    go : (b : Bool) → length (insert_by below x ys) ≡ suc (length ys)
+        → length (cond b (y ∷ insert_by below x ys) (x ∷ y ∷ ys)) ≡ suc (length (y ∷ ys))
     go true h = ap suc h
     go false h = refl
 
@@ -43,7 +50,9 @@ length_all [] = refl
 length_all (g ∷ gs) =
     let own : length (program_header g) ≡ 56 = length_header g in
     let rest : length (flat_map program_header gs) ≡ 56 * length gs = length_all gs in
-    let both : length (program_header g ++ flat_map program_header gs) ≡ length (program_header g) + length (flat_map program_header gs) = length-append (program_header g) (flat_map program_header gs) in
+    let both : length (program_header g ++ flat_map program_header gs)
+    ≡ length (program_header g) + length (flat_map program_header gs) =
+    length-append (program_header g) (flat_map program_header gs) in
     omega (arith, own, rest, both)
 
 length_first : (a b c d e : ℕ) → length (elf_header a b c d e) ≡ 64
@@ -54,8 +63,10 @@ length_headers : (p : Project) (s : Layout) → length (headers p s) ≡ headers
 unfolding headers
 length_headers p s =
     let gs : List Segment = segments s.sections in
-    let all : length (program_headers gs) ≡ 56 * length gs = length_all (ascending gs) ∙ ap (λ n. 56 * n) (length_sorted _ gs) in
-    length-append (elf_header _ _ _ _ _) (program_headers gs) ∙ ap (λ n. n + length (program_headers gs)) (length_first _ _ _ _ _) ∙ ap (λ n. 64 + n) all
+    let all : length (program_headers gs) ≡ 56 * length gs = length_all (ascending gs)
+    ∙ ap (λ n. 56 * n) (length_sorted _ gs) in
+    length-append (elf_header _ _ _ _ _) (program_headers gs)
+    ∙ ap (λ n. n + length (program_headers gs)) (length_first _ _ _ _ _) ∙ ap (λ n. 64 + n) all
 
 -- ---- output sections in the file
 
@@ -73,16 +84,20 @@ map_append f (x ∷ xs) ys = ap (λ l. f x ∷ l) (map_append f xs ys)
 sections_of : (end : ℕ) (gs : List Group) → map section_in (in_file (begun_from end gs)) ≡ flat_map sections_in gs
 sections_of end [] = refl
 sections_of end (g ∷ gs) =
-    map_append section_in (map (in_segment (begun end g)) (sections_in g)) (in_file (begun_from (file_end end (begun end g)) gs))
-    ∙ ap (λ l. l ++ map section_in (in_file (begun_from (file_end end (begun end g)) gs))) (sections_placed (begun end g) (sections_in g))
+    map_append section_in (map (in_segment (begun end g)) (sections_in g))
+    (in_file (begun_from (file_end end (begun end g)) gs))
+    ∙ ap (λ l. l ++ map section_in (in_file (begun_from (file_end end (begun end g)) gs)))
+    (sections_placed (begun end g) (sections_in g))
     ∙ ap (λ l. sections_in g ++ l) (sections_of (file_end end (begun end g)) gs)
 
 all_sections : (sections : List PlacedSection) → map section_in (in_file (segments sections)) ≡ nonempty sections
 unfolding segments
-all_sections sections = sections_of (headers_end (length (groups (nonempty sections)))) (groups (nonempty sections)) ∙ (is_grouping (nonempty sections)).parts
+all_sections sections = sections_of (headers_end (length (groups (nonempty sections)))) (groups (nonempty sections))
+    ∙ (is_grouping (nonempty sections)).parts
 
 -- members of a mapped list that differ come of members that do
-pub later_of_map : {X Y : Type 0} (f : X → Y) (R : Y → Y → Type 0) (xs : List X) → EachLater R (map f xs) → EachLater (λ x y. R (f x) (f y)) xs
+pub later_of_map : {X Y : Type 0} (f : X → Y) (R : Y → Y → Type 0) (xs : List X) → EachLater R (map f xs)
+    → EachLater (λ x y. R (f x) (f y)) xs
 later_of_map f R [] h = tt
 later_of_map {X} f R (x ∷ xs) h = (each xs h.0, later_of_map f R xs h.1)
   where
@@ -90,12 +105,16 @@ later_of_map {X} f R (x ∷ xs) h = (each xs h.0, later_of_map f R xs h.1)
     each [] k = tt
     each (y ∷ ys) k = (k.0, each ys k.1)
 
-pub later_filtered : {X : Type 0} (R : X → X → Type 0) (test : X → Bool) (xs : List X) → EachLater R xs → EachLater R (filter test xs)
+pub later_filtered : {X : Type 0} (R : X → X → Type 0) (test : X → Bool) (xs : List X) → EachLater R xs
+    → EachLater R (filter test xs)
 later_filtered R test [] h = tt
 later_filtered {X} R test (x ∷ xs) h = go (test x) (later_filtered R test xs h.1)
   where
     go : (b : Bool) → EachLater R (filter test xs) → EachLater R (cond b (x ∷ filter test xs) (filter test xs))
-    go true rest = (each_member (R x) (filter test xs) (λ y c. member_of (R x) xs y h.0 (in_filter test xs y c).0), rest)
+    go true rest = (
+      each_member (R x) (filter test xs) (λ y c. member_of (R x) xs y h.0 (in_filter test xs y c).0),
+      rest,
+    )
     go false rest = rest
 
 -- ---- ranges
@@ -131,11 +150,14 @@ one_name a b name h = go (bytes_eq a name) (bytes_eq b name) refl refl
     go : (u v : Bool) → bytes_eq a name ≡ u → bytes_eq b name ≡ v → (u && v) ≡ false
     go false v e f = refl
     go true false e f = refl
-    go true true e f = absurd (true≢false (sym ((bytes_eq-Decides a b).1 ((bytes_eq-Decides a name).0 e ∙ sym ((bytes_eq-Decides b name).0 f))) ∙ h))
+    go true true e f = absurd
+        (true≢false (sym ((bytes_eq-Decides a b).1 ((bytes_eq-Decides a name).0 e
+        ∙ sym ((bytes_eq-Decides b name).0 f))) ∙ h))
 
 -- ---- an output section in the file
 
-module _ (sections : List PlacedSection) (named : AreNamed sections) (q : PlacedSection) (there : Contains sections q) (some : 0 < q.size) where
+module _ (sections : List PlacedSection) (named : AreNamed sections) (q : PlacedSection) (there : Contains sections q)
+    (some : 0 < q.size) where
   abbrev gs : List Segment
   gs = segments sections
 
@@ -150,7 +172,9 @@ module _ (sections : List PlacedSection) (named : AreNamed sections) (q : Placed
       go true e = absurd (omega (arith, some, eqb-true q.size 0 e))
 
   found : Comes section_in fs q
-  found = in_map section_in fs q (subst (λ l. Contains l q) (sym (all_sections sections)) (filter_in (λ (r : PlacedSection). not (r.size == 0)) sections q there has_size))
+  found = in_map section_in fs q
+      (subst (λ l. Contains l q) (sym (all_sections sections))
+      (filter_in (λ (r : PlacedSection). not (r.size == 0)) sections q there has_size))
 
   abbrev own : SectionInFile
   own = found.origin
@@ -159,44 +183,56 @@ module _ (sections : List PlacedSection) (named : AreNamed sections) (q : Placed
   names_differ =
       later_of_map section_in (λ (r t : PlacedSection). bytes_eq r.name t.name ≡ false) fs
       (subst (EachLater (λ (r t : PlacedSection). bytes_eq r.name t.name ≡ false)) (sym (all_sections sections))
-      (later_filtered (λ (r t : PlacedSection). bytes_eq r.name t.name ≡ false) (λ (r : PlacedSection). not (r.size == 0)) sections named))
+      (later_filtered (λ (r t : PlacedSection). bytes_eq r.name t.name ≡ false) (λ (r : PlacedSection).
+      not (r.size == 0)) sections named))
 
   own_offset : file_offset gs q ≡ own.offset
   own_offset =
       ap (λ m. option_map_or (λ (x : SectionInFile). x.offset) m 0)
       (find_only (λ (x : SectionInFile). bytes_eq x.section.name q.name) fs own
-      (later_imply (λ (x y : SectionInFile). bytes_eq x.section.name y.section.name ≡ false) (NotBoth (λ (x : SectionInFile). bytes_eq x.section.name q.name)) (λ x y h. one_name x.section.name y.section.name q.name h) fs names_differ)
+      (later_imply (λ (x y : SectionInFile). bytes_eq x.section.name y.section.name
+      ≡ false) (NotBoth (λ (x : SectionInFile). bytes_eq x.section.name q.name)) (λ x y h.
+      one_name x.section.name y.section.name q.name h) fs names_differ)
       found.among (ap (λ (r : PlacedSection). bytes_eq r.name q.name) found.gives ∙ same_name q.name))
 
   module _ (bytes : has_file_bytes q ≡ true) where
     in_bytes : Contains (filter (λ (x : SectionInFile). has_file_bytes x.section) fs) own
-    in_bytes = filter_in (λ (x : SectionInFile). has_file_bytes x.section) fs own found.among (ap has_file_bytes found.gives ∙ bytes)
+    in_bytes = filter_in (λ (x : SectionInFile). has_file_bytes x.section) fs own found.among
+        (ap has_file_bytes found.gives ∙ bytes)
 
     order : AreInFileOrder gs
     order = files_in_order sections
 
     past_headers : headers_end (length gs) ≤ own.offset
-    past_headers = (member_of (λ (x : SectionInFile). (headers_end (length gs) ≤ x.offset) × (end_in_file x ≤ loaded_end gs)) _ own order.inside in_bytes).0
+    past_headers = (member_of (λ (x : SectionInFile). (headers_end (length gs) ≤ x.offset)
+        × (end_in_file x ≤ loaded_end gs)) _ own order.inside in_bytes).0
 
     -- the offset of an address of the section finds the section
     finds : (at : ℕ) → own.offset ≤ at → at < own.offset + q.size
         → find (λ (x : SectionInFile). has_file_bytes x.section && covers x.offset x.section.size at) fs ≡ Some own
     finds at low high =
-        find_filter (λ (x : SectionInFile). has_file_bytes x.section) (λ (x : SectionInFile). covers x.offset x.section.size at) fs
-        ∙ find_only (λ (x : SectionInFile). covers x.offset x.section.size at) (filter (λ (x : SectionInFile). has_file_bytes x.section) fs) own
-        (later_imply (λ (x y : SectionInFile). end_in_file x ≤ y.offset) (NotBoth (λ (x : SectionInFile). covers x.offset x.section.size at))
+        find_filter (λ (x : SectionInFile). has_file_bytes x.section) (λ (x : SectionInFile).
+        covers x.offset x.section.size at) fs
+        ∙ find_only (λ (x : SectionInFile). covers x.offset x.section.size at)
+        (filter (λ (x : SectionInFile). has_file_bytes x.section) fs) own
+        (later_imply (λ (x y : SectionInFile). end_in_file x ≤ y.offset)
+        (NotBoth (λ (x : SectionInFile). covers x.offset x.section.size at))
         (λ x y h. apart x.offset x.section.size y.offset y.section.size at h) _ order.ascend)
-        in_bytes (ap (λ (r : PlacedSection). covers own.offset r.size at) found.gives ∙ covering own.offset q.size at low high)
+        in_bytes (ap (λ (r : PlacedSection). covers own.offset r.size at) found.gives
+        ∙ covering own.offset q.size at low high)
 
 -- ---- the byte
 
-module _ (p : Project) (s : Layout) (q : PlacedSection) (x : PlacedPiece) (i : ℕ) (spread : Each IsSpread s.sections) (named : AreNamed s.sections)
-    (there : Contains s.sections q) (bytes : has_file_bytes q ≡ true) (among : Contains q.pieces x) (low : i < x.piece.size) where
+module _ (p : Project) (s : Layout) (q : PlacedSection) (x : PlacedPiece) (i : ℕ) (spread : Each IsSpread s.sections)
+    (named : AreNamed s.sections)
+    (there : Contains s.sections q) (bytes : has_file_bytes q ≡ true) (among : Contains q.pieces x)
+    (low : i < x.piece.size) where
   own_spread : IsSpread q
   own_spread = member_of IsSpread s.sections q spread there
 
   inside : (q.start ≤ x.start) × (piece_end x ≤ q.start + q.size)
-  inside = member_of (λ (y : PlacedPiece). (q.start ≤ y.start) × (piece_end y ≤ q.start + q.size)) q.pieces x own_spread.pieces_inside among
+  inside = member_of (λ (y : PlacedPiece). (q.start ≤ y.start) × (piece_end y ≤ q.start + q.size)) q.pieces x
+      own_spread.pieces_inside among
 
   some : 0 < q.size
   some = omega (arith, inside.0, inside.1, low)
@@ -212,10 +248,12 @@ module _ (p : Project) (s : Layout) (q : PlacedSection) (x : PlacedPiece) (i : �
 
   section_found : section_at s at ≡ Some file
   section_found =
-      finds s.sections named q there some bytes at (omega (arith, at_is)) (omega (arith, at_is, inside.0, inside.1, low))
+      finds s.sections named q there some bytes at (omega (arith, at_is))
+      (omega (arith, at_is, inside.0, inside.1, low))
 
   not_header : nat_lt at (length (headers p s)) ≡ false
-  not_header = le-ltb at (length (headers p s)) (omega (arith, at_is, length_headers p s, past_headers s.sections named q there some bytes))
+  not_header = le-ltb at (length (headers p s))
+      (omega (arith, at_is, length_headers p s, past_headers s.sections named q there some bytes))
 
   address : q.start + (at - file.offset) ≡ x.start + i
   address = omega (arith, at_is, inside.0)
@@ -223,16 +261,20 @@ module _ (p : Project) (s : Layout) (q : PlacedSection) (x : PlacedPiece) (i : �
   piece_found : covering_piece q (x.start + i) ≡ Some x
   piece_found =
       find_only (λ (y : PlacedPiece). covers y.start y.piece.size (x.start + i)) q.pieces x
-      (later_imply (λ (y z : PlacedPiece). piece_end y ≤ z.start) (NotBoth (λ (y : PlacedPiece). covers y.start y.piece.size (x.start + i)))
+      (later_imply (λ (y z : PlacedPiece).
+      piece_end y ≤ z.start) (NotBoth (λ (y : PlacedPiece). covers y.start y.piece.size (x.start + i)))
       (λ y z h. apart y.start y.piece.size z.start z.piece.size (x.start + i) h) q.pieces own_spread.pieces_ascend)
       among (covering x.start x.piece.size (x.start + i) (omega arith) (omega (arith, low)))
 
   pub byte_of_piece : byte_at p s at ≡ part_byte p s x.piece.object x.piece.part x.start i
   unfolding byte_at
   byte_of_piece =
-      ap (λ b. cond b (slice_index (headers p s) at) (byte_past_headers p s at (section_at s at) (tail_at p s at))) not_header
+      ap (λ b. cond b (slice_index (headers p s) at) (byte_past_headers p s at (section_at s at) (tail_at p s at)))
+      not_header
       ∙ ap (λ m. byte_past_headers p s at m (tail_at p s at)) section_found
-      ∙ ap (λ (r : PlacedSection). output_byte p s r (r.start + (at - file.offset))) (found s.sections named q there some).gives
+      ∙ ap (λ (r : PlacedSection). output_byte p s r (r.start + (at - file.offset)))
+      (found s.sections named q there some).gives
       ∙ ap (λ n. output_byte p s q n) address
       ∙ ap (λ m. byte_among p s q (x.start + i) m (covering_data q (x.start + i))) piece_found
-      ∙ ap (λ n. part_byte p s x.piece.object x.piece.part x.start n) (let e : x.start + i - x.start ≡ i = omega arith in e)
+      ∙ ap (λ n. part_byte p s x.piece.object x.piece.part x.start n) (let e : x.start + i - x.start ≡ i =
+      omega arith in e)

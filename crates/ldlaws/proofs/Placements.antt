@@ -19,7 +19,8 @@ use Rattle.ldmodel.specs.Placement.{section_step, statement_step, next_row}
 use Rattle.ldmodel.specs.Rows.{Piece, piece_alignment}
 use Rattle.ldmodel.specs.SectionEnd.{section_end}
 use Rattle.ldmodel.specs.SectionHead.{Head, head_of}
-use Rattle.ldlaws.specs.Placed.{Pieces, none, other, one_more, PieceFails, first, after_one, InputsTo, past_inputs, SectionTo}
+use Rattle.ldlaws.specs.Placed.{Pieces, none, other, one_more, PieceFails, first, after_one, InputsTo, past_inputs}
+use Rattle.ldlaws.specs.Placed.{SectionTo}
 use Rattle.ldlaws.specs.Placed.{BodyCommandTo, BodyCommandAt, BodyTo, BodyAt, SectionAt, in_head, in_body, at_end}
 use Rattle.ldlaws.specs.Placed.{ItemCommandTo, ItemCommandAt, ItemTo, ItemAt, RegionTo, RegionAt, CommandTo, CommandAt}
 use Rattle.ldlaws.specs.Placed.{IsLeastMultiple, PieceTo, PieceAt, with_piece}
@@ -38,14 +39,21 @@ module _ (line : ℕ) (b : Body) (p : Piece) (rest : List Piece) where
   is_least = least_multiple (piece_alignment p) b.layout.dot (positive p)
 
   abbrev ended_at : Bool → Result Body Fault
-  ended_at t = and_then (cond t (Ok (start + p.size)) (Err (PastAddressSpace line))) (λ end. Ok (record (with_dot b end) { rest = rest; pieces = b.pieces ++ record { start = start; piece = p } ∷ [] }))
+  ended_at t = and_then (cond t (Ok (start + p.size)) (Err (PastAddressSpace line))) (λ end.
+      Ok (record (with_dot b end) { rest = rest; pieces = b.pieces ++ record { start = start; piece = p } ∷ [] }))
 
   pub piece_to : (c : Body) → piece_placed line b p rest ≡ Ok c → PieceTo b p rest c
   unfolding piece_placed
   piece_to c e = go (nat_lt (start + p.size) (2 ^ 64)) refl e
     where
       go : (t : Bool) → nat_lt (start + p.size) (2 ^ 64) ≡ t → ended_at t ≡ Ok c → PieceTo b p rest c
-      go true h e = record { start = start; aligned = is_least; fits = ltb-true (start + p.size) (2 ^ 64) h; after = cc }
+      go true h e = record {
+        start = start;
+        aligned = is_least;
+        fits = ltb-true (start + p.size) (2 ^ 64) h;
+        after =
+            cc;
+      }
       go false h e = absurd (let no : ⊥ = cc in no)
 
   piece_at : (f : Fault) → piece_placed line b p rest ≡ Err f → PieceAt line b p f
@@ -54,21 +62,31 @@ module _ (line : ℕ) (b : Body) (p : Piece) (rest : List Piece) where
     where
       go : (t : Bool) → nat_lt (start + p.size) (2 ^ 64) ≡ t → ended_at t ≡ Err f → PieceAt line b p f
       go true h e = absurd (let no : ⊥ = cc in no)
-      go false h e = record { start = start; aligned = is_least; past = ltb-false (start + p.size) (2 ^ 64) h; fault = cc }
+      go false h e = record {
+        start = start;
+        aligned = is_least;
+        past = ltb-false (start + p.size) (2 ^ 64) h;
+        fault =
+            cc;
+      }
 
   piece_of : (c : Body) → PieceTo b p rest c → piece_placed line b p rest ≡ Ok c
   unfolding piece_placed
   piece_of c h =
-      let same : h.start ≡ start = one_least_multiple (piece_alignment p) b.layout.dot h.start start h.aligned is_least in
-      let fits : nat_lt (start + p.size) (2 ^ 64) ≡ true = lt-ltb (start + p.size) (2 ^ 64) (subst (λ n. n + p.size < 2 ^ 64) same h.fits) in
+      let same : h.start ≡ start =
+      one_least_multiple (piece_alignment p) b.layout.dot h.start start h.aligned is_least in
+      let fits : nat_lt (start + p.size) (2 ^ 64) ≡ true =
+      lt-ltb (start + p.size) (2 ^ 64) (subst (λ n. n + p.size < 2 ^ 64) same h.fits) in
       let after : with_piece b p rest start ≡ c = ap (with_piece b p rest) (sym same) ∙ h.after in
       rw fits (rw after refl)
 
   piece_from : (f : Fault) → PieceAt line b p f → piece_placed line b p rest ≡ Err f
   unfolding piece_placed
   piece_from f h =
-      let same : h.start ≡ start = one_least_multiple (piece_alignment p) b.layout.dot h.start start h.aligned is_least in
-      let past : nat_lt (start + p.size) (2 ^ 64) ≡ false = le-ltb (start + p.size) (2 ^ 64) (subst (λ n. 2 ^ 64 ≤ n + p.size) same h.past) in
+      let same : h.start ≡ start =
+      one_least_multiple (piece_alignment p) b.layout.dot h.start start h.aligned is_least in
+      let past : nat_lt (start + p.size) (2 ^ 64) ≡ false =
+      le-ltb (start + p.size) (2 ^ 64) (subst (λ n. 2 ^ 64 ≤ n + p.size) same h.past) in
       rw past (rw (h.fault) refl)
 
 module _ (line n : ℕ) where
@@ -197,7 +215,8 @@ module _ (provided : List (List ℕ)) where
           head = h;
           last = b;
           begun = k;
-          body = runs_of (body_step provided) (BodyTo provided) (BodyAt provided) is_body_step o.body (opened s row h) b l;
+          body = runs_of (body_step provided) (BodyTo provided) (BodyAt provided) is_body_step o.body (opened s row h)
+              b l;
           ended = e;
         }
         end h k (Err f) l e = absurd (let no : ⊥ = cc in no)
@@ -210,7 +229,9 @@ module _ (provided : List (List ℕ)) where
     section_of : (t : Layout) → SectionTo provided row s line o t → section_step provided row s line o ≡ Ok t
     unfolding section_step
     section_of t h =
-        let body : with_body h.head ≡ Ok h.last = run_of (body_step provided) (BodyTo provided) (BodyAt provided) is_body_step (opened s row h.head) h.last o.body h.body in
+        let body : with_body h.head ≡ Ok h.last =
+        run_of (body_step provided) (BodyTo provided) (BodyAt provided) is_body_step (opened s row h.head) h.last
+        o.body h.body in
         rw h.begun (rw body h.ended)
 
     section_at : (f : Fault) → section_step provided row s line o ≡ Err f → SectionAt provided row s line o f
@@ -220,10 +241,12 @@ module _ (provided : List (List ℕ)) where
         end : (h : Head) → head_of s row line o ≡ Ok h → (r : Result Body Fault) → with_body h ≡ r
             → and_then r (λ b. section_end line o h b) ≡ Err f → SectionAt provided row s line o f
         end h k (Ok b) l e =
-            at_end h b k (runs_of (body_step provided) (BodyTo provided) (BodyAt provided) is_body_step o.body (opened s row h) b l) e
+            at_end h b k (runs_of (body_step provided) (BodyTo provided) (BodyAt provided) is_body_step o.body
+            (opened s row h) b l) e
         end h k (Err g) l e =
             let same : g ≡ f = cc in
-            in_body h k (stops_of (body_step provided) (BodyTo provided) (BodyAt provided) is_body_step o.body (opened s row h) f (rw (sym same) l))
+            in_body h k (stops_of (body_step provided) (BodyTo provided) (BodyAt provided) is_body_step o.body
+            (opened s row h) f (rw (sym same) l))
 
         go : (r : Result Head Fault) → head_of s row line o ≡ r → and_then r rest_of ≡ Err f
             → SectionAt provided row s line o f
@@ -234,10 +257,12 @@ module _ (provided : List (List ℕ)) where
     unfolding section_step
     section_from f (in_head e) = rw e refl
     section_from f (in_body h k e) =
-        let body : with_body h ≡ Err f = stop_of (body_step provided) (BodyTo provided) (BodyAt provided) is_body_step (opened s row h) f o.body e in
+        let body : with_body h ≡ Err f =
+        stop_of (body_step provided) (BodyTo provided) (BodyAt provided) is_body_step (opened s row h) f o.body e in
         rw k (rw body refl)
     section_from f (at_end h b k l e) =
-        let body : with_body h ≡ Ok b = run_of (body_step provided) (BodyTo provided) (BodyAt provided) is_body_step (opened s row h) b o.body l in
+        let body : with_body h ≡ Ok b =
+        run_of (body_step provided) (BodyTo provided) (BodyAt provided) is_body_step (opened s row h) b o.body l in
         rw k (rw body e)
 
 is_region_step : IsStep region_step RegionTo RegionAt
@@ -332,13 +357,23 @@ module _ (script : List Statement) (rows : List (List Piece)) (provided : List (
   pub placed : (s : Layout) → (placement script rows provided ≡ Ok s) ↔ IsPlacement script rows provided s
   unfolding placement
   placed s = (
-    (λ e. record { leads = runs_of (statement_step rows provided) (StatementTo rows provided) (StatementAt rows provided) (is_statement_step rows provided) script nothing_placed s e }),
-    (λ h. run_of (statement_step rows provided) (StatementTo rows provided) (StatementAt rows provided) (is_statement_step rows provided) nothing_placed s script h.leads),
+    (λ e. record {
+      leads =
+          runs_of (statement_step rows provided) (StatementTo rows provided) (StatementAt rows provided)
+          (is_statement_step rows provided) script nothing_placed s e;
+    }),
+    (λ h. run_of (statement_step rows provided) (StatementTo rows provided) (StatementAt rows provided)
+        (is_statement_step rows provided) nothing_placed s script h.leads),
   )
 
   pub faulty : (f : Fault) → (placement script rows provided ≡ Err f) ↔ IsFirstFault script rows provided f
   unfolding placement
   faulty f = (
-    (λ e. record { fails = stops_of (statement_step rows provided) (StatementTo rows provided) (StatementAt rows provided) (is_statement_step rows provided) script nothing_placed f e }),
-    (λ h. stop_of (statement_step rows provided) (StatementTo rows provided) (StatementAt rows provided) (is_statement_step rows provided) nothing_placed f script h.fails),
+    (λ e. record {
+      fails =
+          stops_of (statement_step rows provided) (StatementTo rows provided) (StatementAt rows provided)
+          (is_statement_step rows provided) script nothing_placed f e;
+    }),
+    (λ h. stop_of (statement_step rows provided) (StatementTo rows provided) (StatementAt rows provided)
+        (is_statement_step rows provided) nothing_placed f script h.fails),
   )

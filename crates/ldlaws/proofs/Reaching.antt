@@ -1,5 +1,6 @@
 -- What is reached in as many rounds as there are nodes is what paths lead to.
-use Rattle.std.proofs.Common.{◌≡◌, ◌<◌, ◌≤◌, ◌+◌, ◌-◌, ◌⊎◌, ◌↔◌, ℕ, zero, suc, Bool, true, ◌||◌, List, length, filter, refl, ap, sym, ◌∙◌, subst, inl, inr, ⊎_elim, arith}
+use Rattle.std.proofs.Common.{◌≡◌, ◌<◌, ◌≤◌, ◌+◌, ◌-◌, ◌⊎◌, ◌↔◌, ℕ, zero, suc, Bool, true, ◌||◌, List, length, filter}
+use Rattle.std.proofs.Common.{refl, ap, sym, ◌∙◌, subst, inl, inr, ⊎_elim, arith}
 use Rattle.std.specs.List.{Contains, list_any}
 use Rattle.std.proofs.lemmas.Bool.{or_cases, or_left, or_right}
 use Rattle.ldmodel.specs.Reach.{reached_in, reached, Path, start, step}
@@ -36,7 +37,8 @@ module _ {X : Type 0} (is_start : X → Bool) (leads : X → X → Bool) (nodes 
       (λ e. let y : Passes (λ y. leads y x) (rounds n) = in_any (λ y. leads y x) (rounds n) e in
       let was : Contains nodes y.member × (test n y.member ≡ true) = in_round n y.member y.among in
       let is : Contains (rounds (suc n)) y.member = round_in (suc n) y.member was.0 (grows n y.member was.1) in
-      or_right (is_start x) (list_any (λ y. leads y x) (rounds (suc n))) (any_in (λ y. leads y x) (rounds (suc n)) y.member is y.passes))
+      or_right (is_start x) (list_any (λ y. leads y x) (rounds (suc n)))
+      (any_in (λ y. leads y x) (rounds (suc n)) y.member is y.passes))
       (or_cases (is_start x) (list_any (λ y. leads y x) (rounds n)) h)
 
   -- a round that adds nothing
@@ -46,20 +48,23 @@ module _ {X : Type 0} (is_start : X → Bool) (leads : X → X → Bool) (nodes 
     same : rounds round ≡ rounds (suc round)
 
   settles_at : (n : ℕ) → (rounds n ≡ rounds (suc n)) ⊎ (length (rounds n) < length (rounds (suc n)))
-  settles_at n = subst (λ l. (l ≡ rounds (suc n)) ⊎ (length l < length (rounds (suc n)))) (sym (is_filter n)) (same_or_longer (test n) (test (suc n)) nodes (grows n))
+  settles_at n = subst (λ l. (l ≡ rounds (suc n)) ⊎ (length l < length (rounds (suc n)))) (sym (is_filter n))
+      (same_or_longer (test n) (test (suc n)) nodes (grows n))
 
   settled_or_long : (n : ℕ) → Settled n ⊎ (n ≤ length (rounds n))
   settled_or_long zero = inr (omega arith)
   settled_or_long (suc n) = go (settled_or_long n) (settles_at n)
     where
-      go : Settled n ⊎ (n ≤ length (rounds n)) → (rounds n ≡ rounds (suc n)) ⊎ (length (rounds n) < length (rounds (suc n))) → Settled (suc n) ⊎ (suc n ≤ length (rounds (suc n)))
+      go : Settled n ⊎ (n ≤ length (rounds n)) → (rounds n ≡ rounds (suc n))
+          ⊎ (length (rounds n) < length (rounds (suc n))) → Settled (suc n) ⊎ (suc n ≤ length (rounds (suc n)))
       go (inl s) more = inl (record { round = s.round; within = omega (arith, s.within); same = s.same })
       go (inr long) (inl same) = inl (record { round = n; within = omega arith; same = same })
       go (inr long) (inr less) = inr (omega (arith, long, less))
 
   settled : Settled (suc (length nodes))
   settled = ⊎_elim (λ s. s)
-      (λ long. let short : length (rounds (suc (length nodes))) ≤ length nodes = filter_shorter (test (suc (length nodes))) nodes in absurd (omega (arith, long, short)))
+      (λ long. let short : length (rounds (suc (length nodes))) ≤ length nodes =
+      filter_shorter (test (suc (length nodes))) nodes in absurd (omega (arith, long, short)))
       (settled_or_long (suc (length nodes)))
 
   stays : (j k m : ℕ) → rounds k ≡ rounds (suc k) → m ≡ j + k → rounds m ≡ rounds k
@@ -84,7 +89,8 @@ module _ {X : Type 0} (is_start : X → Bool) (leads : X → X → Bool) (nodes 
       let h : Contains nodes x × (next_test (rounds n) x ≡ true) = in_filter (next_test (rounds n)) nodes x c in
       ⊎_elim
       (λ e. start x h.0 e)
-      (λ e. let y : Passes (λ y. leads y x) (rounds n) = in_any (λ y. leads y x) (rounds n) e in step y.member x (has_path n y.member y.among) h.0 y.passes)
+      (λ e. let y : Passes (λ y. leads y x) (rounds n) = in_any (λ y. leads y x) (rounds n) e in
+      step y.member x (has_path n y.member y.among) h.0 y.passes)
       (or_cases (is_start x) (list_any (λ y. leads y x) (rounds n)) h.1)
 
   in_next : (x : X) → Contains nodes x → next_test (rounds last) x ≡ true → Contains (rounds last) x
@@ -92,7 +98,9 @@ module _ {X : Type 0} (is_start : X → Bool) (leads : X → X → Bool) (nodes 
 
   all_found : (x : X) → Path is_start leads nodes x → Contains (rounds last) x
   all_found x (start y c h) = in_next y c (or_left (is_start y) (list_any (λ z. leads z y) (rounds last)) h)
-  all_found x (step y z p c h) = in_next z c (or_right (is_start z) (list_any (λ w. leads w z) (rounds last)) (any_in (λ w. leads w z) (rounds last) y (all_found y p) h))
+  all_found x (step y z p c h) =
+      in_next z c (or_right (is_start z) (list_any (λ w. leads w z) (rounds last))
+      (any_in (λ w. leads w z) (rounds last) y (all_found y p) h))
 
   pub reached_by_path : (x : X) → Contains (reached is_start leads nodes) x ↔ Path is_start leads nodes x
   unfolding reached

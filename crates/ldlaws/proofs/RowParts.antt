@@ -1,9 +1,11 @@
 -- What an input statement takes of a row, and the rows by what each input statement has.
-use Rattle.std.proofs.Common.{◌≡◌, ℕ, suc, ◌+◌, ◌<◌, ◌==◌, Bool, true, false, cond, List, [], ◌∷◌, ◌++◌, length, map, flat_map, Ok, refl, sym, ap, ◌∙◌, subst, arith, append_assoc, append-nil}
+use Rattle.std.proofs.Common.{◌≡◌, ℕ, suc, ◌+◌, ◌<◌, ◌==◌, Bool, true, false, cond, List, [], ◌∷◌, ◌++◌, length, map}
+use Rattle.std.proofs.Common.{flat_map, Ok, refl, sym, ap, ◌∙◌, subst, arith, append_assoc, append-nil}
 use Rattle.std.specs.List.{enumerate_from}
 use Rattle.std.proofs.lemmas.List.{map-append}
 use Rattle.std.proofs.lemmas.Bool.{eqb-true}
-use Rattle.ldtree.specs.Numbering.{InputStatementAt, inputs_of, inputs_in, item_inputs, inputs_from, discarded_inputs, sections_of}
+use Rattle.ldtree.specs.Numbering.{InputStatementAt, inputs_of, inputs_in, item_inputs, inputs_from, discarded_inputs}
+use Rattle.ldtree.specs.Numbering.{sections_of}
 use Rattle.ldtree.specs.declared.input.InputStatement.{InputStatement}
 use Rattle.ldtree.specs.declared.place.InputPlace.TheVariants.{InSection}
 use Rattle.ldtree.specs.declared.section.BodyCommand.{BodyCommand}
@@ -58,7 +60,8 @@ took_one b p rest c h = subst (Took (p ∷ []) rest b) h.after (record {
   kept = record { sections = refl; inputs = refl; dots = refl };
 })
 
-took_more : (p : Piece) (mine others : List Piece) (b c d : Body) → Took (p ∷ []) (mine ++ others) b c → Took mine others c d → Took (p ∷ mine) others b d
+took_more : (p : Piece) (mine others : List Piece) (b c d : Body) → Took (p ∷ []) (mine ++ others) b c
+    → Took mine others c d → Took (p ∷ mine) others b d
 took_more p mine others b c d h k = record {
   pieces = k.pieces ∙ ap (λ xs. xs ++ mine) h.pieces ∙ append_assoc (entries b.pieces) (p ∷ []) mine;
   rest = k.rest;
@@ -66,18 +69,24 @@ took_more p mine others b c d h k = record {
 }
 
 module _ (line n : ℕ) where
-  pub takes : (mine others : List Piece) → Each (IsOf n) mine → Each (IsNotOf n) others → (b c : Body) → b.rest ≡ mine ++ others → pieces_placed line n b (mine ++ others) ≡ Ok c → Took mine others b c
+  pub takes : (mine others : List Piece) → Each (IsOf n) mine → Each (IsNotOf n) others → (b c : Body) → b.rest ≡ mine
+      ++ others → pieces_placed line n b (mine ++ others) ≡ Ok c → Took mine others b c
   unfolding pieces_placed
   takes [] [] h k b c r e = took_none b c [] (let f : b ≡ c = cc in f) r
   takes [] (p ∷ others) h k b c r e = go (p.statement == n) (k.0) e
     where
-      go : (t : Bool) → t ≡ false → cond t (and_then (piece_placed line b p others) (λ d. pieces_placed line n d others)) (Ok b) ≡ Ok c → Took [] (p ∷ others) b c
+      go : (t : Bool) → t ≡ false
+          → cond t (and_then (piece_placed line b p others) (λ d. pieces_placed line n d others)) (Ok b) ≡ Ok c
+          → Took [] (p ∷ others) b c
       go true f g = absurd (let none : ⊥ = cc in none)
       go false f g = took_none b c (p ∷ others) (let f : b ≡ c = cc in f) r
   takes (p ∷ mine) others h k b c r e = go (p.statement == n) (h.0) e (λ d f. takes mine others h.1 k d c f)
     where
-      go : (t : Bool) → t ≡ true → cond t (and_then (piece_placed line b p (mine ++ others)) (λ d. pieces_placed line n d (mine ++ others))) (Ok b) ≡ Ok c
-          → ((d : Body) → d.rest ≡ mine ++ others → pieces_placed line n d (mine ++ others) ≡ Ok c → Took mine others d c)
+      go : (t : Bool) → t ≡ true
+          → cond t (and_then (piece_placed line b p (mine ++ others)) (λ d. pieces_placed line n d (mine ++ others)))
+          (Ok b) ≡ Ok c
+          → ((d : Body) → d.rest ≡ mine ++ others → pieces_placed line n d (mine ++ others) ≡ Ok c
+          → Took mine others d c)
           → Took (p ∷ mine) others b c
       go true f g more =
           let k' = came (piece_placed line b p (mine ++ others)) (λ d. pieces_placed line n d (mine ++ others)) c g in
@@ -103,9 +112,12 @@ module _ (of : ℕ → InputStatementAt → List Piece) (mark : (n : ℕ) (i : I
 
   pub later : (n m : ℕ) → n < m → (is : List InputStatementAt) → Each (IsNotOf n) (of_all m is)
   later n m l [] = tt
-  later n m l (i ∷ is) = each_append (IsNotOf n) (of m i) (of_all (m + 1) is) (not_of n m l (of m i) (mark m i)) (later n (m + 1) (omega (arith, l)) is)
+  later n m l (i ∷ is) =
+      each_append (IsNotOf n) (of m i) (of_all (m + 1) is) (not_of n m l (of m i) (mark m i))
+      (later n (m + 1) (omega (arith, l)) is)
 
-  -- the row of the output section of a number is empty where no statement stands in it, and all that they have where all do
+  -- the row of the output section of a number is empty where no statement stands in it, and all that they have where
+  -- all do
   abbrev pub in_row : ℕ → ℕ × InputStatementAt → List Piece
   in_row k i = cond (is_in_section k i.1.place) (of i.0 i.1) []
 
@@ -121,24 +133,30 @@ module _ (of : ℕ → InputStatementAt → List Piece) (mark : (n : ℕ) (i : I
 
   pub in_all : (k n : ℕ) (is : List InputStatementAt) → Each (StandsIn k true) is → in_rows k n is ≡ of_all n is
   in_all k n [] h = refl
-  in_all k n (i ∷ is) h = ap (λ b. cond b (of n i) [] ++ in_rows k (n + 1) is) h.0 ∙ ap (λ xs. of n i ++ xs) (in_all k (n + 1) is h.1)
+  in_all k n (i ∷ is) h = ap (λ b. cond b (of n i) [] ++ in_rows k (n + 1) is) h.0
+      ∙ ap (λ xs. of n i ++ xs) (in_all k (n + 1) is h.1)
 
-  pub in_append : (k n : ℕ) (is js : List InputStatementAt) → in_rows k n (is ++ js) ≡ in_rows k n is ++ in_rows k (n + length is) js
+  pub in_append : (k n : ℕ) (is js : List InputStatementAt) → in_rows k n (is ++ js) ≡ in_rows k n is
+      ++ in_rows k (n + length is) js
   in_append k n [] js = let e : n ≡ n + 0 = omega arith in ap (λ m. in_rows k m js) e
   in_append k n (i ∷ is) js =
       let e : n + 1 + length is ≡ n + suc (length is) = omega arith in
       ap (λ xs. in_row k (n, i) ++ xs) (in_append k (n + 1) is js ∙ ap (λ m. in_rows k (n + 1) is ++ in_rows k m js) e)
       ∙ sym (append_assoc (in_row k (n, i)) (in_rows k (n + 1) is) (in_rows k (n + length (i ∷ is)) js))
 
-  stands_of : (k j line : ℕ) (b : Bool) → (k == j) ≡ b → (c : BodyCommand) → Each (StandsIn j b) (inputs_of (InSection k) line c)
+  stands_of : (k j line : ℕ) (b : Bool) → (k == j) ≡ b → (c : BodyCommand)
+      → Each (StandsIn j b) (inputs_of (InSection k) line c)
   stands_of k j line b e (body.Input i) = (e, tt)
   stands_of k j line b e (body.Dot c) = tt
   stands_of k j line b e (body.Common c) = tt
   stands_of k j line b e (body.Data w x) = tt
 
-  pub stands_in : (k j : ℕ) (b : Bool) → (k == j) ≡ b → (ss : List BodyStatement) → Each (StandsIn j b) (inputs_in (InSection k) ss)
+  pub stands_in : (k j : ℕ) (b : Bool) → (k == j) ≡ b → (ss : List BodyStatement)
+      → Each (StandsIn j b) (inputs_in (InSection k) ss)
   stands_in k j b e [] = tt
-  stands_in k j b e (s ∷ ss) = each_append (StandsIn j b) (inputs_of (InSection k) s.line s.command) (inputs_in (InSection k) ss) (stands_of k j s.line b e s.command) (stands_in k j b e ss)
+  stands_in k j b e (s ∷ ss) =
+      each_append (StandsIn j b) (inputs_of (InSection k) s.line s.command) (inputs_in (InSection k) ss)
+      (stands_of k j s.line b e s.command) (stands_in k j b e ss)
 
   pub stands_discarded : (j : ℕ) (is : List InputStatement) → Each (StandsIn j false) (discarded_inputs is)
   stands_discarded j [] = tt
@@ -159,4 +177,6 @@ module _ (of : ℕ → InputStatementAt → List Piece) (mark : (n : ℕ) (i : I
 
   pub stands_later : (k j : ℕ) → j < k → (is : List Item) → Each (StandsIn j false) (inputs_from k is)
   stands_later k j l [] = tt
-  stands_later k j l (i ∷ is) = each_append (StandsIn j false) (item_inputs k i.command) _ (stands_item k j l i.command) (stands_later (k + length (sections_of i.line i.command)) j (omega (arith, l)) is)
+  stands_later k j l (i ∷ is) =
+      each_append (StandsIn j false) (item_inputs k i.command) _ (stands_item k j l i.command)
+      (stands_later (k + length (sections_of i.line i.command)) j (omega (arith, l)) is)

@@ -50,7 +50,8 @@ segment_at offset g = record { offset = offset; group = g }
 one_begun : (end : ℕ) (gs : List Segment) → BeginFrom end gs → gs ≡ begun_from end (map group_in gs)
 one_begun end [] h = refl
 one_begun end (g ∷ gs) h =
-    let offset : g.offset ≡ congruent end (start_of g) = one_least end (start_of g) g.offset (congruent end (start_of g)) (h.0) (least end (start_of g)) in
+    let offset : g.offset ≡ congruent end (start_of g) =
+    one_least end (start_of g) g.offset (congruent end (start_of g)) (h.0) (least end (start_of g)) in
     let same : g ≡ begun end g.group = ap (λ n. segment_at n g.group) offset in
     let rest : gs ≡ begun_from (file_end end g) (map group_in gs) = one_begun (file_end end g) gs (h.1) in
     ap (λ l. g ∷ l) rest ∙ ap (λ x. x ∷ begun_from (file_end end x) (map group_in gs)) same
@@ -59,10 +60,12 @@ count_of : (gs : List Segment) → length gs ≡ length (map group_in gs)
 count_of [] = refl
 count_of (g ∷ gs) = ap suc (count_of gs)
 
-pub one_file_layout : (sections : List PlacedSection) (gs : List Segment) → IsFileLayout sections gs → gs ≡ segments sections
+pub one_file_layout : (sections : List PlacedSection) (gs : List Segment) → IsFileLayout sections gs → gs
+    ≡ segments sections
 unfolding segments
 one_file_layout sections gs h =
-    let cut : map group_in gs ≡ groups (nonempty sections) = one_grouping (nonempty sections) (map group_in gs) h.grouping in
+    let cut : map group_in gs ≡ groups (nonempty sections) =
+    one_grouping (nonempty sections) (map group_in gs) h.grouping in
     let count : length gs ≡ length (groups (nonempty sections)) = count_of gs ∙ ap length cut in
     one_begun (headers_end (length gs)) gs h.offsets
     ∙ (ap (λ n. begun_from (headers_end n) (map group_in gs)) count

@@ -1,5 +1,6 @@
 -- The value of an expression is below 2^64.
-use Rattle.std.proofs.Common.{◌≡◌, ℕ, ◌+◌, ◌-◌, ◌*◌, ◌/◌, ◌%◌, ◌^◌, ◌<◌, ◌==◌, nat_lt, nat_le, Bool, true, false, cond, not, List, Option, Some, None, Result, Ok, Err, refl, subst, arith}
+use Rattle.std.proofs.Common.{◌≡◌, ℕ, ◌+◌, ◌-◌, ◌*◌, ◌/◌, ◌%◌, ◌^◌, ◌<◌, ◌==◌, nat_lt, nat_le, Bool, true, false, cond}
+use Rattle.std.proofs.Common.{not, List, Option, Some, None, Result, Ok, Err, refl, subst, arith}
 use Rattle.std.proofs.Math.Nat.{div-le_self, mod-le}
 use Rattle.std.proofs.lemmas.Nat.{mod_below, and_le_l, or_lt}
 use Rattle.std.specs.Int.{is_power_of_two, next_multiple_of}
@@ -15,8 +16,10 @@ use Rattle.ldexpr.specs.declared.expression.RegionQuery.TheVariants as region
 use Rattle.ldexpr.specs.declared.expression.SectionQuery.{SectionQuery}
 use Rattle.ldexpr.specs.declared.expression.SectionQuery.TheVariants as section
 use Rattle.ldmodel.specs.Chain.{and_then}
-use Rattle.ldmodel.specs.Value.{Scope, SectionNumbers, RegionNumbers, ValueFault, NotReady, NoValue, value, named, truth, is_true}
-use Rattle.ldmodel.specs.Value.{unary_value, binary_value, decides_alone, divided, aligned, asked_of_region, asked_of_section}
+use Rattle.ldmodel.specs.Value.{Scope, SectionNumbers, RegionNumbers, ValueFault, NotReady, NoValue, value, named}
+use Rattle.ldmodel.specs.Value.{truth, is_true}
+use Rattle.ldmodel.specs.Value.{unary_value, binary_value, decides_alone, divided, aligned, asked_of_region}
+use Rattle.ldmodel.specs.Value.{asked_of_section}
 use Rattle.ldlaws.specs.Bounds.{HasSmallNumbers, IsSmallScope, AreSmallSectionNumbers, AreSmallRegionNumbers}
 
 abbrev Small : ℕ → Type 0
@@ -33,7 +36,8 @@ of_fault : (f : ValueFault) → AllSmall (Err f)
 of_fault f y e = absurd (let none : ⊥ = cc in none)
 
 -- what comes of a small number is small
-of_both : (r : Result ℕ ValueFault) (go : ℕ → Result ℕ ValueFault) → AllSmall r → ((x : ℕ) → Small x → AllSmall (go x)) → AllSmall (and_then r go)
+of_both : (r : Result ℕ ValueFault) (go : ℕ → Result ℕ ValueFault) → AllSmall r → ((x : ℕ) → Small x → AllSmall (go x))
+    → AllSmall (and_then r go)
 of_both (Ok x) go h k = k x (h x refl)
 of_both (Err f) go h k = of_fault f
 
@@ -125,7 +129,8 @@ section_asked section.Address r h = h.start
 section_asked section.LoadAddress r h = h.load
 section_asked section.Size r h = h.size
 
-of_asked : {X : Type 0} (ask : X → ℕ) (o : Option X) → ((r : X) → o ≡ Some r → Small (ask r)) → (x : ℕ) → option_map ask o ≡ Some x → Small x
+of_asked : {X : Type 0} (ask : X → ℕ) (o : Option X) → ((r : X) → o ≡ Some r → Small (ask r)) → (x : ℕ)
+    → option_map ask o ≡ Some x → Small x
 of_asked ask None h x e = absurd (let none : ⊥ = cc in none)
 of_asked ask (Some r) h x e = let same : ask r ≡ x = cc in subst Small same (h r refl)
 
@@ -139,11 +144,16 @@ module _ (s : Scope) (dot : ℕ) (in_scope : IsSmallScope s) (at : Small dot) wh
   small (expression.Binary o a b) h =
       of_both (value s dot a) _ (small a h.0) (λ x k. of_second o x (value s dot b) k (small b h.1) (decides_alone o x))
   small (expression.Choice t a b) h =
-      of_both (value s dot t) _ (small t h.0) (λ x k. of_choice (value s dot a) (value s dot b) (small a h.1) (small b h.2) (is_true x))
-  small (expression.OfRegion q n) h = of_named n _ (of_asked (asked_of_region q) (s.region n) (λ r e. region_asked q r (in_scope.regions n r e)))
-  small (expression.OfSection q n) h = of_named n _ (of_asked (asked_of_section q) (s.section n) (λ r e. section_asked q r (in_scope.sections n r e)))
+      of_both (value s dot t) _ (small t h.0) (λ x k.
+      of_choice (value s dot a) (value s dot b) (small a h.1) (small b h.2) (is_true x))
+  small (expression.OfRegion q n) h =
+      of_named n _ (of_asked (asked_of_region q) (s.region n) (λ r e. region_asked q r (in_scope.regions n r e)))
+  small (expression.OfSection q n) h =
+      of_named n _ (of_asked (asked_of_section q) (s.section n) (λ r e. section_asked q r (in_scope.sections n r e)))
   small (expression.AlignDot a) h = of_both (value s dot a) _ (small a h) (λ x k. of_aligned dot x)
-  small (expression.Align a b) h = of_both (value s dot a) _ (small a h.0) (λ x k. of_both (value s dot b) _ (small b h.1) (λ y l. of_aligned x y))
+  small (expression.Align a b) h =
+      of_both (value s dot a) _ (small a h.0) (λ x k. of_both (value s dot b) _ (small b h.1) (λ y l. of_aligned x y))
 
-pub value_is_small : (s : Scope) (dot : ℕ) (e : Expr) (x : ℕ) → IsSmallScope s → dot < 2 ^ 64 → HasSmallNumbers e → value s dot e ≡ Ok x → x < 2 ^ 64
+pub value_is_small : (s : Scope) (dot : ℕ) (e : Expr) (x : ℕ) → IsSmallScope s → dot < 2 ^ 64 → HasSmallNumbers e
+    → value s dot e ≡ Ok x → x < 2 ^ 64
 value_is_small s dot e x in_scope at h is = small s dot in_scope at e h x is

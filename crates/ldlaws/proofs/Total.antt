@@ -1,5 +1,7 @@
 -- No edit is without an outcome, and none comes to 'out of memory'.
-use Rattle.std.proofs.Common.{◌≡◌, ◌≢◌, ⊎_elim, inl, inr, ℕ, ◌^◌, ◌<◌, ◌≤◌, Bool, true, false, cond, not, ◌||◌, List, [], ◌∷◌, length, find, nat_lt, nat_le, Option, Some, None, Ok, Err, refl, sym, ap, ◌∙◌, subst, arith}
+use Rattle.std.proofs.Common.{◌≡◌, ◌≢◌, ⊎_elim, inl, inr, ℕ, ◌^◌, ◌<◌, ◌≤◌, Bool, true, false, cond, not, ◌||◌, List}
+use Rattle.std.proofs.Common.{[], ◌∷◌, length, find, nat_lt, nat_le, Option, Some, None, Ok, Err, refl, sym, ap, ◌∙◌}
+use Rattle.std.proofs.Common.{subst, arith}
 use Rattle.std.proofs.lemmas.Bool.{cases_lt, true≢false}
 use Rattle.elfobj.specs.Refusal.{object_refusal, holds, refusals}
 use Rattle.elfobj.specs.RefusalNumber as object
@@ -16,7 +18,9 @@ use Rattle.ldscript.specs.Script.{IsTree, IsScript, IsRefusal}
 use Rattle.ldscript.specs.declared.refusal.ScriptRefusal.{ScriptRefusal}
 use Rattle.ldscript.specs.declared.refusal.ScriptRefusal.TheVariants as reader
 use Rattle.ldmodel.specs.Project.{Project}
-use Rattle.ldmodel.specs.Edits.{Change, Add, Replace, Move, Remove, SetScript, Refusal, InUse, Unknown, PastEnd, NotAnObject, NotAScript, Limit, NoMemory, early_refusal, Accepts, Refuses, RefusesObject, After, refusal_number, is_in_use, is_object_name, is_too_long, is_full}
+use Rattle.ldmodel.specs.Edits.{Change, Add, Replace, Move, Remove, SetScript, Refusal, InUse, Unknown, PastEnd}
+use Rattle.ldmodel.specs.Edits.{NotAnObject, NotAScript, Limit, NoMemory, early_refusal, Accepts, Refuses}
+use Rattle.ldmodel.specs.Edits.{RefusesObject, After, refusal_number, is_in_use, is_object_name, is_too_long, is_full}
 use Rattle.ldlaws.specs.Outcomes.{HasOutcome, IsNoScript}
 
 outcome_early : (p : Project) (c : Change) (r : Refusal) → early_refusal p c ≡ Some r → HasOutcome p c
@@ -30,7 +34,9 @@ refused p c r e h = (Err r, inr (e, h))
 
 -- ---- edits that bring no script
 
-of_object : (p : Project) (c : Change) (bytes : List ℕ) (q : Project) → early_refusal p c ≡ None → (object_refusal bytes ≡ None → Accepts p c q) → ((r : Refusal) → RefusesObject bytes r → Refuses p c r) → HasOutcome p c
+of_object : (p : Project) (c : Change) (bytes : List ℕ) (q : Project) → early_refusal p c ≡ None
+    → (object_refusal bytes ≡ None → Accepts p c q) → ((r : Refusal) → RefusesObject bytes r → Refuses p c r)
+    → HasOutcome p c
 of_object p c bytes q e read other = go (object_refusal bytes) refl
   where
     go : (o : Option ObjectRefusal) → object_refusal bytes ≡ o → HasOutcome p c
@@ -53,29 +59,45 @@ outcome p c n = go (early_refusal p c) refl
 
 -- ---- a script
 
-module _ (text : List ℕ) (no_script : (s : List Statement) → IsScript text s → ⊥) (no_refusal : (w : ScriptRefusal) → w ≢ reader.NoMemory → IsRefusal text w → ⊥) where
+module _ (text : List ℕ) (no_script : (s : List Statement) → IsScript text s → ⊥) (no_refusal : (w : ScriptRefusal)
+    → w ≢ reader.NoMemory → IsRefusal text w → ⊥) where
   no_tree : (s : List Statement) → IsTree text s → ⊥
   no_tree s t = go (has_misplaced_dot s) refl
     where
       no_clash : HasClash s → ⊥
-      no_clash k = no_refusal reader.Repeated (λ e. let none : ⊥ = cc in none) (record { statements = s; tree = t; clash = k })
+      no_clash k = no_refusal reader.Repeated (λ e. let none : ⊥ = cc in
+          none) (record { statements = s; tree = t; clash = k })
 
       go : (b : Bool) → has_misplaced_dot s ≡ b → ⊥
-      go true e = no_refusal reader.MisplacedDot (λ e. let none : ⊥ = cc in none) (record { statements = s; tree = t; no_clash = no_clash; misplaced = e })
+      go true e = no_refusal reader.MisplacedDot (λ e. let none : ⊥ = cc in
+          none) (record { statements = s; tree = t; no_clash = no_clash; misplaced = e })
       go false e = no_script s (record { tree = t; no_clash = no_clash; no_misplaced_dot = e })
 
   no_tokens : (ls : List Lexeme) → IsTokens text ls → ⊥
   no_tokens ls t =
-      no_refusal reader.NotAScript (λ e. let none : ⊥ = cc in none) (record { lexemes = ls; tokens = t; none = λ s spelled. no_tree s (record { lexemes = ls; tokens = t; spelled = spelled }) })
+      no_refusal reader.NotAScript (λ e. let none : ⊥ = cc in
+      none) (record {
+        lexemes = ls;
+        tokens = t;
+        none = λ s spelled.
+            no_tree s (record { lexemes = ls; tokens = t; spelled = spelled });
+      })
 
   no_cut : length text ≤ 2 ^ 20 → (ls : List Lexeme) → IsCut text ls → ⊥
   no_cut short ls cut =
-      no_refusal reader.Limit (λ e. let none : ⊥ = cc in none) (inr (record { lexemes = ls; cut = cut; past = λ within. no_tokens ls (record { short = short; cut = cut; limits = within }) }))
+      no_refusal reader.Limit (λ e. let none : ⊥ = cc in
+      none) (inr (record {
+        lexemes = ls;
+        cut = cut;
+        past = λ within.
+            no_tokens ls (record { short = short; cut = cut; limits = within });
+      }))
 
   none_of_these : ⊥
   none_of_these =
       ⊎_elim (λ (long : 2 ^ 20 < length text). no_refusal reader.Limit (λ e. let none : ⊥ = cc in none) (inl long))
-      (λ (short : length text ≤ 2 ^ 20). no_refusal reader.NotTokens (λ e. let none : ⊥ = cc in none) (short, no_cut short))
+      (λ (short : length text ≤ 2 ^ 20).
+      no_refusal reader.NotTokens (λ e. let none : ⊥ = cc in none) (short, no_cut short))
       (cases_lt (2 ^ 20) (length text))
 
 pub some_outcome : (p : Project) (c : Change) → (HasOutcome p c → ⊥) → ⊥
@@ -83,7 +105,8 @@ some_outcome p (SetScript text) n = go (early_refusal p (SetScript text)) refl
   where
     go : (o : Option Refusal) → early_refusal p (SetScript text) ≡ o → ⊥
     go (Some r) e = n (outcome_early p (SetScript text) r e)
-    go None e = none_of_these text (λ s h. n (accepted p (SetScript text) (record p { script = s }) e (s, h, refl))) (λ w k h. n (refused p (SetScript text) (NotAScript w) e (w, k, h, refl)))
+    go None e = none_of_these text (λ s h. n (accepted p (SetScript text) (record p { script = s }) e (s, h, refl)))
+        (λ w k h. n (refused p (SetScript text) (NotAScript w) e (w, k, h, refl)))
 some_outcome p (Add name at bytes) n = n (outcome p (Add name at bytes) tt)
 some_outcome p (Replace name bytes) n = n (outcome p (Replace name bytes) tt)
 some_outcome p (Move name to) n = n (outcome p (Move name to) tt)
@@ -108,11 +131,18 @@ one_of false x y h k = k
 
 is_early : (p : Project) (c : Change) → IsEarly (early_refusal p c)
 unfolding early_refusal
-is_early p (Add name at bytes) = let late : Option Refusal = cond (not (is_object_name name) || is_too_long bytes || is_full p.objects) (Some Limit) None in
+is_early p (Add name at bytes) = let late : Option Refusal =
+    cond (not (is_object_name name) || is_too_long bytes || is_full p.objects) (Some Limit) None in
     let later : Option Refusal = cond (nat_lt (length p.objects) at) (Some PastEnd) late in
-    one_of (is_in_use p.objects name) (Some InUse) later tt (one_of (nat_lt (length p.objects) at) (Some PastEnd) late tt (one_of (not (is_object_name name) || is_too_long bytes || is_full p.objects) (Some Limit) None tt tt))
-is_early p (Replace name bytes) = one_of (not (is_in_use p.objects name)) (Some Unknown) (cond (is_too_long bytes) (Some Limit) None) tt (one_of (is_too_long bytes) (Some Limit) None tt tt)
-is_early p (Move name to) = one_of (not (is_in_use p.objects name)) (Some Unknown) (cond (nat_le (length p.objects) to) (Some PastEnd) None) tt (one_of (nat_le (length p.objects) to) (Some PastEnd) None tt tt)
+    one_of (is_in_use p.objects name) (Some InUse) later tt
+    (one_of (nat_lt (length p.objects) at) (Some PastEnd) late tt
+    (one_of (not (is_object_name name) || is_too_long bytes || is_full p.objects) (Some Limit) None tt tt))
+is_early p (Replace name bytes) =
+    one_of (not (is_in_use p.objects name)) (Some Unknown) (cond (is_too_long bytes) (Some Limit) None) tt
+    (one_of (is_too_long bytes) (Some Limit) None tt tt)
+is_early p (Move name to) =
+    one_of (not (is_in_use p.objects name)) (Some Unknown) (cond (nat_le (length p.objects) to) (Some PastEnd) None) tt
+    (one_of (nat_le (length p.objects) to) (Some PastEnd) None tt tt)
 is_early p (Remove name) = one_of (not (is_in_use p.objects name)) (Some Unknown) None tt tt
 is_early p (SetScript text) = one_of (is_too_long text) (Some Limit) None tt tt
 
@@ -143,7 +173,8 @@ found_passes : {X : Type 0} (test : X → Bool) (xs : List X) (x : X) → find t
 found_passes test [] x e = absurd (let none : ⊥ = cc in none)
 found_passes test (y ∷ ys) x e = go (test y) refl e (found_passes test ys x)
   where
-    go : (b : Bool) → test y ≡ b → cond b (Some y) (find test ys) ≡ Some x → (find test ys ≡ Some x → test x ≡ true) → test x ≡ true
+    go : (b : Bool) → test y ≡ b → cond b (Some y) (find test ys) ≡ Some x → (find test ys ≡ Some x → test x ≡ true)
+        → test x ≡ true
     go true k f rest = let same : y ≡ x = cc in subst (λ z. test z ≡ true) same k
     go false k f rest = rest f
 
@@ -175,17 +206,21 @@ small_script reader.MisplacedDot n = omega arith
 small_script reader.Limit n = omega arith
 small_script reader.NoMemory n = absurd (n refl)
 
-of_refused_object : (bytes : List ℕ) (w : ObjectRefusal) → RefusesObject bytes (NotAnObject w) → object.refusal_number w ≤ 13
-of_refused_object bytes w h = let same : w ≡ h.0 = (let e = h.2 in cc) in small_object bytes w (h.1 ∙ ap Some (sym same))
+of_refused_object : (bytes : List ℕ) (w : ObjectRefusal) → RefusesObject bytes (NotAnObject w)
+    → object.refusal_number w ≤ 13
+of_refused_object bytes w h = let same : w ≡ h.0 = (let e = h.2 in cc) in
+    small_object bytes w (h.1 ∙ ap Some (sym same))
 
-late_object : (p : Project) (c : Change) (w : ObjectRefusal) → Refuses p c (NotAnObject w) → object.refusal_number w ≤ 13
+late_object : (p : Project) (c : Change) (w : ObjectRefusal) → Refuses p c (NotAnObject w)
+    → object.refusal_number w ≤ 13
 late_object p (Add name at bytes) w h = of_refused_object bytes w h
 late_object p (Replace name bytes) w h = of_refused_object bytes w h
 late_object p (Move name to) w h = absurd h
 late_object p (Remove name) w h = absurd h
 late_object p (SetScript text) w h = absurd (let e = h.3 in let none : ⊥ = cc in none)
 
-pub inner_of_object : (p : Project) (c : Change) (w : ObjectRefusal) → After p c (Err (NotAnObject w)) → object.refusal_number w ≤ 13
+pub inner_of_object : (p : Project) (c : Change) (w : ObjectRefusal) → After p c (Err (NotAnObject w))
+    → object.refusal_number w ≤ 13
 inner_of_object p c w (inl e) = absurd (subst IsEarly e (is_early p c))
 inner_of_object p c w (inr h) = late_object p c w h.1
 
@@ -194,8 +229,10 @@ late_script p (Add name at bytes) w h = absurd (let e = h.2 in let none : ⊥ = 
 late_script p (Replace name bytes) w h = absurd (let e = h.2 in let none : ⊥ = cc in none)
 late_script p (Move name to) w h = absurd h
 late_script p (Remove name) w h = absurd h
-late_script p (SetScript text) w h = let same : w ≡ h.0 = (let e = h.3 in cc) in small_script w (λ e. h.1 (sym same ∙ e))
+late_script p (SetScript text) w h = let same : w ≡ h.0 = (let e = h.3 in cc) in
+    small_script w (λ e. h.1 (sym same ∙ e))
 
-pub inner_of_script : (p : Project) (c : Change) (w : ScriptRefusal) → After p c (Err (NotAScript w)) → scripts.refusal_number w ≤ 5
+pub inner_of_script : (p : Project) (c : Change) (w : ScriptRefusal) → After p c (Err (NotAScript w))
+    → scripts.refusal_number w ≤ 5
 inner_of_script p c w (inl e) = absurd (subst IsEarly e (is_early p c))
 inner_of_script p c w (inr h) = late_script p c w h.1

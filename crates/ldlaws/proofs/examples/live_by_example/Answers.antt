@@ -13,21 +13,26 @@ use Rattle.ldmodel.specs.Sorting.{sort_by}
 use Rattle.ldlaws.proofs.examples.live_by_example.Goals as goal
 
 pub returns-clause-by_reference : goal.returns-clause-by_reference
-unfolding is_match first_match is_out input_sections live target_section entry_section orphans duplicates decided decision declarations_of provided entry_symbol reached rows provided_names sort_by
+unfolding is_match first_match is_out input_sections live target_section entry_section orphans duplicates decided
+    decision declarations_of provided entry_symbol reached rows provided_names sort_by
 returns-clause-by_reference c = refl
 
 pub returns-clause-by_keep : goal.returns-clause-by_keep
-unfolding is_match first_match is_out input_sections live target_section entry_section orphans duplicates decided decision declarations_of provided entry_symbol reached rows provided_names sort_by
+unfolding is_match first_match is_out input_sections live target_section entry_section orphans duplicates decided
+    decision declarations_of provided entry_symbol reached rows provided_names sort_by
 returns-clause-by_keep c = refl
 
 pub returns-clause-out : goal.returns-clause-out
-unfolding is_match first_match is_out input_sections live target_section entry_section orphans duplicates decided decision declarations_of provided entry_symbol reached rows provided_names sort_by
+unfolding is_match first_match is_out input_sections live target_section entry_section orphans duplicates decided
+    decision declarations_of provided entry_symbol reached rows provided_names sort_by
 returns-clause-out c = refl
 
 pub returns-clause-by_marker : goal.returns-clause-by_marker
-unfolding is_match first_match is_out input_sections live target_section entry_section orphans duplicates decided decision declarations_of provided entry_symbol reached rows provided_names sort_by
+unfolding is_match first_match is_out input_sections live target_section entry_section orphans duplicates decided
+    decision declarations_of provided entry_symbol reached rows provided_names sort_by
 returns-clause-by_marker c = refl
 
 pub returns-clause-to_common : goal.returns-clause-to_common
-unfolding is_match first_match is_out input_sections live target_section entry_section orphans duplicates decided decision declarations_of provided entry_symbol reached rows provided_names sort_by
+unfolding is_match first_match is_out input_sections live target_section entry_section orphans duplicates decided
+    decision declarations_of provided entry_symbol reached rows provided_names sort_by
 returns-clause-to_common c = refl

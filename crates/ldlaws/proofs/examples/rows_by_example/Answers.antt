@@ -13,29 +13,36 @@ use Rattle.ldmodel.specs.Sorting.{sort_by}
 use Rattle.ldlaws.proofs.examples.rows_by_example.Goals as goal
 
 pub returns-clause-together : goal.returns-clause-together
-unfolding is_match first_match is_out input_sections live target_section entry_section orphans duplicates decided decision declarations_of provided entry_symbol reached rows provided_names sort_by
+unfolding is_match first_match is_out input_sections live target_section entry_section orphans duplicates decided
+    decision declarations_of provided entry_symbol reached rows provided_names sort_by
 returns-clause-together c = refl
 
 pub returns-clause-apart : goal.returns-clause-apart
-unfolding is_match first_match is_out input_sections live target_section entry_section orphans duplicates decided decision declarations_of provided entry_symbol reached rows provided_names sort_by
+unfolding is_match first_match is_out input_sections live target_section entry_section orphans duplicates decided
+    decision declarations_of provided entry_symbol reached rows provided_names sort_by
 returns-clause-apart c = refl
 
 pub returns-clause-by_name : goal.returns-clause-by_name
-unfolding is_match first_match is_out input_sections live target_section entry_section orphans duplicates decided decision declarations_of provided entry_symbol reached rows provided_names sort_by
+unfolding is_match first_match is_out input_sections live target_section entry_section orphans duplicates decided
+    decision declarations_of provided entry_symbol reached rows provided_names sort_by
 returns-clause-by_name c = refl
 
 pub returns-clause-by_alignment : goal.returns-clause-by_alignment
-unfolding is_match first_match is_out input_sections live target_section entry_section orphans duplicates decided decision declarations_of provided entry_symbol reached rows provided_names sort_by
+unfolding is_match first_match is_out input_sections live target_section entry_section orphans duplicates decided
+    decision declarations_of provided entry_symbol reached rows provided_names sort_by
 returns-clause-by_alignment c = refl
 
 pub returns-clause-excluded : goal.returns-clause-excluded
-unfolding is_match first_match is_out input_sections live target_section entry_section orphans duplicates decided decision declarations_of provided entry_symbol reached rows provided_names sort_by
+unfolding is_match first_match is_out input_sections live target_section entry_section orphans duplicates decided
+    decision declarations_of provided entry_symbol reached rows provided_names sort_by
 returns-clause-excluded c = refl
 
 pub returns-clause-orphan : goal.returns-clause-orphan
-unfolding is_match first_match is_out input_sections live target_section entry_section orphans duplicates decided decision declarations_of provided entry_symbol reached rows provided_names sort_by
+unfolding is_match first_match is_out input_sections live target_section entry_section orphans duplicates decided
+    decision declarations_of provided entry_symbol reached rows provided_names sort_by
 returns-clause-orphan c = refl
 
 pub returns-clause-zero_is_one : goal.returns-clause-zero_is_one
-unfolding is_match first_match is_out input_sections live target_section entry_section orphans duplicates decided decision declarations_of provided entry_symbol reached rows provided_names sort_by
+unfolding is_match first_match is_out input_sections live target_section entry_section orphans duplicates decided
+    decision declarations_of provided entry_symbol reached rows provided_names sort_by
 returns-clause-zero_is_one c = refl

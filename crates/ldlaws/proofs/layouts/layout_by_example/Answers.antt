@@ -43,45 +43,122 @@ use Rattle.ldpattern.specs.Matching.{is_match}
 use Rattle.ldlaws.proofs.layouts.layout_by_example.Goals as goal
 
 pub returns-clause-regions : goal.returns-clause-regions
-unfolding assertion_faults assigned_names body_command_step byte_at command_step common_step decided decision declarations_of declared_names difference_in duplicates elf_header entry_point entry_section entry_symbol fault_of fault_text field_of first_match gathering_faults given groups head_of header_name_table header_part headers hex image image_length input_sections is_match is_out item_command_step layout line line_of link linked_pieces live load_address map_text mentioned_names name_faults name_value number orphans output_symbols overlaps piece_placed pieces_placed placed_section placement program_header provided provided_names reached referenced_value region_step relocation_faults rows run section_end section_headers section_step segments site_field sites sort_by start_of symbol_name_table symbol_table tables target_number target_section undefined_entry value word_of
+unfolding assertion_faults assigned_names body_command_step byte_at command_step common_step decided decision
+    declarations_of declared_names difference_in duplicates elf_header entry_point entry_section entry_symbol fault_of
+    fault_text field_of first_match gathering_faults given groups head_of header_name_table header_part headers hex
+    image image_length input_sections is_match is_out item_command_step layout line line_of link linked_pieces live
+    load_address map_text mentioned_names name_faults name_value number orphans output_symbols overlaps piece_placed
+    pieces_placed placed_section placement program_header provided provided_names reached referenced_value region_step
+    relocation_faults rows run section_end section_headers section_step segments site_field sites sort_by start_of
+    symbol_name_table symbol_table tables target_number target_section undefined_entry value word_of
 returns-clause-regions c = refl
 
 pub returns-clause-has_room : goal.returns-clause-has_room
-unfolding assertion_faults assigned_names body_command_step byte_at command_step common_step decided decision declarations_of declared_names difference_in duplicates elf_header entry_point entry_section entry_symbol fault_of fault_text field_of first_match gathering_faults given groups head_of header_name_table header_part headers hex image image_length input_sections is_match is_out item_command_step layout line line_of link linked_pieces live load_address map_text mentioned_names name_faults name_value number orphans output_symbols overlaps piece_placed pieces_placed placed_section placement program_header provided provided_names reached referenced_value region_step relocation_faults rows run section_end section_headers section_step segments site_field sites sort_by start_of symbol_name_table symbol_table tables target_number target_section undefined_entry value word_of
+unfolding assertion_faults assigned_names body_command_step byte_at command_step common_step decided decision
+    declarations_of declared_names difference_in duplicates elf_header entry_point entry_section entry_symbol fault_of
+    fault_text field_of first_match gathering_faults given groups head_of header_name_table header_part headers hex
+    image image_length input_sections is_match is_out item_command_step layout line line_of link linked_pieces live
+    load_address map_text mentioned_names name_faults name_value number orphans output_symbols overlaps piece_placed
+    pieces_placed placed_section placement program_header provided provided_names reached referenced_value region_step
+    relocation_faults rows run section_end section_headers section_step segments site_field sites sort_by start_of
+    symbol_name_table symbol_table tables target_number target_section undefined_entry value word_of
 returns-clause-has_room c = refl
 
 pub returns-clause-full : goal.returns-clause-full
-unfolding assertion_faults assigned_names body_command_step byte_at command_step common_step decided decision declarations_of declared_names difference_in duplicates elf_header entry_point entry_section entry_symbol fault_of fault_text field_of first_match gathering_faults given groups head_of header_name_table header_part headers hex image image_length input_sections is_match is_out item_command_step layout line line_of link linked_pieces live load_address map_text mentioned_names name_faults name_value number orphans output_symbols overlaps piece_placed pieces_placed placed_section placement program_header provided provided_names reached referenced_value region_step relocation_faults rows run section_end section_headers section_step segments site_field sites sort_by start_of symbol_name_table symbol_table tables target_number target_section undefined_entry value word_of
+unfolding assertion_faults assigned_names body_command_step byte_at command_step common_step decided decision
+    declarations_of declared_names difference_in duplicates elf_header entry_point entry_section entry_symbol fault_of
+    fault_text field_of first_match gathering_faults given groups head_of header_name_table header_part headers hex
+    image image_length input_sections is_match is_out item_command_step layout line line_of link linked_pieces live
+    load_address map_text mentioned_names name_faults name_value number orphans output_symbols overlaps piece_placed
+    pieces_placed placed_section placement program_header provided provided_names reached referenced_value region_step
+    relocation_faults rows run section_end section_headers section_step segments site_field sites sort_by start_of
+    symbol_name_table symbol_table tables target_number target_section undefined_entry value word_of
 returns-clause-full c = refl
 
 pub returns-clause-from_start : goal.returns-clause-from_start
-unfolding assertion_faults assigned_names body_command_step byte_at command_step common_step decided decision declarations_of declared_names difference_in duplicates elf_header entry_point entry_section entry_symbol fault_of fault_text field_of first_match gathering_faults given groups head_of header_name_table header_part headers hex image image_length input_sections is_match is_out item_command_step layout line line_of link linked_pieces live load_address map_text mentioned_names name_faults name_value number orphans output_symbols overlaps piece_placed pieces_placed placed_section placement program_header provided provided_names reached referenced_value region_step relocation_faults rows run section_end section_headers section_step segments site_field sites sort_by start_of symbol_name_table symbol_table tables target_number target_section undefined_entry value word_of
+unfolding assertion_faults assigned_names body_command_step byte_at command_step common_step decided decision
+    declarations_of declared_names difference_in duplicates elf_header entry_point entry_section entry_symbol fault_of
+    fault_text field_of first_match gathering_faults given groups head_of header_name_table header_part headers hex
+    image image_length input_sections is_match is_out item_command_step layout line line_of link linked_pieces live
+    load_address map_text mentioned_names name_faults name_value number orphans output_symbols overlaps piece_placed
+    pieces_placed placed_section placement program_header provided provided_names reached referenced_value region_step
+    relocation_faults rows run section_end section_headers section_step segments site_field sites sort_by start_of
+    symbol_name_table symbol_table tables target_number target_section undefined_entry value word_of
 returns-clause-from_start c = refl
 
 pub returns-clause-moved_back : goal.returns-clause-moved_back
-unfolding assertion_faults assigned_names body_command_step byte_at command_step common_step decided decision declarations_of declared_names difference_in duplicates elf_header entry_point entry_section entry_symbol fault_of fault_text field_of first_match gathering_faults given groups head_of header_name_table header_part headers hex image image_length input_sections is_match is_out item_command_step layout line line_of link linked_pieces live load_address map_text mentioned_names name_faults name_value number orphans output_symbols overlaps piece_placed pieces_placed placed_section placement program_header provided provided_names reached referenced_value region_step relocation_faults rows run section_end section_headers section_step segments site_field sites sort_by start_of symbol_name_table symbol_table tables target_number target_section undefined_entry value word_of
+unfolding assertion_faults assigned_names body_command_step byte_at command_step common_step decided decision
+    declarations_of declared_names difference_in duplicates elf_header entry_point entry_section entry_symbol fault_of
+    fault_text field_of first_match gathering_faults given groups head_of header_name_table header_part headers hex
+    image image_length input_sections is_match is_out item_command_step layout line line_of link linked_pieces live
+    load_address map_text mentioned_names name_faults name_value number orphans output_symbols overlaps piece_placed
+    pieces_placed placed_section placement program_header provided provided_names reached referenced_value region_step
+    relocation_faults rows run section_end section_headers section_step segments site_field sites sort_by start_of
+    symbol_name_table symbol_table tables target_number target_section undefined_entry value word_of
 returns-clause-moved_back c = refl
 
 pub returns-clause-past : goal.returns-clause-past
-unfolding assertion_faults assigned_names body_command_step byte_at command_step common_step decided decision declarations_of declared_names difference_in duplicates elf_header entry_point entry_section entry_symbol fault_of fault_text field_of first_match gathering_faults given groups head_of header_name_table header_part headers hex image image_length input_sections is_match is_out item_command_step layout line line_of link linked_pieces live load_address map_text mentioned_names name_faults name_value number orphans output_symbols overlaps piece_placed pieces_placed placed_section placement program_header provided provided_names reached referenced_value region_step relocation_faults rows run section_end section_headers section_step segments site_field sites sort_by start_of symbol_name_table symbol_table tables target_number target_section undefined_entry value word_of
+unfolding assertion_faults assigned_names body_command_step byte_at command_step common_step decided decision
+    declarations_of declared_names difference_in duplicates elf_header entry_point entry_section entry_symbol fault_of
+    fault_text field_of first_match gathering_faults given groups head_of header_name_table header_part headers hex
+    image image_length input_sections is_match is_out item_command_step layout line line_of link linked_pieces live
+    load_address map_text mentioned_names name_faults name_value number orphans output_symbols overlaps piece_placed
+    pieces_placed placed_section placement program_header provided provided_names reached referenced_value region_step
+    relocation_faults rows run section_end section_headers section_step segments site_field sites sort_by start_of
+    symbol_name_table symbol_table tables target_number target_section undefined_entry value word_of
 returns-clause-past c = refl
 
 pub returns-clause-wrapped : goal.returns-clause-wrapped
-unfolding assertion_faults assigned_names body_command_step byte_at command_step common_step decided decision declarations_of declared_names difference_in duplicates elf_header entry_point entry_section entry_symbol fault_of fault_text field_of first_match gathering_faults given groups head_of header_name_table header_part headers hex image image_length input_sections is_match is_out item_command_step layout line line_of link linked_pieces live load_address map_text mentioned_names name_faults name_value number orphans output_symbols overlaps piece_placed pieces_placed placed_section placement program_header provided provided_names reached referenced_value region_step relocation_faults rows run section_end section_headers section_step segments site_field sites sort_by start_of symbol_name_table symbol_table tables target_number target_section undefined_entry value word_of
+unfolding assertion_faults assigned_names body_command_step byte_at command_step common_step decided decision
+    declarations_of declared_names difference_in duplicates elf_header entry_point entry_section entry_symbol fault_of
+    fault_text field_of first_match gathering_faults given groups head_of header_name_table header_part headers hex
+    image image_length input_sections is_match is_out item_command_step layout line line_of link linked_pieces live
+    load_address map_text mentioned_names name_faults name_value number orphans output_symbols overlaps piece_placed
+    pieces_placed placed_section placement program_header provided provided_names reached referenced_value region_step
+    relocation_faults rows run section_end section_headers section_step segments site_field sites sort_by start_of
+    symbol_name_table symbol_table tables target_number target_section undefined_entry value word_of
 returns-clause-wrapped c = refl
 
 pub returns-clause-aligned : goal.returns-clause-aligned
-unfolding assertion_faults assigned_names body_command_step byte_at command_step common_step decided decision declarations_of declared_names difference_in duplicates elf_header entry_point entry_section entry_symbol fault_of fault_text field_of first_match gathering_faults given groups head_of header_name_table header_part headers hex image image_length input_sections is_match is_out item_command_step layout line line_of link linked_pieces live load_address map_text mentioned_names name_faults name_value number orphans output_symbols overlaps piece_placed pieces_placed placed_section placement program_header provided provided_names reached referenced_value region_step relocation_faults rows run section_end section_headers section_step segments site_field sites sort_by start_of symbol_name_table symbol_table tables target_number target_section undefined_entry value word_of
+unfolding assertion_faults assigned_names body_command_step byte_at command_step common_step decided decision
+    declarations_of declared_names difference_in duplicates elf_header entry_point entry_section entry_symbol fault_of
+    fault_text field_of first_match gathering_faults given groups head_of header_name_table header_part headers hex
+    image image_length input_sections is_match is_out item_command_step layout line line_of link linked_pieces live
+    load_address map_text mentioned_names name_faults name_value number orphans output_symbols overlaps piece_placed
+    pieces_placed placed_section placement program_header provided provided_names reached referenced_value region_step
+    relocation_faults rows run section_end section_headers section_step segments site_field sites sort_by start_of
+    symbol_name_table symbol_table tables target_number target_section undefined_entry value word_of
 returns-clause-aligned c = refl
 
 pub returns-clause-backwards : goal.returns-clause-backwards
-unfolding assertion_faults assigned_names body_command_step byte_at command_step common_step decided decision declarations_of declared_names difference_in duplicates elf_header entry_point entry_section entry_symbol fault_of fault_text field_of first_match gathering_faults given groups head_of header_name_table header_part headers hex image image_length input_sections is_match is_out item_command_step layout line line_of link linked_pieces live load_address map_text mentioned_names name_faults name_value number orphans output_symbols overlaps piece_placed pieces_placed placed_section placement program_header provided provided_names reached referenced_value region_step relocation_faults rows run section_end section_headers section_step segments site_field sites sort_by start_of symbol_name_table symbol_table tables target_number target_section undefined_entry value word_of
+unfolding assertion_faults assigned_names body_command_step byte_at command_step common_step decided decision
+    declarations_of declared_names difference_in duplicates elf_header entry_point entry_section entry_symbol fault_of
+    fault_text field_of first_match gathering_faults given groups head_of header_name_table header_part headers hex
+    image image_length input_sections is_match is_out item_command_step layout line line_of link linked_pieces live
+    load_address map_text mentioned_names name_faults name_value number orphans output_symbols overlaps piece_placed
+    pieces_placed placed_section placement program_header provided provided_names reached referenced_value region_step
+    relocation_faults rows run section_end section_headers section_step segments site_field sites sort_by start_of
+    symbol_name_table symbol_table tables target_number target_section undefined_entry value word_of
 returns-clause-backwards c = refl
 
 pub returns-clause-meeting : goal.returns-clause-meeting
-unfolding assertion_faults assigned_names body_command_step byte_at command_step common_step decided decision declarations_of declared_names difference_in duplicates elf_header entry_point entry_section entry_symbol fault_of fault_text field_of first_match gathering_faults given groups head_of header_name_table header_part headers hex image image_length input_sections is_match is_out item_command_step layout line line_of link linked_pieces live load_address map_text mentioned_names name_faults name_value number orphans output_symbols overlaps piece_placed pieces_placed placed_section placement program_header provided provided_names reached referenced_value region_step relocation_faults rows run section_end section_headers section_step segments site_field sites sort_by start_of symbol_name_table symbol_table tables target_number target_section undefined_entry value word_of
+unfolding assertion_faults assigned_names body_command_step byte_at command_step common_step decided decision
+    declarations_of declared_names difference_in duplicates elf_header entry_point entry_section entry_symbol fault_of
+    fault_text field_of first_match gathering_faults given groups head_of header_name_table header_part headers hex
+    image image_length input_sections is_match is_out item_command_step layout line line_of link linked_pieces live
+    load_address map_text mentioned_names name_faults name_value number orphans output_symbols overlaps piece_placed
+    pieces_placed placed_section placement program_header provided provided_names reached referenced_value region_step
+    relocation_faults rows run section_end section_headers section_step segments site_field sites sort_by start_of
+    symbol_name_table symbol_table tables target_number target_section undefined_entry value word_of
 returns-clause-meeting c = refl
 
 pub returns-clause-filled : goal.returns-clause-filled
-unfolding assertion_faults assigned_names body_command_step byte_at command_step common_step decided decision declarations_of declared_names difference_in duplicates elf_header entry_point entry_section entry_symbol fault_of fault_text field_of first_match gathering_faults given groups head_of header_name_table header_part headers hex image image_length input_sections is_match is_out item_command_step layout line line_of link linked_pieces live load_address map_text mentioned_names name_faults name_value number orphans output_symbols overlaps piece_placed pieces_placed placed_section placement program_header provided provided_names reached referenced_value region_step relocation_faults rows run section_end section_headers section_step segments site_field sites sort_by start_of symbol_name_table symbol_table tables target_number target_section undefined_entry value word_of
+unfolding assertion_faults assigned_names body_command_step byte_at command_step common_step decided decision
+    declarations_of declared_names difference_in duplicates elf_header entry_point entry_section entry_symbol fault_of
+    fault_text field_of first_match gathering_faults given groups head_of header_name_table header_part headers hex
+    image image_length input_sections is_match is_out item_command_step layout line line_of link linked_pieces live
+    load_address map_text mentioned_names name_faults name_value number orphans output_symbols overlaps piece_placed
+    pieces_placed placed_section placement program_header provided provided_names reached referenced_value region_step
+    relocation_faults rows run section_end section_headers section_step segments site_field sites sort_by start_of
+    symbol_name_table symbol_table tables target_number target_section undefined_entry value word_of
 returns-clause-filled c = refl

@@ -43,53 +43,144 @@ use Rattle.ldpattern.specs.Matching.{is_match}
 use Rattle.ldlaws.proofs.links.link_by_example.Goals as goal
 
 pub returns-clause-empty_status : goal.returns-clause-empty_status
-unfolding assertion_faults assigned_names body_command_step byte_at command_step common_step decided decision declarations_of declared_names difference_in duplicates elf_header entry_point entry_section entry_symbol fault_of fault_text field_of first_match gathering_faults given groups head_of header_name_table header_part headers hex image image_length input_sections is_match is_out item_command_step layout line line_of link linked_pieces live load_address map_text mentioned_names name_faults name_value number orphans output_symbols overlaps piece_placed pieces_placed placed_section placement program_header provided provided_names reached referenced_value region_step relocation_faults rows run section_end section_headers section_step segments site_field sites sort_by start_of symbol_name_table symbol_table tables target_number target_section undefined_entry value word_of
+unfolding assertion_faults assigned_names body_command_step byte_at command_step common_step decided decision
+    declarations_of declared_names difference_in duplicates elf_header entry_point entry_section entry_symbol fault_of
+    fault_text field_of first_match gathering_faults given groups head_of header_name_table header_part headers hex
+    image image_length input_sections is_match is_out item_command_step layout line line_of link linked_pieces live
+    load_address map_text mentioned_names name_faults name_value number orphans output_symbols overlaps piece_placed
+    pieces_placed placed_section placement program_header provided provided_names reached referenced_value region_step
+    relocation_faults rows run section_end section_headers section_step segments site_field sites sort_by start_of
+    symbol_name_table symbol_table tables target_number target_section undefined_entry value word_of
 returns-clause-empty_status c = refl
 
 pub returns-clause-empty_map : goal.returns-clause-empty_map
-unfolding assertion_faults assigned_names body_command_step byte_at command_step common_step decided decision declarations_of declared_names difference_in duplicates elf_header entry_point entry_section entry_symbol fault_of fault_text field_of first_match gathering_faults given groups head_of header_name_table header_part headers hex image image_length input_sections is_match is_out item_command_step layout line line_of link linked_pieces live load_address map_text mentioned_names name_faults name_value number orphans output_symbols overlaps piece_placed pieces_placed placed_section placement program_header provided provided_names reached referenced_value region_step relocation_faults rows run section_end section_headers section_step segments site_field sites sort_by start_of symbol_name_table symbol_table tables target_number target_section undefined_entry value word_of
+unfolding assertion_faults assigned_names body_command_step byte_at command_step common_step decided decision
+    declarations_of declared_names difference_in duplicates elf_header entry_point entry_section entry_symbol fault_of
+    fault_text field_of first_match gathering_faults given groups head_of header_name_table header_part headers hex
+    image image_length input_sections is_match is_out item_command_step layout line line_of link linked_pieces live
+    load_address map_text mentioned_names name_faults name_value number orphans output_symbols overlaps piece_placed
+    pieces_placed placed_section placement program_header provided provided_names reached referenced_value region_step
+    relocation_faults rows run section_end section_headers section_step segments site_field sites sort_by start_of
+    symbol_name_table symbol_table tables target_number target_section undefined_entry value word_of
 returns-clause-empty_map c = refl
 
 pub returns-clause-empty_length : goal.returns-clause-empty_length
-unfolding assertion_faults assigned_names body_command_step byte_at command_step common_step decided decision declarations_of declared_names difference_in duplicates elf_header entry_point entry_section entry_symbol fault_of fault_text field_of first_match gathering_faults given groups head_of header_name_table header_part headers hex image image_length input_sections is_match is_out item_command_step layout line line_of link linked_pieces live load_address map_text mentioned_names name_faults name_value number orphans output_symbols overlaps piece_placed pieces_placed placed_section placement program_header provided provided_names reached referenced_value region_step relocation_faults rows run section_end section_headers section_step segments site_field sites sort_by start_of symbol_name_table symbol_table tables target_number target_section undefined_entry value word_of
+unfolding assertion_faults assigned_names body_command_step byte_at command_step common_step decided decision
+    declarations_of declared_names difference_in duplicates elf_header entry_point entry_section entry_symbol fault_of
+    fault_text field_of first_match gathering_faults given groups head_of header_name_table header_part headers hex
+    image image_length input_sections is_match is_out item_command_step layout line line_of link linked_pieces live
+    load_address map_text mentioned_names name_faults name_value number orphans output_symbols overlaps piece_placed
+    pieces_placed placed_section placement program_header provided provided_names reached referenced_value region_step
+    relocation_faults rows run section_end section_headers section_step segments site_field sites sort_by start_of
+    symbol_name_table symbol_table tables target_number target_section undefined_entry value word_of
 returns-clause-empty_length c = refl
 
 pub returns-clause-orphan_status : goal.returns-clause-orphan_status
-unfolding assertion_faults assigned_names body_command_step byte_at command_step common_step decided decision declarations_of declared_names difference_in duplicates elf_header entry_point entry_section entry_symbol fault_of fault_text field_of first_match gathering_faults given groups head_of header_name_table header_part headers hex image image_length input_sections is_match is_out item_command_step layout line line_of link linked_pieces live load_address map_text mentioned_names name_faults name_value number orphans output_symbols overlaps piece_placed pieces_placed placed_section placement program_header provided provided_names reached referenced_value region_step relocation_faults rows run section_end section_headers section_step segments site_field sites sort_by start_of symbol_name_table symbol_table tables target_number target_section undefined_entry value word_of
+unfolding assertion_faults assigned_names body_command_step byte_at command_step common_step decided decision
+    declarations_of declared_names difference_in duplicates elf_header entry_point entry_section entry_symbol fault_of
+    fault_text field_of first_match gathering_faults given groups head_of header_name_table header_part headers hex
+    image image_length input_sections is_match is_out item_command_step layout line line_of link linked_pieces live
+    load_address map_text mentioned_names name_faults name_value number orphans output_symbols overlaps piece_placed
+    pieces_placed placed_section placement program_header provided provided_names reached referenced_value region_step
+    relocation_faults rows run section_end section_headers section_step segments site_field sites sort_by start_of
+    symbol_name_table symbol_table tables target_number target_section undefined_entry value word_of
 returns-clause-orphan_status c = refl
 
 pub returns-clause-orphan_faults : goal.returns-clause-orphan_faults
-unfolding assertion_faults assigned_names body_command_step byte_at command_step common_step decided decision declarations_of declared_names difference_in duplicates elf_header entry_point entry_section entry_symbol fault_of fault_text field_of first_match gathering_faults given groups head_of header_name_table header_part headers hex image image_length input_sections is_match is_out item_command_step layout line line_of link linked_pieces live load_address map_text mentioned_names name_faults name_value number orphans output_symbols overlaps piece_placed pieces_placed placed_section placement program_header provided provided_names reached referenced_value region_step relocation_faults rows run section_end section_headers section_step segments site_field sites sort_by start_of symbol_name_table symbol_table tables target_number target_section undefined_entry value word_of
+unfolding assertion_faults assigned_names body_command_step byte_at command_step common_step decided decision
+    declarations_of declared_names difference_in duplicates elf_header entry_point entry_section entry_symbol fault_of
+    fault_text field_of first_match gathering_faults given groups head_of header_name_table header_part headers hex
+    image image_length input_sections is_match is_out item_command_step layout line line_of link linked_pieces live
+    load_address map_text mentioned_names name_faults name_value number orphans output_symbols overlaps piece_placed
+    pieces_placed placed_section placement program_header provided provided_names reached referenced_value region_step
+    relocation_faults rows run section_end section_headers section_step segments site_field sites sort_by start_of
+    symbol_name_table symbol_table tables target_number target_section undefined_entry value word_of
 returns-clause-orphan_faults c = refl
 
 pub returns-clause-duplicate_faults : goal.returns-clause-duplicate_faults
-unfolding assertion_faults assigned_names body_command_step byte_at command_step common_step decided decision declarations_of declared_names difference_in duplicates elf_header entry_point entry_section entry_symbol fault_of fault_text field_of first_match gathering_faults given groups head_of header_name_table header_part headers hex image image_length input_sections is_match is_out item_command_step layout line line_of link linked_pieces live load_address map_text mentioned_names name_faults name_value number orphans output_symbols overlaps piece_placed pieces_placed placed_section placement program_header provided provided_names reached referenced_value region_step relocation_faults rows run section_end section_headers section_step segments site_field sites sort_by start_of symbol_name_table symbol_table tables target_number target_section undefined_entry value word_of
+unfolding assertion_faults assigned_names body_command_step byte_at command_step common_step decided decision
+    declarations_of declared_names difference_in duplicates elf_header entry_point entry_section entry_symbol fault_of
+    fault_text field_of first_match gathering_faults given groups head_of header_name_table header_part headers hex
+    image image_length input_sections is_match is_out item_command_step layout line line_of link linked_pieces live
+    load_address map_text mentioned_names name_faults name_value number orphans output_symbols overlaps piece_placed
+    pieces_placed placed_section placement program_header provided provided_names reached referenced_value region_step
+    relocation_faults rows run section_end section_headers section_step segments site_field sites sort_by start_of
+    symbol_name_table symbol_table tables target_number target_section undefined_entry value word_of
 returns-clause-duplicate_faults c = refl
 
 pub returns-clause-call_status : goal.returns-clause-call_status
-unfolding assertion_faults assigned_names body_command_step byte_at command_step common_step decided decision declarations_of declared_names difference_in duplicates elf_header entry_point entry_section entry_symbol fault_of fault_text field_of first_match gathering_faults given groups head_of header_name_table header_part headers hex image image_length input_sections is_match is_out item_command_step layout line line_of link linked_pieces live load_address map_text mentioned_names name_faults name_value number orphans output_symbols overlaps piece_placed pieces_placed placed_section placement program_header provided provided_names reached referenced_value region_step relocation_faults rows run section_end section_headers section_step segments site_field sites sort_by start_of symbol_name_table symbol_table tables target_number target_section undefined_entry value word_of
+unfolding assertion_faults assigned_names body_command_step byte_at command_step common_step decided decision
+    declarations_of declared_names difference_in duplicates elf_header entry_point entry_section entry_symbol fault_of
+    fault_text field_of first_match gathering_faults given groups head_of header_name_table header_part headers hex
+    image image_length input_sections is_match is_out item_command_step layout line line_of link linked_pieces live
+    load_address map_text mentioned_names name_faults name_value number orphans output_symbols overlaps piece_placed
+    pieces_placed placed_section placement program_header provided provided_names reached referenced_value region_step
+    relocation_faults rows run section_end section_headers section_step segments site_field sites sort_by start_of
+    symbol_name_table symbol_table tables target_number target_section undefined_entry value word_of
 returns-clause-call_status c = refl
 
 pub returns-clause-call_map : goal.returns-clause-call_map
-unfolding assertion_faults assigned_names body_command_step byte_at command_step common_step decided decision declarations_of declared_names difference_in duplicates elf_header entry_point entry_section entry_symbol fault_of fault_text field_of first_match gathering_faults given groups head_of header_name_table header_part headers hex image image_length input_sections is_match is_out item_command_step layout line line_of link linked_pieces live load_address map_text mentioned_names name_faults name_value number orphans output_symbols overlaps piece_placed pieces_placed placed_section placement program_header provided provided_names reached referenced_value region_step relocation_faults rows run section_end section_headers section_step segments site_field sites sort_by start_of symbol_name_table symbol_table tables target_number target_section undefined_entry value word_of
+unfolding assertion_faults assigned_names body_command_step byte_at command_step common_step decided decision
+    declarations_of declared_names difference_in duplicates elf_header entry_point entry_section entry_symbol fault_of
+    fault_text field_of first_match gathering_faults given groups head_of header_name_table header_part headers hex
+    image image_length input_sections is_match is_out item_command_step layout line line_of link linked_pieces live
+    load_address map_text mentioned_names name_faults name_value number orphans output_symbols overlaps piece_placed
+    pieces_placed placed_section placement program_header provided provided_names reached referenced_value region_step
+    relocation_faults rows run section_end section_headers section_step segments site_field sites sort_by start_of
+    symbol_name_table symbol_table tables target_number target_section undefined_entry value word_of
 returns-clause-call_map c = refl
 
 pub returns-clause-call_bytes : goal.returns-clause-call_bytes
-unfolding assertion_faults assigned_names body_command_step byte_at command_step common_step decided decision declarations_of declared_names difference_in duplicates elf_header entry_point entry_section entry_symbol fault_of fault_text field_of first_match gathering_faults given groups head_of header_name_table header_part headers hex image image_length input_sections is_match is_out item_command_step layout line line_of link linked_pieces live load_address map_text mentioned_names name_faults name_value number orphans output_symbols overlaps piece_placed pieces_placed placed_section placement program_header provided provided_names reached referenced_value region_step relocation_faults rows run section_end section_headers section_step segments site_field sites sort_by start_of symbol_name_table symbol_table tables target_number target_section undefined_entry value word_of
+unfolding assertion_faults assigned_names body_command_step byte_at command_step common_step decided decision
+    declarations_of declared_names difference_in duplicates elf_header entry_point entry_section entry_symbol fault_of
+    fault_text field_of first_match gathering_faults given groups head_of header_name_table header_part headers hex
+    image image_length input_sections is_match is_out item_command_step layout line line_of link linked_pieces live
+    load_address map_text mentioned_names name_faults name_value number orphans output_symbols overlaps piece_placed
+    pieces_placed placed_section placement program_header provided provided_names reached referenced_value region_step
+    relocation_faults rows run section_end section_headers section_step segments site_field sites sort_by start_of
+    symbol_name_table symbol_table tables target_number target_section undefined_entry value word_of
 returns-clause-call_bytes c = refl
 
 pub returns-clause-call_length : goal.returns-clause-call_length
-unfolding assertion_faults assigned_names body_command_step byte_at command_step common_step decided decision declarations_of declared_names difference_in duplicates elf_header entry_point entry_section entry_symbol fault_of fault_text field_of first_match gathering_faults given groups head_of header_name_table header_part headers hex image image_length input_sections is_match is_out item_command_step layout line line_of link linked_pieces live load_address map_text mentioned_names name_faults name_value number orphans output_symbols overlaps piece_placed pieces_placed placed_section placement program_header provided provided_names reached referenced_value region_step relocation_faults rows run section_end section_headers section_step segments site_field sites sort_by start_of symbol_name_table symbol_table tables target_number target_section undefined_entry value word_of
+unfolding assertion_faults assigned_names body_command_step byte_at command_step common_step decided decision
+    declarations_of declared_names difference_in duplicates elf_header entry_point entry_section entry_symbol fault_of
+    fault_text field_of first_match gathering_faults given groups head_of header_name_table header_part headers hex
+    image image_length input_sections is_match is_out item_command_step layout line line_of link linked_pieces live
+    load_address map_text mentioned_names name_faults name_value number orphans output_symbols overlaps piece_placed
+    pieces_placed placed_section placement program_header provided provided_names reached referenced_value region_step
+    relocation_faults rows run section_end section_headers section_step segments site_field sites sort_by start_of
+    symbol_name_table symbol_table tables target_number target_section undefined_entry value word_of
 returns-clause-call_length c = refl
 
 pub returns-clause-common_map : goal.returns-clause-common_map
-unfolding assertion_faults assigned_names body_command_step byte_at command_step common_step decided decision declarations_of declared_names difference_in duplicates elf_header entry_point entry_section entry_symbol fault_of fault_text field_of first_match gathering_faults given groups head_of header_name_table header_part headers hex image image_length input_sections is_match is_out item_command_step layout line line_of link linked_pieces live load_address map_text mentioned_names name_faults name_value number orphans output_symbols overlaps piece_placed pieces_placed placed_section placement program_header provided provided_names reached referenced_value region_step relocation_faults rows run section_end section_headers section_step segments site_field sites sort_by start_of symbol_name_table symbol_table tables target_number target_section undefined_entry value word_of
+unfolding assertion_faults assigned_names body_command_step byte_at command_step common_step decided decision
+    declarations_of declared_names difference_in duplicates elf_header entry_point entry_section entry_symbol fault_of
+    fault_text field_of first_match gathering_faults given groups head_of header_name_table header_part headers hex
+    image image_length input_sections is_match is_out item_command_step layout line line_of link linked_pieces live
+    load_address map_text mentioned_names name_faults name_value number orphans output_symbols overlaps piece_placed
+    pieces_placed placed_section placement program_header provided provided_names reached referenced_value region_step
+    relocation_faults rows run section_end section_headers section_step segments site_field sites sort_by start_of
+    symbol_name_table symbol_table tables target_number target_section undefined_entry value word_of
 returns-clause-common_map c = refl
 
 pub returns-clause-common_length : goal.returns-clause-common_length
-unfolding assertion_faults assigned_names body_command_step byte_at command_step common_step decided decision declarations_of declared_names difference_in duplicates elf_header entry_point entry_section entry_symbol fault_of fault_text field_of first_match gathering_faults given groups head_of header_name_table header_part headers hex image image_length input_sections is_match is_out item_command_step layout line line_of link linked_pieces live load_address map_text mentioned_names name_faults name_value number orphans output_symbols overlaps piece_placed pieces_placed placed_section placement program_header provided provided_names reached referenced_value region_step relocation_faults rows run section_end section_headers section_step segments site_field sites sort_by start_of symbol_name_table symbol_table tables target_number target_section undefined_entry value word_of
+unfolding assertion_faults assigned_names body_command_step byte_at command_step common_step decided decision
+    declarations_of declared_names difference_in duplicates elf_header entry_point entry_section entry_symbol fault_of
+    fault_text field_of first_match gathering_faults given groups head_of header_name_table header_part headers hex
+    image image_length input_sections is_match is_out item_command_step layout line line_of link linked_pieces live
+    load_address map_text mentioned_names name_faults name_value number orphans output_symbols overlaps piece_placed
+    pieces_placed placed_section placement program_header provided provided_names reached referenced_value region_step
+    relocation_faults rows run section_end section_headers section_step segments site_field sites sort_by start_of
+    symbol_name_table symbol_table tables target_number target_section undefined_entry value word_of
 returns-clause-common_length c = refl
 
 pub returns-clause-common_symbol : goal.returns-clause-common_symbol
-unfolding assertion_faults assigned_names body_command_step byte_at command_step common_step decided decision declarations_of declared_names difference_in duplicates elf_header entry_point entry_section entry_symbol fault_of fault_text field_of first_match gathering_faults given groups head_of header_name_table header_part headers hex image image_length input_sections is_match is_out item_command_step layout line line_of link linked_pieces live load_address map_text mentioned_names name_faults name_value number orphans output_symbols overlaps piece_placed pieces_placed placed_section placement program_header provided provided_names reached referenced_value region_step relocation_faults rows run section_end section_headers section_step segments site_field sites sort_by start_of symbol_name_table symbol_table tables target_number target_section undefined_entry value word_of
+unfolding assertion_faults assigned_names body_command_step byte_at command_step common_step decided decision
+    declarations_of declared_names difference_in duplicates elf_header entry_point entry_section entry_symbol fault_of
+    fault_text field_of first_match gathering_faults given groups head_of header_name_table header_part headers hex
+    image image_length input_sections is_match is_out item_command_step layout line line_of link linked_pieces live
+    load_address map_text mentioned_names name_faults name_value number orphans output_symbols overlaps piece_placed
+    pieces_placed placed_section placement program_header provided provided_names reached referenced_value region_step
+    relocation_faults rows run section_end section_headers section_step segments site_field sites sort_by start_of
+    symbol_name_table symbol_table tables target_number target_section undefined_entry value word_of
 returns-clause-common_symbol c = refl
