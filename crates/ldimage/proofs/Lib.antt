@@ -4,6 +4,7 @@ pub mod Found
 pub mod Growing
 pub mod InDrawing
 pub mod InSection
+pub mod OfLink
 pub mod Patching
 pub mod Planned
 pub mod Walking

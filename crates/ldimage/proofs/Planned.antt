@@ -59,3 +59,10 @@ pub written_all : (d : Drawing) (patches : List Patch) (p : ImagePlan) → IsPla
 written_all d patches p h =
     let e = counted (drawing_spot d) 0 (drawing_end d) p.stretches h.drawn.stand (λ o a l. sym (h.drawn.own o a l)) in
     omega (arith, e)
+
+-- all bytes, where none stays
+pub count_all : (f : ℕ → Spot) (n : ℕ) → ((o : ℕ) → (f o).stays ≡ false) → count_unstayed f n ≡ n
+count_all f zero h = refl
+count_all f (suc n) h =
+    let rest = count_all f n h in
+    ap (λ (b : Bool). count_unstayed f n + cond b 0 1) (h n) ∙ (let t : count_unstayed f n + 1 ≡ suc n = omega (arith, rest) in t)

@@ -2,6 +2,8 @@
 #![tactic(auto)]
 
 pub mod commit;
+pub mod draw;
+pub mod law;
 pub mod plan;
 mod add;
 mod add_section;

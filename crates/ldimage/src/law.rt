@@ -1,0 +1,19 @@
+//! Laws of drawings.
+
+ghost use Rattle.std.specs.Prelude.{◌≡◌, ◌<◌, ℕ, List, false, length, slice_index};
+ghost use Rattle.ldmodel.specs.Image.{byte_at, image};
+ghost use Rattle.ldmodel.specs.Layout.{Layout};
+ghost use Rattle.ldmodel.specs.Project.{Project};
+ghost use Rattle.ldmodel.specs.SectionHeaders.{image_length};
+ghost use Rattle.ldimage.specs.Drawing.{drawing_end, drawing_spot};
+ghost use Rattle.ldimage.specs.OfLink.{AreUnstayed, IsDrawingOf};
+ghost use Rattle.ldimage.specs.declared.section.Drawing.{Drawing};
+
+/// A drawing whose parts are those of a link has the bytes of the link's image, but where they stay, and ends where it
+/// ends; where no input section stays, nothing does; and bytes that are those of the image, offset by offset, are it.
+pub fn drawing_is_image()
+    ensures byte { (p : Project) (s : Layout) (d : Drawing) → IsDrawingOf p s d → (o : ℕ) → (drawing_spot d o).stays ≡ false → (drawing_spot d o).byte ≡ byte_at p s o }
+    ensures end { (p : Project) (s : Layout) (d : Drawing) → IsDrawingOf p s d → drawing_end d ≡ image_length p s }
+    ensures unstayed { (d : Drawing) → AreUnstayed d → (o : ℕ) → (drawing_spot d o).stays ≡ false }
+    ensures whole { (p : Project) (s : Layout) (bytes : List ℕ) → length bytes ≡ image_length p s → ((o : ℕ) → o < image_length p s → slice_index bytes o ≡ byte_at p s o) → bytes ≡ image p s }
+{}
