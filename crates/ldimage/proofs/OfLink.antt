@@ -1,8 +1,7 @@
 -- A drawing of a link's values is the link's image.
-use Rattle.std.proofs.Common.{◌≡◌, ◌+◌, ◌-◌, ◌%◌, ◌<◌, ◌≤◌, ℕ, suc, List, [], ◌∷◌, ◌++◌, length, map, filter, get_or, Bool, true, false, cond, not, max, Option, Some, None, refl, sym, ap, ◌∙◌, subst, inl, inr, ◌⊎◌, arith}
-use Rattle.std.specs.Prelude.{nat_lt, nat_le, ◌&&◌, ◌==◌, slice_index}
-use Rattle.std.specs.List.{All, AllZip, find, fold}
-use Rattle.std.proofs.lemmas.Bool.{cases_lt}
+use Rattle.std.proofs.Common.{◌≡◌, ◌+◌, ◌-◌, ◌<◌, ◌≤◌, ℕ, suc, List, [], ◌∷◌, ◌++◌, length, map, filter, Bool, true, false, cond, not, Option, Some, None, refl, sym, ap, ◌∙◌, subst, arith}
+use Rattle.std.specs.Prelude.{nat_lt, ◌&&◌, ◌==◌, slice_index}
+use Rattle.std.specs.List.{All, AllZip, find}
 use Rattle.std.proofs.lemmas.Bool.Decides.{nat_tests}
 use Rattle.std.proofs.lemmas.List.FromFn.{fill_by_all}
 use Rattle.byteorder.specs.Endian.{little_bytes}
@@ -82,7 +81,7 @@ module _ (p : Project) (s : Layout) where
       where
         go : (b c : Bool) → b ≡ c → map piece_end (filter is_full vs) ≡ map (λ (u : PlacedPiece). u.start + u.piece.size) (filter (λ (u : PlacedPiece). not (u.piece.size == 0)) us)
             → map piece_end (cond b (v ∷ filter is_full vs) (filter is_full vs))
-                ≡ map (λ (u : PlacedPiece). u.start + u.piece.size) (cond c (u ∷ filter (λ (u : PlacedPiece). not (u.piece.size == 0)) us) (filter (λ (u : PlacedPiece). not (u.piece.size == 0)) us))
+            ≡ map (λ (u : PlacedPiece). u.start + u.piece.size) (cond c (u ∷ filter (λ (u : PlacedPiece). not (u.piece.size == 0)) us) (filter (λ (u : PlacedPiece). not (u.piece.size == 0)) us))
         go true true e rest = rw (z.0.start, z.0.size) (ap (λ (ns : List ℕ). (u.start + u.piece.size) ∷ ns) rest)
         go false false e rest = rest
         go true false e rest = cc

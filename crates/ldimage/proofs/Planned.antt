@@ -1,10 +1,10 @@
 -- What a plan of a drawing is for, and how many bytes it writes.
-use Rattle.std.proofs.Common.{◌≡◌, ◌+◌, ◌-◌, ◌<◌, ◌≤◌, ℕ, zero, suc, List, [], ◌∷◌, length, Bool, true, false, cond, refl, sym, ap, ◌∙◌, subst, arith}
+use Rattle.std.proofs.Common.{◌≡◌, ◌+◌, ◌-◌, ◌<◌, ◌≤◌, ℕ, zero, suc, List, [], ◌∷◌, Bool, true, false, cond, refl, sym, ap, ◌∙◌, subst, arith}
 use Rattle.std.specs.List.{All}
 use Rattle.ldfields.specs.declared.patch.Patch.{Patch}
 use Rattle.ldimage.specs.Drawing.{drawing_end, drawing_spot}
 use Rattle.ldimage.specs.Plan.{ImagePlan, IsDrawnFor, IsPlanOf, count_unstayed}
-use Rattle.ldimage.specs.Stretches.{IsPatchOf, IsPlanFor, Spot, Stand, is_patched, spot_at, spot_of, stays_at, stretch_at, written, written_in}
+use Rattle.ldimage.specs.Stretches.{IsPatchOf, IsPlanFor, Spot, Stand, is_patched, spot_at, spot_of, stretch_at, written, written_in}
 use Rattle.ldimage.specs.declared.section.Drawing.{Drawing}
 use Rattle.ldimage.specs.declared.stretch.Stretch.{Stretch}
 use Rattle.ldimage.proofs.Walking.{here-cons, later-cons, stand-end}

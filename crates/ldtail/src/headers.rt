@@ -145,7 +145,14 @@ pub fn headers(
     let sorted = ascending(alloc, segments)?;
     let mut out = Vec::with_capacity(alloc, length_of(segments.len()))?;
     let count = sections as u64;
-    put_elf_header(&mut out, entry, segments.len() as u64, table, count + 4, count + 3)?;
+    put_elf_header(
+        &mut out,
+        entry,
+        segments.len() as u64,
+        table,
+        count + 4,
+        count + 3,
+    )?;
     put_segments(&mut out, &sorted)?;
     Ok(out)
 }

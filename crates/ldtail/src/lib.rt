@@ -7,5 +7,4 @@ mod number;
 pub mod sections;
 pub mod strings;
 pub mod symbols;
-
 pub mod tail;

@@ -1,4 +1,4 @@
-use Rattle.std.proofs.Common.{◌≡◌, ◌+◌, ◌<◌, ◌∙◌, ℕ, List, [], true, false, ap, sym, arith}
+use Rattle.std.proofs.Common.{◌∙◌, ℕ, List, [], ap, sym, arith}
 use Rattle.std.proofs.lemmas.Bool.{true≢false}
 use Rattle.std.proofs.lemmas.List.Elements.{All-nil}
 use Rattle.ldbase.specs.Raised.{raised}
