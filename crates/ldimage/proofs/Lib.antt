@@ -1,5 +1,6 @@
 pub mod Adding
 pub mod Counting
+pub mod FileOrder
 pub mod Found
 pub mod Growing
 pub mod InDrawing
@@ -7,4 +8,5 @@ pub mod InSection
 pub mod OfLink
 pub mod Patching
 pub mod Planned
+pub mod Standing
 pub mod Walking

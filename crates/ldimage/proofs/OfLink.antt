@@ -55,7 +55,7 @@ find-filter p q (x ∷ xs) = go (p x) (find-filter p q xs)
     go true e = ap (cond (q x) (Some x)) e
     go false e = e
 
-data-long : (x : layout.PlacedData) (y : PlacedData) → IsImageData x y → byte_count y.width ≡ length x.bytes
+pub data-long : (x : layout.PlacedData) (y : PlacedData) → IsImageData x y → byte_count y.width ≡ length x.bytes
 data-long x y h = width-long y.width y.value ∙ ap (λ (bs : List ℕ). length bs) h.bytes
   where
     width-long : (w : Width) (v : ℕ) → byte_count w ≡ length (little_bytes (byte_count w) v)

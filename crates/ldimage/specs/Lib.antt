@@ -1,5 +1,6 @@
 pub mod Drawing
 pub mod Grown
+pub mod InMemory
 pub mod OfLink
 pub mod Plan
 pub mod Reached

@@ -1,13 +1,16 @@
 //! Laws of drawings.
 
-ghost use Rattle.std.specs.Prelude.{◌≡◌, ◌<◌, ℕ, List, false, length, slice_index};
+ghost use Rattle.std.specs.Prelude.{◌≡◌, ◌<◌, ◌^◌, ℕ, All, List, false, length, slice_index};
 ghost use Rattle.ldmodel.specs.Image.{byte_at, image};
 ghost use Rattle.ldmodel.specs.Layout.{Layout};
 ghost use Rattle.ldmodel.specs.Project.{Project};
 ghost use Rattle.ldmodel.specs.SectionHeaders.{image_length};
-ghost use Rattle.ldimage.specs.Drawing.{drawing_end, drawing_spot};
+ghost use Rattle.ldimage.specs.Drawing.{IsDrawing, drawing_end, drawing_spot};
+ghost use Rattle.ldimage.specs.InMemory.{AreFilled, IsInMemory};
 ghost use Rattle.ldimage.specs.OfLink.{AreUnstayed, IsDrawingOf};
 ghost use Rattle.ldimage.specs.declared.section.Drawing.{Drawing};
+
+use ldlaws::segments::segments_by_neighbours;
 
 /// A drawing whose parts are those of a link has the bytes of the link's image, but where they stay, and ends where it
 /// ends; where no input section stays, nothing does; and bytes that are those of the image, offset by offset, are it.
@@ -17,3 +20,11 @@ pub fn drawing_is_image()
     ensures unstayed { (d : Drawing) → AreUnstayed d → (o : ℕ) → (drawing_spot d o).stays ≡ false }
     ensures whole { (p : Project) (s : Layout) (bytes : List ℕ) → length bytes ≡ image_length p s → ((o : ℕ) → o < image_length p s → slice_index bytes o ≡ byte_at p s o) → bytes ≡ image p s }
 {}
+
+/// A drawing whose parts are those of a link stands in order in the file, where the parts of each output section do in
+/// memory, fills have 1 to 8 bytes, and bytes and fields fill their input sections.
+pub fn drawing_stands()
+    ensures { (p : Project) (s : Layout) (d : Drawing) → IsDrawingOf p s d → All IsInMemory s.sections → AreFilled d → image_length p s < 2 ^ 64 → IsDrawing d }
+{
+    segments_by_neighbours();
+}
