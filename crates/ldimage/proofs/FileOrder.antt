@@ -1,15 +1,14 @@
 -- The output sections of a layout stand in order in the file.
-use Rattle.std.proofs.Common.{◌≡◌, ◌+◌, ◌-◌, ◌*◌, ◌<◌, ◌≤◌, ℕ, zero, suc, List, [], ◌∷◌, ◌++◌, length, map, filter, flat_map, Bool, true, false, cond, not, nat_eq, refl, sym, ap, ◌∙◌, subst, arith, inl, inr, ◌⊎◌}
-use Rattle.std.specs.Prelude.{◌==◌, nat_le, nat_lt, ◌&&◌}
+use Rattle.std.proofs.Common.{◌≡◌, ◌+◌, ◌-◌, ◌<◌, ◌≤◌, ℕ, suc, List, [], ◌∷◌, ◌++◌, length, map, filter, flat_map, Bool, true, false, cond, refl, sym, ap, ◌∙◌, subst, arith}
+use Rattle.std.specs.Prelude.{◌==◌}
 use Rattle.std.specs.List.{All, fold}
 use Rattle.std.proofs.lemmas.List.Elements.{filter-append}
 use Rattle.std.proofs.lemmas.List.{get_or_append_left, get_or-append-add, length-append}
 use Rattle.std.proofs.lemmas.List.Concat.{flat_map-cons}
-use Rattle.std.proofs.lemmas.Bool.{and_parts}
 use Rattle.std.proofs.lemmas.Bool.Decides.{nat_tests}
 use Rattle.ldmodel.specs.FileLayout.{BeginFrom, Each, IsTogether, Neighbours, Shares}
 use Rattle.ldmodel.specs.Layout.{PlacedSection}
-use Rattle.ldmodel.specs.Segments.{Group, SectionInFile, Segment, end_of, file_end, file_size, has_file_bytes, in_file, in_segment, reach, sections_in, shares_segment, start_of}
+use Rattle.ldmodel.specs.Segments.{SectionInFile, Segment, end_of, file_end, has_file_bytes, in_file, in_segment, sections_in, shares_segment, start_of}
 
 abbrev is_loaded : SectionInFile → Bool
 is_loaded x = has_file_bytes x.section
@@ -72,15 +71,14 @@ walk end offset start low n (q ∷ qs) a b c f = (let done = claims (has_file_by
 
     claims : (t : Bool) → ((low m : ℕ) → start ≤ low → ended end offset m ≤ offset + (low - start) → Chain low qs → All Full qs → Walk end offset start m qs)
         → InFile (ended end offset n) (cond t (here ∷ rest) rest)
-            × (last_file_end (ended end offset n) (cond t (here ∷ rest) rest) ≡ ended end offset (fold (reached start) (cond t (end_of q - start) n) qs))
+        × (last_file_end (ended end offset n) (cond t (here ∷ rest) rest) ≡ ended end offset (fold (reached start) (cond t (end_of q - start) n) qs))
     claims true go =
         let m : ℕ = end_of q - start in
         let low' : start ≤ end_of q = omega (arith, c.0) in
         let some : 0 < m = omega (arith, full, c.0) in
         let there : ended end offset m ≡ offset + m = ended-some end offset m some in
         let same : file_end_of here ≡ ended end offset m = omega (arith, there, c.0) in
-        let w = go (end_of q) m low' (omega (arith, there)) c.1 later in
-        (
+        let w = go (end_of q) m low' (omega (arith, there)) c.1 later in (
           (omega (arith, c.0), subst (λ (k : ℕ). InFile k rest) (sym same) w.order),
           ap (λ (k : ℕ). last_file_end k rest) same ∙ w.last,
         )
@@ -118,8 +116,7 @@ files end (g ∷ gs) t b f =
     ap (filter is_loaded) (flat_map-cons (λ (g : Segment). map (in_segment g) (sections_in g.group)) g gs) ∙ filter-append is_loaded (map (in_segment g) sections) (in_file gs) in
     let order : InFile end (own ++ filter is_loaded (in_file gs)) = file-append end own (filter is_loaded (in_file gs)) w.order (subst (λ (k : ℕ). InFile k (filter is_loaded (in_file gs))) (sym w.last) r.0) in
     let last : last_file_end end (own ++ filter is_loaded (in_file gs)) ≡ fold file_end end (g ∷ gs) =
-    last-append end own (filter is_loaded (in_file gs)) ∙ ap (λ (k : ℕ). last_file_end k (filter is_loaded (in_file gs))) w.last ∙ r.1 in
-    (
+    last-append end own (filter is_loaded (in_file gs)) ∙ ap (λ (k : ℕ). last_file_end k (filter is_loaded (in_file gs))) w.last ∙ r.1 in (
       subst (InFile end) (sym cut) order,
       ap (last_file_end end) cut ∙ last,
     )

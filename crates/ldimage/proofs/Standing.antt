@@ -1,8 +1,8 @@
 -- The parts of a drawing of a link stand in order.
-use Rattle.std.proofs.Common.{◌≡◌, ◌+◌, ◌-◌, ◌*◌, ◌%◌, ◌<◌, ◌≤◌, ◌^◌, ℕ, zero, suc, List, [], ◌∷◌, ◌++◌, length, map, filter, flat_map, get_or, Bool, true, false, cond, not, refl, sym, ap, ◌∙◌, subst, arith, inl, inr, ◌⊎◌}
+use Rattle.std.proofs.Common.{◌≡◌, ◌+◌, ◌*◌, ◌<◌, ◌≤◌, ◌^◌, ℕ, zero, suc, List, [], ◌∷◌, ◌++◌, length, map, flat_map, get_or, Bool, true, false, cond, not, refl, sym, ap, ◌∙◌, subst, arith, inl, inr}
 use Rattle.std.specs.Prelude.{◌==◌, nat_lt}
 use Rattle.std.specs.Int.{next_multiple_of}
-use Rattle.std.specs.List.{All, AllZip, fold}
+use Rattle.std.specs.List.{All, AllZip}
 use Rattle.std.proofs.lemmas.Bool.Decides.{nat_tests}
 use Rattle.std.proofs.lemmas.List.{length-append, length-map, get_or-map, map-append}
 use Rattle.std.proofs.lemmas.List.Concat.{flat_map-cons}
@@ -13,13 +13,12 @@ use Rattle.ldmodel.specs.Image.{headers}
 use Rattle.ldmodel.specs.Layout.{Layout, PlacedPiece, PlacedSection}
 use Rattle.ldmodel.specs.Layout as layout
 use Rattle.ldmodel.specs.Project.{Project}
-use Rattle.ldmodel.specs.SectionHeaders.{FilePart, end_of_part, header_count, header_names_number, header_part, image_length, section_headers, tables, tail}
-use Rattle.ldmodel.specs.Segments.{Group, SectionInFile, Segment, end_of, file_end, has_file_bytes, headers_end, in_file, in_segment, loaded_end, nonempty, sections_in, segments, start_of}
+use Rattle.ldmodel.specs.SectionHeaders.{FilePart, end_of_part, header_count, header_names_number, header_part, image_length, tables, tail}
+use Rattle.ldmodel.specs.Segments.{SectionInFile, Segment, end_of, has_file_bytes, headers_end, in_file, in_segment, loaded_end, nonempty, sections_in, segments, start_of}
 use Rattle.ldmodel.specs.SymbolValues.{entry_point, number_or_0}
 use Rattle.ldmodel.specs.Sorting.{insert_by, sort_by}
 use Rattle.ldmodel.specs.declared.laid.PlacedData.{PlacedData}
-use Rattle.ldtree.specs.Widths.{byte_count}
-use Rattle.ldimage.specs.Drawing.{AreApart, AreData, AreParts, ArePieces, AreSections, IsDrawing, IsOrderly, data_end, end_of_parts, end_of_sections, part_end, piece_end}
+use Rattle.ldimage.specs.Drawing.{AreApart, AreData, AreParts, ArePieces, AreSections, IsDrawing, IsOrderly, data_end, end_of_sections, part_end, piece_end}
 use Rattle.ldimage.specs.InMemory.{AreFilled, DataInOrder, DoNotMeet, IsInMemory, IsSectionFilled, PiecesInOrder, bytes_end, placed_end}
 use Rattle.ldimage.specs.OfLink.{IsDrawingOf, IsImageData, IsImagePart, IsImagePiece, IsImageSection, loaded}
 use Rattle.ldimage.specs.declared.section.Drawing.{Drawing}
@@ -105,8 +104,7 @@ sections-stand p s from (x ∷ xs) (y ∷ ys) z h m f e =
     let r = z.0 in
     let stop : y.offset + y.size ≡ x.offset + x.section.size = omega (arith, r.offset, r.size) in
     let later = in-file-end (x.offset + x.section.size) xs h.1 in
-    let rest = sections-stand p s (x.offset + x.section.size) xs ys z.1 h.1 (all-rest (λ (x : SectionInFile). IsInMemory x.section) x xs m) (all-rest IsSectionFilled y ys f) e in
-    (
+    let rest = sections-stand p s (x.offset + x.section.size) xs ys z.1 h.1 (all-rest (λ (x : SectionInFile). IsInMemory x.section) x xs m) (all-rest IsSectionFilled y ys f) e in (
       (omega (arith, h.0, r.offset), orderly p s x y r (m 0 x (omega arith)) (f 0 y (omega arith)) (omega (arith, stop, later, e)), subst (λ (n : ℕ). AreSections n ys) (sym stop) rest.0),
       ap (λ (n : ℕ). end_of_sections n ys) stop ∙ rest.1,
     )
@@ -181,7 +179,6 @@ module _ (p : Project) (s : Layout) where
   tail-order : PartsInOrder (loaded_end (segments s.sections)) (tail p s)
   unfolding tables header_part
   tail-order = (aligned-up (loaded_end (segments s.sections)), (le-same _, (le-same _, (aligned-up (end_of_part ((tables p s).header_names)), tt))))
-
 
   tail-last : end_of_file (loaded_end (segments s.sections)) (tail p s) ≡ image_length p s
   unfolding image_length

@@ -1,6 +1,6 @@
 -- What makes the parts of a drawing stand in order: that those of the layout do in memory, and that fills, bytes and
 -- fields have their sizes.
-use Rattle.std.specs.Prelude.{◌≡◌, ℕ, ◌+◌, ◌^◌, ◌<◌, ◌≤◌, ◌⊎◌, List, [], ◌∷◌, length, slice_index_or}
+use Rattle.std.specs.Prelude.{ℕ, ◌+◌, ◌^◌, ◌<◌, ◌≤◌, ◌⊎◌, List, [], ◌∷◌, length, slice_index_or}
 use Rattle.std.specs.List.{All}
 use Rattle.ldmodel.specs.Layout.{PlacedData, PlacedPiece, PlacedSection}
 use Rattle.ldmodel.specs.Segments.{end_of}
@@ -29,7 +29,7 @@ DoNotMeet xs ds =
     (i j : ℕ) (x : PlacedPiece) (d : PlacedData) → i < length xs → j < length ds
     → 0 < (slice_index_or xs i x).piece.size
     → (placed_end (slice_index_or xs i x) ≤ (slice_index_or ds j d).start)
-        ⊎ (bytes_end (slice_index_or ds j d) ≤ (slice_index_or xs i x).start)
+    ⊎ (bytes_end (slice_index_or ds j d) ≤ (slice_index_or xs i x).start)
 
 -- an output section whose parts stand in order in it
 pub record IsInMemory (q : PlacedSection) : Type 0 where

@@ -9,3 +9,5 @@ pub mod law;
 pub mod plan;
 pub mod section;
 pub mod stretch;
+#[cfg(test)]
+mod tests;

@@ -8,3 +8,5 @@ pub mod sections;
 pub mod strings;
 pub mod symbols;
 pub mod tail;
+#[cfg(test)]
+mod tests;
