@@ -8,5 +8,6 @@ pub mod InSection
 pub mod OfLink
 pub mod Patching
 pub mod Planned
+pub mod Settling
 pub mod Standing
 pub mod Walking

@@ -207,14 +207,13 @@ all-full-sections : (qs : List PlacedSection) → All (λ (q : PlacedSection). 0
 all-full-sections qs = all-full (λ (q : PlacedSection). not (q.size == 0)) (λ (q : PlacedSection). 0 < q.size) qs (λ i d l t. full-size ((get_or qs i d).size) t)
 
 -- a drawing of a link, the parts of which stand in order in memory, and are filled, stands in order in the file
-pub stands : (p : Project) (s : Layout) (d : Drawing) → IsFileLayout s.sections (segments s.sections) → IsDrawingOf p s d → All IsInMemory s.sections → AreFilled d → image_length p s < 2 ^ 64 → IsDrawing d
+pub stands : (p : Project) (s : Layout) (d : Drawing) → IsFileLayout s.sections (segments s.sections) → IsDrawingOf p s d → All IsInMemory (nonempty s.sections) → AreFilled d → image_length p s < 2 ^ 64 → IsDrawing d
 stands p s d layout-is h m f e =
     let gs : List Segment = segments s.sections in
     let parts = layout-is.grouping.parts in
     let full : All (λ (q : PlacedSection). 0 < q.size) (flat_map sections_in (map (λ (g : Segment). g.group) gs)) = subst (All (λ (q : PlacedSection). 0 < q.size)) (sym parts) (all-full-sections s.sections) in
     let order = files (headers_end (length gs)) gs layout-is.grouping.together layout-is.offsets full in
-    let kept : All IsInMemory (nonempty s.sections) = all-full (λ (q : PlacedSection). not (q.size == 0)) IsInMemory s.sections (λ i x l t. m i x l) in
-    let placed : All (λ (x : SectionInFile). IsInMemory x.section) (in_file gs) = all-unmapped IsInMemory (λ (x : SectionInFile). x.section) (in_file gs) (subst (All IsInMemory) (sym (all-sections gs ∙ parts)) kept) in
+    let placed : All (λ (x : SectionInFile). IsInMemory x.section) (in_file gs) = all-unmapped IsInMemory (λ (x : SectionInFile). x.section) (in_file gs) (subst (All IsInMemory) (sym (all-sections gs ∙ parts)) m) in
     let there : All (λ (x : SectionInFile). IsInMemory x.section) (loaded s) = all-full (λ (x : SectionInFile). has_file_bytes x.section) (λ (x : SectionInFile). IsInMemory x.section) (in_file gs) (λ i x l t. placed i x l) in
     let front : length d.headers.now ≡ headers_end (length gs) = ap length h.headers ∙ headers-long p s in
     let past = parts-end (loaded_end gs) (tail p s) (tail-order p s) in

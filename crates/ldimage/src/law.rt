@@ -1,10 +1,14 @@
 //! Laws of drawings.
 
-ghost use Rattle.std.specs.Prelude.{◌≡◌, ◌<◌, ◌^◌, ℕ, All, List, false, length, slice_index};
+ghost use Rattle.std.specs.Prelude.{◌≡◌, ◌<◌, ◌^◌, ℕ, All, List, Ok, false, length, slice_index};
 ghost use Rattle.ldmodel.specs.Image.{byte_at, image};
 ghost use Rattle.ldmodel.specs.Layout.{Layout};
+ghost use Rattle.ldmodel.specs.Placement.{placement};
 ghost use Rattle.ldmodel.specs.Project.{Project};
+ghost use Rattle.ldmodel.specs.Rows.{Piece};
 ghost use Rattle.ldmodel.specs.SectionHeaders.{image_length};
+ghost use Rattle.ldmodel.specs.Segments.{nonempty};
+ghost use Rattle.ldtree.specs.declared.statement.Statement.{Statement};
 ghost use Rattle.ldimage.specs.Drawing.{IsDrawing, drawing_end, drawing_spot};
 ghost use Rattle.ldimage.specs.InMemory.{AreFilled, IsInMemory};
 ghost use Rattle.ldimage.specs.OfLink.{AreUnstayed, IsDrawingOf};
@@ -21,10 +25,15 @@ pub fn drawing_is_image()
     ensures whole { (p : Project) (s : Layout) (bytes : List ℕ) → length bytes ≡ image_length p s → ((o : ℕ) → o < image_length p s → slice_index bytes o ≡ byte_at p s o) → bytes ≡ image p s }
 {}
 
-/// A drawing whose parts are those of a link stands in order in the file, where the parts of each output section do in
-/// memory, fills have 1 to 8 bytes, and bytes and fields fill their input sections.
+/// A drawing whose parts are those of a link stands in order in the file, where the parts of each output section that
+/// isn't empty do in memory, fills have 1 to 8 bytes, and bytes and fields fill their input sections.
 pub fn drawing_stands()
-    ensures { (p : Project) (s : Layout) (d : Drawing) → IsDrawingOf p s d → All IsInMemory s.sections → AreFilled d → image_length p s < 2 ^ 64 → IsDrawing d }
+    ensures { (p : Project) (s : Layout) (d : Drawing) → IsDrawingOf p s d → All IsInMemory (nonempty s.sections) → AreFilled d → image_length p s < 2 ^ 64 → IsDrawing d }
 {
     segments_by_neighbours();
 }
+
+/// The parts of each output section of a placement that isn't empty stand in order in memory.
+pub fn placement_is_in_memory()
+    ensures { (script : List Statement) (rows : List (List Piece)) (provided : List (List ℕ)) (s : Layout) → placement script rows provided ≡ Ok s → All IsInMemory (nonempty s.sections) }
+{}
