@@ -1,5 +1,5 @@
 -- The parts of the output sections of a placement stand in order in memory.
-use Rattle.std.proofs.Common.{◌≡◌, ◌+◌, ◌-◌, ◌<◌, ◌≤◌, ◌^◌, ℕ, zero, suc, List, [], ◌∷◌, ◌++◌, length, filter, get_or, Bool, true, false, cond, not, Option, Some, None, Result, Ok, Err, refl, sym, ap, ◌∙◌, subst, inl, inr, ◌⊎◌, arith, nat_lt}
+use Rattle.std.proofs.Common.{◌≡◌, ◌+◌, ◌-◌, ◌<◌, ◌≤◌, ◌^◌, ℕ, zero, suc, List, [], ◌∷◌, ◌++◌, length, get_or, Bool, true, false, cond, not, Option, Some, None, Result, Ok, Err, refl, sym, ap, ◌∙◌, subst, inl, inr, ◌⊎◌, arith, nat_lt}
 use Rattle.std.specs.Prelude.{◌==◌, bytes_eq}
 use Rattle.std.specs.Bool.{⊤}
 use Rattle.std.specs.List.{All, list_any}
@@ -23,7 +23,6 @@ use Rattle.ldtree.specs.declared.section.Width.{Width}
 use Rattle.ldtree.specs.declared.section.Width.TheVariants.{Byte, Short, Long, Quad}
 use Rattle.ldtree.specs.declared.statement.Command.{Command}
 use Rattle.ldtree.specs.declared.statement.Command.TheVariants as top
-use Rattle.ldtree.specs.declared.statement.Item.{Item}
 use Rattle.ldtree.specs.declared.statement.ItemCommand.{ItemCommand}
 use Rattle.ldtree.specs.declared.statement.ItemCommand.TheVariants as item
 use Rattle.ldtree.specs.declared.statement.Region.{Region}
@@ -38,7 +37,7 @@ use Rattle.ldmodel.specs.Placement.{command_step, free_dot_step, item_command_st
 use Rattle.ldmodel.specs.Rows.{Piece}
 use Rattle.ldmodel.specs.SectionEnd.{find_region, load_region, placed_section, section_end, with_room, with_section}
 use Rattle.ldmodel.specs.SectionHead.{Head, head_of}
-use Rattle.ldmodel.specs.Segments.{end_of, nonempty}
+use Rattle.ldmodel.specs.Segments.{nonempty}
 use Rattle.ldimage.specs.InMemory.{DataInOrder, DoNotMeet, IsInMemory, PiecesInOrder, bytes_end, placed_end}
 
 -- what holds of the value, if there is one
@@ -286,7 +285,7 @@ unfolding placed_section
 in-memory o h sections b k full =
     let stop : h.start + (b.layout.dot - h.start) ≡ b.layout.dot = omega (arith, k.low) in
     let some : 0 < b.layout.dot - h.start = grind (arith, nat_tests) in
-    let under : b.layout.dot < 2 ^ 64 = elim k.below [ | inl e ↦ absurd (omega (arith, e, some)) | inr l ↦ l ] in
+    let under : b.layout.dot < 2 ^ 64 = elim k.below [ inl e ↦ absurd (omega (arith, e, some)) | inr l ↦ l ] in
     record {
       end = omega (arith, stop, under);
       pieces = subst (λ (n : ℕ). PiecesInOrder h.start n b.pieces) (sym stop) k.pieces;
