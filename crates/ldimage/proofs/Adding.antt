@@ -1,12 +1,10 @@
 -- Stretches of gaps, input sections and data commands are those of their output section.
-use Rattle.std.proofs.Common.{◌≡◌, ◌+◌, ◌-◌, ◌%◌, ◌<◌, ◌≤◌, ℕ, List, length, get_or, false, refl, sym, ap, ◌∙◌, subst, arith}
+use Rattle.std.proofs.Common.{◌≡◌, ◌+◌, ◌-◌, ◌%◌, ◌<◌, ◌≤◌, ℕ, List, length, false, sym, ap, ◌∙◌, subst, arith}
 use Rattle.std.specs.Prelude.{slice_index}
-use Rattle.ldmodel.specs.declared.laid.PlacedData.{PlacedData}
-use Rattle.ldimage.specs.Drawing.{IsOrderly, data_byte, data_end, piece_byte, piece_end, section_spot}
+use Rattle.ldimage.specs.Drawing.{section_spot}
 use Rattle.ldimage.specs.Grown.{Grown}
 use Rattle.ldimage.specs.Reached.{DataFrom, IsReached, PiecesFrom, place_of, section_image}
 use Rattle.ldimage.specs.Stretches.{Spot}
-use Rattle.ldimage.specs.declared.section.ImagePiece.{ImagePiece}
 use Rattle.ldimage.specs.declared.section.ImageSection.{ImageSection}
 use Rattle.ldimage.specs.declared.stretch.Stretch.{Stretch}
 use Rattle.ldimage.proofs.Growing.{grown-as, grown-then}

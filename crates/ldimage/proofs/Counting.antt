@@ -1,5 +1,5 @@
 -- Counts of bytes.
-use Rattle.std.proofs.Common.{◌≡◌, ◌+◌, ℕ, ap, ◌∙◌, arith}
+use Rattle.std.proofs.Common.{◌≡◌, ◌+◌, ℕ, ap, arith}
 use Rattle.ldbase.specs.Counts.{Counts, capped}
 use Rattle.ldbase.specs.Raised.{raised}
 use Rattle.ldbase.specs.declared.meter.Count.TheVariants.{Bytes}

@@ -1,7 +1,6 @@
 -- What a search through a list finds, and the last end before an address.
-use Rattle.std.proofs.Common.{◌≡◌, ◌+◌, ◌<◌, ◌≤◌, ℕ, zero, suc, List, [], ◌∷◌, ◌++◌, length, map, filter, get_or, Bool, true, false, cond, Option, Some, None, max, refl, sym, ap, ◌∙◌, subst, inl, inr, ◌⊎◌, arith}
-use Rattle.std.specs.Prelude.{nat_lt, nat_le, ◌&&◌}
-use Rattle.std.specs.List.{All, Contains, find, fold}
+use Rattle.std.proofs.Common.{◌≡◌, ◌+◌, ◌<◌, ◌≤◌, ℕ, zero, suc, List, [], ◌∷◌, length, map, filter, get_or, Bool, true, false, cond, Some, None, max, refl, ap, ◌∙◌, inl, inr, ◌⊎◌, arith}
+use Rattle.std.specs.List.{All, Contains, find}
 use Rattle.std.proofs.lemmas.Bool.Decides.{nat_tests, leb_tells}
 use Rattle.ldmodel.specs.Image.{covers}
 use Rattle.ldimage.specs.Drawing.{last_end}
@@ -18,7 +17,7 @@ find-at test (x ∷ xs) (suc k) d l h t = rw (h 0 x (omega arith) (omega arith))
 
 pub not_covered : (s n a : ℕ) → (0 < n → (s + n ≤ a) ⊎ (a < s)) → covers s n a ≡ false
 not_covered s n a h = elim (leb_tells (suc 0) n) [
-  | inl some ↦ elim (h some.1) [ | inl x ↦ grind (arith, nat_tests) | inr x ↦ grind (arith, nat_tests) ]
+  | inl some ↦ elim (h some.1) [ inl x ↦ grind (arith, nat_tests) | inr x ↦ grind (arith, nat_tests) ]
   | inr none ↦ (let e : n ≡ 0 = omega (arith, none.1) in grind (arith, nat_tests))
 ]
 
@@ -38,17 +37,17 @@ last-end at n g [] a b all (inl e) = e
 last-end at n g [] a b all (inr m) = absurd (let l : m.0 < 0 = m.1 in omega arith)
 last-end at n g (x ∷ xs) a b all where-it = elim (leb_tells x at) [
   | inl t ↦
-      (let low : x ≤ g = elim (all 0 x (omega arith)) [ | inl c ↦ c | inr c ↦ absurd (omega (arith, t.1)) ] in
+      (let low : x ≤ g = elim (all 0 x (omega arith)) [ inl c ↦ c | inr c ↦ absurd (omega (arith, t.1)) ] in
       let is : (max n x ≡ g) ⊎ Contains xs g = elim where-it [
         | inl e ↦ inl (let m : max n x ≡ g = omega arith in m)
-        | inr c ↦ elim (contains_rest x g xs c) [ | inl e ↦ inl (let m : max n x ≡ g = omega arith in m) | inr d ↦ inr d ]
+        | inr c ↦ elim (contains_rest x g xs c) [ inl e ↦ inl (let m : max n x ≡ g = omega arith in m) | inr d ↦ inr d ]
       ] in
       let step : last_end at n (x ∷ xs) ≡ last_end at (max n x) xs = ap (λ (c : Bool). last_end at (cond c (max n x) n) xs) t.0 in
       step ∙ last-end at (max n x) g xs (omega arith) b (all-tail (λ e. (e ≤ g) ⊎ (at < e)) x xs all) is)
   | inr f ↦
       (let is : (n ≡ g) ⊎ Contains xs g = elim where-it [
         | inl e ↦ inl e
-        | inr c ↦ elim (contains_rest x g xs c) [ | inl e ↦ absurd (omega (arith, f.1)) | inr d ↦ inr d ]
+        | inr c ↦ elim (contains_rest x g xs c) [ inl e ↦ absurd (omega (arith, f.1)) | inr d ↦ inr d ]
       ] in
       let step : last_end at n (x ∷ xs) ≡ last_end at n xs = ap (λ (c : Bool). last_end at (cond c (max n x) n) xs) f.0 in
       step ∙ last-end at n g xs a b (all-tail (λ e. (e ≤ g) ⊎ (at < e)) x xs all) is)

@@ -1,10 +1,8 @@
 -- Stretches that are added to others.
-use Rattle.std.proofs.Common.{◌≡◌, ◌+◌, ◌-◌, ◌<◌, ◌≤◌, ℕ, List, [], ◌∷◌, ◌++◌, length, Bool, true, false, cond, Option, Some, None, refl, sym, ap, ◌∙◌, subst, inl, inr, arith}
-use Rattle.std.specs.Prelude.{nat_lt}
+use Rattle.std.proofs.Common.{◌≡◌, ◌-◌, ◌<◌, ◌≤◌, ℕ, List, [], ◌∷◌, ◌++◌, Some, refl, sym, ap, ◌∙◌, subst, inl, inr, arith}
 use Rattle.std.proofs.lemmas.Bool.{cases_lt}
-use Rattle.std.proofs.lemmas.Bool.Decides.{nat_tests}
 use Rattle.ldimage.specs.Grown.{Grown}
-use Rattle.ldimage.specs.Stretches.{Begun, Fills, Spot, Stand, content_byte, spot_at, spot_of, stretch_at}
+use Rattle.ldimage.specs.Stretches.{Fills, Spot, Stand, content_byte, spot_of, stretch_at}
 use Rattle.ldimage.specs.declared.stretch.Stretch.{Stretch}
 use Rattle.ldimage.proofs.Walking.{here-cons, later-cons, stand-end}
 
@@ -56,5 +54,5 @@ pub grown-then : (xs ys zs : List Stretch) (from mid to : ℕ) (image : ℕ → 
 grown-then xs ys zs from mid to image l g h = record {
   stand = h.stand;
   kept = λ o a. h.kept o (omega arith) ∙ g.kept o a;
-  own = λ o a b. elim (cases_lt o mid) [ | inl c ↦ h.kept o c ∙ g.own o a c | inr c ↦ h.own o c b ];
+  own = λ o a b. elim (cases_lt o mid) [ inl c ↦ h.kept o c ∙ g.own o a c | inr c ↦ h.own o c b ];
 }

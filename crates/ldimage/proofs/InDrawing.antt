@@ -1,11 +1,11 @@
 -- What lies at the offsets of an image.
-use Rattle.std.proofs.Common.{◌≡◌, ◌+◌, ◌-◌, ◌<◌, ◌≤◌, ℕ, zero, suc, ◌^◌, List, [], ◌∷◌, length, get_or, drop, Bool, true, false, cond, Option, Some, None, refl, sym, ap, ◌∙◌, subst, inl, inr, ◌⊎◌, arith}
+use Rattle.std.proofs.Common.{◌≡◌, ◌+◌, ◌<◌, ◌≤◌, ℕ, zero, suc, ◌^◌, List, [], ◌∷◌, length, get_or, drop, true, false, Some, None, refl, sym, ap, ◌∙◌, subst, inl, inr, arith}
 use Rattle.std.specs.Prelude.{nat_lt, slice_index}
 use Rattle.std.specs.List.{find}
 use Rattle.std.proofs.lemmas.Bool.{cases_lt}
 use Rattle.std.proofs.lemmas.Bool.Decides.{nat_tests, leb_tells}
 use Rattle.std.proofs.lemmas.List.{drop_more, drop_all}
-use Rattle.ldimage.specs.Drawing.{AreParts, AreSections, IsDrawing, IsOrderly, covers_part, covers_section, drawing_end, drawing_spot, end_of_parts, end_of_sections, part_end, section_spot}
+use Rattle.ldimage.specs.Drawing.{AreParts, AreSections, IsDrawing, IsOrderly, covers_part, covers_section, drawing_end, drawing_spot, end_of_parts, end_of_sections, part_end}
 use Rattle.ldimage.specs.Reached.{ArePartsReached, AreSectionsReached, after_zeros, part_image, section_image}
 use Rattle.ldimage.specs.Stretches.{Spot}
 use Rattle.ldimage.specs.declared.section.Drawing.{Drawing}

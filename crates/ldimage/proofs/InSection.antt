@@ -1,17 +1,15 @@
 -- What lies at the addresses of an output section.
-use Rattle.std.proofs.Common.{◌≡◌, ◌+◌, ◌-◌, ◌%◌, ◌<◌, ◌≤◌, ℕ, zero, suc, List, [], ◌∷◌, ◌++◌, length, map, filter, get_or, Bool, true, false, not, nat_eq, Option, Some, None, refl, sym, ap, ◌∙◌, subst, inl, inr, ◌⊎◌, arith}
+use Rattle.std.proofs.Common.{◌≡◌, ◌+◌, ◌-◌, ◌%◌, ◌<◌, ◌≤◌, ℕ, zero, suc, List, [], ◌∷◌, length, map, filter, get_or, true, false, not, refl, sym, ap, inl, inr, ◌⊎◌, arith}
 use Rattle.std.specs.Prelude.{slice_index, ◌==◌}
-use Rattle.std.specs.List.{All, Contains, find}
+use Rattle.std.specs.List.{All}
 use Rattle.std.proofs.lemmas.Bool.Decides.{nat_tests, leb_tells}
 use Rattle.std.proofs.lemmas.List.Elements.{All-append, All-map, Contains-append_left, Contains-append_right}
-use Rattle.ldmodel.specs.Image.{covers}
 use Rattle.ldmodel.specs.declared.laid.PlacedData.{PlacedData}
 use Rattle.ldtree.specs.Widths.{byte_count}
 use Rattle.ldtree.specs.declared.section.Width.{Width}
 use Rattle.ldtree.specs.declared.section.Width.TheVariants.{Byte, Short, Long, Quad}
-use Rattle.ldimage.specs.Drawing.{AreApart, AreData, ArePieces, IsOrderly, covers_data, covers_piece, data_byte, data_end, ends_in, gap_byte, is_full, last_end, piece_byte, piece_end, section_spot, spot_among}
+use Rattle.ldimage.specs.Drawing.{AreData, ArePieces, IsOrderly, covers_data, covers_piece, data_byte, data_end, ends_in, is_full, last_end, piece_byte, piece_end, section_spot}
 use Rattle.ldimage.specs.Reached.{DataFrom, IsReached, PiecesFrom}
-use Rattle.ldimage.specs.Stretches.{Spot}
 use Rattle.ldimage.specs.declared.section.ImagePiece.{ImagePiece}
 use Rattle.ldimage.specs.declared.section.ImageSection.{ImageSection}
 use Rattle.ldimage.proofs.Found.{all-full, contains-at, contains-full, covered, find-at, find-none, last-end, not_covered, same-at}
@@ -48,7 +46,7 @@ module _ (x : ImageSection) (k j at to : ℕ) (r : IsReached x k j at) (ps : Pie
       ]))
 
   gap_from : (a : ℕ) → at ≤ a → a < to → last_end a x.start (ends_in x) ≡ at
-  gap_from a l h = last-end a x.start at (ends_in x) r.low l (beyond a l h) (elim r.last [ | inl e ↦ inl (sym e) | inr c ↦ inr c ])
+  gap_from a l h = last-end a x.start at (ends_in x) r.low l (beyond a l h) (elim r.last [ inl e ↦ inl (sym e) | inr c ↦ inr c ])
 
   -- a gap
   pub gap_spot : (a : ℕ) → at ≤ a → a < to → section_spot x a ≡ record { byte = slice_index x.fill.now ((a - at) % length x.fill.now); stays = false }

@@ -1,9 +1,13 @@
 pub mod Adding
 pub mod Counting
+pub mod FileOrder
 pub mod Found
 pub mod Growing
 pub mod InDrawing
 pub mod InSection
+pub mod OfLink
 pub mod Patching
 pub mod Planned
+pub mod Settling
+pub mod Standing
 pub mod Walking

@@ -1,16 +1,14 @@
 -- Patches one after the other: a write of right bytes keeps right what was right.
-use Rattle.std.proofs.Common.{◌≡◌, ◌+◌, ◌-◌, ◌<◌, ◌≤◌, ℕ, zero, suc, List, [], ◌∷◌, length, get_or, take, Bool, true, false, cond, ◌&&◌, ◌||◌, refl, sym, ap, ◌∙◌, subst, inl, inr, ◌⊎◌, arith}
-use Rattle.std.specs.Prelude.{nat_lt, nat_le, sum_by}
-use Rattle.std.specs.List.{list_any, All}
-use Rattle.std.proofs.lemmas.Bool.{cases_lt, false≢true}
+use Rattle.std.proofs.Common.{◌≡◌, ◌+◌, ◌-◌, ◌<◌, ◌≤◌, ℕ, List, length, get_or, take, Bool, true, false, ◌||◌, refl, sym, ap, ◌∙◌, subst, inl, inr, ◌⊎◌, arith}
+use Rattle.std.specs.List.{All}
+use Rattle.std.proofs.lemmas.Bool.{cases_lt}
 use Rattle.std.proofs.lemmas.Bool.Decides.{nat_tests}
-use Rattle.std.proofs.lemmas.List.{take_all}
 use Rattle.std.proofs.lemmas.List.Folds.{list_any_more}
 use Rattle.std.proofs.lemmas.List.Sums.{sum_by_more}
 use Rattle.ldbase.specs.Counts.{Counts}
 use Rattle.ldbase.specs.Raised.{raised}
 use Rattle.ldbase.specs.declared.meter.Count.TheVariants.{Bytes}
-use Rattle.ldfields.specs.Patches.{covers, patch_end}
+use Rattle.ldfields.specs.Patches.{covers}
 use Rattle.ldfields.specs.declared.patch.Patch.{Patch}
 use Rattle.ldimage.specs.Stretches.{IsPatchOf, is_patched, patch_bytes}
 use Rattle.ldimage.proofs.Counting.{raised_more}
@@ -45,7 +43,7 @@ module _ (image : ℕ → ℕ) (q : Patch) (old new : List ℕ) (r : WrotePatch 
   stays_right : (o : ℕ) → get_or old o 0 ≡ image o → get_or new o 0 ≡ image o
   stays_right o h = elim (cases_lt o q.offset) [
     | inl a ↦ r.before o a ∙ h
-    | inr a ↦ elim (cases_lt o (q.offset + length q.field)) [ | inl b ↦ in_patch o a b | inr b ↦ r.after o b ∙ h ]
+    | inr a ↦ elim (cases_lt o (q.offset + length q.field)) [ inl b ↦ in_patch o a b | inr b ↦ r.after o b ∙ h ]
   ]
 
 pub patch_on : (image : ℕ → ℕ) (patches : List Patch) (k : ℕ) (old now new : List ℕ) (d : Patch) → k < length patches → IsPatchOf image (get_or patches k d)

@@ -1,10 +1,10 @@
 -- What a plan of a drawing is for, and how many bytes it writes.
-use Rattle.std.proofs.Common.{◌≡◌, ◌+◌, ◌-◌, ◌<◌, ◌≤◌, ℕ, zero, suc, List, [], ◌∷◌, length, Bool, true, false, cond, refl, sym, ap, ◌∙◌, subst, arith}
+use Rattle.std.proofs.Common.{◌≡◌, ◌+◌, ◌-◌, ◌<◌, ◌≤◌, ℕ, zero, suc, List, [], ◌∷◌, Bool, true, false, cond, refl, sym, ap, ◌∙◌, subst, arith}
 use Rattle.std.specs.List.{All}
 use Rattle.ldfields.specs.declared.patch.Patch.{Patch}
 use Rattle.ldimage.specs.Drawing.{drawing_end, drawing_spot}
 use Rattle.ldimage.specs.Plan.{ImagePlan, IsDrawnFor, IsPlanOf, count_unstayed}
-use Rattle.ldimage.specs.Stretches.{IsPatchOf, IsPlanFor, Spot, Stand, is_patched, spot_at, spot_of, stays_at, stretch_at, written, written_in}
+use Rattle.ldimage.specs.Stretches.{IsPatchOf, IsPlanFor, Spot, Stand, is_patched, spot_at, spot_of, stretch_at, written, written_in}
 use Rattle.ldimage.specs.declared.section.Drawing.{Drawing}
 use Rattle.ldimage.specs.declared.stretch.Stretch.{Stretch}
 use Rattle.ldimage.proofs.Walking.{here-cons, later-cons, stand-end}
@@ -59,3 +59,10 @@ pub written_all : (d : Drawing) (patches : List Patch) (p : ImagePlan) → IsPla
 written_all d patches p h =
     let e = counted (drawing_spot d) 0 (drawing_end d) p.stretches h.drawn.stand (λ o a l. sym (h.drawn.own o a l)) in
     omega (arith, e)
+
+-- all bytes, where none stays
+pub count_all : (f : ℕ → Spot) (n : ℕ) → ((o : ℕ) → (f o).stays ≡ false) → count_unstayed f n ≡ n
+count_all f zero h = refl
+count_all f (suc n) h =
+    let rest = count_all f n h in
+    ap (λ (b : Bool). count_unstayed f n + cond b 0 1) (h n) ∙ (let t : count_unstayed f n + 1 ≡ suc n = omega (arith, rest) in t)

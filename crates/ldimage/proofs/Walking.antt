@@ -1,6 +1,5 @@
 -- Stretches one after the other.
-use Rattle.std.proofs.Common.{◌≡◌, ◌+◌, ◌-◌, ◌<◌, ◌≤◌, ℕ, List, [], ◌∷◌, length, get_or, drop, Bool, true, false, cond, Option, Some, None, refl, sym, ap, ◌∙◌, subst, inl, inr, ◌⊎◌, arith}
-use Rattle.std.specs.Prelude.{nat_lt}
+use Rattle.std.proofs.Common.{◌≡◌, ◌+◌, ◌-◌, ◌<◌, ◌≤◌, ℕ, List, [], ◌∷◌, length, get_or, drop, true, false, Some, refl, sym, ap, ◌∙◌, subst, inl, inr, arith}
 use Rattle.std.proofs.lemmas.Bool.{cases_lt}
 use Rattle.std.proofs.lemmas.Bool.Decides.{nat_tests}
 use Rattle.std.proofs.lemmas.List.{drop_more, drop_all}
@@ -8,9 +7,8 @@ use Rattle.std.proofs.Math.Nat.{zero-add}
 use Rattle.ldbase.specs.Counts.{Counts}
 use Rattle.ldbase.specs.Raised.{raised}
 use Rattle.ldbase.specs.declared.meter.Count.TheVariants.{Bytes}
-use Rattle.ldimage.specs.Stretches.{Begun, Fills, Stand, byte_in, content_byte, drawn_byte, stays_at, stays_in, stretch_at, written, written_in}
+use Rattle.ldimage.specs.Stretches.{Fills, Stand, byte_in, content_byte, drawn_byte, stays_at, stays_in, stretch_at, written, written_in}
 use Rattle.ldimage.specs.declared.stretch.Stretch.{Stretch}
-use Rattle.ldimage.proofs.Counting.{raised_more}
 
 pub stand-end : (from end : ℕ) (xs : List Stretch) → Stand from end xs → from ≤ end
 stand-end from end [] h = omega (arith, h)
@@ -89,8 +87,8 @@ module _ (xs : List Stretch) (k done : ℕ) (x : Stretch) (old now new : List �
   walk_on = record {
     order = t.order;
     rest = λ o a. w.rest o (omega (arith, t.above)) ∙ t.later o a;
-    right = λ o a e. elim (cases_lt o done) [ | inl b ↦ r.before o b ∙ w.right o b e | inr b ↦ right_written o b a e ];
-    kept = λ o a e. elim (cases_lt o done) [ | inl b ↦ r.before o b ∙ w.kept o b e | inr b ↦ right_stays o b a e ];
+    right = λ o a e. elim (cases_lt o done) [ inl b ↦ r.before o b ∙ w.right o b e | inr b ↦ right_written o b a e ];
+    kept = λ o a e. elim (cases_lt o done) [ inl b ↦ r.before o b ∙ w.kept o b e | inr b ↦ right_stays o b a e ];
     same = λ o a. r.after o a ∙ w.same o (omega (arith, t.above));
     len = r.len ∙ w.len;
     counted = λ i. (

@@ -75,7 +75,7 @@ abbrev pub AreApart : List ImagePiece → List PlacedData → Type 0
 AreApart xs ds =
     (i j : ℕ) (x : ImagePiece) (d : PlacedData) → i < length xs → j < length ds → 0 < (slice_index_or xs i x).size
     → (piece_end (slice_index_or xs i x) ≤ (slice_index_or ds j d).start)
-        ⊎ (data_end (slice_index_or ds j d) ≤ (slice_index_or xs i x).start)
+    ⊎ (data_end (slice_index_or ds j d) ≤ (slice_index_or xs i x).start)
 
 -- an output section whose parts stand in order in it
 pub record IsOrderly (x : ImageSection) : Type 0 where

@@ -1,5 +1,7 @@
 pub mod Drawing
 pub mod Grown
+pub mod InMemory
+pub mod OfLink
 pub mod Plan
 pub mod Reached
 pub mod Stretches

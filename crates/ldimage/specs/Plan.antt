@@ -1,5 +1,5 @@
 -- A plan, and the image that it is for.
-use Rattle.std.specs.Prelude.{◌≡◌, ℕ, ◌+◌, ◌<◌, zero, suc, List, [], slice_index, length, Bool, true, false, if◌then◌else◌}
+use Rattle.std.specs.Prelude.{◌≡◌, ℕ, ◌+◌, ◌<◌, zero, suc, List, [], slice_index, length, true, false, if◌then◌else◌}
 use Rattle.std.specs.List.{All}
 use Rattle.ldfields.specs.declared.patch.Patch.{Patch}
 use Rattle.ldimage.specs.Drawing.{drawing_end, drawing_spot}

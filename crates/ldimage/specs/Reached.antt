@@ -1,5 +1,5 @@
 -- How far the parts of an output section are added.
-use Rattle.std.specs.Prelude.{◌≡◌, ℕ, ◌+◌, ◌-◌, ◌<◌, ◌≤◌, ◌⊎◌, List, length, slice_index, slice_index_or, Contains, drop, nat_lt, false, if◌then◌else◌}
+use Rattle.std.specs.Prelude.{◌≡◌, ℕ, ◌+◌, ◌-◌, ◌<◌, ◌≤◌, ◌⊎◌, length, slice_index, slice_index_or, Contains, drop, nat_lt, false, if◌then◌else◌}
 use Rattle.ldmodel.specs.declared.laid.PlacedData.{PlacedData}
 use Rattle.ldimage.specs.Drawing.{AreParts, AreSections, data_end, drawing_end, end_of_parts, end_of_sections, ends_in, part_end}
 use Rattle.ldimage.specs.Drawing.{piece_end, section_spot}

@@ -1,6 +1,6 @@
 -- Stretches of the image (`stretch`), and the bytes that they stand for.
 use Rattle.std.specs.Prelude.{◌≡◌, ℕ, ◌+◌, ◌-◌, ◌%◌, ◌<◌, ◌≤◌, List, [], ◌∷◌, length, slice_index, Option, Some, None}
-use Rattle.std.specs.Prelude.{Bool, true, false, nat_lt, nat_le, ◌&&◌, if◌then◌else◌, sum_by}
+use Rattle.std.specs.Prelude.{Bool, true, false, nat_lt, if◌then◌else◌, sum_by}
 use Rattle.std.specs.List.{list_any, All}
 use Rattle.std.specs.Option.{option_map_or}
 use Rattle.std.specs.Int.{to_le_bytes, w64}

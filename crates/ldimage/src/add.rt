@@ -28,7 +28,11 @@ pub(crate) fn add<'a>(
     requires fills { Fills (end - from) content }
     ensures { OnOk result (Grown out.old.items out.new.items from end (λ o. record { byte = content_byte content.entry (o - from); stays = stays })) }
 {
-    out.push(Stretch { end, stays, content })?;
+    out.push(Stretch {
+        end,
+        stays,
+        content,
+    })?;
     Ok(())
 }
 

@@ -1,9 +1,13 @@
 //! The image: a plan that makes every growth, and a commit that takes no memory and has no refusal.
 #![tactic(auto)]
 
-pub mod commit;
-pub mod plan;
 mod add;
 mod add_section;
+pub mod commit;
+pub mod draw;
+pub mod law;
+pub mod plan;
 pub mod section;
 pub mod stretch;
+#[cfg(test)]
+mod tests;

@@ -9,9 +9,9 @@ ghost use Rattle.ldimage.specs.Stretches.{EndsBy, Stand};
 
 use crate::add::{ZERO, add, add_fill};
 use crate::add_section::add_section;
+use crate::commit::write_image;
 use crate::section::{Drawing, ImagePart, ImageSection};
 use crate::stretch::{Content, Stretch};
-use crate::commit::write_image;
 use ldbase::meter::Meter;
 use ldfields::canvas::Canvas;
 use ldfields::patch::Patch;
@@ -70,11 +70,7 @@ fn add_part<'a>(
 }
 
 /// Adds the tail. Returns where it ends.
-fn add_tail<'a>(
-    out: &mut Vec<Stretch<'a>>,
-    from: usize,
-    d: &Drawing<'a>,
-) -> Result<usize, NoMemory>
+fn add_tail<'a>(out: &mut Vec<Stretch<'a>>, from: usize, d: &Drawing<'a>) -> Result<usize, NoMemory>
     requires drawing { IsDrawing d.now }
     requires from { from ≡ end_of_sections (length d.now.headers.now) d.now.sections.now }
     requires stand { Stand 0 from out.old.items }
@@ -93,7 +89,9 @@ fn most_stretches(d: &Drawing<'_>) -> usize {
     let mut count: usize = 1;
     for x in d.sections {
         let parts = x.pieces.len().saturating_add(x.data_commands.len());
-        count = count.saturating_add(parts.saturating_mul(2)).saturating_add(2);
+        count = count
+            .saturating_add(parts.saturating_mul(2))
+            .saturating_add(2);
     }
     count.saturating_add(d.tail.len().saturating_mul(2))
 }
@@ -105,7 +103,13 @@ fn add_all<'a>(out: &mut Vec<Stretch<'a>>, d: &Drawing<'a>) -> Result<usize, NoM
     ensures end { IfOk result (λ end. end ≡ drawing_end d.now) }
     ensures grown { OnOk result (Grown [] out.new.items 0 (drawing_end d.now) (drawing_spot d.now)) }
 {
-    add(out, 0, d.headers.len(), false, Content::Bytes(d.headers, &[]))?;
+    add(
+        out,
+        0,
+        d.headers.len(),
+        false,
+        Content::Bytes(d.headers, &[]),
+    )?;
     let at = add_sections(out, d)?;
     let end = add_tail(out, at, d)?;
     Ok(end)

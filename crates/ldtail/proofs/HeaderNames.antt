@@ -1,13 +1,13 @@
 -- The names of the section headers, and the headers, one after the other.
-use Rattle.std.proofs.Common.{◌≡◌, ◌+◌, ◌<◌, ◌≤◌, ℕ, zero, suc, List, [], ◌∷◌, ◌++◌, length, map, take, get_or, flat_map, append_assoc, length-append, refl, sym, ap, ◌∙◌, arith, subst}
-use Rattle.std.specs.Prelude.{codes, replicate}
+use Rattle.std.proofs.Common.{◌≡◌, ◌+◌, ◌<◌, ◌≤◌, ℕ, List, [], ◌∷◌, ◌++◌, length, map, take, get_or, flat_map, append_assoc, length-append, sym, ap, ◌∙◌, subst}
+use Rattle.std.specs.Prelude.{codes}
 use Rattle.std.specs.List.{enumerate_from}
 use Rattle.std.proofs.lemmas.List.{get_or-append-add, get_or_append_left, get_or-map, length-map, take_all}
 use Rattle.std.proofs.lemmas.List.FromFn.{length-enumerate_from}
 use Rattle.ldmodel.specs.SectionHeaders.{SectionHeader, header_bytes}
 use Rattle.ldmodel.specs.Tail.{string_table, name_offset}
 use Rattle.ldtail.specs.HeaderRecord.{header_of}
-use Rattle.ldtail.specs.Tables.{header_names_of, section_header_of, output_headers_of}
+use Rattle.ldtail.specs.Tables.{header_names_of, section_header_of}
 use Rattle.ldtail.specs.declared.sections.Header.{Header}
 use Rattle.ldtail.specs.declared.sections.TableSection.{TableSection}
 use Rattle.ldtail.proofs.Entries.{string_more, name_at, table_more}

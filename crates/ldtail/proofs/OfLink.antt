@@ -1,5 +1,5 @@
 -- The tail that is made of values is that of the link whose values they are.
-use Rattle.std.proofs.Common.{◌≡◌, ◌+◌, ◌%◌, ◌^◌, ℕ, List, [], ◌∷◌, ◌++◌, length, map, flat_map, append_assoc, append-nil, refl, sym, ap, ◌∙◌}
+use Rattle.std.proofs.Common.{◌≡◌, ◌+◌, ℕ, List, [], ◌∷◌, ◌++◌, length, map, flat_map, append_assoc, append-nil, refl, sym, ap, ◌∙◌}
 use Rattle.std.specs.Prelude.{replicate, codes}
 use Rattle.std.specs.Int.{next_multiple_of}
 use Rattle.std.specs.List.{AllZip, enumerate_from}

@@ -1,5 +1,5 @@
 -- Sorting by insertion puts a list in order, and no other list is the same one in that order.
-use Rattle.std.proofs.Common.{◌≡◌, ◌<◌, ◌+◌, zero, suc, Bool, true, false, cond, not, List, [], ◌∷◌, length, get_or, filter, refl, ap, sym, ◌∙◌, ◌↔◌, subst, arith, Option, Some, None}
+use Rattle.std.proofs.Common.{◌≡◌, ◌<◌, ◌+◌, zero, suc, Bool, true, false, cond, not, List, [], ◌∷◌, length, get_or, filter, refl, ap, sym, ◌∙◌, ◌↔◌, subst, arith}
 use Rattle.std.specs.List.{Contains}
 use Rattle.std.specs.List.Sorted.{IsSortedBy, ties}
 use Rattle.std.specs.Cmp.{IsStrictWeakOrder}
@@ -141,4 +141,3 @@ module _ {X : Type 0} (lt : X → X → Bool) (o : IsStrictWeakOrder lt) where
     λ r. one_order ys (sort_by lt xs) r.sorted (is_sorted xs) (λ a. r.stable a ∙ sym (is_stable xs a)),
     λ e. subst (λ zs. IsOrdered lt xs zs) (sym e) (sort_is_ordered xs),
   )
-

@@ -1,7 +1,8 @@
 -- The program headers of segments of the code are those of the segments that they stand for.
-use Rattle.std.proofs.Common.{◌≡◌, ◌+◌, ℕ, Bool, true, false, cond, List, [], ◌∷◌, ◌++◌, flat_map, refl, sym, ap, ◌∙◌, arith, length}
+use Rattle.std.proofs.Common.{Bool, List, [], ap, cond, false, flat_map, length, refl, take, true, ℕ, ◌*◌, ◌++◌, ◌+◌, ◌∙◌, ◌∷◌, ◌≡◌, ◌≤◌}
 use Rattle.std.specs.Prelude.{nat_lt, ◌==◌}
-use Rattle.std.specs.List.{AllZip}
+use Rattle.std.specs.List.{AllZip, fold}
+use Rattle.std.proofs.lemmas.List.{take_all}
 use Rattle.std.specs.Ordering.{is_lt, nat_cmp}
 use Rattle.std.specs.declared.cmp.Ordering.TheVariants.{Less, Equal, Greater}
 use Rattle.std.proofs.lemmas.Slice.Zip.{AllZip-long}
@@ -12,10 +13,10 @@ use Rattle.ldmodel.specs.SectionHeaders.{header_part}
 use Rattle.ldmodel.specs.SymbolValues.{entry_point, number_or_0}
 use Rattle.ldmodel.specs.Layout.{Layout, PlacedSection}
 use Rattle.ldmodel.specs.Lent.{IsSegment, AreSegments}
-use Rattle.ldmodel.specs.Segments.{Segment, segments, start_of}
+use Rattle.ldmodel.specs.Segments.{Segment, file_end, loaded_end, segments, start_of}
 use Rattle.ldmodel.specs.Sorting.{insert_by, sort_by}
 use Rattle.ldmodel.specs.declared.segment.Segment as code
-use Rattle.ldtail.specs.SegmentBytes.{segment_bytes, starts_before}
+use Rattle.ldtail.specs.SegmentBytes.{file_end_of, segment_bytes, starts_before}
 
 abbrev pub lower : Segment → Segment → Bool
 lower g h = nat_lt (start_of g) (start_of h)
@@ -79,3 +80,18 @@ headers_are p s entry table count xs segs e t n =
     rw (e, t, n, AllZip-long (IsSegment s.sections) (segments s.sections) xs segs)
     (ap (λ z. elf_header (number_or_0 (entry_point p s)) (length (segments s.sections)) ((header_part p s).offset) (length s.sections + 4) (length s.sections + 3) ++ z)
     (program_headers_of s.sections (segments s.sections) xs segs))
+
+folded : (sections : List PlacedSection) (end : ℕ) (gs : List Segment) (xs : List code.Segment) → AllZip (IsSegment sections) gs xs → fold file_end_of end xs ≡ fold file_end end gs
+folded sections end [] [] h = refl
+folded sections end [] (x ∷ xs) h = absurd h
+folded sections end (g ∷ gs) [] h = absurd h
+folded sections end (g ∷ gs) (x ∷ xs) h =
+    let own : file_end_of end x ≡ file_end end g = rw (h.0.in_file, h.0.offset) refl in
+    ap (λ (n : ℕ). fold file_end_of n xs) own ∙ folded sections (file_end end g) gs xs h.1
+
+-- where the loaded part of the file ends
+pub loaded_end_is : (sections : List PlacedSection) (gs : List Segment) (xs : List code.Segment) (k end : ℕ) → AllZip (IsSegment sections) gs xs → length xs ≤ k → end ≡ fold file_end_of (64 + 56 * length xs) (take k xs) → end ≡ loaded_end gs
+loaded_end_is sections gs xs k end h l e =
+    e ∙ ap (λ ys. fold file_end_of (64 + 56 * length xs) ys) (take_all k xs l)
+    ∙ ap (λ (n : ℕ). fold file_end_of (64 + 56 * n) xs) (AllZip-long (IsSegment sections) gs xs h)
+    ∙ folded sections (64 + 56 * length gs) gs xs h

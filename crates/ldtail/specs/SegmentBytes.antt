@@ -1,5 +1,5 @@
 -- Program headers of segments as the code hands them on (gABI, "Program Header").
-use Rattle.std.specs.Prelude.{ℕ, ◌+◌, ◌++◌, List, Bool, if◌then◌else◌}
+use Rattle.std.specs.Prelude.{ℕ, ◌+◌, ◌++◌, List, Bool, ◌==◌, if◌then◌else◌}
 use Rattle.std.specs.Int.{to_le_bytes, w32, w64}
 use Rattle.std.specs.Ordering.{is_lt, nat_cmp}
 use Rattle.ldmodel.specs.declared.segment.Segment.{Segment}
@@ -18,3 +18,7 @@ segment_bytes g =
 -- a segment stands before another in the program header table
 abbrev pub starts_before : Segment → Segment → Bool
 starts_before g h = is_lt (nat_cmp g.start h.start)
+
+-- where the file bytes of the segments up to this one end
+abbrev pub file_end_of : ℕ → Segment → ℕ
+file_end_of end g = if g.file_size == 0 then end else g.offset + g.file_size

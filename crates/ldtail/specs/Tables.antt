@@ -1,5 +1,5 @@
 -- The values that the tail is made of: that they are those of a link.
-use Rattle.std.specs.Prelude.{◌≡◌, ℕ, ◌+◌, ◌%◌, ◌^◌, ◌*◌, List, [], ◌∷◌, ◌++◌, map, flat_map, replicate, Bool, codes, length}
+use Rattle.std.specs.Prelude.{◌≡◌, ℕ, ◌+◌, ◌%◌, ◌^◌, List, [], ◌∷◌, ◌++◌, map, flat_map, replicate, Bool, codes, length}
 use Rattle.std.specs.Int.{next_multiple_of}
 use Rattle.std.specs.Prelude.{◌==◌, not, if◌then◌else◌}
 use Rattle.std.specs.List.{AllZip, enumerate_from}
@@ -10,7 +10,7 @@ use Rattle.ldmodel.specs.Lent.{placed_of}
 use Rattle.ldmodel.specs.Project.{Project}
 use Rattle.ldmodel.specs.SectionHeaders.{SectionHeader, FilePart, Tables, end_of_part, header_bytes, part_at}
 use Rattle.ldmodel.specs.SectionHeaders.{table_headers}
-use Rattle.ldmodel.specs.Segments.{Segment, segments, file_offset, loaded_end}
+use Rattle.ldmodel.specs.Segments.{segments, file_offset, loaded_end}
 use Rattle.ldmodel.specs.Tail.{SymbolEntry, ValuedSymbol, name_offset, kind_number, symbol_bytes, table_symbols, st_binding}
 use Rattle.ldmodel.specs.Tail.{st_type, st_shndx, st_size, string_table}
 use Rattle.ldmodel.specs.declared.laid.Placed.{Placed}

@@ -3,20 +3,21 @@
 ghost use Rattle.std.specs.Prelude.{◌≡◌, ◌+◌, ◌<◌, ◌^◌, ◌++◌, IfOk, OnOk, List, length, flat_map, ◌==◌, if◌then◌else◌};
 ghost use Rattle.ldmodel.specs.Headers.{elf_header};
 ghost use Rattle.ldmodel.specs.Image.{headers};
-ghost use Rattle.ldmodel.specs.Layout.{Layout};
+ghost use Rattle.ldmodel.specs.Layout.{Layout, PlacedSection};
 ghost use Rattle.ldmodel.specs.Lent.{AreSegments};
 ghost use Rattle.ldmodel.specs.Project.{Project};
 ghost use Rattle.ldmodel.specs.SectionHeaders.{header_part};
 ghost use Rattle.ldmodel.specs.Segments as definition;
+ghost use Rattle.ldmodel.specs.Segments.{Segment as LaidSegment};
 ghost use Rattle.ldmodel.specs.Sorting.{sort_by};
 ghost use Rattle.ldmodel.specs.SymbolValues.{entry_point, number_or_0};
-ghost use Rattle.ldtail.specs.SegmentBytes.{flags_number, segment_bytes, starts_before};
+ghost use Rattle.ldtail.specs.SegmentBytes.{file_end_of, flags_number, segment_bytes, starts_before};
 
 use crate::number::{put_low_u64, put_u16, put_u32, put_u64};
 use elfdefs::constants::EM_X86_64;
 use ldmodel::memory::NoMemory;
 use ldmodel::segment::Segment;
-use std::alloc::Global;
+use std::alloc::{AllocError, Global};
 
 /// Identification of a little-endian 64-bit file of version 1, `e_ident`.
 const IDENT: [u8; 16] = [0x7f, b'E', b'L', b'F', 2, 1, 1, 0, 0, 0, 0, 0, 0, 0, 0, 0];
@@ -145,7 +146,43 @@ pub fn headers(
     let sorted = ascending(alloc, segments)?;
     let mut out = Vec::with_capacity(alloc, length_of(segments.len()))?;
     let count = sections as u64;
-    put_elf_header(&mut out, entry, segments.len() as u64, table, count + 4, count + 3)?;
+    put_elf_header(
+        &mut out,
+        entry,
+        segments.len() as u64,
+        table,
+        count + 4,
+        count + 3,
+    )?;
     put_segments(&mut out, &sorted)?;
     Ok(out)
+}
+
+/// Where the file bytes of the segments up to `g` end, where those before it end at `end`.
+fn file_end(end: u128, g: &Segment) -> Result<u128, NoMemory>
+    ensures { IfOk result (λ x. x ≡ file_end_of end g.now) }
+{
+    if g.file_size == 0 {
+        return Ok(end);
+    }
+    g.offset
+        .checked_add(u128::from(g.file_size))
+        .ok_or(AllocError)
+}
+
+/// Where the loaded part of the file ends: with the file bytes of these segments, which come in the order of the script,
+/// or with the headers.
+///
+/// An error says that it is 2^64 or more: no memory holds such a file.
+pub fn loaded_end(segments: &[Segment]) -> Result<u64, NoMemory>
+    ensures { IfOk result (λ end. (sections : List PlacedSection) (gs : List LaidSegment) → AreSegments sections gs segments.now → end ≡ definition.loaded_end gs) }
+{
+    let mut end = 64 + 56 * segments.len() as u128;
+    for g in segments {
+        end = file_end(end, g)?;
+    }
+    match u64::try_from(end) {
+        Ok(end) => Ok(end),
+        Err(_too_great) => Err(AllocError),
+    }
 }

@@ -7,5 +7,6 @@ mod number;
 pub mod sections;
 pub mod strings;
 pub mod symbols;
-
 pub mod tail;
+#[cfg(test)]
+mod tests;

@@ -81,12 +81,12 @@ fn flags_of(q: &Placed) -> u64
 fn alignment_of(q: &Placed) -> u64
     ensures { result ≡ alignment_of q.now }
 {
-    let rest = if q.alignment == 0 { q.start } else { q.start % q.alignment };
-    if rest == 0 {
-        q.alignment
+    let rest = if q.alignment == 0 {
+        q.start
     } else {
-        1
-    }
+        q.start % q.alignment
+    };
+    if rest == 0 { q.alignment } else { 1 }
 }
 
 /// The header of an output section whose name begins at `name`.
@@ -96,7 +96,11 @@ fn section_header(name: u64, x: &TableSection<'_>) -> Header
     let q = &x.placed;
     Header {
         name,
-        kind: if q.load_size == 0 { SHT_NOBITS } else { SHT_PROGBITS },
+        kind: if q.load_size == 0 {
+            SHT_NOBITS
+        } else {
+            SHT_PROGBITS
+        },
         flags: flags_of(q),
         address: q.start,
         offset: x.offset,

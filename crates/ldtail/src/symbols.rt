@@ -6,7 +6,9 @@ ghost use Rattle.ldtail.specs.Tables.{binding_number, names_of, symbol_table_of}
 
 use crate::number::{put_u16, put_u32, put_u64};
 use crate::strings::{add_name, no_names};
-use elfdefs::constants::{STB_GLOBAL, STB_WEAK, STT_FILE, STT_FUNC, STT_NOTYPE, STT_OBJECT, STT_SECTION};
+use elfdefs::constants::{
+    STB_GLOBAL, STB_WEAK, STT_FILE, STT_FUNC, STT_NOTYPE, STT_OBJECT, STT_SECTION,
+};
 use elfdefs::symbol::SymbolKind;
 use ldmodel::memory::NoMemory;
 use std::alloc::Global;

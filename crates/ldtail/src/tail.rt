@@ -10,7 +10,9 @@ ghost use Rattle.ldmodel.specs.Tail.{name_offset};
 ghost use Rattle.ldtail.specs.HeaderRecord.{header_of};
 ghost use Rattle.ldtail.specs.Tables.{IsTailOf, tables_of, tail_of};
 
-use crate::sections::{Header, OutputHeaders, TableNames, TableSection, output_headers, put_header};
+use crate::sections::{
+    Header, OutputHeaders, TableNames, TableSection, output_headers, put_header,
+};
 use crate::symbols::{SymbolTables, TableSymbol, symbol_tables};
 use elfdefs::constants::{SHT_STRTAB, SHT_SYMTAB};
 use ldmodel::memory::NoMemory;
@@ -90,7 +92,9 @@ fn aligned(n: u64) -> Result<u64, NoMemory>
 fn end_of(part: &Part) -> Result<u64, NoMemory>
     ensures { IfOk result (λ x. x ≡ end_of_part part.now) }
 {
-    part.offset().checked_add(part.bytes().len() as u64).ok_or(AllocError)
+    part.offset()
+        .checked_add(part.bytes().len() as u64)
+        .ok_or(AllocError)
 }
 
 /// Bytes right after a part.
@@ -147,18 +151,23 @@ fn put_tables(
     requires { count + 2 < 2 ^ 64 }
     ensures { OnOk result ((ns : List (List ℕ)) → names.now.symbols ≡ name_offset ns count → names.now.symbol_names ≡ name_offset ns (count + 1) → names.now.header_names ≡ name_offset ns (count + 2) → out.new.items ≡ out.old.items ++ flat_map header_bytes (table_headers count ns (record { symbols = tables.now.symbols; symbol_names = tables.now.symbol_names; header_names = tables.now.header_names }))) }
 {
-    put_header(out, &symbols_header(names.symbols, &tables.symbols, count as u64 + 2))?;
-    put_header(out, &strings_header(names.symbol_names, &tables.symbol_names))?;
-    put_header(out, &strings_header(names.header_names, &tables.header_names))?;
+    put_header(
+        out,
+        &symbols_header(names.symbols, &tables.symbols, count as u64 + 2),
+    )?;
+    put_header(
+        out,
+        &strings_header(names.symbol_names, &tables.symbol_names),
+    )?;
+    put_header(
+        out,
+        &strings_header(names.header_names, &tables.header_names),
+    )?;
     Ok(())
 }
 
 /// The three tables past the end of the loaded part of the file.
-fn place_tables(
-    end: u64,
-    symbols: SymbolTables,
-    header_names: Vec<u8>,
-) -> Result<Tables, NoMemory>
+fn place_tables(end: u64, symbols: SymbolTables, header_names: Vec<u8>) -> Result<Tables, NoMemory>
     ensures symbols { IfOk result (λ t. t.symbols ≡ part_at (next_multiple_of end 8) symbols.entries.items) }
     ensures symbol_names { IfOk result (λ t. t.symbol_names ≡ part_at (end_of_part t.symbols) symbols.names.items) }
     ensures header_names { IfOk result (λ t. t.header_names ≡ part_at (end_of_part t.symbol_names) header_names.items) }
@@ -188,7 +197,11 @@ pub fn tail(
 {
     let symbol_tables = symbol_tables(alloc, symbols)?;
     let output = output_headers(alloc, sections)?;
-    let OutputHeaders { headers: mut headers, names, tables: at } = output;
+    let OutputHeaders {
+        headers: mut headers,
+        names,
+        tables: at,
+    } = output;
     let tables = place_tables(loaded_end, symbol_tables, names)?;
     put_tables(&mut headers, sections.len(), &at, &tables)?;
     let offset = aligned(end_of(&tables.header_names)?)?;

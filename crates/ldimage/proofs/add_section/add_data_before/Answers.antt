@@ -1,4 +1,4 @@
-use Rattle.std.proofs.Common.{◌≡◌, ◌<◌, arith}
+use Rattle.std.proofs.Common.{arith}
 use Rattle.ldmodel.specs.declared.laid.PlacedData.{PlacedData}
 use Rattle.ldtree.specs.declared.section.Width.TheVariants.{Byte}
 use Rattle.ldimage.proofs.InSection.{data-from}

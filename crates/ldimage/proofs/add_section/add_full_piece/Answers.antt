@@ -1,7 +1,6 @@
-use Rattle.std.proofs.Common.{◌≡◌, ◌+◌, ◌<◌, ◌≤◌, ◌∙◌, ℕ, length, get_or, sym, ap, subst, arith}
+use Rattle.std.proofs.Common.{◌+◌, ◌<◌, ◌≤◌, ℕ, get_or, sym, subst, arith}
 use Rattle.ldimage.specs.Drawing.{piece_byte, piece_end}
-use Rattle.ldimage.specs.Grown.{Grown}
-use Rattle.ldimage.specs.Reached.{DataFrom, IsReached, place_of, section_image}
+use Rattle.ldimage.specs.Reached.{IsReached, place_of, section_image}
 use Rattle.ldimage.specs.declared.section.ImagePiece.{ImagePiece}
 use Rattle.ldimage.proofs.Adding.{gap-and-part}
 use Rattle.ldimage.proofs.Growing.{grown-then}

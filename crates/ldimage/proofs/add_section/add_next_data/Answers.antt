@@ -1,6 +1,5 @@
-use Rattle.std.proofs.Common.{◌≡◌, ◌+◌, ◌<◌, ◌≤◌, ◌∙◌, ℕ, length, get_or, false, sym, ap, subst, arith}
+use Rattle.std.proofs.Common.{◌≡◌, ◌+◌, ◌≤◌, ◌∙◌, ℕ, get_or, false, sym, ap, subst, arith}
 use Rattle.ldmodel.specs.declared.laid.PlacedData.{PlacedData}
-use Rattle.ldtree.specs.Widths.{byte_count}
 use Rattle.ldtree.specs.declared.section.Width.TheVariants.{Byte}
 use Rattle.ldimage.specs.Drawing.{data_byte, data_end}
 use Rattle.ldimage.specs.Grown.{Grown}

@@ -1,5 +1,4 @@
-use Rattle.std.proofs.Common.{◌≡◌, ◌+◌, ◌-◌, ◌<◌, ◌≤◌, ◌∙◌, ℕ, length, refl, sym, ap, subst, arith}
-use Rattle.std.specs.Prelude.{slice_index, ◌%◌, false}
+use Rattle.std.proofs.Common.{◌+◌, ◌≤◌, ℕ, refl, sym, subst, arith}
 use Rattle.ldimage.specs.Grown.{Grown}
 use Rattle.ldimage.specs.Reached.{PiecesFrom, place_of, section_image}
 use Rattle.ldimage.specs.Stretches.{Stand}

@@ -1,7 +1,7 @@
-use Rattle.std.proofs.Common.{◌≡◌, ◌+◌, ◌∙◌, length, ap}
+use Rattle.std.proofs.Common.{◌∙◌, ap}
 use Rattle.std.proofs.lemmas.List.{take_all}
 use Rattle.ldimage.specs.Stretches.{is_patched}
-use Rattle.ldimage.proofs.Patching.{count_on, patch_on_as, WrotePatch}
+use Rattle.ldimage.proofs.Patching.{count_on, patch_on_as}
 use Rattle.ldimage.proofs.commit.write_patches.Goals as goal
 
 pub loop-patch-preserved : goal.loop-patch-preserved

@@ -1,5 +1,5 @@
-use Rattle.std.proofs.Common.{◌≡◌, ◌+◌, ◌∙◌, length, arith}
-use Rattle.ldimage.proofs.Walking.{turn_of, walk_on, done_all, counted_all, walked_none}
+use Rattle.std.proofs.Common.{◌∙◌, length, arith}
+use Rattle.ldimage.proofs.Walking.{turn_of, walk_on, done_all, counted_all}
 use Rattle.ldimage.proofs.commit.write_stretches.Goals as goal
 
 pub write_stretch-requires-clause-within : goal.write_stretch-requires-clause-within

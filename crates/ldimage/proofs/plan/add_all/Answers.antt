@@ -1,4 +1,4 @@
-use Rattle.std.proofs.Common.{◌≡◌, ◌-◌, ◌≤◌, ◌∙◌, ℕ, List, [], length, ap, sym, subst, false, arith}
+use Rattle.std.proofs.Common.{◌≡◌, ◌-◌, ◌∙◌, ℕ, [], length, ap, sym, false, arith}
 use Rattle.std.specs.Prelude.{slice_index}
 use Rattle.ldimage.specs.Drawing.{drawing_end, drawing_spot, end_of_sections}
 use Rattle.ldimage.specs.Grown.{Grown}

@@ -1,4 +1,4 @@
-use Rattle.std.proofs.Common.{◌≡◌, ◌+◌, ◌<◌, ◌≤◌, ◌∙◌, ℕ, length, sym, subst}
+use Rattle.std.proofs.Common.{◌+◌, ℕ, length, sym, subst}
 use Rattle.ldimage.specs.Drawing.{drawing_spot}
 use Rattle.ldimage.specs.Grown.{Grown}
 use Rattle.ldimage.specs.Reached.{AreSectionsReached, after_zeros, section_image}

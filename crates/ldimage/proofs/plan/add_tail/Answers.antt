@@ -1,8 +1,7 @@
-use Rattle.std.proofs.Common.{◌≡◌, ◌+◌, ◌<◌, ◌≤◌, ◌∙◌, ℕ, length, sym, subst, get_or, arith, [], List}
-use Rattle.ldimage.specs.Drawing.{drawing_spot, part_end}
+use Rattle.std.proofs.Common.{◌+◌, ◌≤◌, ℕ, sym, subst, arith}
+use Rattle.ldimage.specs.Drawing.{drawing_spot}
 use Rattle.ldimage.specs.Grown.{Grown}
-use Rattle.ldimage.specs.Reached.{ArePartsReached, after_zeros, part_image}
-use Rattle.ldimage.specs.declared.section.ImagePart.{ImagePart}
+use Rattle.ldimage.specs.Reached.{ArePartsReached}
 use Rattle.ldimage.proofs.Growing.{grown-as, grown-then}
 use Rattle.ldimage.proofs.InDrawing.{part-turn}
 use Rattle.ldimage.proofs.plan.add_tail.Goals as goal

@@ -1,4 +1,3 @@
-use Rattle.std.proofs.Common.{◌≡◌, ◌+◌, ◌∙◌, sym, ap}
 use Rattle.ldtail.proofs.ProgramHeaders.{headers_are}
 use Rattle.ldtail.proofs.headers.headers.Goals as goal
 

@@ -1,8 +1,8 @@
-use Rattle.std.proofs.Common.{◌≡◌, ◌+◌, ◌<◌, ◌∙◌, List, [], ◌∷◌, length, take, subst, sym, ap, arith, get_or, ℕ}
+use Rattle.std.proofs.Common.{◌≡◌, ◌+◌, ◌∙◌, List, [], ◌∷◌, length, take, sym, ap, arith, get_or, ℕ}
 use Rattle.std.proofs.Math.Nat.{add-zero}
 use Rattle.std.specs.Prelude.{codes, ◌++◌}
 use Rattle.std.proofs.lemmas.List.{take_all}
-use Rattle.ldmodel.specs.Tail.{string_table, name_offset}
+use Rattle.ldmodel.specs.Tail.{string_table}
 use Rattle.ldtail.specs.Tables.{header_names_of}
 use Rattle.ldtail.specs.declared.sections.TableSection.{TableSection}
 use Rattle.ldtail.proofs.HeaderNames.{begins, long, string_next, table_name}

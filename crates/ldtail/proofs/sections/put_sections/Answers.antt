@@ -1,4 +1,4 @@
-use Rattle.std.proofs.Common.{◌≡◌, ◌+◌, ◌<◌, ◌∙◌, length, subst, sym, ap, arith, get_or, ℕ}
+use Rattle.std.proofs.Common.{◌<◌, length, arith}
 use Rattle.ldtail.specs.Tables.{header_names_of}
 use Rattle.ldtail.proofs.HeaderNames.{all_headers, begins, header_next, long, own_name, string_next}
 use Rattle.ldtail.proofs.sections.put_sections.Goals as goal

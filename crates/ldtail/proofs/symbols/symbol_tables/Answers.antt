@@ -1,4 +1,3 @@
-use Rattle.std.proofs.Common.{◌≡◌, ◌+◌, ◌∙◌, length, sym, ap, arith, get_or}
 use Rattle.ldtail.specs.declared.symbols.TableSymbol.{TableSymbol}
 use Rattle.ldtail.proofs.Entries.{all_entries, entry_next, name_next}
 use Rattle.ldtail.proofs.symbols.symbol_tables.Goals as goal

@@ -1,4 +1,4 @@
-use Rattle.std.proofs.Common.{◌≡◌, ◌+◌, ◌∙◌, ap, ℕ}
+use Rattle.std.proofs.Common.{◌+◌, ◌∙◌, ap, ℕ}
 use Rattle.elfdefs.specs.declared.constants.TheConstants.{SHT_SYMTAB, SHT_STRTAB}
 use Rattle.ldmodel.specs.SectionHeaders.{table_header}
 use Rattle.ldtail.proofs.OfLink.{three}

@@ -1,4 +1,4 @@
-use Rattle.std.proofs.Common.{◌≡◌, ◌∙◌, ◌++◌, ap, ℕ, List, length, flat_map}
+use Rattle.std.proofs.Common.{◌∙◌, ◌++◌, ap, ℕ, List, length, flat_map}
 use Rattle.std.specs.Int.{next_multiple_of}
 use Rattle.ldmodel.specs.SectionHeaders.{header_bytes, part_at, table_headers}
 use Rattle.ldtail.specs.Tables.{header_names_of}

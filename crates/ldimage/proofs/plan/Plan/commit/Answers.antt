@@ -1,8 +1,8 @@
-use Rattle.std.proofs.Common.{◌≡◌, ◌+◌, ◌<◌, ◌∙◌, ℕ, List, ap, sym, subst, arith}
+use Rattle.std.proofs.Common.{◌+◌, ◌∙◌, ℕ, ap, sym, subst, arith}
 use Rattle.ldbase.specs.Raised.{raised}
 use Rattle.ldbase.specs.declared.meter.Count.TheVariants.{Bytes}
 use Rattle.ldimage.specs.Drawing.{drawing_end, drawing_spot}
-use Rattle.ldimage.specs.Plan.{IsPlanOf, count_unstayed}
+use Rattle.ldimage.specs.Plan.{count_unstayed}
 use Rattle.ldimage.specs.Stretches.{IsPlanFor, patch_bytes, written}
 use Rattle.ldimage.proofs.Planned.{planned, written_all}
 use Rattle.ldimage.proofs.plan.Plan.commit.Goals as goal
