@@ -10,8 +10,10 @@ use Rattle.ldimage.specs.declared.stretch.Stretch.{Stretch}
 use Rattle.ldimage.proofs.Growing.{grown-as, grown-then}
 use Rattle.ldimage.proofs.InSection.{gap_spot}
 
-pub fill-section : (x : ImageSection) (k j at to : ℕ) (xs ys : List Stretch) → IsReached x k j at → PiecesFrom x k to → DataFrom x j to → x.start ≤ to
-    → Grown xs ys (place_of x at) (place_of x to) (λ o. record { byte = slice_index x.fill.now ((o - place_of x at) % length x.fill.now); stays = false })
+pub fill-section : (x : ImageSection) (k j at to : ℕ) (xs ys : List Stretch) → IsReached x k j at → PiecesFrom x k to
+    → DataFrom x j to → x.start ≤ to
+    → Grown xs ys (place_of x at) (place_of x to) (λ o.
+    record { byte = slice_index x.fill.now ((o - place_of x at) % length x.fill.now); stays = false })
     → Grown xs ys (place_of x at) (place_of x to) (section_image x)
 fill-section x k j at to xs ys r ps ds l g =
     grown-as xs ys (place_of x at) (place_of x to) _ (section_image x) g (λ o a b.
@@ -34,7 +36,8 @@ part-section x start end image xs ys l spots g =
     ap image same ∙ sym (spots (x.start + (o - x.offset)) low high))
 
 -- a gap, and a part after it
-pub gap-and-part : (x : ImageSection) (k j at start end : ℕ) (image : ℕ → Spot) (xs ys zs : List Stretch) (pf pt pe : ℕ) → IsReached x k j at → at ≤ start → start ≤ end → PiecesFrom x k start → DataFrom x j start
+pub gap-and-part : (x : ImageSection) (k j at start end : ℕ) (image : ℕ → Spot) (xs ys zs : List Stretch)
+    (pf pt pe : ℕ) → IsReached x k j at → at ≤ start → start ≤ end → PiecesFrom x k start → DataFrom x j start
     → ((a : ℕ) → start ≤ a → a < end → section_spot x a ≡ image a)
     → pf ≡ place_of x at → pt ≡ place_of x start → pe ≡ place_of x end
     → Grown xs ys pf pt (λ o. record { byte = slice_index x.fill.now ((o - pf) % length x.fill.now); stays = false })
@@ -42,8 +45,12 @@ pub gap-and-part : (x : ImageSection) (k j at start end : ℕ) (image : ℕ → 
     → Grown xs zs (place_of x at) (place_of x end) (section_image x)
 gap-and-part x k j at start end image xs ys zs pf pt pe r l m ps ds spots ef et ee g h =
     let low : x.start ≤ start = omega (arith, r.low) in
-    let g1 = subst (λ (n : ℕ). Grown xs ys n pt (λ o. record { byte = slice_index x.fill.now ((o - n) % length x.fill.now); stays = false })) ef g in
-    let g2 = subst (λ (n : ℕ). Grown xs ys (place_of x at) n (λ o. record { byte = slice_index x.fill.now ((o - place_of x at) % length x.fill.now); stays = false })) et g1 in
+    let g1 = subst (λ (n : ℕ).
+    Grown xs ys n pt (λ o. record { byte = slice_index x.fill.now ((o - n) % length x.fill.now); stays = false }))
+    ef g in
+    let g2 = subst (λ (n : ℕ).
+    Grown xs ys (place_of x at) n (λ o.
+    record { byte = slice_index x.fill.now ((o - place_of x at) % length x.fill.now); stays = false })) et g1 in
     let h1 = subst (λ (n : ℕ). Grown ys zs n pe (λ o. image (start + (o - n)))) et h in
     let h2 = subst (λ (n : ℕ). Grown ys zs (place_of x start) n (λ o. image (start + (o - place_of x start)))) ee h1 in
     let up : place_of x at ≤ place_of x start = omega arith in

@@ -1,5 +1,6 @@
 -- The output sections of a layout stand in order in the file.
-use Rattle.std.proofs.Common.{◌≡◌, ◌+◌, ◌-◌, ◌<◌, ◌≤◌, ℕ, suc, List, [], ◌∷◌, ◌++◌, length, map, filter, flat_map, Bool, true, false, cond, refl, sym, ap, ◌∙◌, subst, arith}
+use Rattle.std.proofs.Common.{◌≡◌, ◌+◌, ◌-◌, ◌<◌, ◌≤◌, ℕ, suc, List, [], ◌∷◌, ◌++◌, length, map, filter, flat_map, Bool}
+use Rattle.std.proofs.Common.{true, false, cond, refl, sym, ap, ◌∙◌, subst, arith}
 use Rattle.std.specs.Prelude.{◌==◌}
 use Rattle.std.specs.List.{All, fold}
 use Rattle.std.proofs.lemmas.List.Elements.{filter-append}
@@ -8,7 +9,8 @@ use Rattle.std.proofs.lemmas.List.Concat.{flat_map-cons}
 use Rattle.std.proofs.lemmas.Bool.Decides.{nat_tests}
 use Rattle.ldmodel.specs.FileLayout.{BeginFrom, Each, IsTogether, Neighbours, Shares}
 use Rattle.ldmodel.specs.Layout.{PlacedSection}
-use Rattle.ldmodel.specs.Segments.{SectionInFile, Segment, end_of, file_end, has_file_bytes, in_file, in_segment, sections_in, shares_segment, start_of}
+use Rattle.ldmodel.specs.Segments.{SectionInFile, Segment, end_of, file_end, has_file_bytes, in_file, in_segment}
+use Rattle.ldmodel.specs.Segments.{sections_in, shares_segment, start_of}
 
 abbrev is_loaded : SectionInFile → Bool
 is_loaded x = has_file_bytes x.section
@@ -50,18 +52,25 @@ abbrev reached : ℕ → ℕ → PlacedSection → ℕ
 reached start n q = cond (has_file_bytes q) (end_of q - start) n
 
 record Walk (end offset start n : ℕ) (qs : List PlacedSection) : Type 0 where
-  order : InFile (ended end offset n) (filter is_loaded (map (λ (q : PlacedSection). record { offset = offset + (q.start - start); section = q }) qs))
-  last : last_file_end (ended end offset n) (filter is_loaded (map (λ (q : PlacedSection). record { offset = offset + (q.start - start); section = q }) qs)) ≡ ended end offset (fold (reached start) n qs)
+  order : InFile (ended end offset n)
+      (filter is_loaded (map (λ (q : PlacedSection). record { offset = offset + (q.start - start); section = q }) qs))
+  last : last_file_end (ended end offset n)
+      (filter is_loaded (map (λ (q : PlacedSection). record { offset = offset + (q.start - start); section = q }) qs))
+      ≡ ended end offset (fold (reached start) n qs)
 
-walk : (end offset start low n : ℕ) (qs : List PlacedSection) → start ≤ low → ended end offset n ≤ offset + (low - start) → Chain low qs → All Full qs → Walk end offset start n qs
+walk : (end offset start low n : ℕ) (qs : List PlacedSection) → start ≤ low
+    → ended end offset n ≤ offset + (low - start) → Chain low qs → All Full qs → Walk end offset start n qs
 walk end offset start low n [] a b c f = record { order = tt; last = refl }
-walk end offset start low n (q ∷ qs) a b c f = (let done = claims (has_file_bytes q) (λ low' m i j k l. walk end offset start low' m qs i j k l) in record { order = done.0; last = done.1 })
+walk end offset start low n (q ∷ qs) a b c f =
+    (let done = claims (has_file_bytes q) (λ low' m i j k l. walk end offset start low' m qs i j k l) in
+    record { order = done.0; last = done.1 })
   where
     full : 0 < q.size
     full = f 0 q (omega arith)
 
     rest : List SectionInFile
-    rest = filter is_loaded (map (λ (q : PlacedSection). record { offset = offset + (q.start - start); section = q }) qs)
+    rest = filter is_loaded
+        (map (λ (q : PlacedSection). record { offset = offset + (q.start - start); section = q }) qs)
 
     here : SectionInFile
     here = record { offset = offset + (q.start - start); section = q }
@@ -69,9 +78,11 @@ walk end offset start low n (q ∷ qs) a b c f = (let done = claims (has_file_by
     later : All Full qs
     later = λ k d l. f (suc k) d (omega arith)
 
-    claims : (t : Bool) → ((low m : ℕ) → start ≤ low → ended end offset m ≤ offset + (low - start) → Chain low qs → All Full qs → Walk end offset start m qs)
+    claims : (t : Bool) → ((low m : ℕ) → start ≤ low → ended end offset m ≤ offset + (low - start) → Chain low qs
+        → All Full qs → Walk end offset start m qs)
         → InFile (ended end offset n) (cond t (here ∷ rest) rest)
-        × (last_file_end (ended end offset n) (cond t (here ∷ rest) rest) ≡ ended end offset (fold (reached start) (cond t (end_of q - start) n) qs))
+        × (last_file_end (ended end offset n) (cond t (here ∷ rest) rest)
+        ≡ ended end offset (fold (reached start) (cond t (end_of q - start) n) qs))
     claims true go =
         let m : ℕ = end_of q - start in
         let low' : start ≤ end_of q = omega (arith, c.0) in
@@ -88,35 +99,47 @@ walk end offset start low n (q ∷ qs) a b c f = (let done = claims (has_file_by
         (w.order, w.last)
 
 all-left : {X : Type 0} (P : X → Type 0) (xs ys : List X) → All P (xs ++ ys) → All P xs
-all-left P xs ys h = λ k d l. (let e = h k d (rw length-append (omega arith)) in subst P (get_or_append_left xs ys d k l) e)
+all-left P xs ys h = λ k d l.
+    (let e = h k d (rw length-append (omega arith)) in subst P (get_or_append_left xs ys d k l) e)
 
 all-right : {X : Type 0} (P : X → Type 0) (xs ys : List X) → All P (xs ++ ys) → All P ys
-all-right P xs ys h = λ k d l. (let e = h (length xs + k) d (rw length-append (omega arith)) in subst P (get_or-append-add xs ys k d) e)
+all-right P xs ys h = λ k d l.
+    (let e = h (length xs + k) d (rw length-append (omega arith)) in subst P (get_or-append-add xs ys k d) e)
 
-file-append : (from : ℕ) (xs ys : List SectionInFile) → InFile from xs → InFile (last_file_end from xs) ys → InFile from (xs ++ ys)
+file-append : (from : ℕ) (xs ys : List SectionInFile) → InFile from xs → InFile (last_file_end from xs) ys
+    → InFile from (xs ++ ys)
 file-append from [] ys a b = b
 file-append from (x ∷ xs) ys a b = (a.0, file-append (file_end_of x) xs ys a.1 b)
 
-last-append : (from : ℕ) (xs ys : List SectionInFile) → last_file_end from (xs ++ ys) ≡ last_file_end (last_file_end from xs) ys
+last-append : (from : ℕ) (xs ys : List SectionInFile) → last_file_end from (xs ++ ys)
+    ≡ last_file_end (last_file_end from xs) ys
 last-append from [] ys = refl
 last-append from (x ∷ xs) ys = last-append (file_end_of x) xs ys
 
 -- those with file bytes stand in order past an end, and end where the segments' file bytes do
-pub files : (end : ℕ) (gs : List Segment) → Each IsTogether (map (λ (g : Segment). g.group) gs) → BeginFrom end gs → All Full (flat_map sections_in (map (λ (g : Segment). g.group) gs))
-    → InFile end (filter is_loaded (in_file gs)) × (last_file_end end (filter is_loaded (in_file gs)) ≡ fold file_end end gs)
+pub files : (end : ℕ) (gs : List Segment) → Each IsTogether (map (λ (g : Segment). g.group) gs) → BeginFrom end gs
+    → All Full (flat_map sections_in (map (λ (g : Segment). g.group) gs))
+    → InFile end (filter is_loaded (in_file gs))
+    × (last_file_end end (filter is_loaded (in_file gs)) ≡ fold file_end end gs)
 files end [] t b f = (tt, refl)
 files end (g ∷ gs) t b f =
     let sections : List PlacedSection = sections_in g.group in
     let others : List Segment = gs in
-    let all : All Full (sections ++ flat_map sections_in (map (λ (g : Segment). g.group) gs)) = subst (All Full) (flat_map-cons sections_in g.group (map (λ (g : Segment). g.group) gs)) f in
-    let w = walk end g.offset (start_of g) (start_of g) 0 sections (omega arith) (omega (arith, b.0.above)) (omega arith, chain-of g.group.first g.group.others t.0) (all-left Full sections _ all) in
+    let all : All Full (sections ++ flat_map sections_in (map (λ (g : Segment). g.group) gs)) =
+    subst (All Full) (flat_map-cons sections_in g.group (map (λ (g : Segment). g.group) gs)) f in
+    let w = walk end g.offset (start_of g) (start_of g) 0 sections (omega arith) (omega (arith, b.0.above))
+    (omega arith, chain-of g.group.first g.group.others t.0) (all-left Full sections _ all) in
     let r = files (file_end end g) gs t.1 b.1 (all-right Full sections _ all) in
     let own : List SectionInFile = filter is_loaded (map (in_segment g) sections) in
     let cut : filter is_loaded (in_file (g ∷ gs)) ≡ own ++ filter is_loaded (in_file gs) =
-    ap (filter is_loaded) (flat_map-cons (λ (g : Segment). map (in_segment g) (sections_in g.group)) g gs) ∙ filter-append is_loaded (map (in_segment g) sections) (in_file gs) in
-    let order : InFile end (own ++ filter is_loaded (in_file gs)) = file-append end own (filter is_loaded (in_file gs)) w.order (subst (λ (k : ℕ). InFile k (filter is_loaded (in_file gs))) (sym w.last) r.0) in
+    ap (filter is_loaded) (flat_map-cons (λ (g : Segment). map (in_segment g) (sections_in g.group)) g gs)
+    ∙ filter-append is_loaded (map (in_segment g) sections) (in_file gs) in
+    let order : InFile end (own ++ filter is_loaded (in_file gs)) =
+    file-append end own (filter is_loaded (in_file gs)) w.order
+    (subst (λ (k : ℕ). InFile k (filter is_loaded (in_file gs))) (sym w.last) r.0) in
     let last : last_file_end end (own ++ filter is_loaded (in_file gs)) ≡ fold file_end end (g ∷ gs) =
-    last-append end own (filter is_loaded (in_file gs)) ∙ ap (λ (k : ℕ). last_file_end k (filter is_loaded (in_file gs))) w.last ∙ r.1 in (
+    last-append end own (filter is_loaded (in_file gs))
+    ∙ ap (λ (k : ℕ). last_file_end k (filter is_loaded (in_file gs))) w.last ∙ r.1 in (
       subst (InFile end) (sym cut) order,
       ap (last_file_end end) cut ∙ last,
     )

@@ -1,19 +1,24 @@
 -- What a search through a list finds, and the last end before an address.
-use Rattle.std.proofs.Common.{◌≡◌, ◌+◌, ◌<◌, ◌≤◌, ℕ, zero, suc, List, [], ◌∷◌, length, map, filter, get_or, Bool, true, false, cond, Some, None, max, refl, ap, ◌∙◌, inl, inr, ◌⊎◌, arith}
+use Rattle.std.proofs.Common.{◌≡◌, ◌+◌, ◌<◌, ◌≤◌, ℕ, zero, suc, List, [], ◌∷◌, length, map, filter, get_or, Bool, true}
+use Rattle.std.proofs.Common.{false, cond, Some, None, max, refl, ap, ◌∙◌, inl, inr, ◌⊎◌, arith}
 use Rattle.std.specs.List.{All, Contains, find}
 use Rattle.std.proofs.lemmas.Bool.Decides.{nat_tests, leb_tells}
 use Rattle.ldmodel.specs.Image.{covers}
 use Rattle.ldimage.specs.Drawing.{last_end}
 
-pub find-none : {X : Type 0} (test : X → Bool) (xs : List X) → ((i : ℕ) (d : X) → i < length xs → test (get_or xs i d) ≡ false) → find test xs ≡ None
+pub find-none : {X : Type 0} (test : X → Bool) (xs : List X)
+    → ((i : ℕ) (d : X) → i < length xs → test (get_or xs i d) ≡ false) → find test xs ≡ None
 find-none test [] h = refl
 find-none test (x ∷ xs) h = rw (h 0 x (omega arith)) (find-none test xs (λ i d l. h (suc i) d (omega arith)))
 
-pub find-at : {X : Type 0} (test : X → Bool) (xs : List X) (k : ℕ) (d : X) → k < length xs → ((i : ℕ) (e : X) → i < k → i < length xs → test (get_or xs i e) ≡ false) → test (get_or xs k d) ≡ true
+pub find-at : {X : Type 0} (test : X → Bool) (xs : List X) (k : ℕ) (d : X) → k < length xs
+    → ((i : ℕ) (e : X) → i < k → i < length xs → test (get_or xs i e) ≡ false) → test (get_or xs k d) ≡ true
     → find test xs ≡ Some (get_or xs k d)
 find-at test [] k d l h t = absurd (omega arith)
 find-at test (x ∷ xs) zero d l h t = rw t refl
-find-at test (x ∷ xs) (suc k) d l h t = rw (h 0 x (omega arith) (omega arith)) (find-at test xs k d (omega arith) (λ i e a b. h (suc i) e (omega arith) (omega arith)) t)
+find-at test (x ∷ xs) (suc k) d l h t =
+    rw (h 0 x (omega arith) (omega arith))
+    (find-at test xs k d (omega arith) (λ i e a b. h (suc i) e (omega arith) (omega arith)) t)
 
 pub not_covered : (s n a : ℕ) → (0 < n → (s + n ≤ a) ⊎ (a < s)) → covers s n a ≡ false
 not_covered s n a h = elim (leb_tells (suc 0) n) [
@@ -32,7 +37,8 @@ all-tail : (P : ℕ → Type 0) (x : ℕ) (xs : List ℕ) → All P (x ∷ xs) �
 all-tail P x xs h = λ k d l. h (suc k) d (omega arith)
 
 -- the last end before an address, where all ends are by a place or after the address
-pub last-end : (at n g : ℕ) (ends : List ℕ) → n ≤ g → g ≤ at → All (λ e. (e ≤ g) ⊎ (at < e)) ends → (n ≡ g) ⊎ Contains ends g → last_end at n ends ≡ g
+pub last-end : (at n g : ℕ) (ends : List ℕ) → n ≤ g → g ≤ at → All (λ e. (e ≤ g) ⊎ (at < e)) ends → (n ≡ g)
+    ⊎ Contains ends g → last_end at n ends ≡ g
 last-end at n g [] a b all (inl e) = e
 last-end at n g [] a b all (inr m) = absurd (let l : m.0 < 0 = m.1 in omega arith)
 last-end at n g (x ∷ xs) a b all where-it = elim (leb_tells x at) [
@@ -42,14 +48,16 @@ last-end at n g (x ∷ xs) a b all where-it = elim (leb_tells x at) [
         | inl e ↦ inl (let m : max n x ≡ g = omega arith in m)
         | inr c ↦ elim (contains_rest x g xs c) [ inl e ↦ inl (let m : max n x ≡ g = omega arith in m) | inr d ↦ inr d ]
       ] in
-      let step : last_end at n (x ∷ xs) ≡ last_end at (max n x) xs = ap (λ (c : Bool). last_end at (cond c (max n x) n) xs) t.0 in
+      let step : last_end at n (x ∷ xs) ≡ last_end at (max n x) xs =
+      ap (λ (c : Bool). last_end at (cond c (max n x) n) xs) t.0 in
       step ∙ last-end at (max n x) g xs (omega arith) b (all-tail (λ e. (e ≤ g) ⊎ (at < e)) x xs all) is)
   | inr f ↦
       (let is : (n ≡ g) ⊎ Contains xs g = elim where-it [
         | inl e ↦ inl e
         | inr c ↦ elim (contains_rest x g xs c) [ inl e ↦ absurd (omega (arith, f.1)) | inr d ↦ inr d ]
       ] in
-      let step : last_end at n (x ∷ xs) ≡ last_end at n xs = ap (λ (c : Bool). last_end at (cond c (max n x) n) xs) f.0 in
+      let step : last_end at n (x ∷ xs) ≡ last_end at n xs =
+      ap (λ (c : Bool). last_end at (cond c (max n x) n) xs) f.0 in
       step ∙ last-end at n g xs a b (all-tail (λ e. (e ≤ g) ⊎ (at < e)) x xs all) is)
 ]
 
@@ -63,9 +71,11 @@ module _ {X : Type 0} (p : X → Bool) (P : X → Type 0) where
   kept-or-not false x xs h hs = hs
 
   -- what passes a test has a property where it has it because it passes
-  pub all-full : (xs : List X) → ((i : ℕ) (d : X) → i < length xs → p (get_or xs i d) ≡ true → P (get_or xs i d)) → All P (filter p xs)
+  pub all-full : (xs : List X) → ((i : ℕ) (d : X) → i < length xs → p (get_or xs i d) ≡ true → P (get_or xs i d))
+      → All P (filter p xs)
   all-full [] h = λ i d l. absurd (omega arith)
-  all-full (x ∷ xs) h = kept-or-not (p x) x (filter p xs) (h 0 x (omega arith)) (all-full xs (λ i d l. h (suc i) d (omega arith)))
+  all-full (x ∷ xs) h =
+      kept-or-not (p x) x (filter p xs) (h 0 x (omega arith)) (all-full xs (λ i d l. h (suc i) d (omega arith)))
 
 module _ {X : Type 0} (p : X → Bool) (f : X → ℕ) where
   first-of : (b : Bool) (x : X) (xs : List X) → b ≡ true → Contains (map f (cond b (x ∷ xs) xs)) (f x)
@@ -77,12 +87,15 @@ module _ {X : Type 0} (p : X → Bool) (f : X → ℕ) where
   later-of false x xs n c = c
 
   -- an element that passes a test is among those that do
-  pub contains-full : (xs : List X) (k : ℕ) (d : X) → k < length xs → p (get_or xs k d) ≡ true → Contains (map f (filter p xs)) (f (get_or xs k d))
+  pub contains-full : (xs : List X) (k : ℕ) (d : X) → k < length xs → p (get_or xs k d) ≡ true
+      → Contains (map f (filter p xs)) (f (get_or xs k d))
   contains-full [] k d l t = absurd (omega arith)
   contains-full (x ∷ xs) zero d l t = first-of (p x) x (filter p xs) t
-  contains-full (x ∷ xs) (suc k) d l t = later-of (p x) x (filter p xs) (f (get_or xs k d)) (contains-full xs k d (omega arith) t)
+  contains-full (x ∷ xs) (suc k) d l t =
+      later-of (p x) x (filter p xs) (f (get_or xs k d)) (contains-full xs k d (omega arith) t)
 
-pub contains-at : {X : Type 0} (f : X → ℕ) (xs : List X) (k : ℕ) (d : X) → k < length xs → Contains (map f xs) (f (get_or xs k d))
+pub contains-at : {X : Type 0} (f : X → ℕ) (xs : List X) (k : ℕ) (d : X) → k < length xs
+    → Contains (map f xs) (f (get_or xs k d))
 contains-at f [] k d l = absurd (omega arith)
 contains-at f (x ∷ xs) zero d l = (0, omega arith, refl)
 contains-at f (x ∷ xs) (suc k) d l = let c = contains-at f xs k d (omega arith) in (suc c.0, omega (arith, c.1), c.2)

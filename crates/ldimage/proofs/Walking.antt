@@ -1,5 +1,6 @@
 -- Stretches one after the other.
-use Rattle.std.proofs.Common.{◌≡◌, ◌+◌, ◌-◌, ◌<◌, ◌≤◌, ℕ, List, [], ◌∷◌, length, get_or, drop, true, false, Some, refl, sym, ap, ◌∙◌, subst, inl, inr, arith}
+use Rattle.std.proofs.Common.{◌≡◌, ◌+◌, ◌-◌, ◌<◌, ◌≤◌, ℕ, List, [], ◌∷◌, length, get_or, drop, true, false, Some, refl}
+use Rattle.std.proofs.Common.{sym, ap, ◌∙◌, subst, inl, inr, arith}
 use Rattle.std.proofs.lemmas.Bool.{cases_lt}
 use Rattle.std.proofs.lemmas.Bool.Decides.{nat_tests}
 use Rattle.std.proofs.lemmas.List.{drop_more, drop_all}
@@ -7,17 +8,20 @@ use Rattle.std.proofs.Math.Nat.{zero-add}
 use Rattle.ldbase.specs.Counts.{Counts}
 use Rattle.ldbase.specs.Raised.{raised}
 use Rattle.ldbase.specs.declared.meter.Count.TheVariants.{Bytes}
-use Rattle.ldimage.specs.Stretches.{Fills, Stand, byte_in, content_byte, drawn_byte, stays_at, stays_in, stretch_at, written, written_in}
+use Rattle.ldimage.specs.Stretches.{Fills, Stand, byte_in, content_byte, drawn_byte, stays_at, stays_in, stretch_at}
+use Rattle.ldimage.specs.Stretches.{written, written_in}
 use Rattle.ldimage.specs.declared.stretch.Stretch.{Stretch}
 
 pub stand-end : (from end : ℕ) (xs : List Stretch) → Stand from end xs → from ≤ end
 stand-end from end [] h = omega (arith, h)
 stand-end from end (x ∷ xs) h = let later = stand-end x.end end xs h.2 in omega (arith, h.0)
 
-pub here-cons : (from : ℕ) (x : Stretch) (xs : List Stretch) (o : ℕ) → o < x.end → stretch_at from (x ∷ xs) o ≡ Some (record { from = from; stretch = x })
+pub here-cons : (from : ℕ) (x : Stretch) (xs : List Stretch) (o : ℕ) → o < x.end → stretch_at from (x ∷ xs) o
+    ≡ Some (record { from = from; stretch = x })
 here-cons from x xs o l = grind (arith, nat_tests)
 
-pub later-cons : (from : ℕ) (x : Stretch) (xs : List Stretch) (o : ℕ) → x.end ≤ o → stretch_at from (x ∷ xs) o ≡ stretch_at x.end xs o
+pub later-cons : (from : ℕ) (x : Stretch) (xs : List Stretch) (o : ℕ) → x.end ≤ o → stretch_at from (x ∷ xs) o
+    ≡ stretch_at x.end xs o
 later-cons from x xs o l = grind (arith, nat_tests)
 
 -- what the next stretch says
@@ -30,7 +34,8 @@ pub record Turn (done end k : ℕ) (xs : List Stretch) (x : Stretch) : Type 0 wh
   pub later : (o : ℕ) → x.end ≤ o → stretch_at done (drop k xs) o ≡ stretch_at x.end (drop (k + 1) xs) o
   pub count : written done (drop k xs) ≡ written_in done x + written x.end (drop (k + 1) xs)
 
-pub turn : (done end k : ℕ) (xs : List Stretch) (d : Stretch) → k < length xs → Stand done end (drop k xs) → Turn done end k xs (get_or xs k d)
+pub turn : (done end k : ℕ) (xs : List Stretch) (d : Stretch) → k < length xs → Stand done end (drop k xs)
+    → Turn done end k xs (get_or xs k d)
 turn done end k xs d l h =
     let e : drop k xs ≡ get_or xs k d ∷ drop (k + 1) xs = drop_more xs k d l in
     let o = rw e at h in
@@ -45,8 +50,10 @@ turn done end k xs d l h =
     }
 
 -- the same of the next stretch as the code has it
-pub turn_of : (done end k : ℕ) (xs : List Stretch) (x : Stretch) → k < length xs → Stand done end (drop k xs) → x ≡ get_or xs k x → Turn done end k xs x
-turn_of done end k xs x l h e = let P : Stretch → Type 0 = λ y. Turn done end k xs y in subst P (sym e) (turn done end k xs x l h)
+pub turn_of : (done end k : ℕ) (xs : List Stretch) (x : Stretch) → k < length xs → Stand done end (drop k xs) → x
+    ≡ get_or xs k x → Turn done end k xs x
+turn_of done end k xs x l h e = let P : Stretch → Type 0 = λ y. Turn done end k xs y in
+    subst P (sym e) (turn done end k xs x l h)
 
 -- the bytes of the canvas after the first stretches
 pub record Walked (xs : List Stretch) (k done : ℕ) (old new : List ℕ) (m n : Counts) : Type 0 where
@@ -81,7 +88,8 @@ module _ (xs : List Stretch) (k done : ℕ) (x : Stretch) (old now new : List �
   right_written : (o : ℕ) → done ≤ o → o < x.end → stays_at xs o ≡ false → get_or new o 0 ≡ drawn_byte xs o
   right_written o a b e =
       let back : done + (o - done) ≡ o = omega arith in
-      ap (λ j. get_or new j 0) (sym back) ∙ r.own (sym (as_own o a b) ∙ e) (o - done) (omega arith) ∙ sym (ap (byte_in o) (at o a b))
+      ap (λ j. get_or new j 0) (sym back) ∙ r.own (sym (as_own o a b) ∙ e) (o - done) (omega arith)
+      ∙ sym (ap (byte_in o) (at o a b))
 
   pub walk_on : Walked xs (k + 1) x.end old new m q
   walk_on = record {
@@ -94,19 +102,23 @@ module _ (xs : List Stretch) (k done : ℕ) (x : Stretch) (old now new : List �
     counted = λ i. (
         let rest : ℕ = written x.end (drop (k + 1) xs) in
         r.counted (rest + i)
-        ∙ ap (λ j. raised n Bytes j) (let e : written_in done x + (rest + i) ≡ written done (drop k xs) + i = omega (arith, t.count) in e)
+        ∙ ap (λ j. raised n Bytes j) (let e : written_in done x + (rest + i) ≡ written done (drop k xs) + i =
+        omega (arith, t.count) in e)
         ∙ w.counted i
         );
   }
 
 -- past the last stretch
-pub done_all : (xs : List Stretch) (k done : ℕ) (old new : List ℕ) (m n : Counts) → length xs ≤ k → Walked xs k done old new m n → done ≡ length old
+pub done_all : (xs : List Stretch) (k done : ℕ) (old new : List ℕ) (m n : Counts) → length xs ≤ k
+    → Walked xs k done old new m n → done ≡ length old
 done_all xs k done old new m n l w = subst (Stand done (length old)) (drop_all k xs l) w.order
 
-pub counted_all : (xs : List Stretch) (k done : ℕ) (old new : List ℕ) (m n : Counts) → length xs ≤ k → Walked xs k done old new m n
+pub counted_all : (xs : List Stretch) (k done : ℕ) (old new : List ℕ) (m n : Counts) → length xs ≤ k
+    → Walked xs k done old new m n
     → (i : ℕ) → raised n Bytes i ≡ raised m Bytes (written 0 xs + i)
 counted_all xs k done old new m n l w i =
-    ap (λ j. raised n Bytes j) (let e : i ≡ written done (drop k xs) + i = sym (ap (λ ys. written done ys + i) (drop_all k xs l) ∙ zero-add i) in e) ∙ w.counted i
+    ap (λ j. raised n Bytes j) (let e : i ≡ written done (drop k xs) + i =
+    sym (ap (λ ys. written done ys + i) (drop_all k xs l) ∙ zero-add i) in e) ∙ w.counted i
 
 pub walked_none : (xs : List Stretch) (old : List ℕ) (m : Counts) → Stand 0 (length old) xs → Walked xs 0 0 old old m m
 walked_none xs old m h = record {

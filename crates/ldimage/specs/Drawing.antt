@@ -1,6 +1,8 @@
 -- The bytes of an image that is drawn from its parts (`section`), and that these stand in order.
-use Rattle.std.specs.Prelude.{◌≡◌, ℕ, ◌+◌, ◌-◌, ◌%◌, ◌^◌, ◌<◌, ◌≤◌, ◌⊎◌, max, List, [], ◌∷◌, ◌++◌, length, map, find, filter, fold}
-use Rattle.std.specs.Prelude.{slice_index, slice_index_or, Option, Some, None, Bool, false, not, nat_lt, nat_le, ◌==◌, if◌then◌else◌}
+use Rattle.std.specs.Prelude.{◌≡◌, ℕ, ◌+◌, ◌-◌, ◌%◌, ◌^◌, ◌<◌, ◌≤◌, ◌⊎◌, max, List, [], ◌∷◌, ◌++◌, length, map, find}
+use Rattle.std.specs.Prelude.{filter, fold}
+use Rattle.std.specs.Prelude.{slice_index, slice_index_or, Option, Some, None, Bool, false, not, nat_lt, nat_le, ◌==◌}
+use Rattle.std.specs.Prelude.{if◌then◌else◌}
 use Rattle.std.specs.List.{All}
 use Rattle.byteorder.specs.Endian.{little_bytes}
 use Rattle.ldfields.specs.Patches.{AreInOrder, patched_byte}
@@ -68,7 +70,8 @@ AreData from end (d ∷ ds) = (from ≤ d.start) × AreData (data_end d) end ds
 -- its bytes and fields, if any, fill an input section
 abbrev pub IsFilled : ImagePiece → Type 0
 IsFilled x =
-    ((length x.bytes.now ≡ x.size) ⊎ (length x.bytes.now ≡ 0) × (length x.fields.now ≡ 0)) × AreInOrder 0 x.size x.fields.now
+    ((length x.bytes.now ≡ x.size) ⊎ (length x.bytes.now ≡ 0) × (length x.fields.now ≡ 0))
+    × AreInOrder 0 x.size x.fields.now
 
 -- an input section that isn't empty and a data command do not meet
 abbrev pub AreApart : List ImagePiece → List PlacedData → Type 0

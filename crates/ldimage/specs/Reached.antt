@@ -1,7 +1,9 @@
 -- How far the parts of an output section are added.
-use Rattle.std.specs.Prelude.{◌≡◌, ℕ, ◌+◌, ◌-◌, ◌<◌, ◌≤◌, ◌⊎◌, length, slice_index, slice_index_or, Contains, drop, nat_lt, false, if◌then◌else◌}
+use Rattle.std.specs.Prelude.{◌≡◌, ℕ, ◌+◌, ◌-◌, ◌<◌, ◌≤◌, ◌⊎◌, length, slice_index, slice_index_or, Contains, drop}
+use Rattle.std.specs.Prelude.{nat_lt, false, if◌then◌else◌}
 use Rattle.ldmodel.specs.declared.laid.PlacedData.{PlacedData}
-use Rattle.ldimage.specs.Drawing.{AreParts, AreSections, data_end, drawing_end, end_of_parts, end_of_sections, ends_in, part_end}
+use Rattle.ldimage.specs.Drawing.{AreParts, AreSections, data_end, drawing_end, end_of_parts, end_of_sections, ends_in}
+use Rattle.ldimage.specs.Drawing.{part_end}
 use Rattle.ldimage.specs.Drawing.{piece_end, section_spot}
 use Rattle.ldimage.specs.Stretches.{Spot}
 use Rattle.ldimage.specs.declared.section.Drawing.{Drawing}
@@ -9,14 +11,17 @@ use Rattle.ldimage.specs.declared.section.ImagePart.{ImagePart}
 use Rattle.ldimage.specs.declared.section.ImagePiece.{ImagePiece}
 use Rattle.ldimage.specs.declared.section.ImageSection.{ImageSection}
 
--- the first k input sections and the first j data commands end by an address, the others start there or later, and there
+-- the first k input sections and the first j data commands end by an address, the others start there or later, and
+-- there
 -- the section starts or something that is not empty ends
 pub record IsReached (x : ImageSection) (k j at : ℕ) : Type 0 where
   pub low : x.start ≤ at
   pub high : at ≤ x.start + x.size
-  pub pieces_before : (i : ℕ) (y : ImagePiece) → i < k → i < length x.pieces.now → 0 < (slice_index_or x.pieces.now i y).size
+  pub pieces_before : (i : ℕ) (y : ImagePiece) → i < k → i < length x.pieces.now
+      → 0 < (slice_index_or x.pieces.now i y).size
       → piece_end (slice_index_or x.pieces.now i y) ≤ at
-  pub pieces_after : (i : ℕ) (y : ImagePiece) → k ≤ i → i < length x.pieces.now → 0 < (slice_index_or x.pieces.now i y).size
+  pub pieces_after : (i : ℕ) (y : ImagePiece) → k ≤ i → i < length x.pieces.now
+      → 0 < (slice_index_or x.pieces.now i y).size
       → at ≤ (slice_index_or x.pieces.now i y).start
   pub data_before : (i : ℕ) (d : PlacedData) → i < j → i < length x.data_commands.now
       → data_end (slice_index_or x.data_commands.now i d) ≤ at
@@ -32,7 +37,8 @@ PiecesFrom x k at =
 
 abbrev pub DataFrom : ImageSection → ℕ → ℕ → Type 0
 DataFrom x j at =
-    (i : ℕ) (d : PlacedData) → j ≤ i → i < length x.data_commands.now → at ≤ (slice_index_or x.data_commands.now i d).start
+    (i : ℕ) (d : PlacedData) → j ≤ i → i < length x.data_commands.now
+    → at ≤ (slice_index_or x.data_commands.now i d).start
 
 -- where an address of an output section lies in the file
 abbrev pub place_of : ImageSection → ℕ → ℕ

@@ -35,7 +35,8 @@ pub record Begun : Type 0 where
 -- the stretch that lies at an offset
 abbrev pub stretch_at : ℕ → List Stretch → ℕ → Option Begun
 stretch_at from [] o = None
-stretch_at from (x ∷ xs) o = if nat_lt o x.end then Some (record { from = from; stretch = x }) else stretch_at x.end xs o
+stretch_at from (x ∷ xs) o =
+    if nat_lt o x.end then Some (record { from = from; stretch = x }) else stretch_at x.end xs o
 
 abbrev pub byte_in : ℕ → Option Begun → ℕ
 byte_in o x = option_map_or (λ (b : Begun). content_byte b.stretch.content (o - b.from)) x 0
@@ -82,13 +83,15 @@ IsPatchOf image q = (i : ℕ) → i < length q.field → slice_index q.field i �
 abbrev pub EndsBy : ℕ → Patch → Type 0
 EndsBy end q = patch_end q ≤ end
 
--- stretches and patches are a plan for an image, where the canvas has these bytes: the stretches have its bytes but where
+-- stretches and patches are a plan for an image, where the canvas has these bytes: the stretches have its bytes but
+-- where
 -- they stay; so do the patches; and a byte that stays and that no patch covers stands in the canvas
-pub record IsPlanFor (image : ℕ → ℕ) (xs : List Stretch) (end : ℕ) (patches : List Patch) (canvas : List ℕ) : Type 0 where
-  pub drawn : (o : ℕ) → o < end → stays_at xs o ≡ false → drawn_byte xs o ≡ image o
-  pub patched : All (IsPatchOf image) patches
-  pub stays : (o : ℕ) → o < end → stays_at xs o ≡ true → is_patched patches o ≡ false
-      → (o < length canvas) × (slice_index canvas o ≡ image o)
+pub record IsPlanFor (image : ℕ → ℕ) (xs : List Stretch) (end : ℕ) (patches : List Patch) (canvas : List ℕ) : Type 0
+  where
+    pub drawn : (o : ℕ) → o < end → stays_at xs o ≡ false → drawn_byte xs o ≡ image o
+    pub patched : All (IsPatchOf image) patches
+    pub stays : (o : ℕ) → o < end → stays_at xs o ≡ true → is_patched patches o ≡ false
+        → (o < length canvas) × (slice_index canvas o ≡ image o)
 
 -- how many bytes patches have
 abbrev pub patch_bytes : List Patch → ℕ

@@ -26,7 +26,9 @@ pub(crate) fn add<'a>(
     requires stand { Stand 0 from out.old.items }
     requires order { from ≤ end }
     requires fills { Fills (end - from) content }
-    ensures { OnOk result (Grown out.old.items out.new.items from end (λ o. record { byte = content_byte content.entry (o - from); stays = stays })) }
+    ensures { OnOk result
+        (Grown out.old.items out.new.items from end (λ o.
+        record { byte = content_byte content.entry (o - from); stays = stays })) }
 {
     out.push(Stretch {
         end,
@@ -47,7 +49,9 @@ pub(crate) fn add_fill<'a>(
     requires order { from ≤ end }
     requires some { 0 < length pattern.now }
     requires few { length pattern.now ≤ 8 }
-    ensures { OnOk result (Grown out.old.items out.new.items from end (λ o. record { byte = slice_index pattern.now ((o - from) % length pattern.now); stays = false })) }
+    ensures { OnOk result
+        (Grown out.old.items out.new.items from end (λ o.
+        record { byte = slice_index pattern.now ((o - from) % length pattern.now); stays = false })) }
 {
     if from == end {
         return Ok(());
@@ -65,7 +69,9 @@ pub(crate) fn add_piece<'a>(
     requires stand { Stand 0 from out.old.items }
     requires end { from + x.now.size ≡ end }
     requires filled { IsFilled x.now }
-    ensures { OnOk result (Grown out.old.items out.new.items from end (λ o. record { byte = piece_byte (x.now.start + (o - from)) x.now; stays = x.now.stays })) }
+    ensures { OnOk result
+        (Grown out.old.items out.new.items from end (λ o.
+        record { byte = piece_byte (x.now.start + (o - from)) x.now; stays = x.now.stays })) }
 {
     if x.bytes.is_empty() {
         return add(out, from, end, x.stays, Content::Fill(&ZERO));
@@ -82,7 +88,9 @@ pub(crate) fn add_data<'a>(
 ) -> Result<(), NoMemory>
     requires stand { Stand 0 from out.old.items }
     requires end { from + byte_count d.now.width ≡ end }
-    ensures { OnOk result (Grown out.old.items out.new.items from end (λ o. record { byte = data_byte (d.now.start + (o - from)) d.now; stays = false })) }
+    ensures { OnOk result
+        (Grown out.old.items out.new.items from end (λ o.
+        record { byte = data_byte (d.now.start + (o - from)) d.now; stays = false })) }
 {
     add(out, from, end, false, Content::Number(d.value))
 }

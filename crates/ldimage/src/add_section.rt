@@ -53,7 +53,8 @@ fn add_next_data<'a>(
     ensures pieces { IfOk result (λ c. c.pieces ≡ cursor.pieces) }
     ensures data_commands { IfOk result (λ c. c.data_commands ≡ cursor.data_commands + 1) }
     ensures up { IfOk result (λ c. cursor.at ≤ c.at) }
-    ensures grown { IfOk result (λ c. Grown out.old.items out.new.items (place_of x.now cursor.at) (place_of x.now c.at) (section_image x.now)) }
+    ensures grown { IfOk result (λ c.
+        Grown out.old.items out.new.items (place_of x.now cursor.at) (place_of x.now c.at) (section_image x.now)) }
 {
     let d = &x.data_commands[cursor.data_commands];
     let end = d.start + u64::from(d.width.byte_count());
@@ -82,7 +83,8 @@ fn add_data_before<'a>(
     ensures pieces { IfOk result (λ c. c.pieces ≡ cursor.pieces) }
     ensures data_commands { IfOk result (λ c. DataFrom x.now c.data_commands limit) }
     ensures up { IfOk result (λ c. cursor.at ≤ c.at) }
-    ensures grown { IfOk result (λ c. Grown out.old.items out.new.items (place_of x.now cursor.at) (place_of x.now c.at) (section_image x.now)) }
+    ensures grown { IfOk result (λ c.
+        Grown out.old.items out.new.items (place_of x.now cursor.at) (place_of x.now c.at) (section_image x.now)) }
 {
     let mut now = cursor;
     for _k in cursor.data_commands..x.data_commands.len() {
@@ -108,7 +110,8 @@ fn add_full_piece<'a>(
     ensures reached { IfOk result (λ c. IsReached x.now c.pieces c.data_commands c.at) }
     ensures pieces { IfOk result (λ c. c.pieces ≡ cursor.pieces + 1) }
     ensures up { IfOk result (λ c. cursor.at ≤ c.at) }
-    ensures grown { IfOk result (λ c. Grown out.old.items out.new.items (place_of x.now cursor.at) (place_of x.now c.at) (section_image x.now)) }
+    ensures grown { IfOk result (λ c.
+        Grown out.old.items out.new.items (place_of x.now cursor.at) (place_of x.now c.at) (section_image x.now)) }
 {
     let piece = &x.pieces[cursor.pieces];
     let now = add_data_before(out, x, cursor, piece.start)?;
@@ -136,7 +139,8 @@ fn add_next_piece<'a>(
     ensures reached { IfOk result (λ c. IsReached x.now c.pieces c.data_commands c.at) }
     ensures pieces { IfOk result (λ c. c.pieces ≡ cursor.pieces + 1) }
     ensures up { IfOk result (λ c. cursor.at ≤ c.at) }
-    ensures grown { IfOk result (λ c. Grown out.old.items out.new.items (place_of x.now cursor.at) (place_of x.now c.at) (section_image x.now)) }
+    ensures grown { IfOk result (λ c.
+        Grown out.old.items out.new.items (place_of x.now cursor.at) (place_of x.now c.at) (section_image x.now)) }
 {
     if x.pieces[cursor.pieces].size == 0 {
         return Ok(Cursor {
@@ -155,7 +159,8 @@ pub(crate) fn add_section<'a>(
 ) -> Result<(), NoMemory>
     requires orderly { IsOrderly x.now }
     requires stand { Stand 0 x.now.offset out.old.items }
-    ensures { OnOk result (Grown out.old.items out.new.items x.now.offset (x.now.offset + x.now.size) (section_image x.now)) }
+    ensures { OnOk result
+        (Grown out.old.items out.new.items x.now.offset (x.now.offset + x.now.size) (section_image x.now)) }
 {
     let mut cursor = Cursor {
         pieces: 0,

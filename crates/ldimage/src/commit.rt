@@ -2,7 +2,8 @@
 
 ghost use Rattle.std.specs.Prelude.{◌≡◌, ◌≤◌, ◌<◌, ◌+◌, ◌-◌, ℕ, All, length, slice_index, true, false};
 ghost use Rattle.ldbase.specs.Raised.{raised};
-ghost use Rattle.ldimage.specs.Stretches.{EndsBy, Fills, IsPatchOf, IsPlanFor, Stand, content_byte, drawn_byte, is_patched, patch_bytes, stays_at, written, written_in};
+ghost use Rattle.ldimage.specs.Stretches.{EndsBy, Fills, IsPatchOf, IsPlanFor, Stand, content_byte, drawn_byte};
+ghost use Rattle.ldimage.specs.Stretches.{is_patched, patch_bytes, stays_at, written, written_in};
 
 use crate::stretch::{Content, Stretch};
 use ldbase::meter::{Count, Meter};
@@ -43,13 +44,15 @@ fn write_stretch(canvas: &mut Canvas, from: usize, x: &Stretch<'_>, meter: &mut 
     requires order { from ≤ x.now.end }
     requires within { x.now.end ≤ length canvas.old.bytes }
     requires fills { Fills (x.now.end - from) x.now.content }
-    ensures own { x.now.stays ≡ false → (i : ℕ) → i < x.now.end - from → slice_index canvas.new.bytes (from + i) ≡ content_byte x.now.content i }
+    ensures own { x.now.stays ≡ false → (i : ℕ) → i < x.now.end - from → slice_index canvas.new.bytes (from + i)
+        ≡ content_byte x.now.content i }
     ensures kept { x.now.stays ≡ true → canvas.new.bytes ≡ canvas.old.bytes }
     ensures before { (o : ℕ) → o < from → slice_index canvas.new.bytes o ≡ slice_index canvas.old.bytes o }
     ensures after { (o : ℕ) → x.now.end ≤ o → slice_index canvas.new.bytes o ≡ slice_index canvas.old.bytes o }
     ensures len { length canvas.new.bytes ≡ length canvas.old.bytes }
     ensures room { canvas.new.room ≡ canvas.old.room }
-    ensures counted { (n : ℕ) → raised meter.new Count.Bytes n ≡ raised meter.old Count.Bytes (written_in from x.now + n) }
+    ensures counted { (n : ℕ) → raised meter.new Count.Bytes n
+        ≡ raised meter.old Count.Bytes (written_in from x.now + n) }
 {
     if x.stays {
         return;
@@ -60,11 +63,14 @@ fn write_stretch(canvas: &mut Canvas, from: usize, x: &Stretch<'_>, meter: &mut 
 /// Writes all stretches but those that stay, each byte once.
 fn write_stretches(canvas: &mut Canvas, stretches: &[Stretch<'_>], meter: &mut Meter)
     requires { Stand 0 (length canvas.old.bytes) stretches.now }
-    ensures written { (o : ℕ) → o < length canvas.old.bytes → stays_at stretches.now o ≡ false → slice_index canvas.new.bytes o ≡ drawn_byte stretches.now o }
-    ensures kept { (o : ℕ) → o < length canvas.old.bytes → stays_at stretches.now o ≡ true → slice_index canvas.new.bytes o ≡ slice_index canvas.old.bytes o }
+    ensures written { (o : ℕ) → o < length canvas.old.bytes → stays_at stretches.now o ≡ false
+        → slice_index canvas.new.bytes o ≡ drawn_byte stretches.now o }
+    ensures kept { (o : ℕ) → o < length canvas.old.bytes → stays_at stretches.now o ≡ true
+        → slice_index canvas.new.bytes o ≡ slice_index canvas.old.bytes o }
     ensures len { length canvas.new.bytes ≡ length canvas.old.bytes }
     ensures room { canvas.new.room ≡ canvas.old.room }
-    ensures counted { (n : ℕ) → raised meter.new Count.Bytes n ≡ raised meter.old Count.Bytes (written 0 stretches.now + n) }
+    ensures counted { (n : ℕ) → raised meter.new Count.Bytes n
+        ≡ raised meter.old Count.Bytes (written 0 stretches.now + n) }
 {
     let _len = canvas.len();
     let mut done = 0;
@@ -74,15 +80,19 @@ fn write_stretches(canvas: &mut Canvas, stretches: &[Stretch<'_>], meter: &mut M
     }
 }
 
-/// Writes patches at their places in the file: where they have the bytes of an image, what was right for it stays so, and
+/// Writes patches at their places in the file: where they have the bytes of an image, what was right for it stays so,
+/// and
 /// what they cover becomes so.
 fn write_patches(canvas: &mut Canvas, patches: &[Patch], meter: &mut Meter)
     requires { All (EndsBy (length canvas.old.bytes)) patches.now }
-    ensures grows { (image : ℕ → ℕ) → All (IsPatchOf image) patches.now → (o : ℕ) → slice_index canvas.old.bytes o ≡ image o → slice_index canvas.new.bytes o ≡ image o }
-    ensures settled { (image : ℕ → ℕ) → All (IsPatchOf image) patches.now → (o : ℕ) → is_patched patches.now o ≡ true → slice_index canvas.new.bytes o ≡ image o }
+    ensures grows { (image : ℕ → ℕ) → All (IsPatchOf image) patches.now → (o : ℕ) → slice_index canvas.old.bytes o
+        ≡ image o → slice_index canvas.new.bytes o ≡ image o }
+    ensures settled { (image : ℕ → ℕ) → All (IsPatchOf image) patches.now → (o : ℕ) → is_patched patches.now o ≡ true
+        → slice_index canvas.new.bytes o ≡ image o }
     ensures len { length canvas.new.bytes ≡ length canvas.old.bytes }
     ensures room { canvas.new.room ≡ canvas.old.room }
-    ensures counted { (n : ℕ) → raised meter.new Count.Bytes n ≡ raised meter.old Count.Bytes (patch_bytes patches.now + n) }
+    ensures counted { (n : ℕ) → raised meter.new Count.Bytes n
+        ≡ raised meter.old Count.Bytes (patch_bytes patches.now + n) }
 {
     let _len = canvas.len();
     for patch in patches {
@@ -103,7 +113,8 @@ pub(crate) fn write_image(
     requires room { end ≤ canvas.old.room }
     requires patches { All (EndsBy end) patches.now }
     ensures len { length canvas.new.bytes ≡ end }
-    ensures image { (image : ℕ → ℕ) → IsPlanFor image stretches.now end patches.now canvas.old.bytes → (o : ℕ) → o < end → slice_index canvas.new.bytes o ≡ image o }
+    ensures image { (image : ℕ → ℕ) → IsPlanFor image stretches.now end patches.now canvas.old.bytes → (o : ℕ)
+        → o < end → slice_index canvas.new.bytes o ≡ image o }
     ensures counted { meter.new ≡ raised meter.old Count.Bytes (patch_bytes patches.now + written 0 stretches.now) }
 {
     canvas.resize_reserved(end);

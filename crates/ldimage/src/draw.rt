@@ -27,7 +27,8 @@ pub fn draw(
 ) -> Result<(), NoMemory>
     requires drawing { IsDrawing drawing.now }
     requires unstayed { AreUnstayed drawing.now }
-    ensures image { OnOk result ((p : Project) (s : Layout) → IsDrawingOf p s drawing.now → canvas.new.bytes ≡ image p s) }
+    ensures image { OnOk result ((p : Project) (s : Layout) → IsDrawingOf p s drawing.now → canvas.new.bytes
+        ≡ image p s) }
     ensures counted { OnOk result (meter.new ≡ raised meter.old counts.Bytes (drawing_end drawing.now)) }
     ensures unchanged { OnErr result (canvas.new.bytes ≡ canvas.old.bytes) }
 {

@@ -19,21 +19,25 @@ use ldlaws::segments::segments_by_neighbours;
 /// A drawing whose parts are those of a link has the bytes of the link's image, but where they stay, and ends where it
 /// ends; where no input section stays, nothing does; and bytes that are those of the image, offset by offset, are it.
 pub fn drawing_is_image()
-    ensures byte { (p : Project) (s : Layout) (d : Drawing) → IsDrawingOf p s d → (o : ℕ) → (drawing_spot d o).stays ≡ false → (drawing_spot d o).byte ≡ byte_at p s o }
+    ensures byte { (p : Project) (s : Layout) (d : Drawing) → IsDrawingOf p s d → (o : ℕ) → (drawing_spot d o).stays
+        ≡ false → (drawing_spot d o).byte ≡ byte_at p s o }
     ensures end { (p : Project) (s : Layout) (d : Drawing) → IsDrawingOf p s d → drawing_end d ≡ image_length p s }
     ensures unstayed { (d : Drawing) → AreUnstayed d → (o : ℕ) → (drawing_spot d o).stays ≡ false }
-    ensures whole { (p : Project) (s : Layout) (bytes : List ℕ) → length bytes ≡ image_length p s → ((o : ℕ) → o < image_length p s → slice_index bytes o ≡ byte_at p s o) → bytes ≡ image p s }
+    ensures whole { (p : Project) (s : Layout) (bytes : List ℕ) → length bytes ≡ image_length p s
+        → ((o : ℕ) → o < image_length p s → slice_index bytes o ≡ byte_at p s o) → bytes ≡ image p s }
 {}
 
 /// A drawing whose parts are those of a link stands in order in the file, where the parts of each output section that
 /// isn't empty do in memory, fills have 1 to 8 bytes, and bytes and fields fill their input sections.
 pub fn drawing_stands()
-    ensures { (p : Project) (s : Layout) (d : Drawing) → IsDrawingOf p s d → All IsInMemory (nonempty s.sections) → AreFilled d → image_length p s < 2 ^ 64 → IsDrawing d }
+    ensures { (p : Project) (s : Layout) (d : Drawing) → IsDrawingOf p s d → All IsInMemory (nonempty s.sections)
+        → AreFilled d → image_length p s < 2 ^ 64 → IsDrawing d }
 {
     segments_by_neighbours();
 }
 
 /// The parts of each output section of a placement that isn't empty stand in order in memory.
 pub fn placement_is_in_memory()
-    ensures { (script : List Statement) (rows : List (List Piece)) (provided : List (List ℕ)) (s : Layout) → placement script rows provided ≡ Ok s → All IsInMemory (nonempty s.sections) }
+    ensures { (script : List Statement) (rows : List (List Piece)) (provided : List (List ℕ)) (s : Layout)
+        → placement script rows provided ≡ Ok s → All IsInMemory (nonempty s.sections) }
 {}

@@ -29,7 +29,9 @@ fn add_next_section<'a>(
     requires order { from ≤ x.now.offset }
     requires orderly { IsOrderly x.now }
     ensures end { IfOk result (λ end. end ≡ x.now.offset + x.now.size) }
-    ensures grown { OnOk result (Grown out.old.items out.new.items from (x.now.offset + x.now.size) (after_zeros x.now.offset (section_image x.now))) }
+    ensures grown { OnOk result
+        (Grown out.old.items out.new.items from (x.now.offset + x.now.size)
+        (after_zeros x.now.offset (section_image x.now))) }
 {
     add_fill(out, from, x.offset as usize, &ZERO)?;
     add_section(out, x)?;
@@ -41,7 +43,9 @@ fn add_sections<'a>(out: &mut Vec<Stretch<'a>>, d: &Drawing<'a>) -> Result<usize
     requires drawing { IsDrawing d.now }
     requires stand { Stand 0 (length d.now.headers.now) out.old.items }
     ensures end { IfOk result (λ end. end ≡ end_of_sections (length d.now.headers.now) d.now.sections.now) }
-    ensures grown { OnOk result (Grown out.old.items out.new.items (length d.now.headers.now) (end_of_sections (length d.now.headers.now) d.now.sections.now) (drawing_spot d.now)) }
+    ensures grown { OnOk result
+        (Grown out.old.items out.new.items (length d.now.headers.now)
+        (end_of_sections (length d.now.headers.now) d.now.sections.now) (drawing_spot d.now)) }
 {
     let mut at = d.headers.len();
     for x in d.sections {
@@ -60,7 +64,9 @@ fn add_part<'a>(
     requires order { from ≤ part.now.offset }
     requires end { part_end part.now < 2 ^ 64 }
     ensures end { IfOk result (λ end. end ≡ part_end part.now) }
-    ensures grown { OnOk result (Grown out.old.items out.new.items from (part_end part.now) (after_zeros part.now.offset (part_image part.now))) }
+    ensures grown { OnOk result
+        (Grown out.old.items out.new.items from (part_end part.now)
+        (after_zeros part.now.offset (part_image part.now))) }
 {
     let begin = part.offset as usize;
     let end = begin + part.bytes.len();
@@ -174,8 +180,11 @@ impl<'a> Plan<'a> {
     pub fn commit(&self, canvas: &mut Canvas, meter: &mut Meter)
         requires { self.now.end ≤ canvas.old.room }
         ensures len { length canvas.new.bytes ≡ self.now.end }
-        ensures image { (d : DrawingOf) (patches : List PatchOf) (image : ℕ → ℕ) → IsPlanOf d patches self.now → IsDrawnFor image d patches canvas.old.bytes → (o : ℕ) → o < drawing_end d → slice_index canvas.new.bytes o ≡ image o }
-        ensures counted { (d : DrawingOf) (patches : List PatchOf) → IsPlanOf d patches self.now → meter.new ≡ raised meter.old counts.Bytes (patch_bytes patches + count_unstayed (drawing_spot d) (drawing_end d)) }
+        ensures image { (d : DrawingOf) (patches : List PatchOf) (image : ℕ → ℕ) → IsPlanOf d patches self.now
+            → IsDrawnFor image d patches canvas.old.bytes → (o : ℕ) → o < drawing_end d
+            → slice_index canvas.new.bytes o ≡ image o }
+        ensures counted { (d : DrawingOf) (patches : List PatchOf) → IsPlanOf d patches self.now → meter.new
+            ≡ raised meter.old counts.Bytes (patch_bytes patches + count_unstayed (drawing_spot d) (drawing_end d)) }
     {
         write_image(canvas, &self.stretches, self.end, self.patches, meter);
     }

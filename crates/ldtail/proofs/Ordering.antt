@@ -1,5 +1,6 @@
 -- Sorting by insertion puts a list in order, and no other list is the same one in that order.
-use Rattle.std.proofs.Common.{◌≡◌, ◌<◌, ◌+◌, zero, suc, Bool, true, false, cond, not, List, [], ◌∷◌, length, get_or, filter, refl, ap, sym, ◌∙◌, ◌↔◌, subst, arith}
+use Rattle.std.proofs.Common.{◌≡◌, ◌<◌, ◌+◌, zero, suc, Bool, true, false, cond, not, List, [], ◌∷◌, length, get_or}
+use Rattle.std.proofs.Common.{filter, refl, ap, sym, ◌∙◌, ◌↔◌, subst, arith}
 use Rattle.std.specs.List.{Contains}
 use Rattle.std.specs.List.Sorted.{IsSortedBy, ties}
 use Rattle.std.specs.Cmp.{IsStrictWeakOrder}
@@ -18,7 +19,8 @@ filtered_in : {X : Type 0} (p : X → Bool) (ys : List X) (z : X) (zs : List X) 
 filtered_in p [] z zs h = cc
 filtered_in p (y ∷ ys) z zs h = go (p y) h (filtered_in p ys z zs)
   where
-    go : (b : Bool) → cond b (y ∷ filter p ys) (filter p ys) ≡ z ∷ zs → (filter p ys ≡ z ∷ zs → Contains ys z) → Contains (y ∷ ys) z
+    go : (b : Bool) → cond b (y ∷ filter p ys) (filter p ys) ≡ z ∷ zs → (filter p ys ≡ z ∷ zs → Contains ys z)
+        → Contains (y ∷ ys) z
     go true e f = let same : y ≡ z = cc in subst (λ x. Contains (y ∷ ys) x) same (here y ys)
     go false e f = later y ys z (f e)
 
@@ -61,19 +63,24 @@ module _ {X : Type 0} (lt : X → X → Bool) (o : IsStrictWeakOrder lt) where
       subst (λ n. lt (get_or (y ∷ ys) n d) (get_or ys k d) ≡ false) e (up (suc k) d (omega arith) (omega (arith, h)))
 
   -- a list in order is known by its classes of equal keys
-  one_order : (ys zs : List X) → IsSortedBy lt ys → IsSortedBy lt zs → ((a : X) → filter (ties lt a) ys ≡ filter (ties lt a) zs) → ys ≡ zs
+  one_order : (ys zs : List X) → IsSortedBy lt ys → IsSortedBy lt zs
+      → ((a : X) → filter (ties lt a) ys ≡ filter (ties lt a) zs) → ys ≡ zs
   one_order [] [] s t h = refl
   one_order [] (z ∷ zs) s t h = let e = rw (ties_itself z) at (h z) in cc
   one_order (y ∷ ys) [] s t h = let e = rw (ties_itself y) at (h y) in cc
   one_order (y ∷ ys) (z ∷ zs) s t h =
-      let ez : filter (ties lt z) (y ∷ ys) ≡ z ∷ filter (ties lt z) zs = h z ∙ ap (λ b. cond b (z ∷ filter (ties lt z) zs) (filter (ties lt z) zs)) (ties_itself z) in
-      let ey : filter (ties lt y) (z ∷ zs) ≡ y ∷ filter (ties lt y) ys = sym (h y) ∙ ap (λ b. cond b (y ∷ filter (ties lt y) ys) (filter (ties lt y) ys)) (ties_itself y) in
+      let ez : filter (ties lt z) (y ∷ ys) ≡ z ∷ filter (ties lt z) zs = h z
+      ∙ ap (λ b. cond b (z ∷ filter (ties lt z) zs) (filter (ties lt z) zs)) (ties_itself z) in
+      let ey : filter (ties lt y) (z ∷ zs) ≡ y ∷ filter (ties lt y) ys = sym (h y)
+      ∙ ap (λ b. cond b (y ∷ filter (ties lt y) ys) (filter (ties lt y) ys)) (ties_itself y) in
       let a = least y ys s z (filtered_in (ties lt z) (y ∷ ys) z _ ez) in
       let b = least z zs t y (filtered_in (ties lt y) (z ∷ zs) y _ ey) in
-      let both : z ∷ filter (ties lt y) zs ≡ y ∷ filter (ties lt y) ys = sym (ap (λ q. cond q (z ∷ filter (ties lt y) zs) (filter (ties lt y) zs)) (ties_with y z b a)) ∙ ey in
+      let both : z ∷ filter (ties lt y) zs ≡ y ∷ filter (ties lt y) ys =
+      sym (ap (λ q. cond q (z ∷ filter (ties lt y) zs) (filter (ties lt y) zs)) (ties_with y z b a)) ∙ ey in
       let same : z ≡ y = cc in
       let rest : (x : X) → filter (ties lt x) ys ≡ filter (ties lt x) zs = λ x.
-      same_rest (ties lt x y) y (filter (ties lt x) ys) (filter (ties lt x) zs) (h x ∙ ap (λ q. cond (ties lt x q) (q ∷ filter (ties lt x) zs) (filter (ties lt x) zs)) same) in
+      same_rest (ties lt x y) y (filter (ties lt x) ys) (filter (ties lt x) zs) (h x
+      ∙ ap (λ q. cond (ties lt x q) (q ∷ filter (ties lt x) zs) (filter (ties lt x) zs)) same) in
       let tails : ys ≡ zs = one_order ys zs (rest_sorted y ys s) (rest_sorted z zs t) rest in
       cc
 
@@ -102,7 +109,8 @@ module _ {X : Type 0} (lt : X → X → Bool) (o : IsStrictWeakOrder lt) where
   insert_sorted x [] up = sorted_cons x [] (λ d l. absurd (omega (arith, l))) up
   insert_sorted x (y ∷ ys) up = go (lt y x) refl (insert_sorted x ys (rest_sorted y ys up))
     where
-      go : (b : Bool) → lt y x ≡ b → IsSortedBy lt (insert_by lt x ys) → IsSortedBy lt (cond b (y ∷ insert_by lt x ys) (x ∷ y ∷ ys))
+      go : (b : Bool) → lt y x ≡ b → IsSortedBy lt (insert_by lt x ys)
+          → IsSortedBy lt (cond b (y ∷ insert_by lt x ys) (x ∷ y ∷ ys))
       go true e rest = sorted_cons y (insert_by lt x ys) (inserted_head y x ys (o.one_way y x e) (head_of y ys up)) rest
       go false e rest = sorted_cons x (y ∷ ys) (λ d l. e) up
 
@@ -120,7 +128,8 @@ module _ {X : Type 0} (lt : X → X → Bool) (o : IsStrictWeakOrder lt) where
       go : (b : Bool) → lt y x ≡ b → filter (ties lt a) (insert_by lt x ys) ≡ filter (ties lt a) (x ∷ ys)
           → filter (ties lt a) (cond b (y ∷ insert_by lt x ys) (x ∷ y ∷ ys)) ≡ filter (ties lt a) (x ∷ y ∷ ys)
       go true e rest =
-          ap (λ zs. cond (ties lt a y) (y ∷ zs) zs) rest ∙ apart (ties lt a x) (ties lt a y) x y (filter (ties lt a) ys) (not_both a x y e)
+          ap (λ zs. cond (ties lt a y) (y ∷ zs) zs) rest
+          ∙ apart (ties lt a x) (ties lt a y) x y (filter (ties lt a) ys) (not_both a x y e)
       go false e rest = refl
 
   is_sorted : (xs : List X) → IsSortedBy lt (sort_by lt xs)

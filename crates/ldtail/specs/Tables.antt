@@ -11,7 +11,8 @@ use Rattle.ldmodel.specs.Project.{Project}
 use Rattle.ldmodel.specs.SectionHeaders.{SectionHeader, FilePart, Tables, end_of_part, header_bytes, part_at}
 use Rattle.ldmodel.specs.SectionHeaders.{table_headers}
 use Rattle.ldmodel.specs.Segments.{segments, file_offset, loaded_end}
-use Rattle.ldmodel.specs.Tail.{SymbolEntry, ValuedSymbol, name_offset, kind_number, symbol_bytes, table_symbols, st_binding}
+use Rattle.ldmodel.specs.Tail.{SymbolEntry, ValuedSymbol, name_offset, kind_number, symbol_bytes, table_symbols}
+use Rattle.ldmodel.specs.Tail.{st_binding}
 use Rattle.ldmodel.specs.Tail.{st_type, st_shndx, st_size, string_table}
 use Rattle.ldmodel.specs.declared.laid.Placed.{Placed}
 use Rattle.ldtail.specs.declared.sections.TableSection.{TableSection}

@@ -141,7 +141,9 @@ pub fn headers(
     sections: usize,
 ) -> Result<Vec<u8>, NoMemory>
     requires { sections + 4 < 2 ^ 64 }
-    ensures { IfOk result (λ v. (p : Project) (s : Layout) → AreSegments s.sections (definition.segments s.sections) segments.now → entry ≡ number_or_0 (entry_point p s) → table ≡ (header_part p s).offset → sections ≡ length s.sections → v.items ≡ headers p s) }
+    ensures { IfOk result (λ v. (p : Project) (s : Layout)
+        → AreSegments s.sections (definition.segments s.sections) segments.now → entry ≡ number_or_0 (entry_point p s)
+        → table ≡ (header_part p s).offset → sections ≡ length s.sections → v.items ≡ headers p s) }
 {
     let sorted = ascending(alloc, segments)?;
     let mut out = Vec::with_capacity(alloc, length_of(segments.len()))?;
@@ -170,12 +172,14 @@ fn file_end(end: u128, g: &Segment) -> Result<u128, NoMemory>
         .ok_or(AllocError)
 }
 
-/// Where the loaded part of the file ends: with the file bytes of these segments, which come in the order of the script,
+/// Where the loaded part of the file ends: with the file bytes of these segments, which come in the order of the
+/// script,
 /// or with the headers.
 ///
 /// An error says that it is 2^64 or more: no memory holds such a file.
 pub fn loaded_end(segments: &[Segment]) -> Result<u64, NoMemory>
-    ensures { IfOk result (λ end. (sections : List PlacedSection) (gs : List LaidSegment) → AreSegments sections gs segments.now → end ≡ definition.loaded_end gs) }
+    ensures { IfOk result (λ end. (sections : List PlacedSection) (gs : List LaidSegment)
+        → AreSegments sections gs segments.now → end ≡ definition.loaded_end gs) }
 {
     let mut end = 64 + 56 * segments.len() as u128;
     for g in segments {

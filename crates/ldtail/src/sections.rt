@@ -91,7 +91,8 @@ fn alignment_of(q: &Placed) -> u64
 
 /// The header of an output section whose name begins at `name`.
 fn section_header(name: u64, x: &TableSection<'_>) -> Header
-    ensures { (names : List (List ℕ)) (n : ℕ) → name ≡ name_offset names n → header_of result ≡ section_header_of names (n, x.now) }
+    ensures { (names : List (List ℕ)) (n : ℕ) → name ≡ name_offset names n → header_of result
+        ≡ section_header_of names (n, x.now) }
 {
     let q = &x.placed;
     Header {
@@ -150,8 +151,11 @@ fn put_sections(
     sections: &[TableSection<'_>],
 ) -> Result<(), NoMemory>
     requires { names.old.items ≡ 0 ∷ [] }
-    ensures headers { OnOk result (headers.new.items ≡ headers.old.items ++ flat_map (λ x. header_bytes (section_header_of (header_names_of sections.now) x)) (enumerate_from 0 sections.now)) }
-    ensures names { OnOk result (names.new.items ≡ string_table (take (length sections.now) (header_names_of sections.now))) }
+    ensures headers { OnOk result (headers.new.items ≡ headers.old.items
+        ++ flat_map (λ x. header_bytes (section_header_of (header_names_of sections.now) x))
+        (enumerate_from 0 sections.now)) }
+    ensures names { OnOk result (names.new.items
+        ≡ string_table (take (length sections.now) (header_names_of sections.now))) }
 {
     for x in sections {
         let at = add_name(names, x.name)?;
@@ -164,8 +168,10 @@ fn put_sections(
 fn add_tables(names: &mut Vec<u8>, sections: &[TableSection<'_>]) -> Result<TableNames, NoMemory>
     requires { names.old.items ≡ string_table (take (length sections.now) (header_names_of sections.now)) }
     ensures symbols { IfOk result (λ t. t.symbols ≡ name_offset (header_names_of sections.now) (length sections.now)) }
-    ensures symbol_names { IfOk result (λ t. t.symbol_names ≡ name_offset (header_names_of sections.now) (length sections.now + 1)) }
-    ensures header_names { IfOk result (λ t. t.header_names ≡ name_offset (header_names_of sections.now) (length sections.now + 2)) }
+    ensures symbol_names { IfOk result (λ t. t.symbol_names
+        ≡ name_offset (header_names_of sections.now) (length sections.now + 1)) }
+    ensures header_names { IfOk result (λ t. t.header_names
+        ≡ name_offset (header_names_of sections.now) (length sections.now + 2)) }
     ensures names { OnOk result (names.new.items ≡ string_table (header_names_of sections.now)) }
 {
     let _count = sections.len();
@@ -186,9 +192,12 @@ pub(crate) fn output_headers(
 ) -> Result<OutputHeaders, NoMemory>
     ensures headers { IfOk result (λ t. t.headers.items ≡ output_headers_of sections.now) }
     ensures names { IfOk result (λ t. t.names.items ≡ string_table (header_names_of sections.now)) }
-    ensures symbols { IfOk result (λ t. t.tables.symbols ≡ name_offset (header_names_of sections.now) (length sections.now)) }
-    ensures symbol_names { IfOk result (λ t. t.tables.symbol_names ≡ name_offset (header_names_of sections.now) (length sections.now + 1)) }
-    ensures header_names { IfOk result (λ t. t.tables.header_names ≡ name_offset (header_names_of sections.now) (length sections.now + 2)) }
+    ensures symbols { IfOk result (λ t. t.tables.symbols
+        ≡ name_offset (header_names_of sections.now) (length sections.now)) }
+    ensures symbol_names { IfOk result (λ t. t.tables.symbol_names
+        ≡ name_offset (header_names_of sections.now) (length sections.now + 1)) }
+    ensures header_names { IfOk result (λ t. t.tables.header_names
+        ≡ name_offset (header_names_of sections.now) (length sections.now + 2)) }
 {
     let room = sections.len().saturating_add(4).saturating_mul(64);
     let mut headers = Vec::with_capacity(alloc, room)?;

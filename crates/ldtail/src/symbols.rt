@@ -61,7 +61,15 @@ fn info_of(x: &TableSymbol<'_>) -> u8
 
 /// Writes the entry of a symbol whose name begins at `name`.
 fn put_symbol(out: &mut Vec<u8>, name: u64, x: &TableSymbol<'_>) -> Result<(), NoMemory>
-    ensures { OnOk result (out.new.items ≡ out.old.items ++ symbol_bytes (record { name = name; binding = binding_number x.now.weak; type = kind_number x.now.kind; section = x.now.section; value = x.now.value; size = x.now.size })) }
+    ensures { OnOk result (out.new.items ≡ out.old.items
+        ++ symbol_bytes (record {
+          name = name;
+          binding = binding_number x.now.weak;
+          type = kind_number x.now.kind;
+          section = x.now.section;
+          value = x.now.value;
+          size = x.now.size;
+        })) }
 {
     put_u32(out, name)?;
     out.extend_from_slice(&[info_of(x), 0])?;

@@ -149,7 +149,16 @@ fn put_tables(
     tables: &Tables,
 ) -> Result<(), NoMemory>
     requires { count + 2 < 2 ^ 64 }
-    ensures { OnOk result ((ns : List (List ℕ)) → names.now.symbols ≡ name_offset ns count → names.now.symbol_names ≡ name_offset ns (count + 1) → names.now.header_names ≡ name_offset ns (count + 2) → out.new.items ≡ out.old.items ++ flat_map header_bytes (table_headers count ns (record { symbols = tables.now.symbols; symbol_names = tables.now.symbol_names; header_names = tables.now.header_names }))) }
+    ensures { OnOk result ((ns : List (List ℕ)) → names.now.symbols ≡ name_offset ns count → names.now.symbol_names
+        ≡ name_offset ns (count + 1) → names.now.header_names ≡ name_offset ns (count + 2) → out.new.items
+        ≡ out.old.items ++ flat_map header_bytes
+        (table_headers count ns
+        (record {
+          symbols = tables.now.symbols;
+          symbol_names = tables.now.symbol_names;
+          header_names =
+              tables.now.header_names;
+        }))) }
 {
     put_header(
         out,
@@ -192,8 +201,10 @@ pub fn tail(
     symbols: &[TableSymbol<'_>],
     sections: &[TableSection<'_>],
 ) -> Result<TailParts, NoMemory>
-    ensures parts { IfOk result (λ t. t.symbols ∷ t.symbol_names ∷ t.header_names ∷ t.headers ∷ [] ≡ tail_of loaded_end symbols.now sections.now) }
-    ensures of_link { IfOk result (λ t. (p : Project) (s : Layout) → IsTailOf p s loaded_end symbols.now sections.now → t.symbols ∷ t.symbol_names ∷ t.header_names ∷ t.headers ∷ [] ≡ definition.tail p s) }
+    ensures parts { IfOk result (λ t. t.symbols ∷ t.symbol_names ∷ t.header_names ∷ t.headers ∷ []
+        ≡ tail_of loaded_end symbols.now sections.now) }
+    ensures of_link { IfOk result (λ t. (p : Project) (s : Layout) → IsTailOf p s loaded_end symbols.now sections.now
+        → t.symbols ∷ t.symbol_names ∷ t.header_names ∷ t.headers ∷ [] ≡ definition.tail p s) }
 {
     let symbol_tables = symbol_tables(alloc, symbols)?;
     let output = output_headers(alloc, sections)?;

@@ -14,7 +14,8 @@ returns-clause-image c = λ image plan o l.
     elim (bool_cases (stays_at c.args.stretches.now o)) [
       | inl s ↦ c.write_stretches.ensures.kept o inside s ∙ (elim (bool_cases (is_patched c.args.patches.now o)) [
         | inl t ↦ c.write_patches.ensures.settled image plan.patched o t
-        | inr f ↦ (let there = plan.stays o l s f in c.write_patches.ensures.grows image plan.patched o (c.resize_reserved.ensures.kept o l there.0 ∙ there.1))
+        | inr f ↦ (let there = plan.stays o l s f in
+            c.write_patches.ensures.grows image plan.patched o (c.resize_reserved.ensures.kept o l there.0 ∙ there.1))
       ])
       | inr s ↦ c.write_stretches.ensures.written o inside s ∙ plan.drawn o l s
     ]

@@ -8,12 +8,15 @@ pub loop-patch-preserved : goal.loop-patch-preserved
 loop-patch-preserved c =
     let w = c.write.ensures in
     record {
-      patched = λ image all. patch_on_as image c.args.patches.now c.loop-patch.patch-index c.args.canvas.now.bytes c.loop-patch.canvas.bytes c.write.new.self.bytes
+      patched = λ image all.
+          patch_on_as image c.args.patches.now c.loop-patch.patch-index c.args.canvas.now.bytes
+          c.loop-patch.canvas.bytes c.write.new.self.bytes
           c.patch-item.result c.loop-patch-test.true c.patch-item.is all (c.loop-patch.invariant.patched image all)
           (record { own = rw c.bytes.ensures at w.written; before = w.before; after = rw c.bytes.ensures at w.after });
       len = w.len ∙ c.loop-patch.invariant.len;
       room = w.room ∙ c.loop-patch.invariant.room;
-      counted = count_on c.args.patches.now c.loop-patch.patch-index c.args.meter.now c.loop-patch.meter c.write.new.meter c.patch-item.result c.loop-patch-test.true c.patch-item.is
+      counted = count_on c.args.patches.now c.loop-patch.patch-index c.args.meter.now c.loop-patch.meter
+          c.write.new.meter c.patch-item.result c.loop-patch-test.true c.patch-item.is
           c.loop-patch.invariant.counted (rw c.bytes.ensures at w.counted);
     }
 
@@ -22,4 +25,5 @@ returns-clause-grows c = λ image all o h. (c.loop-patch.invariant.patched image
 
 pub returns-clause-settled : goal.returns-clause-settled
 returns-clause-settled c = λ image all o h.
-    (c.loop-patch.invariant.patched image all).settled o (ap (λ qs. is_patched qs o) (take_all c.loop-patch.patch-index c.args.patches.now c.loop-patch-test.false) ∙ h)
+    (c.loop-patch.invariant.patched image all).settled o
+    (ap (λ qs. is_patched qs o) (take_all c.loop-patch.patch-index c.args.patches.now c.loop-patch-test.false) ∙ h)

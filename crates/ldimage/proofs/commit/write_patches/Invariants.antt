@@ -8,7 +8,8 @@ use Rattle.ldimage.proofs.commit.write_patches.Given as goal
 
 abbrev pub invariant-loop-patch : goal.invariant-loop-patch
 invariant-loop-patch l = record {
-  patched : (image : ℕ → ℕ) → All (IsPatchOf image) l.patches → Patched image l.patches l.patch-index l.fn.canvas.bytes l.canvas.bytes;
+  patched : (image : ℕ → ℕ) → All (IsPatchOf image) l.patches
+      → Patched image l.patches l.patch-index l.fn.canvas.bytes l.canvas.bytes;
   len : length l.canvas.bytes ≡ length l.fn.canvas.bytes;
   room : l.canvas.room ≡ l.fn.canvas.room;
   counted : (i : ℕ) → raised l.meter Bytes i ≡ raised l.fn.meter Bytes (patch_bytes (take l.patch-index l.patches) + i);

@@ -15,7 +15,8 @@ use Rattle.ldimage.proofs.OfLink.{drawing-same, end-same, image-same, unstayed}
 use Rattle.ldimage.proofs.Planned.{count_all}
 use Rattle.ldimage.proofs.draw.draw.Goals as goal
 
-drawn_for : (p : Project) (s : Layout) (d : Drawing) (canvas : List ℕ) → IsDrawingOf p s d → AreUnstayed d → IsDrawnFor (byte_at p s) d [] canvas
+drawn_for : (p : Project) (s : Layout) (d : Drawing) (canvas : List ℕ) → IsDrawingOf p s d → AreUnstayed d
+    → IsDrawnFor (byte_at p s) d [] canvas
 drawn_for p s d canvas h u = record {
   drawn = λ o l e. drawing-same p s d h o e;
   patched = All-nil (IsPatchOf (byte_at p s));
@@ -34,4 +35,5 @@ pub returns-clause-counted : goal.returns-clause-counted
 returns-clause-counted c =
     let d = c.args.drawing.now in
     c.commit.ensures.counted d [] c.in_ok-plan.ensures.plan
-    ∙ ap (λ (n : ℕ). raised c.args.meter.now Bytes n) (let all = count_all (drawing_spot d) (drawing_end d) (unstayed d c.requires.unstayed) in omega (arith, all))
+    ∙ ap (λ (n : ℕ). raised c.args.meter.now Bytes n) (let all =
+    count_all (drawing_spot d) (drawing_end d) (unstayed d c.requires.unstayed) in omega (arith, all))

@@ -17,5 +17,7 @@ returns-clause-grown c =
     let back : o - 0 ≡ o = omega arith in
     ap (λ (n : ℕ). record { byte = slice_index d.headers.now n; stays = false }) back ∙ sym (header_spot d o b)) in
     let end = sections-end front d.sections.now c.requires.drawing.sections in
-    let sections = grown-then [] c.add.new.out.items c.add_sections.new.out.items 0 front (end_of_sections front d.sections.now) (drawing_spot d) (omega arith) headers c.in_ok-at.ensures.grown in
-    grown-then [] c.add_sections.new.out.items c.add_tail.new.out.items 0 (end_of_sections front d.sections.now) (drawing_end d) (drawing_spot d) (omega arith) sections (rw c.in_ok-at.ensures.end at c.in_ok-end.ensures.grown)
+    let sections = grown-then [] c.add.new.out.items c.add_sections.new.out.items 0 front
+    (end_of_sections front d.sections.now) (drawing_spot d) (omega arith) headers c.in_ok-at.ensures.grown in
+    grown-then [] c.add_sections.new.out.items c.add_tail.new.out.items 0 (end_of_sections front d.sections.now)
+    (drawing_end d) (drawing_spot d) (omega arith) sections (rw c.in_ok-at.ensures.end at c.in_ok-end.ensures.grown)

@@ -7,6 +7,8 @@ use Rattle.ldtail.proofs.sections.put_sections.Given as goal
 
 abbrev pub invariant-loop-x : goal.invariant-loop-x
 invariant-loop-x l = record {
-  headers : l.headers.items ≡ l.fn.headers.items ++ flat_map (λ y. header_bytes (section_header_of (header_names_of l.sections) y)) (take l.x-index (enumerate_from 0 l.sections));
+  headers : l.headers.items ≡ l.fn.headers.items
+      ++ flat_map (λ y. header_bytes (section_header_of (header_names_of l.sections) y))
+      (take l.x-index (enumerate_from 0 l.sections));
   names : l.names.items ≡ string_table (take l.x-index (header_names_of l.sections));
 }
