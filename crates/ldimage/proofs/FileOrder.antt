@@ -41,7 +41,7 @@ chain-of p (q ∷ qs) h = (shares-above p q h.0, chain-of q qs h.1)
 abbrev Full : PlacedSection → Type 0
 Full q = 0 < q.size
 
--- where the file bytes end, of which so many are of this segment
+-- where the file bytes end, of which this number are of this segment
 abbrev ended : (end offset n : ℕ) → ℕ
 ended end offset n = cond (n == 0) end (offset + n)
 

@@ -104,7 +104,7 @@ pub record IsListing (names : List (Option (List ℕ))) (order : List (List ℕ 
       ≡ Some n
   pub once : IsDistinct (λ (x y : List ℕ × ℕ). bytes_eq x.0 y.0) order
 
--- a list set aside has memory for so many symbols
+-- a list set aside has memory for this number of symbols
 abbrev pub HasList : List ℕ → ℕ → Type 0
 HasList spare count = (i : ℕ) × (i < length spare) × (count ≤ slice_index_or spare i 0)
 
@@ -121,7 +121,7 @@ pub record MayEnter (s : State) (symbols : List NamedSymbol) : Type 0 where
   pub places : 0 < s.place_room
   pub list : HasList s.spare (length symbols)
 
--- one of the lists set aside, with memory for so many symbols, was put to use for the object at this place
+-- one of the lists set aside, with memory for this number of symbols, was put to use for the object at this place
 pub record TakesList (old new : State) (at count : ℕ) : Type 0 where
   pub from : ℕ
   pub within : from < length old.spare

@@ -9,7 +9,7 @@ use Rattle.symres.specs.declared.symbol.Declared.{Declared}
 use Rattle.symres.specs.declared.symbol.Numbered.{Numbered}
 use Rattle.symres.specs.Numbers.{Entered, IsSplit, IsTable, KeepsRoom, entries, is_named, others, own}
 
--- the rows have so many of the object's symbols, after those of the objects in front
+-- the rows have this number of the object's symbols, after those of the objects in front
 pub record Rows (places : List Place) (at key : ℕ) (ss : List Numbered) (old new : List (Vec Declared Global)) : Type 0
   where
     pub are : (xs ys : List Entered) → IsSplit places at key xs ys → IsTable old (xs ++ ys)

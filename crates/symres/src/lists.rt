@@ -31,7 +31,7 @@ fn find(spare: &[Vec<Numbered>], count: usize) -> usize
     unreachable!()
 }
 
-/// Takes out a list with memory for so many symbols.
+/// Takes out a list with memory for this number of symbols.
 pub fn take_list(spare: &mut Vec<Vec<Numbered>>, count: usize) -> Vec<Numbered>
     requires { HasList (rooms spare.old.items) count }
     ensures empty { result.items ≡ [] }
@@ -46,8 +46,8 @@ pub fn take_list(spare: &mut Vec<Vec<Numbered>>, count: usize) -> Vec<Numbered>
     list
 }
 
-/// Sets a list aside unless there is one with memory for so many symbols. So many objects are entered: when all are
-/// withdrawn, their lists are set aside too.
+/// Sets a list aside unless there is one with memory for this number of symbols. `entered` objects are entered: when all
+/// are withdrawn, their lists are set aside too.
 pub fn park(spare: &mut Vec<Vec<Numbered>>, count: usize, entered: usize) -> Result<(), AllocError>
     requires { vec_len spare.old + entered ≤ vec_capacity spare.old }
     ensures lists { vec_len spare.new + entered ≤ vec_capacity spare.new }

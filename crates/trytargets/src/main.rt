@@ -9,7 +9,7 @@
 //!     site TARGET KEY SECTION ENTRY        adds a site to the index
 //!     drop KEY                             takes the sites of an object out of the index
 //!     sites TARGET                         the sites of a target, in the order of their keys
-//!     repeat COUNT                         evaluates all fields so many times, and prints the number of the last ones
+//!     repeat COUNT                         evaluates all fields COUNT times, and prints the number of the last ones
 #![tactic(auto)]
 
 mod by_hand;

@@ -19,7 +19,7 @@
 //!                                              word
 //!     given NAME VALUE CASE                    the next name of the script
 //!     map                                      the map
-//!     repeat COUNT                             makes both texts so many times, and prints their lengths
+//!     repeat COUNT                             makes both texts COUNT times, and prints their lengths
 //!
 //! After a text comes the line `memory exact`, or `memory BYTES` where the text took more memory than it has bytes.
 #![tactic(auto)]
