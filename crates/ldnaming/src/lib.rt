@@ -1,0 +1,4 @@
+//! The names of a link: what each stands for over all objects and the script, and the faults of names.
+#![tactic(auto)]
+
+pub mod entered;
