@@ -1,9 +1,9 @@
 -- The symbol tables of the first objects of a link.
-use Rattle.std.proofs.Common.{◌≡◌, ◌∙◌, ℕ, ◌+◌, ◌<◌, ◌≤◌, List, [], ◌∷◌, ◌++◌, map, length, take, get_or, ap, sym}
+use Rattle.std.proofs.Common.{◌≡◌, ◌∙◌, ℕ, ◌+◌, ◌<◌, ◌≤◌, List, [], ◌∷◌, ◌++◌, length, take, get_or, ap, sym}
 use Rattle.std.proofs.Common.{subst}
-use Rattle.std.proofs.Common.{arith, suc, Bool, false}
+use Rattle.std.proofs.Common.{arith, suc, false}
 use Rattle.std.proofs.Math.Seq.{take-suc}
-use Rattle.std.specs.List.{enumerate_from, insert}
+use Rattle.std.specs.List.{insert}
 use Rattle.std.specs.Prelude.{◌==◌}
 use Rattle.std.proofs.lemmas.Bool.{ne_eqb}
 use Rattle.std.proofs.lemmas.List.{length-map, length-take-le, get_or-map, get_or-take}

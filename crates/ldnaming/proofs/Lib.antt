@@ -1,1 +1,4 @@
 pub mod Entering
+pub mod Deciding
+pub mod Noting
+pub mod Finding

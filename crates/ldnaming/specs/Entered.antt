@@ -1,5 +1,5 @@
 -- The symbol tables of the objects of a link, each under the place of its object.
-use Rattle.std.specs.Prelude.{ℕ, List, map}
+use Rattle.std.specs.Prelude.{ℕ, List}
 use Rattle.std.specs.List.{enumerate_from}
 use Rattle.elfobj.specs.Symbols.{NamedSymbol}
 use Rattle.ldmodel.specs.Names.{symbol_tables}

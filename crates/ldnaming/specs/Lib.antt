@@ -1,1 +1,3 @@
 pub mod Entered
+pub mod Decided
+pub mod Naming

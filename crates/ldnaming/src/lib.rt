@@ -1,4 +1,6 @@
 //! The names of a link: what each stands for over all objects and the script, and the faults of names.
 #![tactic(auto)]
 
+mod cases;
 pub mod entered;
+pub mod naming;

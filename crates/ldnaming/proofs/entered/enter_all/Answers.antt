@@ -2,7 +2,6 @@ use Rattle.std.proofs.Common.{◌≡◌, ◌∙◌, ℕ, ◌≤◌, ◌<◌, Lis
 use Rattle.std.specs.List.{insert}
 use Rattle.std.proofs.lemmas.List.{take_all}
 use Rattle.std.specs.Prelude.{◌==◌}
-use Rattle.ldproject.specs.declared.input.Input.{Input}
 use Rattle.ldnaming.specs.Entered.{tables_of}
 use Rattle.ldnaming.proofs.Entering.{Table, symbols_of, length-tables, length-first, one_more, fresh_at}
 use Rattle.ldnaming.proofs.entered.enter_all.Goals as goal
