@@ -4,3 +4,4 @@
 mod cases;
 pub mod entered;
 pub mod naming;
+mod provided;
