@@ -1,0 +1,5 @@
+pub mod Entering
+pub mod Deciding
+pub mod Noting
+pub mod Finding
+pub mod Providing

@@ -1,0 +1,39 @@
+use Rattle.std.proofs.Common.{◌≡◌, ◌∙◌, ℕ, ◌≤◌, ◌<◌, List, ap, sym, subst, take, length, get_or, arith, false}
+use Rattle.std.specs.List.{insert}
+use Rattle.std.proofs.lemmas.List.{take_all}
+use Rattle.std.specs.Prelude.{◌==◌}
+use Rattle.ldnaming.specs.Entered.{tables_of}
+use Rattle.ldnaming.proofs.Entering.{Table, symbols_of, length-tables, length-first, one_more, fresh_at}
+use Rattle.ldnaming.proofs.entered.enter_all.Goals as goal
+
+pub enter-requires-clause-at : goal.enter-requires-clause-at
+enter-requires-clause-at c =
+    let entered : c.reserve.new.self.objects ≡ take c.loop-place.place (tables_of c.args.inputs.now) =
+    c.reserve.ensures.objects ∙ c.loop-place.invariant in
+    let many : length (take c.loop-place.place (tables_of c.args.inputs.now)) ≡ c.loop-place.place =
+    length-first c.args.inputs.now c.loop-place.place (omega (arith, c.loop-place-test.true)) in
+    subst (λ (ts : List Table). c.loop-place.place ≤ length ts) (sym entered) (omega (arith, many))
+
+pub enter-requires-clause-fresh : goal.enter-requires-clause-fresh
+enter-requires-clause-fresh c =
+    let entered : c.reserve.new.self.objects ≡ take c.loop-place.place (tables_of c.args.inputs.now) =
+    c.reserve.ensures.objects ∙ c.loop-place.invariant in
+    subst (λ (ts : List Table). (k : ℕ) (d : Table) → k < length ts → ((get_or ts k d).0 == c.loop-place.place)
+    ≡ false) (sym entered)
+    (λ k d h. fresh_at c.args.inputs.now c.loop-place.place k d (omega (arith, c.loop-place-test.true)) h)
+
+pub loop-place-preserved : goal.loop-place-preserved
+loop-place-preserved c =
+    let entered : c.reserve.new.self.objects ≡ take c.loop-place.place (tables_of c.args.inputs.now) =
+    c.reserve.ensures.objects ∙ c.loop-place.invariant in
+    c.enter.ensures.objects
+    ∙ (ap (λ (ts : List Table).
+    insert ts c.loop-place.place (c.loop-place.place, symbols_of c.index-inputs-place.result)) entered
+    ∙ one_more c.args.inputs.now c.loop-place.place c.index-inputs-place.result (omega (arith, c.loop-place-test.true))
+    (sym c.index-inputs-place.is))
+
+pub returns : goal.returns
+returns c =
+    c.loop-place.invariant
+    ∙ take_all c.loop-place.place (tables_of c.args.inputs.now)
+    (omega (arith, length-tables c.args.inputs.now, c.loop-place-test.false))

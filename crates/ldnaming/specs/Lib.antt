@@ -1,0 +1,4 @@
+pub mod Entered
+pub mod Decided
+pub mod Naming
+pub mod Provided

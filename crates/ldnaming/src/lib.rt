@@ -1,0 +1,7 @@
+//! The names of a link: what each stands for over all objects and the script, and the faults of names.
+#![tactic(auto)]
+
+mod cases;
+pub mod entered;
+pub mod naming;
+mod provided;
