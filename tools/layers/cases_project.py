@@ -1,11 +1,12 @@
 """Edits of a project: each of the five, each refusal in its order, an edit that is staged and dropped, keys that stay
-and keys that are used again, the limit on objects, and a long stream of edits. What must be printed is worked out here
+and keys that are used again, and a long stream of edits; of each project the names, and the PROVIDEs in force (the
+script with 4 statements has two, of `w`, which B leaves undefined, and of a name that none has). What must be printed is worked out here
 over a plain list."""
 from calculator.build import object_a, object_b
 
 A, B = object_a(), object_b()
 SECTIONS = {A: 1, B: 1}
-SCRIPTS = {"SECTIONS { .text : { *(.text) } }": 1, "x = 1; y = 2; ENTRY(x)": 3, "": 0}
+SCRIPTS = {"SECTIONS { .text : { *(.text) } }": 1, "x = 1; PROVIDE(w = 2) PROVIDE(x2 = 3) ENTRY(x)": 4, "": 0}
 LONG = b"n" * 256
 
 
@@ -38,6 +39,9 @@ class Project:
     def accepted(self, objects, statements, free, most):
         shown = "".join(f" {key}={name}/{SECTIONS[content]}" for key, name, content in objects)
         self.lines.append(f"accepted:{shown}; {statements} statements")
+        names = 1 if any(content == B for _, _, content in objects) else 0
+        provides = 2 if statements == 4 else 0
+        self.lines.append(f"  names {names}, provided {names if provides else 0}, decided {names + provides}")
         if self.made:
             self.objects, self.statements, self.free, self.most = objects, statements, free, most
 
@@ -134,7 +138,7 @@ def dropped(p):
         p.remove("a.o")
         p.replace("a.o", B)
         p.move("a.o", 1)
-        p.set("x = 1; y = 2; ENTRY(x)")
+        p.set("x = 1; PROVIDE(w = 2) PROVIDE(x2 = 3) ENTRY(x)")
     p.make()
     p.add("c.o", 0, B)
 

@@ -2,9 +2,11 @@
 
 use ldmodel::meter::Meter;
 use ldmodel::options::Options;
+use ldnaming::naming::Naming;
 use ldproject::edit::Edit;
 use ldproject::project::{Next, Project};
 use std::alloc::{AllocError, Global};
+use std::hash::RandomState;
 use std::io;
 use std::io::Write;
 use trystream::command::Command;
@@ -15,6 +17,8 @@ use trystream::state::State;
 /// The project, and whether edits are made or only staged.
 #[derive(Drop)]
 pub struct Edits {
+    alloc: Global,
+    seed: RandomState,
     project: Project,
     made: bool,
 }
@@ -63,10 +67,32 @@ fn print_next<W: Write>(next: &Next<'_>, out: &mut W) -> io::Result<()> {
     writeln!(out, "; {} statements", next.script().statements().len())
 }
 
+/// How many names the next project declares, how many PROVIDEs are in force, and how many names were decided for both.
+fn print_names<W: Write>(
+    alloc: Global,
+    seed: RandomState,
+    next: &Next<'_>,
+    out: &mut W,
+) -> io::Result<()> {
+    let mut meter = Meter::new();
+    let inputs = next.inputs(alloc)?;
+    let naming = Naming::of(alloc, seed, &inputs, next.script(), &mut meter)?;
+    let limit = naming.limit();
+    let provided = naming.provided(alloc, next.script(), &mut meter)?;
+    let decided = meter.names();
+    writeln!(
+        out,
+        "  names {limit}, provided {}, decided {decided}",
+        provided.len()
+    )
+}
+
 impl Edits {
     /// The empty project.
-    pub fn new(alloc: Global) -> Edits {
+    pub fn new(alloc: Global, seed: RandomState) -> Edits {
         Edits {
+            alloc,
+            seed,
             project: Project::new(alloc, Options::default()),
             made: true,
         }
@@ -83,7 +109,9 @@ impl Edits {
                 refusal.inner_number()
             ),
             Ok(staged) => {
-                print_next(&self.project.next(&staged), out)?;
+                let next = self.project.next(&staged);
+                print_next(&next, out)?;
+                print_names(self.alloc, self.seed, &next, out)?;
                 if self.made {
                     self.project.commit(staged);
                 }
@@ -95,7 +123,7 @@ impl Edits {
 
 impl Layer for Edits {
     fn forget(&mut self, alloc: Global) -> io::Result<()> {
-        *self = Edits::new(alloc);
+        *self = Edits::new(alloc, self.seed);
         Ok(())
     }
 
