@@ -12,8 +12,7 @@ use Rattle.ldimage.specs.declared.section.ImagePiece.{ImagePiece}
 use Rattle.ldimage.specs.declared.section.ImageSection.{ImageSection}
 
 -- the first k input sections and the first j data commands end by an address, the others start there or later, and
--- there
--- the section starts or something that is not empty ends
+-- there the section starts or something that is not empty ends
 pub record IsReached (x : ImageSection) (k j at : ℕ) : Type 0 where
   pub low : x.start ≤ at
   pub high : at ≤ x.start + x.size

@@ -84,8 +84,7 @@ abbrev pub EndsBy : ℕ → Patch → Type 0
 EndsBy end q = patch_end q ≤ end
 
 -- stretches and patches are a plan for an image, where the canvas has these bytes: the stretches have its bytes but
--- where
--- they stay; so do the patches; and a byte that stays and that no patch covers stands in the canvas
+-- where they stay; so do the patches; and a byte that stays and that no patch covers stands in the canvas
 pub record IsPlanFor (image : ℕ → ℕ) (xs : List Stretch) (end : ℕ) (patches : List Patch) (canvas : List ℕ) : Type 0
   where
     pub drawn : (o : ℕ) → o < end → stays_at xs o ≡ false → drawn_byte xs o ≡ image o

@@ -81,8 +81,7 @@ fn write_stretches(canvas: &mut Canvas, stretches: &[Stretch<'_>], meter: &mut M
 }
 
 /// Writes patches at their places in the file: where they have the bytes of an image, what was right for it stays so,
-/// and
-/// what they cover becomes so.
+/// and what they cover becomes so.
 fn write_patches(canvas: &mut Canvas, patches: &[Patch], meter: &mut Meter)
     requires { All (EndsBy (length canvas.old.bytes)) patches.now }
     ensures grows { (image : ℕ → ℕ) → All (IsPatchOf image) patches.now → (o : ℕ) → slice_index canvas.old.bytes o

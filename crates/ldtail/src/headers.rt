@@ -173,8 +173,7 @@ fn file_end(end: u128, g: &Segment) -> Result<u128, NoMemory>
 }
 
 /// Where the loaded part of the file ends: with the file bytes of these segments, which come in the order of the
-/// script,
-/// or with the headers.
+/// script, or with the headers.
 ///
 /// An error says that it is 2^64 or more: no memory holds such a file.
 pub fn loaded_end(segments: &[Segment]) -> Result<u64, NoMemory>

@@ -184,12 +184,10 @@ fn add_of_key<L: Known>(
 }
 
 /// Evaluates all relocations of input sections in the output, each of which counts as one. `objects` are the keys of
-/// the
-/// objects, in their order, and `values` the values of all names.
+/// the objects, in their order, and `values` the values of all names.
 ///
 /// An error says that there was no memory for the fields; a table of 2^32 relocations or more, which no object has
-/// whose
-/// length is within the limit, counts as that.
+/// whose length is within the limit, counts as that.
 pub fn all_fields<L: Known>(
     alloc: Global,
     link: &L,

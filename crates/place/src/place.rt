@@ -97,8 +97,7 @@ fn lay_out(
 ///
 /// # Errors
 ///
-/// `First` is the first fault of the layout (`F4` to `F8`). Without one, `Meeting` has one fault for each output
-/// section
+/// `First` is the first fault of the layout (`F4` to `F8`). Without one, `Meeting` has one fault for each output section
 /// that shares an address with an earlier one (`F9`), and then one for each that shares a load address (`F10`).
 pub fn place(
     alloc: Global,

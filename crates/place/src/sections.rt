@@ -133,8 +133,7 @@ impl<'a> Sections<'a> {
     }
 
     /// How far the last output section of a region starts from where it is loaded, modulo 2^64; `None` for a region
-    /// that
-    /// the script does not declare. Output sections that name no region count as one region.
+    /// that the script does not declare. Output sections that name no region count as one region.
     pub fn difference(&self, region: Option<&[u8]>) -> Option<u64>
         ensures { IfSome result (λ d. d ≡ difference_by self.now (option_copied region.entry)) }
     {

@@ -33,11 +33,9 @@ abbrev pub IsFresh : ℕ → List (ℕ × List NamedSymbol) → Type 0
 IsFresh key tables = All (λ (t : ℕ × List NamedSymbol). (t.0 == key) ≡ false) tables
 
 -- the entered objects in their order, each as its key and its symbol table; the known names under their keys; and what
--- is
--- reserved: for each name how many entries fit, for how many more objects there is room in the order and in the table
--- of
--- places, and for how many symbols the lists set aside and those in use have memory; and the known names with their
--- keys, each once
+-- is reserved: for each name how many entries fit, for how many more objects there is room in the order and in the
+-- table of places, and for how many symbols the lists set aside and those in use have memory; and the known names with
+-- their keys, each once
 pub record State : Type 0 where
   pub objects : List (ℕ × List NamedSymbol)
   pub names : List (Option (List ℕ))
@@ -155,8 +153,7 @@ pub record IsMore (old new : State) : Type 0 where
   pub held : new.held ≡ old.held
 
 -- a name stays under its key where it has entries, and is dropped else; the others stand in the same order, and nothing
--- else
--- changes
+-- else changes
 pub record Forgets (old new : State) : Type 0 where
   pub names : (n : ℕ) (name : List ℕ) → IsNamed old.names n name → slot new.names n
       ≡ (if nat_lt 0 (length (entries_of name old.objects)) then Some name else None)

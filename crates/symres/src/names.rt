@@ -237,8 +237,7 @@ impl Names {
     }
 
     /// Puts the names into byte order: those that became known since the last call are put in among the others. An
-    /// error
-    /// says that there was no memory for it; the names stand in some order then.
+    /// error says that there was no memory for it; the names stand in some order then.
     pub fn sort_names(&mut self) -> Result<(), NoMemory>
         ensures sorted { OnOk result (IsInByteOrder self.new.order) }
         ensures same { self.new ≡ record self.old { order = self.new.order } }
@@ -256,8 +255,7 @@ impl Names {
     }
 
     /// The key of the name of a symbol that isn't local, of an entered object. Nothing is hashed: the time is
-    /// logarithmic
-    /// in the number of objects.
+    /// logarithmic in the number of objects.
     pub fn key_of(&self, object: ObjectKey, symbol: SymbolIndex) -> NameKey
         requires entered { HasObject object.0 self.now.objects }
         requires symbol { HasSymbol object.0 symbol.0 self.now.objects }
