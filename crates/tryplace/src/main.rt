@@ -1,19 +1,20 @@
 //! `tryplace`: tries the crate `place` (layout) on a stream of commands (`trystream`). Its own commands:
 //!
-//! piece SECTION STATEMENT KIND FLAGS SIZE ALIGNMENT    one more entry of a row: of the output section of this number,
-//! taken by this input statement; KIND is 1 for bytes, 8 for none
+//!     piece SECTION STATEMENT KIND FLAGS SIZE ALIGNMENT    one more entry of a row: of the output section of this
+//!                                                          number, taken by this input statement; KIND is 1 for
+//!                                                          bytes, 8 for none
 //!     provided NUMBER                                      this PROVIDE is in force, by its number among the commands
 //!     place                                                the layout, or its faults
 //!     rows                                                 forgets all rows
-//! kept FIRST                                           the same as `place`, with the last good placement kept before
-//!                                                          the row of this number
+//!     kept FIRST                                           the same as `place`, with the last good placement kept
+//!                                                          before the row of this number
 //!     repeat TIMES                                         lays out that often, and prints how many pieces were placed
 //!     again TIMES FIRST                                    the same with the last good placement kept
 #![tactic(auto)]
 
-mod place;
+mod layouts;
 
-use crate::place::Rows;
+use crate::layouts::Rows;
 use std::io;
 use std::io::{BufWriter, Read, Write};
 use std::process::ExitCode;
