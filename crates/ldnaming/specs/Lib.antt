@@ -2,3 +2,4 @@ pub mod Entered
 pub mod Decided
 pub mod Naming
 pub mod Provided
+pub mod Sorted

@@ -3,5 +3,7 @@
 
 mod cases;
 pub mod entered;
+mod faults;
 pub mod naming;
 mod provided;
+pub mod sorted;

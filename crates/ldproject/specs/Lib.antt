@@ -5,3 +5,4 @@ pub mod Next
 pub mod Staging
 pub mod Holding
 pub mod Inputs
+pub mod ByPlace

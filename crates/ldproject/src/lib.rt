@@ -7,3 +7,4 @@ pub mod kept;
 pub mod named;
 pub mod project;
 pub mod staged;
+pub mod view;

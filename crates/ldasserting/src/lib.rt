@@ -1,0 +1,4 @@
+//! ASSERT, the last phase of a link from scratch that may have faults.
+#![tactic(auto)]
+
+pub mod asserting;

@@ -1,0 +1,4 @@
+//! Layout, a phase of a link from scratch: where everything stands in memory and in the file.
+#![tactic(auto)]
+
+pub mod laying;

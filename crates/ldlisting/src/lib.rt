@@ -1,0 +1,5 @@
+//! The texts of a link from scratch: its map and its fault lines.
+#![tactic(auto)]
+
+pub mod fault_lines;
+pub mod map;

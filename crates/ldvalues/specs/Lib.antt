@@ -1,0 +1,2 @@
+pub mod LinkView
+pub mod Values
