@@ -5,7 +5,7 @@ ghost use Rattle.ldlaying.specs.Laying.{IsLaying};
 ghost use Rattle.ldmodel.specs.Image as definition;
 ghost use Rattle.ldmodel.specs.Layout.{Layout};
 ghost use Rattle.ldmodel.specs.Link.{max_image_length};
-ghost use Rattle.ldmodel.specs.Rows.{rows};
+ghost use Rattle.ldmodel.specs.Rows as model;
 ghost use Rattle.ldmodel.specs.SectionHeaders.{image_length};
 ghost use Rattle.ldnaming.specs.Naming.{NamingState};
 ghost use Rattle.ldproject.specs.ByPlace.{rows_in};
@@ -35,7 +35,7 @@ pub fn draw_image(
     relocated: &Relocated,
     meter: &mut Meter,
 ) -> Result<Canvas, NoMemory>
-    requires { rows_in project.now rows.now ≡ rows project.now }
+    requires { rows_in project.now rows.now ≡ model.rows project.now }
     ensures { IfOk result (λ c. (s : Layout) (a : NamingState) → IsLaying project.now s laying.now
         → AreStarts project.now s starts.now → AreValues project.now s a values.now
         → IsRelocated project.now s a relocated.now → image_length project.now s ≤ max_image_length

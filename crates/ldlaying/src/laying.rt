@@ -2,7 +2,7 @@
 
 ghost use Rattle.std.specs.Prelude.{◌≡◌, IfErr, IfOk};
 ghost use Rattle.ldmodel.specs.Layout.{Layout};
-ghost use Rattle.ldmodel.specs.Rows.{rows};
+ghost use Rattle.ldmodel.specs.Rows as model;
 ghost use Rattle.ldlaying.specs.Laying.{HasLayout, IsWhy};
 ghost use Rattle.ldnaming.specs.Naming.{IsNaming};
 ghost use Rattle.ldproject.specs.ByPlace.{rows_in};
@@ -49,7 +49,7 @@ impl Laying {
         meter: &mut Meter,
     ) -> Result<Laying, LayFault>
         requires naming { IsNaming project.now naming.now }
-        requires rows { rows_in project.now rows.now ≡ rows project.now }
+        requires rows { rows_in project.now rows.now ≡ model.rows project.now }
         ensures good { IfOk result (λ l. HasLayout project.now l) }
         ensures faulty { IfErr result (λ f. IsWhy project.now f) }
     {

@@ -4,7 +4,7 @@ ghost use Rattle.std.specs.Prelude.{◌≡◌, IfOk};
 ghost use Rattle.ldlaying.specs.Laying.{IsLaying};
 ghost use Rattle.ldmodel.specs.Layout.{Layout};
 ghost use Rattle.ldmodel.specs.MapText as definition;
-ghost use Rattle.ldmodel.specs.Rows.{rows};
+ghost use Rattle.ldmodel.specs.Rows as model;
 ghost use Rattle.ldnaming.specs.Naming.{NamingState};
 ghost use Rattle.ldproject.specs.ByPlace.{rows_in};
 ghost use Rattle.ldvalues.specs.Values.{AreValues};
@@ -24,7 +24,7 @@ pub fn map_text(
     laying: &Laying,
     values: &Values<'_>,
 ) -> Result<Vec<u8>, NoMemory>
-    requires { rows_in project.now rows.now ≡ rows project.now }
+    requires { rows_in project.now rows.now ≡ model.rows project.now }
     ensures { IfOk result (λ text. (s : Layout) (a : NamingState) → IsLaying project.now s laying.now
         → AreValues project.now s a values.now → text.items ≡ definition.map_text project.now s) }
 {

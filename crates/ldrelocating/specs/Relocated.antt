@@ -13,10 +13,10 @@ use Rattle.ldvalues.specs.LinkView.{known_link}
 use Rattle.ldrelocating.specs.declared.relocated.Relocated.{Relocated}
 
 -- the fields of each input section, one after another, and where those of each end
-pub record AreRuns (l : KnownLink) (patches : List Patch) (ends : List ℕ) : Type 0 where
+pub record AreRuns (l : KnownLink) (xs : List Patch) (places : List ℕ) : Type 0 where
   pub runs : List (List Patch)
-  pub patches : patches ≡ flat_map (λ run. run) runs
-  pub ends : ends ≡ ends_of 0 runs
+  pub patches : xs ≡ flat_map (λ run. run) runs
+  pub ends : places ≡ ends_of 0 runs
   pub each : AllZip (IsRunOf l) (sections_in l.project.objects) runs
 
 pub record IsRelocated (p : Project) (s : Layout) (a : NamingState) (r : Relocated) : Type 0 where

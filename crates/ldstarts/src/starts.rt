@@ -4,7 +4,7 @@ ghost use Rattle.std.specs.Prelude.{◌≡◌, IfOk};
 ghost use Rattle.ldmodel.specs.Layout.{Layout};
 ghost use Rattle.ldmodel.specs.Project.{Project};
 ghost use Rattle.ldlaying.specs.Laying.{IsLaying};
-ghost use Rattle.ldmodel.specs.Rows.{rows};
+ghost use Rattle.ldmodel.specs.Rows as model;
 ghost use Rattle.ldproject.specs.ByPlace.{rows_in};
 ghost use Rattle.ldstarts.specs.Starts.{AreStarts, IsPartPlace};
 
@@ -39,7 +39,7 @@ impl Starts {
         rows: &[Vec<Piece>],
         laying: &Laying,
     ) -> Result<Starts, NoMemory>
-        requires { rows_in project.now rows.now ≡ rows project.now }
+        requires { rows_in project.now rows.now ≡ model.rows project.now }
         ensures { IfOk result (λ t. (s : Layout) → IsLaying project.now s laying.now → AreStarts project.now s t) }
     {
         Err(AllocError)
