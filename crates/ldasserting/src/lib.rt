@@ -2,3 +2,4 @@
 #![tactic(auto)]
 
 pub mod asserting;
+mod final_scope;

@@ -1,5 +1,12 @@
 //! The image of a link from scratch, and its length.
 #![tactic(auto)]
 
+mod data_runs;
 pub mod image;
 pub mod length;
+mod offsets;
+mod output;
+mod parts;
+mod pieces;
+mod section_numbers;
+mod symbols;

@@ -1,1 +1,5 @@
+pub mod Symbols
+pub mod Members
+pub mod Found
+pub mod Numbers
 pub mod Gathering

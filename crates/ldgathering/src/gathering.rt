@@ -1,15 +1,29 @@
 //! What gathering finds.
 
-ghost use Rattle.std.specs.Prelude.{IfOk};
+ghost use Rattle.std.specs.Prelude.{◌≡◌, IfOk};
+ghost use Rattle.gather.specs.Apart.{AscendingSections};
+ghost use Rattle.gather.specs.Gathered.{AreGathered};
+ghost use Rattle.gather.specs.LiveMarks.{marked};
 ghost use Rattle.ldgathering.specs.Gathering.{IsGathering};
+ghost use Rattle.ldgathering.specs.Members.{by_place};
+ghost use Rattle.ldmodel.specs.InputSections.{input_sections};
+ghost use Rattle.ldmodel.specs.Live.{live};
 ghost use Rattle.ldnaming.specs.Naming.{IsNaming};
 
+use crate::live::mark_live;
+use crate::members::{members, prepare_all};
+use gather::gathered::Gathered;
+use gather::left_out::left_out;
+use gather::live_sections::{orphans, taken};
+use gather::member::input_sections;
+use gather::rows::rows;
+use ldlaws::gathering::live_by_path;
 use ldmodel::memory::NoMemory;
 use ldmodel::rows::Piece;
 use ldmodel::sections::SectionKey;
 use ldnaming::naming::Naming;
 use ldproject::view::ProjectView;
-use std::alloc::{AllocError, Global};
+use std::alloc::Global;
 
 /// What gathering finds: the row of each output section, and the orphans.
 #[derive(Drop)]
@@ -18,6 +32,25 @@ pub struct Gathering {
     pub rows: Vec<Vec<Piece>>,
     /// The live input sections that no statement takes, in object order and then section order. Each is a fault.
     pub orphans: Vec<SectionKey>,
+}
+
+/// The rows and the orphans of live sections.
+fn sorted_out(
+    alloc: Global,
+    project: &ProjectView<'_>,
+    sections: &[Gathered<'_>],
+    marks: &[bool],
+) -> Result<Gathering, NoMemory>
+    requires ascending { AscendingSections project.now }
+    requires sections { AreGathered project.now (by_place project.now) sections.now }
+    requires marks { marked marks.now (input_sections project.now) ≡ live project.now }
+    ensures { IfOk result (λ g. IsGathering project.now g) }
+{
+    live_by_path();
+    let orphans = orphans(alloc, sections, marks)?;
+    let pieces = taken(alloc, sections, marks)?;
+    let rows = rows(alloc, project.script(), &pieces)?;
+    Ok(Gathering { rows, orphans })
 }
 
 impl Gathering {
@@ -30,6 +63,12 @@ impl Gathering {
         requires { IsNaming project.now naming.now }
         ensures { IfOk result (λ g. IsGathering project.now g) }
     {
-        Err(AllocError)
+        let prepared = prepare_all(alloc, project, naming)?;
+        let members = members(alloc, project, &prepared)?;
+        let sections = input_sections(alloc, &members)?;
+        let options = project.options();
+        let out = left_out(alloc, project.script(), options.orphans(), &sections)?;
+        let marks = mark_live(alloc, project, naming, &sections, &out)?;
+        sorted_out(alloc, project, &sections, &marks)
     }
 }

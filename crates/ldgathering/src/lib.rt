@@ -2,4 +2,11 @@
 //! stands.
 #![tactic(auto)]
 
+mod blocks;
+mod cases;
 pub mod gathering;
+mod live;
+mod members;
+mod numbers;
+mod references;
+mod targets;

@@ -1,5 +1,5 @@
 -- The layout of a project as the code keeps it, or why there is none.
-use Rattle.std.specs.Prelude.{◌≡◌, [], ⊤, Ok, Err}
+use Rattle.std.specs.Prelude.{◌≡◌, [], ◌∷◌, ⊤, Ok, Err}
 use Rattle.ldmodel.specs.Layout.{Layout}
 use Rattle.ldmodel.specs.Lent.{AreSegments}
 use Rattle.ldmodel.specs.Link.{layout, of_length}
@@ -10,8 +10,9 @@ use Rattle.ldmodel.specs.Project.{Project}
 use Rattle.ldmodel.specs.Rows.{rows}
 use Rattle.ldmodel.specs.SectionHeaders.{image_length}
 use Rattle.ldmodel.specs.Segments.{segments}
+use Rattle.ldmodel.specs.declared.fault.Fault.{Fault}
 use Rattle.ldproject.specs.ByPlace.{faults_in}
-use Rattle.place.specs.Places.{AreOf}
+use Rattle.place.specs.Places.{AreOf, Places}
 use Rattle.ldlaying.specs.declared.laying.LayFault.{LayFault}
 use Rattle.ldlaying.specs.declared.laying.LayFault.TheVariants.{Faulty, NoMemory}
 use Rattle.ldlaying.specs.declared.laying.Laying.{Laying}
@@ -24,6 +25,13 @@ pub record IsLaying (p : Project) (s : Layout) (l : Laying) : Type 0 where
   pub places : AreOf p.script s l.placement
   pub segments : AreSegments s.sections (segments s.sections) l.segments.items
 
+-- places of the project's layout, in which no output sections meet
+pub record HasPlaces (p : Project) (l : Places) : Type 0 where
+  pub layout : Layout
+  pub placed : placement p.script (rows p) (provided p) ≡ Ok layout
+  pub apart : overlaps layout.sections ≡ []
+  pub places : AreOf p.script layout l
+
 pub record HasLayout (p : Project) (l : Laying) : Type 0 where
   pub layout : Layout
   pub is : IsLaying p layout l
@@ -32,3 +40,8 @@ pub record HasLayout (p : Project) (l : Laying) : Type 0 where
 abbrev pub IsWhy : Project → LayFault → Type 0
 IsWhy p (Faulty fs) = layout p ≡ Err (faults_in p fs.items)
 IsWhy p NoMemory = ⊤
+
+-- this fault alone, or memory ran out
+abbrev pub IsOne : LayFault → Fault → Type 0
+IsOne (Faulty fs) f = fs.items ≡ f ∷ []
+IsOne NoMemory f = ⊤

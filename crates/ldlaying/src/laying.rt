@@ -1,11 +1,13 @@
 //! The layout of a project, or its faults.
 
 ghost use Rattle.std.specs.Prelude.{◌≡◌, IfErr, IfOk};
-ghost use Rattle.ldmodel.specs.Layout.{Layout};
+ghost use Rattle.ldmodel.specs.Names.{provided};
+ghost use Rattle.ldmodel.specs.Project.{Project};
 ghost use Rattle.ldmodel.specs.Rows as model;
-ghost use Rattle.ldlaying.specs.Laying.{HasLayout, IsWhy};
+ghost use Rattle.ldlaying.specs.Laying.{HasLayout, HasPlaces, IsOne, IsWhy};
 ghost use Rattle.ldnaming.specs.Naming.{IsNaming};
 ghost use Rattle.ldproject.specs.ByPlace.{rows_in};
+ghost use Rattle.place.specs.Outcomes as outcomes;
 
 use ldbase::meter::Meter;
 use ldmodel::fault::Fault;
@@ -13,6 +15,9 @@ use ldmodel::rows::Piece;
 use ldmodel::segment::Segment;
 use ldnaming::naming::Naming;
 use ldproject::view::ProjectView;
+use ldsegments::segments::segments;
+use place::fault::PlaceFault;
+use place::place::place;
 use place::placement::Placement;
 use std::alloc::{AllocError, Global};
 
@@ -34,6 +39,63 @@ pub enum LayFault {
     NoMemory,
 }
 
+impl From<AllocError> for LayFault {
+    ghost use Rattle.std.specs.Prelude.{◌≡◌};
+    ghost use Rattle.ldlaying.specs.declared.laying.LayFault.TheVariants.{NoMemory};
+
+    ghost from_gives = { λ _ e. e ≡ NoMemory };
+
+    fn from(_failed: AllocError) -> LayFault {
+        LayFault::NoMemory
+    }
+}
+
+/// One fault, or out of memory.
+fn one(alloc: Global, fault: Fault) -> LayFault
+    ensures { IsOne result fault }
+{
+    match vec![in alloc; fault] {
+        Ok(faults) => LayFault::Faulty(faults),
+        Err(_) => LayFault::NoMemory,
+    }
+}
+
+/// What a fault of the placement says of the project.
+#[tactic(auto, unfolding(ldmodel::specs::Link::layout))]
+fn reported(alloc: Global, fault: PlaceFault) -> LayFault
+    ensures { (p : Project) → outcomes.IsWhy p.script (model.rows p) (provided p) fault → IsWhy p result }
+{
+    match fault {
+        PlaceFault::First(fault) => one(alloc, fault),
+        PlaceFault::Meeting(faults) => LayFault::Faulty(faults),
+        PlaceFault::NoMemory => LayFault::NoMemory,
+    }
+}
+
+/// Where everything of a project stands in memory. `lent` is the project once more: it names what the rows' keys stand
+/// for.
+fn place_rows(
+    alloc: Global,
+    project: &ProjectView<'_>,
+    naming: &Naming,
+    rows: &[Vec<Piece>],
+    meter: &mut Meter,
+) -> Result<Placement, LayFault>
+    ghost lent: { Project }
+    requires project { project.now ≡ lent }
+    requires naming { IsNaming lent naming.now }
+    requires rows { rows_in lent rows.now ≡ model.rows lent }
+    ensures good { IfOk result (λ l. HasPlaces lent l) }
+    ensures faulty { IfErr result (λ f. IsWhy lent f) }
+{
+    let script = project.script();
+    let provided = naming.provided(alloc, script, meter)?;
+    match place(alloc, script, rows, &provided, None, meter) {
+        Ok(placement) => Ok(placement),
+        Err(fault) => Err(reported(alloc, fault)),
+    }
+}
+
 impl Laying {
     /// Lays the rows of a project out, whose names are decided. The length of the image isn't looked at: it is known
     /// only when the symbols have their values.
@@ -53,6 +115,11 @@ impl Laying {
         ensures good { IfOk result (λ l. HasLayout project.now l) }
         ensures faulty { IfErr result (λ f. IsWhy project.now f) }
     {
-        Err(LayFault::NoMemory)
+        let placement = place_rows(alloc, project, naming, rows, meter)?;
+        let segments = segments(alloc, placement.laid())?;
+        Ok(Laying {
+            placement,
+            segments,
+        })
     }
 }

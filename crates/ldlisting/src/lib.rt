@@ -1,5 +1,6 @@
 //! The texts of a link from scratch: its map and its fault lines.
 #![tactic(auto)]
 
+mod by_place;
 pub mod fault_lines;
 pub mod map;

@@ -2,6 +2,7 @@
 
 ghost use Rattle.std.specs.Prelude.{◌≡◌, IfOk};
 ghost use Rattle.ldnaming.specs.Entered.{tables_of};
+ghost use Rattle.symres.specs.State.{IsInByteOrder};
 
 use ldmodel::memory::NoMemory;
 use ldmodel::names::ObjectKey;
@@ -10,14 +11,16 @@ use std::alloc::Global;
 use std::hash::RandomState;
 use symres::names::Names;
 
-/// The names of these objects. The key of each is its place. An error says that memory ran out.
+/// The names of these objects, in byte order. The key of each object is its place. An error says that memory ran out.
 pub fn enter_all(alloc: Global, seed: RandomState, inputs: &[Input<'_>]) -> Result<Names, NoMemory>
-    ensures { IfOk result (λ names. names.objects ≡ tables_of inputs.now) }
+    ensures objects { IfOk result (λ names. names.objects ≡ tables_of inputs.now) }
+    ensures order { IfOk result (λ names. IsInByteOrder names.order) }
 {
     let mut names = Names::new(alloc, seed);
     for (place, input) in inputs.iter().enumerate() {
         names.reserve(input.object)?;
         names.enter(ObjectKey(place), place, input.object);
     }
+    names.sort_names()?;
     Ok(names)
 }

@@ -2,6 +2,7 @@
 #![tactic(auto)]
 
 mod cases;
+mod duplicates;
 pub mod entered;
 mod faults;
 pub mod naming;

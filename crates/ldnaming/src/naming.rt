@@ -27,7 +27,7 @@ use symres::names::Names;
 /// The names of the objects of a link, each decided once. The key of an object is its place among them.
 #[derive(Drop)]
 pub struct Naming {
-    names: Names,
+    pub(crate) names: Names,
     cases: Vec<Option<Case>>,
     keys: Vec<Option<NameKey>>,
     starts: Vec<usize>,
@@ -35,12 +35,14 @@ pub struct Naming {
 
 impl Model for Naming {
     ghost use Rattle.ldnaming.specs.Naming.{IsComplete, NamingState, state_of};
+    ghost use Rattle.symres.specs.State.{IsInByteOrder};
 
     ghost Value = { NamingState };
 
     ghost view = { λ a. state_of a.names a.cases.items a.keys.items a.starts.items };
 
-    ghost invariant = { λ a. IsComplete (state_of a.names a.cases.items a.keys.items a.starts.items) };
+    ghost invariant = { λ a. IsComplete (state_of a.names a.cases.items a.keys.items a.starts.items)
+        × IsInByteOrder a.names.order };
 }
 
 /// The tables of a `Naming`.

@@ -23,13 +23,13 @@ covers_within address e from within =
     ap (λ b. if b && nat_lt address (e.start + e.size) then 1 else 0) (le-leb e.start address from)
     ∙ ap (λ b. if b then 1 else 0) (lt-ltb address (e.start + e.size) within)
 
-both : (a b : Bool) → (a && b) ≡ true → (a ≡ true) × (b ≡ true)
+pub both : (a b : Bool) → (a && b) ≡ true → (a ≡ true) × (b ≡ true)
 both true true h = (refl, refl)
 both true false h = absurd (cc h)
 both false true h = absurd (cc h)
 both false false h = absurd (cc h)
 
-no_zero : (n : ℕ) → not (n == 0) ≡ true → 0 < n
+pub no_zero : (n : ℕ) → not (n == 0) ≡ true → 0 < n
 no_zero zero h = absurd (cc h)
 no_zero (suc n) h = omega arith
 

@@ -1,13 +1,28 @@
 -- What is found up to a place.
 use Rattle.std.proofs.Common.{◌≡◌, ◌∙◌, sym, ap, ℕ, ◌+◌, ◌≤◌, ◌<◌, List, [], ◌∷◌, ◌++◌, length, get_or, take, drop}
-use Rattle.std.proofs.Common.{append_assoc, drop-cons, suc}
+use Rattle.std.proofs.Common.{append_assoc, arith, drop-cons, suc, Option, None}
 use Rattle.std.proofs.Math.Numerals.{add-one}
 use Rattle.std.proofs.Math.Seq.{take-suc}
-use Rattle.std.proofs.lemmas.List.{append-nil, drop_all}
+use Rattle.std.proofs.lemmas.List.{append-nil, drop_all, length-take-le}
+use Rattle.ldoverlap.proofs.FirstMet.{position_take}
+use Rattle.ldoverlap.specs.Extents.{meet}
+use Rattle.ldoverlap.specs.Firsts.{AreFirst, before}
 use Rattle.ldoverlap.specs.Found.{fault_with, first_met, met_after}
 use Rattle.ldoverlap.specs.declared.extent.Extent.{Extent}
 use Rattle.ldoverlap.specs.declared.overlaps.Space.{Space}
 use Rattle.ldmodel.specs.declared.fault.Fault as code
+
+-- the first of all, if it is an earlier one, is the first earlier one
+pub meeting_is : (space : Space) (extents : List Extent) (firsts : List (Option ℕ)) (k : ℕ) (d : Extent)
+    → k < length extents → AreFirst extents extents firsts
+    → fault_with space k (before k (get_or firsts k None))
+    ≡ fault_with space (length (take k extents)) (first_met (take k extents) (get_or extents k d))
+meeting_is space extents firsts k d below first =
+    let e : Extent = get_or extents k d in
+    let within : k ≤ length extents = omega (arith, below) in
+    ap (λ o. fault_with space k (before k o)) (first.each k d below)
+    ∙ ap (λ o. fault_with space k o) (sym (position_take (meet e) extents k within))
+    ∙ ap (λ n. fault_with space n (first_met (take k extents) e)) (sym (length-take-le k extents within))
 
 pub found_more : (space : Space) (extents : List Extent) (k : ℕ) (d : Extent) (old new all : List code.Fault)
     → k < length extents

@@ -3,3 +3,6 @@ pub mod Apart
 pub mod Finding
 pub mod Named
 pub mod Outputs
+pub mod Hulls
+pub mod FirstMet
+pub mod Ranking

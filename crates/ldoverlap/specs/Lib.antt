@@ -1,3 +1,5 @@
+pub mod Firsts
+pub mod Hulls
 pub mod Extents
 pub mod Found
 pub mod Meetings

@@ -11,7 +11,7 @@ pub(crate) struct Extent {
 }
 
 impl Extent {
-    fn end(&self) -> u128
+    pub(crate) fn end(&self) -> u128
         ensures { result ≡ self.now.start + self.now.size }
     {
         u128::from(self.start) + u128::from(self.size)

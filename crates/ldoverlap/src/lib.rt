@@ -2,5 +2,7 @@
 #![tactic(auto)]
 
 mod extent;
+mod firsts;
+mod hull;
 pub mod law;
 pub mod overlaps;

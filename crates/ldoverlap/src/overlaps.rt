@@ -2,9 +2,11 @@
 
 ghost use Rattle.std.specs.Prelude.{◌≡◌, ◌++◌, IfOk, OnOk, length};
 ghost use Rattle.ldoverlap.specs.Meetings.{AreOverlaps};
-ghost use Rattle.ldoverlap.specs.Found.{extent_in, extents_in, fault_in, fault_with, first_met, met_before};
+ghost use Rattle.ldoverlap.specs.Firsts.{before};
+ghost use Rattle.ldoverlap.specs.Found.{extent_in, extents_in, fault_in, fault_with, met_before};
 
 use crate::extent::{Extent, are_ascending};
+use crate::firsts::firsts;
 use ldmodel::fault::Fault;
 use ldmodel::laid::{OutputIndex, Placed};
 use ldmodel::memory::NoMemory;
@@ -56,13 +58,6 @@ fn extents(alloc: Global, space: Space, sections: &[Placed]) -> Result<Vec<Exten
     Ok(extents)
 }
 
-/// The number of the first that this one meets.
-fn first_met(earlier: &[Extent], extent: &Extent) -> Option<usize>
-    ensures { result ≡ first_met earlier.now extent.now }
-{
-    earlier.iter().position(|e| extent.meets(e))
-}
-
 /// The number of an output section; out of memory past 2^32, where no number is left.
 fn number(k: usize) -> Result<OutputIndex, NoMemory>
     ensures { IfOk result (λ x. x.0 ≡ k) }
@@ -73,37 +68,45 @@ fn number(k: usize) -> Result<OutputIndex, NoMemory>
     }
 }
 
-/// The fault of one that meets an earlier one, with the first such.
+/// The fault of a section, where the first that it meets is an earlier one.
 fn push_meeting(
     faults: &mut Vec<Fault>,
     space: Space,
-    earlier: &[Extent],
-    extent: &Extent,
+    section: usize,
+    first: Option<usize>,
 ) -> Result<(), NoMemory>
-    ensures { OnOk result (faults.new.items
-        ≡ faults.old.items ++ fault_with space (length earlier.now) (first_met earlier.now extent.now)) }
+    ensures { OnOk result (faults.new.items ≡ faults.old.items ++ fault_with space section (before section first)) }
 {
-    let Some(met) = first_met(earlier, extent) else {
+    let Some(met) = first else {
         return Ok(());
     };
-    let section = number(earlier.len())?;
+    if met >= section {
+        return Ok(());
+    }
+    let section = number(section)?;
     let met = number(met)?;
     faults.push(space.fault(section, met))?;
     Ok(())
 }
 
 /// The faults of all that meet an earlier one.
-fn push_meetings(faults: &mut Vec<Fault>, space: Space, extents: &[Extent]) -> Result<(), NoMemory>
+fn push_meetings(
+    alloc: Global,
+    faults: &mut Vec<Fault>,
+    space: Space,
+    extents: &[Extent],
+) -> Result<(), NoMemory>
     ensures { OnOk result (faults.new.items ≡ faults.old.items ++ met_before space extents.now) }
 {
+    let firsts = firsts(alloc, extents)?;
     for k in 0..extents.len() {
-        push_meeting(faults, space, &extents[..k], &extents[k])?;
+        push_meeting(faults, space, k, firsts[k])?;
     }
     Ok(())
 }
 
-/// The overlaps in one space. Where no two output sections meet, as a sort shows, there are none; only where some do is
-/// each compared with all before it.
+/// The overlaps in one space. Where no two output sections meet, as a sort shows, there are none; where some do,
+/// the first that each meets is looked for in a tree of ranges. The time is that of a sort.
 fn push_overlaps(
     alloc: Global,
     faults: &mut Vec<Fault>,
@@ -118,11 +121,11 @@ fn push_overlaps(
     if are_ascending(&ascending) {
         return Ok(());
     }
-    push_meetings(faults, space, &extents)
+    push_meetings(alloc, faults, space, &extents)
 }
 
 /// The overlaps of output sections: for each that shares an address with an earlier one a fault with the first such;
-/// then the same of load addresses. The time is that of a sort where there are none.
+/// then the same of load addresses. The time is that of a sort.
 pub fn overlaps(alloc: Global, sections: &[Placed]) -> Result<Vec<Fault>, NoMemory>
     ensures { IfOk result (λ v. AreOverlaps sections.now v.items) }
 {

@@ -1,1 +1,2 @@
 pub mod Relocated
+pub mod Numbered

@@ -1,4 +1,6 @@
 //! Relocation, a phase of a link from scratch: the fields of all relocations, or their faults.
 #![tactic(auto)]
 
+mod keys;
+mod law;
 pub mod relocated;

@@ -1,12 +1,16 @@
 -- Where the input sections of a link stand.
-use Rattle.std.specs.Prelude.{◌≡◌, Option, Some, None, position}
+use Rattle.std.specs.Prelude.{◌≡◌, Option, Some, None, find, position}
 use Rattle.std.specs.List.{list_any}
+use Rattle.std.specs.List.Sorted.{IsSortedByKey}
 use Rattle.std.specs.Option.{option_map}
 use Rattle.ldmodel.specs.Layout.{Layout, PlacedPiece, PlacedSection}
 use Rattle.ldmodel.specs.NameFaults.{object_name}
 use Rattle.ldmodel.specs.Project.{Project}
 use Rattle.ldmodel.specs.SymbolValues.{is_part, placed_part}
 use Rattle.ldmodel.specs.declared.sections.SectionKey.{SectionKey}
+use Rattle.ldstarts.specs.Entries.{has_rank, rank_cmp, rank_in, rank_of}
+use Rattle.ldstarts.specs.Numbering.{number_of}
+use Rattle.ldstarts.specs.declared.entry.Entry.{Entry}
 use Rattle.ldstarts.specs.declared.starts.PartPlace.{PartPlace}
 use Rattle.ldstarts.specs.declared.starts.Starts.{Starts}
 
@@ -18,6 +22,13 @@ IsPartPlace p s k (Some x) =
     × (position (λ (q : PlacedSection). list_any (is_part (object_name p k.object.0) k.part) q.pieces) s.sections
     ≡ Some x.section.0)
 
--- STUB: what a table holds
-abbrev pub AreStarts : Project → Layout → Starts → Type 0
-AreStarts p s t = (k : SectionKey) → IsPartPlace p s k None
+-- what a table has for an input section
+abbrev pub place_in : Starts → SectionKey → Option PartPlace
+place_in t k =
+    option_map (λ (e : Entry). e.place)
+    (find (has_rank (rank_of (number_of t.objects k.object.0) k.part)) t.entries.items)
+
+-- a table is sorted, and has all places
+pub record AreStarts (p : Project) (s : Layout) (t : Starts) : Type 0 where
+  pub sorted : IsSortedByKey rank_in rank_cmp t.entries.items
+  pub places : (k : SectionKey) → IsPartPlace p s k (place_in t k)

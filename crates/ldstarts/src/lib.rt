@@ -1,4 +1,7 @@
 //! Where the parts of objects stand in the output, by their keys.
 #![tactic(auto)]
 
+mod collected;
+mod entry;
+mod numbering;
 pub mod starts;

@@ -8,13 +8,17 @@ ghost use Rattle.ldmodel.specs.Rows as model;
 ghost use Rattle.ldproject.specs.ByPlace.{rows_in};
 ghost use Rattle.ldstarts.specs.Starts.{AreStarts, IsPartPlace};
 
+use crate::collected::collect;
+use crate::entry::{Entry, find_rank, rank};
+use crate::numbering::Numbering;
+use ldlaws::layout::placed_are_rows;
 use ldlaying::laying::Laying;
 use ldmodel::laid::OutputIndex;
 use ldmodel::memory::NoMemory;
 use ldmodel::rows::Piece;
 use ldmodel::sections::SectionKey;
 use ldproject::view::ProjectView;
-use std::alloc::{AllocError, Global};
+use std::alloc::Global;
 
 /// Where an input section stands.
 #[derive(Clone, Copy, Debug, PartialEq, Eq)]
@@ -28,7 +32,8 @@ pub struct PartPlace {
 /// Where the input sections of a link stand.
 #[derive(Drop)]
 pub struct Starts {
-    starts: Vec<Option<PartPlace>>,
+    objects: Numbering,
+    entries: Vec<Entry>,
 }
 
 impl Starts {
@@ -42,14 +47,18 @@ impl Starts {
         requires { rows_in project.now rows.now ≡ model.rows project.now }
         ensures { IfOk result (λ t. (s : Layout) → IsLaying project.now s laying.now → AreStarts project.now s t) }
     {
-        Err(AllocError)
+        placed_are_rows();
+        let objects = Numbering::of(project.inputs());
+        let mut entries = collect(alloc, &objects, rows, laying.placement.pieces())?;
+        entries.sort_by_key(|entry| entry.rank())?;
+        Ok(Starts { objects, entries })
     }
 
-    /// Where an input section stands, if it is in the output. The time is logarithmic in the number of common blocks
-    /// at most.
+    /// Where an input section stands, if it is in the output. The time is logarithmic in the number of input sections.
     pub fn find(&self, section: SectionKey) -> Option<PartPlace>
         ensures { (p : Project) (s : Layout) → AreStarts p s self.now → IsPartPlace p s section result }
     {
-        None
+        let sought = rank(self.objects.number(section.object), section.part);
+        find_rank(&self.entries, sought)
     }
 }

@@ -1,2 +1,7 @@
+pub mod Seen
+pub mod ScriptValues
+pub mod GivenTable
 pub mod LinkView
 pub mod Values
+pub mod Candidates
+pub mod Symbols

@@ -2,6 +2,7 @@
 use Rattle.std.specs.Prelude.{◌≡◌, ℕ, List, None, Some, slice_index_or}
 use Rattle.ldmodel.specs.Layout.{Layout, script_value}
 use Rattle.ldmodel.specs.Project.{Project}
+use Rattle.ldnaming.specs.Decided.{HasCase}
 use Rattle.ldnaming.specs.Naming.{IsNaming, NamingState}
 use Rattle.ldstarts.specs.Starts.{AreStarts}
 use Rattle.ldtargets.specs.KnownLink.{KnownLink}
@@ -19,3 +20,4 @@ pub record IsLinkView (l : KnownLink) (v : LinkView) : Type 0 where
   pub starts : AreStarts l.project l.layout v.starts.now
   pub given : (k : ℕ) (name : List ℕ) → l.name k ≡ Some name
       → slice_index_or v.given.items k None ≡ script_value l.layout name
+  pub cases : (k : ℕ) (name : List ℕ) → l.name k ≡ Some name → HasCase v.naming.now.cases k

@@ -4,18 +4,25 @@ ghost use Rattle.std.specs.Prelude.{◌≡◌, IfOk};
 ghost use Rattle.ldmodel.specs.Layout.{Layout};
 ghost use Rattle.ldlaying.specs.Laying.{IsLaying};
 ghost use Rattle.ldnaming.specs.Naming.{IsNaming};
+ghost use Rattle.ldmodel.specs.SymbolValues.{entry_point};
+ghost use Rattle.ldtargets.specs.Values.{value_of};
 ghost use Rattle.ldvalues.specs.LinkView.{IsLinkView, known_link};
+ghost use Rattle.ldvalues.specs.ScriptValues.{AreScriptValues};
 ghost use Rattle.ldvalues.specs.Values.{AreValues};
 
+use crate::candidate::candidates;
 use crate::link_view::LinkView;
+use crate::script_values::ScriptValues;
+use crate::symbols::{Sources, symbols_of};
 use ldbase::meter::Meter;
 use ldlaying::laying::Laying;
 use ldmodel::memory::NoMemory;
 use ldmodel::names::Case;
 use ldnaming::naming::Naming;
 use ldproject::view::ProjectView;
+use ldtargets::symbol::{entry_point, name_values};
 use ldtargets::value::SymbolValue;
-use std::alloc::{AllocError, Global};
+use std::alloc::Global;
 
 /// A symbol of the output: a name that stands for something.
 #[derive(Clone, Copy, Debug)]
@@ -39,6 +46,27 @@ pub struct Values<'a> {
     pub symbols: Vec<OutputSymbol<'a>>,
 }
 
+/// The value of the entry symbol, which is decided and counted.
+fn entry_value(
+    project: &ProjectView<'_>,
+    naming: &Naming,
+    given: &ScriptValues<'_>,
+    link: &LinkView<'_>,
+    meter: &mut Meter,
+) -> SymbolValue
+    ensures { (s : Layout) → IsNaming project.now naming.now → AreScriptValues s given.now
+        → IsLinkView (known_link project.now s naming.now) link.now
+        → value_of result ≡ entry_point project.now s }
+{
+    match project.entry_symbol() {
+        None => entry_point(link, None, None),
+        Some(name) => {
+            let case = naming.case_named(project.script(), name, meter);
+            entry_point(link, Some(case), given.value(name))
+        }
+    }
+}
+
 impl<'a> Values<'a> {
     /// The values of the symbols of a link. The names that the script alone gives, and the entry symbol, are decided and
     /// counted. An error says that memory ran out.
@@ -55,6 +83,22 @@ impl<'a> Values<'a> {
             → IsLinkView (known_link project.now s naming.now) link.now
             → AreValues project.now s naming.now v) }
     {
-        Err(AllocError)
+        let script = project.script();
+        let given = ScriptValues::of(alloc, script, &laying.placement)?;
+        let names = name_values(alloc, link)?;
+        let entry = entry_value(project, naming, &given, link, meter);
+        let candidates = candidates(alloc, naming, script)?;
+        let sources = Sources {
+            script,
+            naming,
+            names: &names,
+            given: &given,
+        };
+        let symbols = symbols_of(alloc, &sources, &candidates, meter)?;
+        Ok(Values {
+            names,
+            entry,
+            symbols,
+        })
     }
 }

@@ -14,7 +14,6 @@ use Rattle.ldmodel.specs.Names.{is_local}
 use Rattle.symres.specs.declared.places.Place.{Place}
 use Rattle.symres.specs.Numbers.{Entered, declared, own, entries, before, is_named, IsPlace, IsTable, IsSplit, named}
 use Rattle.symres.specs.Numbers.{HasRoom, Grows}
-use Rattle.symres.specs.Steps.{Rows}
 use Rattle.symres.proofs.Naming.{named_yes, named_no, named_local, named_push}
 
 pub entries-append : (k : ℕ) (xs ys : List Entered) → entries k (xs ++ ys) ≡ entries k xs ++ entries k ys
@@ -32,7 +31,7 @@ all_entries P k (x ∷ xs) h = All-append P _ _
     (all_entries P k xs (All-tail (λ (o : Entered). (s : Numbered) → P (declared o.key s)) x xs h))
 
 -- the place is right behind what is before
-place_is : (place : List Place) (at key : ℕ) (F B : List Declared) (n : ℕ) (x : Declared)
+pub place_is : (place : List Place) (at key : ℕ) (F B : List Declared) (n : ℕ) (x : Declared)
     → IsPlace place at key (F ++ B) n
     → All (λ d. before place at key d ≡ true) F → All (λ d. before place at key d ≡ false) B → n ≡ length F
 place_is place at key F B n x p f b = ⊎_elim
@@ -46,12 +45,7 @@ place_is place at key F B n x p f b = ⊎_elim
     (cases_lt (length F) n))
     (cases_lt n (length F))
 
-own_before : (place : List Place) (at key k : ℕ) (ss : List Numbered)
-    → All (λ d. before place at key d ≡ true) (own k key ss)
-own_before place at key k ss =
-    All-map (λ d. before place at key d ≡ true) (declared key) (named k ss) (λ j d l. rw (eq-eqb key key refl) refl)
-
-front_before : (place : List Place) (at key k : ℕ) (xs ys : List Entered) → IsSplit place at key xs ys
+pub front_before : (place : List Place) (at key k : ℕ) (xs ys : List Entered) → IsSplit place at key xs ys
     → All (λ d. before place at key d ≡ true) (entries k xs)
 front_before place at key k xs ys s =
     all_entries (λ d. before place at key d ≡ true) k xs (λ j o h t.
@@ -61,117 +55,15 @@ front_before place at key k xs ys s =
     either true e = refl
     either false e = e
 
-behind_not_before : (place : List Place) (at key k : ℕ) (xs ys : List Entered) → IsSplit place at key xs ys
+pub behind_not_before : (place : List Place) (at key k : ℕ) (xs ys : List Entered) → IsSplit place at key xs ys
     → All (λ d. before place at key d ≡ false) (entries k ys)
 behind_not_before place at key k xs ys s =
     all_entries (λ d. before place at key d ≡ false) k ys (λ j o h t. rw (s.other j o h) (s.behind j o h))
 
--- a row takes a declaration behind those of its object
-row_more : (place : List Place) (at key k : ℕ) (xs ys : List Entered) (ss : List Numbered) (s : Numbered)
-    (old : List Declared) (n : ℕ) → IsSplit place at key xs ys
-    → old ≡ (entries k xs ++ own k key ss) ++ entries k ys → IsPlace place at key old n
-    → insert old n (declared key s) ≡ (entries k xs ++ (own k key ss ++ declared key s ∷ [])) ++ entries k ys
-row_more place at key k xs ys ss s old n sp e p =
-    let F : List Declared = entries k xs ++ own k key ss in
-    let B : List Declared = entries k ys in
-    let is : n ≡ length F = place_is place at key F B n (declared key s) (subst (λ l. IsPlace place at key l n) e p)
-    (All-append (λ d. before place at key d ≡ true) _ _ (front_before place at key k xs ys sp)
-    (own_before place at key k ss))
-    (behind_not_before place at key k xs ys sp) in
-    ap (λ l. insert l n (declared key s)) e
-    ∙ ap (λ m. insert (F ++ B) m (declared key s)) is
-    ∙ insert-append_left F B (length F) (declared key s) (omega arith)
-    ∙ ap (λ l. l ++ B) (insert_end F (declared key s)
-    ∙ append_assoc (entries k xs) (own k key ss) (declared key s ∷ []))
-
-map_push : (key : ℕ) (ss : List Numbered) (s : Numbered) → map (declared key) (ss ++ s ∷ []) ≡ map (declared key) ss
+pub map_push : (key : ℕ) (ss : List Numbered) (s : Numbered) → map (declared key) (ss ++ s ∷ []) ≡ map (declared key) ss
     ++ declared key s ∷ []
 map_push key [] s = refl
 map_push key (x ∷ ss) s = ap (λ l. declared key x ∷ l) (map_push key ss s)
-
-pub rows_start : (place : List Place) (at key : ℕ) (table : List (Vec Declared Global))
-    → Rows place at key [] table table
-rows_start place at key table = record {
-  are = λ xs ys s t k d h. t.row k d h ∙ entries-append k xs ys
-      ∙ ap (λ l. l ++ entries k ys) (sym (append-nil (entries k xs)));
-}
-
-pub grows_start : (table : List (Vec Declared Global)) → Grows table table []
-grows_start table = record { long = refl; row = λ k d h. (refl, omega arith) }
-
-pub rows_step : (place : List Place) (at key : ℕ) (ss ss' : List Numbered) (s : Numbered)
-    (old mid : List (Vec Declared Global)) (v l : Vec Declared Global)
-    → is_local s.symbol.binding ≡ false → ss' ≡ ss ++ s ∷ [] → Grows old mid ss → s.name < length mid → v
-    ≡ get_or mid s.name v
-    → (n : ℕ) × IsPlace place at key v.items n × (l.items ≡ insert v.items n (declared key s))
-    → Rows place at key ss old mid → Rows place at key ss' old (set mid s.name l)
-rows_step place at key ss ss' s old mid v l vis e g w i p r = record {
-  are = λ xs ys sp t k d h. ⊎_elim
-      (λ same.
-      let mine : v.items ≡ (entries k xs ++ own k key ss) ++ entries k ys =
-      ap (λ (x : Vec Declared Global). x.items) (i ∙ ap (λ q. get_or mid q v) (sym same)) ∙ r.are xs ys sp t k v h in
-      let there : get_or (set mid s.name l) k d ≡ l = ap (λ q. get_or (set mid s.name l) q d) same
-      ∙ get_or-set_same mid s.name l d w in
-      let more : own k key ss' ≡ own k key ss ++ declared key s ∷ [] = ap (own k key) e
-      ∙ ap (map (declared key)) (named_push k ss s true (named_yes k s vis (sym same)))
-      ∙ map_push key (named k ss) s in
-      ap (λ (x : Vec Declared Global). x.items) there ∙ p.2
-      ∙ row_more place at key k xs ys ss s v.items p.0 sp mine p.1
-      ∙ ap (λ q. (entries k xs ++ q) ++ entries k ys) (sym more))
-      (λ n.
-      let there : get_or (set mid s.name l) k d ≡ get_or mid k d = get_or-set_other mid s.name k l d n in
-      let more : own k key ss' ≡ own k key ss = ap (own k key) e
-      ∙ ap (map (declared key)) (named_push k ss s false (named_no k s (λ q. n (sym q)))) in
-      ap (λ (x : Vec Declared Global). x.items) there ∙ r.are xs ys sp t k d h
-      ∙ ap (λ q. (entries k xs ++ q) ++ entries k ys) (sym more))
-      (cases_eq k s.name);
-}
-
-pub grows_step : (ss ss' : List Numbered) (s : Numbered) (old mid : List (Vec Declared Global))
-    (v l : Vec Declared Global)
-    → is_local s.symbol.binding ≡ false → ss' ≡ ss ++ s ∷ [] → s.name < length mid → v ≡ get_or mid s.name v
-    → vec_capacity l ≡ vec_capacity v → vec_len l ≡ vec_len v + 1
-    → Grows old mid ss → Grows old (set mid s.name l) ss'
-grows_step ss ss' s old mid v l vis e w i c n g = record {
-  long = length-set mid s.name l ∙ g.long;
-  row = λ k d h. ⊎_elim
-      (λ same.
-      let there : get_or (set mid s.name l) k d ≡ l = ap (λ q. get_or (set mid s.name l) q d) same
-      ∙ get_or-set_same mid s.name l d w in
-      let here : get_or mid k d ≡ v = get_or_default mid k d v (omega (arith, g.long)) ∙ ap (λ q. get_or mid q v) same
-      ∙ sym i in
-      let count : length (named k ss') ≡ length (named k ss) + 1 = ap (λ q. length (named k q)) e
-      ∙ ap length (named_push k ss s true (named_yes k s vis (sym same))) ∙ length-append (named k ss) (s ∷ []) in
-      let old' = g.row k d h in (
-        ap vec_capacity there ∙ c ∙ ap vec_capacity (sym here) ∙ old'.0,
-        ap vec_len there ∙ n ∙ ap (λ q. vec_len q + 1) (sym here) ∙ omega (arith, old'.1, count),
-      ))
-      (λ ne.
-      let there : get_or (set mid s.name l) k d ≡ get_or mid k d = get_or-set_other mid s.name k l d ne in
-      let count : length (named k ss') ≡ length (named k ss) = ap (λ q. length (named k q)) e
-      ∙ ap length (named_push k ss s false (named_no k s (λ q. ne (sym q)))) in
-      let old' = g.row k d h in
-      (ap vec_capacity there ∙ old'.0, ap vec_len there ∙ omega (arith, old'.1, count)))
-      (cases_eq k s.name);
-}
-
--- a local symbol adds nothing
-pub rows_local : (place : List Place) (at key : ℕ) (ss : List Numbered) (s : Numbered)
-    (old new : List (Vec Declared Global)) → is_local s.symbol.binding ≡ true → Rows place at key ss old new
-    → Rows place at key (ss ++ s ∷ []) old new
-rows_local place at key ss s old new h r = record {
-  are = λ xs ys sp t k d l. r.are xs ys sp t k d l
-      ∙ ap (λ ns. (entries k xs ++ map (declared key) ns)
-      ++ entries k ys) (sym (named_push k ss s false (named_local k s h)));
-}
-
-pub grows_local : (ss : List Numbered) (s : Numbered) (old new : List (Vec Declared Global))
-    → is_local s.symbol.binding ≡ true → Grows old new ss → Grows old new (ss ++ s ∷ [])
-grows_local ss s old new h g = record {
-  long = g.long;
-  row = λ k d l. let r = g.row k d l in
-      (r.0, omega (arith, r.1, ap length (named_push k ss s false (named_local k s h))));
-}
 
 pub room_left : (symbols : List Numbered) (i : ℕ) (s : Numbered) (old mid : List (Vec Declared Global))
     (v : Vec Declared Global)
@@ -201,15 +93,6 @@ room_left symbols i s old mid v h is vis w r g =
       length-append (named k (take (i + 1) symbols)) (named k (drop (i + 1) symbols)),
       length-append (named k (take i symbols)) (s ∷ []),
     )
-
-pub rows_end : (place : List Place) (at key : ℕ) (ss : List Numbered) (old new : List (Vec Declared Global))
-    → Rows place at key ss old new → length new ≡ length old
-    → (xs ys : List Entered) → IsSplit place at key xs ys → IsTable old (xs ++ ys) → (room : ℕ)
-    → IsTable new (xs ++ record { key = key; symbols = ss; room = room } ∷ ys)
-rows_end place at key ss old new r e xs ys s t room = record {
-  row = λ k d h. r.are xs ys s t k d (omega (arith, e)) ∙ append_assoc (entries k xs) (own k key ss) (entries k ys)
-      ∙ sym (entries-append k xs (record { key = key; symbols = ss; room = room } ∷ ys));
-}
 
 pub entries_more : (k : ℕ) (os : List Entered) (i : ℕ) (d : Entered) → i < length os → entries k (take (i + 1) os)
     ≡ entries k (take i os) ++ own k (get_or os i d).key (get_or os i d).symbols

@@ -1,17 +1,23 @@
-use Rattle.std.proofs.Common.{◌≡◌, ◌<◌, ℕ, Bool, true, false, cond, eqb, not, ◌||◌, length, get_or, set, Vec, Global}
-use Rattle.std.proofs.Common.{List, [], ◌∷◌, ◌++◌, map, refl, ap, sym, ◌∙◌, ⊎_elim, arith, get_or-set_same}
-use Rattle.std.proofs.Common.{get_or-set_other}
+use Rattle.std.proofs.Common.{◌≡◌, ◌≢◌, ◌<◌, ◌-◌, ℕ, Bool, true, false, cond, eqb, not, ◌||◌, length, get_or, set, Vec}
+use Rattle.std.proofs.Common.{Global, List, [], ◌∷◌, ◌++◌, map, refl, ap, sym, ◌∙◌, subst, ⊎_elim, inl, inr, arith}
+use Rattle.std.proofs.Common.{Some, get_or-set_same, get_or-set_other, append-nil, length-append}
 use Rattle.std.specs.Vec.{vec_capacity}
 use Rattle.std.proofs.Math.ListN.{length-set}
-use Rattle.std.proofs.lemmas.Bool.{cases_eq, false≢true}
-use Rattle.std.proofs.lemmas.List.{get_or_default}
+use Rattle.std.proofs.lemmas.Bool.{cases_eq, eq-eqb, false≢true}
+use Rattle.std.proofs.lemmas.List.{get_or_default, get_or-append_right}
 use Rattle.std.proofs.lemmas.List.Elements.{filter-append, All-head, All-tail}
+use Rattle.std.proofs.lemmas.Option.{slice_get-get_or}
 use Rattle.symres.specs.declared.symbol.Declared.{Declared}
 use Rattle.symres.specs.declared.symbol.Numbered.{Numbered}
 use Rattle.ldmodel.specs.Names.{is_local}
-use Rattle.symres.specs.Numbers.{Entered, declared, own, entries, IsTable, is_named, named, others, without, HasSymbols}
-use Rattle.symres.specs.Steps.{cleared, has_name, Cleared}
+use Rattle.symres.specs.Numbers.{Entered, declared, own, entries, IsTable, KeepsRoom, is_named, named, others, without}
+use Rattle.symres.specs.Numbers.{HasSymbols}
+use Rattle.symres.specs.Steps.{AllGathered, cleared, has_name, Cleared, ClearedWhere, ends_in, Gathered, is_of}
+use Rattle.symres.specs.Steps.{IsGathered}
 use Rattle.symres.proofs.Naming.{named_yes, named_no, named_local}
+
+abbrev pub Row : Type 0
+Row = Vec Declared Global
 
 others_twice : (key : ℕ) (ds : List Declared) → others key (others key ds) ≡ others key ds
 others_twice key [] = refl
@@ -77,9 +83,6 @@ not_named key k ss (o ∷ os) h s =
         ∙ ap (λ l. l ++ others key (entries k os)) (others_of key o.key (named k o.symbols) false e)
         ∙ ap (λ l. own k o.key o.symbols ++ l) r
 
-pub cleared_start : (key : ℕ) (table : List (Vec Declared Global)) → Cleared key [] table table
-cleared_start key table = record { room = record { long = refl; row = λ k d h. refl }; row = λ k d h. refl }
-
 pub named_now : (k : ℕ) (ss : List Numbered) (s : Numbered) (b : Bool) → is_named k s ≡ b → has_name k (ss ++ s ∷ [])
     ≡ cond b true (has_name k ss)
 named_now k [] s true e = rw e refl
@@ -91,50 +94,168 @@ named_now k (x ∷ ss) s true e = go (is_named k x) (named_now k ss s true e)
     go false h = h
 named_now k (x ∷ ss) s false e = ap (λ b. is_named k x || b) (named_now k ss s false e)
 
-pub cleared_step : (key : ℕ) (ss ss' : List Numbered) (s : Numbered) (old mid : List (Vec Declared Global))
-    (v l : Vec Declared Global)
-    → is_local s.symbol.binding ≡ false → ss' ≡ ss ++ s ∷ [] → s.name < length mid → v ≡ get_or mid s.name v → l.items
-    ≡ others key v.items → vec_capacity l ≡ vec_capacity v
-    → Cleared key ss old mid → Cleared key ss' old (set mid s.name l)
-cleared_step key ss ss' s old mid v l vis e w i p c r = record {
-  room = record {
-    long = length-set mid s.name l ∙ r.room.long;
-    row = λ k d h. ⊎_elim
-        (λ same. ap vec_capacity (there k d same) ∙ c
-        ∙ ap vec_capacity (sym (here k d (omega (arith, r.room.long)) same)) ∙ r.room.row k d h)
-        (λ n. ap vec_capacity (get_or-set_other mid s.name k l d n) ∙ r.room.row k d h)
-        (cases_eq k s.name);
-  };
+pub set_here : (mid : List Row) (n k : ℕ) (l d : Row) → n < length mid → k ≡ n → get_or (set mid n l) k d ≡ l
+set_here mid n k l d w same = ap (λ q. get_or (set mid n l) q d) same ∙ get_or-set_same mid n l d w
+
+pub was_here : (mid : List Row) (n k : ℕ) (v d : Row) → k < length mid → k ≡ n → v ≡ get_or mid n v → get_or mid k d ≡ v
+was_here mid n k v d h same i = get_or_default mid k d v h ∙ ap (λ q. get_or mid q v) same ∙ sym i
+
+keeps_set : (n : ℕ) (old mid : List Row) (v l : Row) → n < length mid → v ≡ get_or mid n v
+    → vec_capacity l ≡ vec_capacity v → KeepsRoom old mid → KeepsRoom old (set mid n l)
+keeps_set n old mid v l w i c r = record {
+  long = length-set mid n l ∙ r.long;
   row = λ k d h. ⊎_elim
-      (λ same.
-      let now : has_name k ss' ≡ true = ap (has_name k) e ∙ named_now k ss s true (named_yes k s vis (sym same)) in
-      let was : v.items ≡ cleared key (has_name k ss) (get_or old k d).items =
-      ap (λ (x : Vec Declared Global). x.items) (sym (here k d (omega (arith, r.room.long)) same)) ∙ r.row k d h in
-      ap (λ (x : Vec Declared Global). x.items) (there k d same) ∙ p ∙ ap (others key) was
-      ∙ others_cleared key (has_name k ss) (get_or old k d).items
-      ∙ ap (λ b. cleared key b (get_or old k d).items) (sym now))
-      (λ n.
-      let now : has_name k ss' ≡ has_name k ss = ap (has_name k) e
-      ∙ named_now k ss s false (named_no k s (λ q. n (sym q))) in
-      ap (λ (x : Vec Declared Global). x.items) (get_or-set_other mid s.name k l d n) ∙ r.row k d h
-      ∙ ap (λ b. cleared key b (get_or old k d).items) (sym now))
+      (λ same. ap vec_capacity (set_here mid n k l d w same) ∙ c
+      ∙ ap vec_capacity (sym (was_here mid n k v d (omega (arith, r.long)) same i)) ∙ r.row k d h)
+      (λ ne. ap vec_capacity (get_or-set_other mid n k l d ne) ∙ r.row k d h)
+      (cases_eq k n);
+}
+
+keeps_refl : (table : List Row) → KeepsRoom table table
+keeps_refl table = record { long = refl; row = λ k d h. refl }
+
+has_now : (k : ℕ) (ss : List Numbered) (s : Numbered) → is_local s.symbol.binding ≡ false → k ≡ s.name
+    → has_name k (ss ++ s ∷ []) ≡ true
+has_now k ss s vis same = named_now k ss s true (named_yes k s vis (sym same))
+
+has_same : (k : ℕ) (ss : List Numbered) (s : Numbered) → k ≢ s.name → has_name k (ss ++ s ∷ []) ≡ has_name k ss
+has_same k ss s n = named_now k ss s false (named_no k s (λ q. n (sym q)))
+
+pub gathered_start : (key : ℕ) (table : List Row) → AllGathered key [] table table
+gathered_start key table = record {
+  room = keeps_refl table;
+  same = λ k d h. refl;
+  gathered = λ k d h e. absurd (false≢true e);
+  rest = λ k d h e. refl;
+}
+
+pub gathered_step : (key : ℕ) (ss : List Numbered) (s : Numbered) (old mid : List Row) (v l : Row)
+    → is_local s.symbol.binding ≡ false → s.name < length mid → v ≡ get_or mid s.name v → Gathered key v l
+    → AllGathered key ss old mid → AllGathered key (ss ++ s ∷ []) old (set mid s.name l)
+gathered_step key ss s old mid v l vis w i g r = record {
+  room = keeps_set s.name old mid v l w i g.room r.room;
+  same = λ k d h. ⊎_elim
+      (λ same. ap (λ (x : Row). others key x.items) (set_here mid s.name k l d w same) ∙ g.same
+      ∙ ap (λ (x : Row). others key x.items) (sym (was_here mid s.name k v d (omega (arith, r.room.long)) same i))
+      ∙ r.same k d h)
+      (λ n. ap (λ (x : Row). others key x.items) (get_or-set_other mid s.name k l d n) ∙ r.same k d h)
+      (cases_eq k s.name);
+  gathered = λ k d h e. ⊎_elim
+      (λ same. subst (λ (x : Row). IsGathered key x.items) (sym (set_here mid s.name k l d w same)) g.gathered)
+      (λ n. subst (λ (x : Row). IsGathered key x.items) (sym (get_or-set_other mid s.name k l d n))
+      (r.gathered k d h (sym (has_same k ss s n) ∙ e)))
+      (cases_eq k s.name);
+  rest = λ k d h e. ⊎_elim
+      (λ same. absurd (false≢true (sym e ∙ has_now k ss s vis same)))
+      (λ n. ap (λ (x : Row). x.items) (get_or-set_other mid s.name k l d n)
+      ∙ r.rest k d h (sym (has_same k ss s n) ∙ e))
       (cases_eq k s.name);
 }
-  where
-    there : (k : ℕ) (d : Vec Declared Global) → k ≡ s.name → get_or (set mid s.name l) k d ≡ l
-    there k d same = ap (λ q. get_or (set mid s.name l) q d) same ∙ get_or-set_same mid s.name l d w
 
-    here : (k : ℕ) (d : Vec Declared Global) → k < length mid → k ≡ s.name → get_or mid k d ≡ v
-    here k d h same = get_or_default mid k d v h ∙ ap (λ q. get_or mid q v) same ∙ sym i
+-- a local symbol has no row
+pub gathered_local : (key : ℕ) (ss : List Numbered) (s : Numbered) (old new : List Row)
+    → is_local s.symbol.binding ≡ true → AllGathered key ss old new → AllGathered key (ss ++ s ∷ []) old new
+gathered_local key ss s old new h r = record {
+  room = r.room;
+  same = r.same;
+  gathered = λ k d l e. r.gathered k d l (sym (named_now k ss s false (named_local k s h)) ∙ e);
+  rest = λ k d l e. r.rest k d l (sym (named_now k ss s false (named_local k s h)) ∙ e);
+}
+
+-- the declaration at the end shows that a row is done
+pub marked : (key : ℕ) (s : Numbered) (old : List Declared) (v l : Row) → v.items ≡ old
+    → l.items ≡ others key old ++ declared key s ∷ [] → vec_capacity l ≡ vec_capacity v → Gathered key v l
+marked key s old v l e i c = record {
+  same = ap (others key) i ∙ others-append key (others key old) (declared key s ∷ [])
+      ∙ ap (λ b. others key (others key old) ++ cond (not b) (declared key s ∷ []) []) (eq-eqb key key refl)
+      ∙ append-nil _ ∙ others_twice key old ∙ ap (others key) (sym e);
+  gathered = inl (ap (ends_in key) i ∙ ends_pushed key (others key old) s);
+  room = c;
+}
+  where
+    ends_pushed : (key : ℕ) (ds : List Declared) (s : Numbered) → ends_in key (ds ++ declared key s ∷ []) ≡ true
+    ends_pushed key ds s =
+        let len = length-append ds (declared key s ∷ []) in
+        let n : ℕ = length (ds ++ declared key s ∷ []) - 1 in
+        let e : n - length ds ≡ 0 = omega (arith, len) in
+        ap (is_of key) (slice_get-get_or (ds ++ declared key s ∷ []) n (declared key s) (omega (arith, len))
+        ∙ ap Some (get_or-append_right ds (declared key s ∷ []) (length ds) n (declared key s) refl (omega (arith, len))
+        ∙ ap (λ m. get_or (declared key s ∷ []) m (declared key s)) e))
+        ∙ eq-eqb key key refl
+
+-- a row without the declarations of the key
+pub unmarked : (key : ℕ) (v l : Row) → l.items ≡ others key v.items → vec_capacity l ≡ vec_capacity v → Gathered key v l
+unmarked key v l i c = record {
+  same = ap (others key) i ∙ others_twice key v.items;
+  gathered = inr (ap (others key) i ∙ others_twice key v.items ∙ sym i);
+  room = c;
+}
+
+pub as_it_was : (key : ℕ) (v : Row) → ends_in key v.items ≡ true → Gathered key v v
+as_it_was key v e = record { same = refl; gathered = inl e; room = refl }
+
+pub gathered_stays : (key : ℕ) (ds : List Declared) → IsGathered key ds → ends_in key ds ≡ false → ds ≡ others key ds
+gathered_stays key ds (inl e) h = absurd (false≢true (sym h ∙ e))
+gathered_stays key ds (inr e) h = sym e
+
+pub cleared_start : (key : ℕ) (table : List Row) → ClearedWhere key [] table table
+cleared_start key table = record { room = keeps_refl table; row = λ k d h g. refl }
+
+gathered_cleared : (key : ℕ) (b : Bool) (ds : List Declared) → IsGathered key ds → IsGathered key (cleared key b ds)
+gathered_cleared key true ds g = inr (others_twice key ds)
+gathered_cleared key false ds g = g
+
+pub cleared_step : (key : ℕ) (ss : List Numbered) (s : Numbered) (old mid : List Row) (v l : Row)
+    → is_local s.symbol.binding ≡ false → s.name < length mid → v ≡ get_or mid s.name v
+    → (IsGathered key v.items → l.items ≡ others key v.items) → vec_capacity l ≡ vec_capacity v
+    → ClearedWhere key ss old mid → ClearedWhere key (ss ++ s ∷ []) old (set mid s.name l)
+cleared_step key ss s old mid v l vis w i p c r = record {
+  room = keeps_set s.name old mid v l w i c r.room;
+  row = λ k d h g. ⊎_elim
+      (λ same.
+      let ds : List Declared = (get_or old k d).items in
+      let now : has_name k (ss ++ s ∷ []) ≡ true = has_now k ss s vis same in
+      let was : v.items ≡ cleared key (has_name k ss) ds =
+      ap (λ (x : Row). x.items) (sym (was_here mid s.name k v d (omega (arith, r.room.long)) same i))
+      ∙ r.row k d h (λ e. g now) in
+      ap (λ (x : Row). x.items) (set_here mid s.name k l d w same)
+      ∙ p (subst (IsGathered key) (sym was) (gathered_cleared key (has_name k ss) ds (g now)))
+      ∙ ap (others key) was ∙ others_cleared key (has_name k ss) ds
+      ∙ ap (λ b. cleared key b ds) (sym now))
+      (λ n. ap (λ (x : Row). x.items) (get_or-set_other mid s.name k l d n)
+      ∙ r.row k d h (λ e. g (has_same k ss s n ∙ e))
+      ∙ ap (λ b. cleared key b (get_or old k d).items) (sym (has_same k ss s n)))
+      (cases_eq k s.name);
+}
 
 -- a local symbol clears nothing
-pub cleared_local : (key : ℕ) (ss : List Numbered) (s : Numbered) (old new : List (Vec Declared Global))
-    → is_local s.symbol.binding ≡ true → Cleared key ss old new → Cleared key (ss ++ s ∷ []) old new
+pub cleared_local : (key : ℕ) (ss : List Numbered) (s : Numbered) (old new : List Row)
+    → is_local s.symbol.binding ≡ true → ClearedWhere key ss old new → ClearedWhere key (ss ++ s ∷ []) old new
 cleared_local key ss s old new h r = record {
   room = r.room;
-  row = λ k d l. r.row k d l
-      ∙ ap (λ b. cleared key b (get_or old k d).items) (sym (named_now k ss s false (named_local k s h)));
+  row = λ k d l g.
+      let e : has_name k (ss ++ s ∷ []) ≡ has_name k ss = named_now k ss s false (named_local k s h) in
+      r.row k d l (λ q. g (e ∙ q)) ∙ ap (λ b. cleared key b (get_or old k d).items) (sym e);
 }
+
+pub keeps_both : (old mid new : List Row) → KeepsRoom old mid → KeepsRoom mid new → KeepsRoom old new
+keeps_both old mid new a b = record {
+  long = b.long ∙ a.long;
+  row = λ k d h. b.row k d (omega (arith, a.long)) ∙ a.row k d h;
+}
+
+-- rows that were gathered and then cleared have lost the declarations of the key
+pub cleared_all : (key : ℕ) (ss : List Numbered) (old mid new : List Row) → AllGathered key ss old mid
+    → ClearedWhere key ss mid new → Cleared key ss old new
+cleared_all key ss old mid new a r = record {
+  room = keeps_both old mid new a.room r.room;
+  row = λ k d h. r.row k d (omega (arith, a.room.long)) (a.gathered k d h) ∙ go k d h (has_name k ss) refl;
+}
+  where
+    go : (k : ℕ) (d : Row) → k < length old → (b : Bool) → has_name k ss ≡ b → cleared key b (get_or mid k d).items
+        ≡ cleared key b (get_or old k d).items
+    go k d h true e = a.same k d h
+    go k d h false e = a.rest k d h e
 
 pub cleared_end : (key : ℕ) (ss : List Numbered) (old new : List (Vec Declared Global)) → Cleared key ss old new
     → (os : List Entered) → HasSymbols key ss os → IsTable old os → IsTable new (without key os)

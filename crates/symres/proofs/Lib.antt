@@ -2,6 +2,7 @@ pub mod Greatest
 pub mod Finding
 pub mod Naming
 pub mod Adding
+pub mod Settling
 pub mod Cleared
 pub mod Growing
 pub mod Placing

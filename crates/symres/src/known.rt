@@ -120,7 +120,7 @@ impl Known {
         ensures sorted { OnOk result (IsInByteOrder self.new.order) }
         ensures slots { self.new.slots ≡ self.old.slots }
     {
-        self.numbers.sort_unstable_keys()
+        self.numbers.sort_keys()
     }
 
     /// The names with their numbers.

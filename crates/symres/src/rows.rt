@@ -2,8 +2,8 @@
 
 ghost use Rattle.indexmap.specs.IndexMap.{get};
 ghost use Rattle.std.specs.Prelude.{unwrap_or, count_by, nat_eq, ◌==◌, IfOk, OnOk, ◌≡◌, ◌<◌, ◌≤◌, ◌+◌, ◌++◌, ◌∷◌, []};
-ghost use Rattle.std.specs.Prelude.{ℕ, List, length, insert, not, vec_len, vec_capacity, true};
-ghost use Rattle.std.specs.List.{All};
+ghost use Rattle.std.specs.Prelude.{ℕ, List, length, not, vec_len, vec_capacity, true, ◌⊎◌};
+ghost use Rattle.std.specs.List.{All, insert_slice};
 ghost use Rattle.std.proofs.Common.{Vec, Global};
 ghost use Rattle.ldmodel.specs.Names.{is_local};
 ghost use Rattle.symres.specs.declared.symbol.Declared.{Declared};
@@ -11,7 +11,8 @@ ghost use Rattle.symres.specs.declared.symbol.Numbered.{Numbered};
 ghost use Rattle.symres.specs.Numbers.{before, declared, Entered, Grows, HasRoom, HasRow, HasSymbols, IsPlace, IsSplit};
 ghost use Rattle.symres.specs.Numbers.{IsTable, KeepsRoom, others, RowsGrow, without};
 ghost use Rattle.symres.specs.Places.{AreSorted};
-ghost use Rattle.symres.specs.Steps.{Cleared, HasRoomForOne, Rows};
+ghost use Rattle.symres.specs.Steps.{AllGathered, Appended, AreParts, ClearedWhere, ends_in, ends_with, Gathered};
+ghost use Rattle.symres.specs.Steps.{HasRoomForOne, IsGathered, IsOwnStart, Settling};
 
 use crate::places::{Place, is_in_front};
 use crate::symbol::{Declared, Numbered, is_visible};
@@ -37,28 +38,101 @@ fn place_for(row: &[Declared], places: &[Place], at: usize, key: usize) -> usize
     number
 }
 
-/// Adds a declaration after those of the objects in front. It takes no memory.
-fn add(row: &mut Vec<Declared>, places: &[Place], at: usize, key: usize, symbol: Numbered)
-    requires sorted { AreSorted places.now }
-    requires room { vec_len row.old < vec_capacity row.old }
-    ensures items { (n : ℕ) × (IsPlace places.now at key row.old.items n)
-        × (row.new.items ≡ insert row.old.items n (declared key symbol)) }
-    ensures capacity { vec_capacity row.new ≡ vec_capacity row.old }
-    ensures len { vec_len row.new ≡ vec_len row.old + 1 }
+fn declaration(key: usize, symbol: Numbered) -> Declared
+    ensures { result ≡ declared key symbol }
 {
-    let number = place_for(row, places, at, key);
-    let declared = Declared {
+    Declared {
         entry: Entry {
             key,
             symbol: symbol.number,
         },
         symbol: symbol.symbol,
-    };
-    row.insert(number, declared).unwrap();
+    }
 }
 
-/// The same for a symbol of any binding. A local one declares nothing.
-fn add_visible(
+/// Puts a declaration of a symbol of any binding at the end of its row. A local one declares nothing.
+fn append_visible(table: &mut Vec<Vec<Declared>>, key: usize, symbol: Numbered)
+    requires known { HasRow (length table.old.items) symbol }
+    requires room { HasRoomForOne table.old.items symbol }
+    ensures { (ss : List Numbered) (was : List (Vec Declared Global)) → Appended key ss was table.old.items
+        → Appended key (ss ++ symbol ∷ []) was table.new.items }
+{
+    if is_visible(&symbol.symbol) {
+        table[symbol.name].push_reserved(declaration(key, symbol));
+    }
+}
+
+/// Puts what an object declares at the ends of the rows. It takes no memory.
+fn append_all(table: &mut Vec<Vec<Declared>>, key: usize, symbols: &[Numbered])
+    requires known { All (HasRow (length table.old.items)) symbols.now }
+    requires room { HasRoom table.old.items symbols.now }
+    ensures { Appended key symbols.now table.old.items table.new.items }
+{
+    for symbol in symbols {
+        append_visible(table, key, *symbol);
+    }
+}
+
+/// Where the declarations of a key at the end of a row begin.
+fn start_of_own(row: &[Declared], key: usize) -> usize
+    ensures { IsOwnStart key row.now result }
+{
+    let mut start = row.len();
+    while start > 0 && row[start - 1].entry.key == key {
+        start -= 1;
+    }
+    start
+}
+
+/// Moves the items from `tail` on to `at`, in front of those that were there.
+fn move_tail_to(row: &mut [Declared], tail: usize, at: usize)
+    requires at_le_tail { at ≤ tail }
+    requires within { tail ≤ length row.old }
+    ensures { (front back : List Declared) → row.old ≡ front ++ back → length front ≡ tail
+        → row.new ≡ insert_slice front at back }
+{
+    row[at..].rotate_left(tail - at);
+}
+
+/// Moves the declarations of a key from the end of a row to those of the objects in front, in one rotation.
+fn settle(row: &mut [Declared], places: &[Place], at: usize, key: usize)
+    requires { AreSorted places.now }
+    ensures { (fs bs os : List Declared) → AreParts places.now at key fs bs os → row.old ≡ fs ++ (bs ++ os)
+        → row.new ≡ fs ++ (os ++ bs) }
+{
+    let tail = start_of_own(row, key);
+    let number = place_for(&row[..tail], places, at, key);
+    move_tail_to(row, tail, number);
+}
+
+fn ends_with(row: &[Declared], key: usize, symbol: Numbered) -> bool
+    ensures { result ≡ ends_with key symbol.number row.now }
+{
+    match row.last() {
+        Some(declared) => declared.entry.key == key && declared.entry.symbol == symbol.number,
+        None => false,
+    }
+}
+
+/// Settles a row if it ends with the declaration of this symbol. Of the symbols of a name only the last one finds
+/// that, so that a row is gone through once.
+fn settle_last(row: &mut [Declared], places: &[Place], at: usize, key: usize, symbol: Numbered)
+    requires { AreSorted places.now }
+    ensures last { (fs bs os : List Declared) → AreParts places.now at key fs bs (os ++ declared key symbol ∷ [])
+        → row.old ≡ fs ++ (bs ++ (os ++ declared key symbol ∷ []))
+        → row.new ≡ fs ++ ((os ++ declared key symbol ∷ []) ++ bs) }
+    ensures either { (fs bs os : List Declared) → AreParts places.now at key fs bs os
+        → row.old ≡ fs ++ (bs ++ os) → (row.new ≡ row.old) ⊎ (row.new ≡ fs ++ (os ++ bs)) }
+    ensures settled { (fs bs os : List Declared) → AreParts places.now at key fs bs os
+        → row.old ≡ fs ++ (os ++ bs) → row.new ≡ row.old }
+{
+    if ends_with(row, key, symbol) {
+        settle(row, places, at, key);
+    }
+}
+
+/// The same for a symbol of any binding.
+fn settle_visible(
     table: &mut Vec<Vec<Declared>>,
     places: &[Place],
     at: usize,
@@ -67,19 +141,34 @@ fn add_visible(
 )
     requires sorted { AreSorted places.now }
     requires known { HasRow (length table.old.items) symbol }
-    requires room { HasRoomForOne table.old.items symbol }
-    ensures rows { (ss : List Numbered) (was : List (Vec Declared Global)) → Grows was table.old.items ss
-        → Rows places.now at key ss was table.old.items
-        → Rows places.now at key (ss ++ symbol ∷ []) was table.new.items }
-    ensures grows { (ss : List Numbered) (was : List (Vec Declared Global)) → Grows was table.old.items ss
-        → Grows was table.new.items (ss ++ symbol ∷ []) }
+    ensures { (ss left : List Numbered) (was : List (Vec Declared Global))
+        → Settling places.now at key (ss ++ symbol ∷ left) (symbol ∷ left) was table.old.items
+        → Settling places.now at key (ss ++ symbol ∷ left) left was table.new.items }
 {
     if is_visible(&symbol.symbol) {
-        add(&mut table[symbol.name], places, at, key, symbol);
+        settle_last(&mut table[symbol.name], places, at, key, symbol);
     }
 }
 
-/// Adds what an object declares, after the objects in front. It takes no memory.
+/// Moves what an object declares from the ends of the rows to its place. It takes no memory.
+fn settle_all(
+    table: &mut Vec<Vec<Declared>>,
+    places: &[Place],
+    at: usize,
+    key: usize,
+    symbols: &[Numbered],
+)
+    requires sorted { AreSorted places.now }
+    requires known { All (HasRow (length table.old.items)) symbols.now }
+    ensures { Settling places.now at key symbols.now [] table.old.items table.new.items }
+{
+    for symbol in symbols {
+        settle_visible(table, places, at, key, *symbol);
+    }
+}
+
+/// Adds what an object declares, after the objects in front. It takes no memory. Each row is gone through once, however
+/// many of the symbols have its name.
 pub fn add_all(
     table: &mut Vec<Vec<Declared>>,
     places: &[Place],
@@ -94,9 +183,8 @@ pub fn add_all(
         → (room : ℕ) → IsTable table.new.items (xs ++ record { key = key; symbols = symbols.now; room = room } ∷ ys) }
     ensures grows { Grows table.old.items table.new.items symbols.now }
 {
-    for symbol in symbols {
-        add_visible(table, places, at, key, *symbol);
-    }
+    append_all(table, key, symbols);
+    settle_all(table, places, at, key, symbols);
 }
 
 fn drop_key(row: &mut Vec<Declared>, key: usize)
@@ -106,27 +194,94 @@ fn drop_key(row: &mut Vec<Declared>, key: usize)
     row.retain(|declared| declared.entry.key != key);
 }
 
-/// Takes what an object declares out of the row of one of its symbols.
-fn remove_visible(table: &mut Vec<Vec<Declared>>, key: usize, symbol: Numbered)
-    requires { HasRow (length table.old.items) symbol }
-    ensures { (ss : List Numbered) (was : List (Vec Declared Global)) → Cleared key ss was table.old.items
-        → Cleared key (ss ++ symbol ∷ []) was table.new.items }
+fn ends_in(row: &[Declared], key: usize) -> bool
+    ensures { result ≡ ends_in key row.now }
 {
-    if is_visible(&symbol.symbol) {
-        drop_key(&mut table[symbol.name], key);
+    match row.last() {
+        Some(declared) => declared.entry.key == key,
+        None => false,
     }
 }
 
-/// Takes out what an object declares.
+/// Takes the declarations of a key out of a row, and puts this one at its end where there were any: it shows that the
+/// row is done.
+fn gather(row: &mut Vec<Declared>, key: usize, symbol: Numbered)
+    ensures { Gathered key row.old row.new }
+{
+    let count = row.len();
+    drop_key(row, key);
+    if row.len() < count {
+        row.push_reserved(declaration(key, symbol));
+    }
+}
+
+fn gather_once(row: &mut Vec<Declared>, key: usize, symbol: Numbered)
+    ensures { Gathered key row.old row.new }
+{
+    if !ends_in(row, key) {
+        gather(row, key, symbol);
+    }
+}
+
+fn gather_visible(table: &mut Vec<Vec<Declared>>, key: usize, symbol: Numbered)
+    requires { HasRow (length table.old.items) symbol }
+    ensures { (ss : List Numbered) (was : List (Vec Declared Global)) → AllGathered key ss was table.old.items
+        → AllGathered key (ss ++ symbol ∷ []) was table.new.items }
+{
+    if is_visible(&symbol.symbol) {
+        gather_once(&mut table[symbol.name], key, symbol);
+    }
+}
+
+/// Makes the rows of these symbols end in a declaration of the key, or have none.
+fn gather_all(table: &mut Vec<Vec<Declared>>, key: usize, symbols: &[Numbered])
+    requires { All (HasRow (length table.old.items)) symbols.now }
+    ensures { AllGathered key symbols.now table.old.items table.new.items }
+{
+    for symbol in symbols {
+        gather_visible(table, key, *symbol);
+    }
+}
+
+fn clear_once(row: &mut Vec<Declared>, key: usize)
+    ensures items { IsGathered key row.old.items → row.new.items ≡ others key row.old.items }
+    ensures capacity { vec_capacity row.new ≡ vec_capacity row.old }
+{
+    if ends_in(row, key) {
+        drop_key(row, key);
+    }
+}
+
+/// Takes what an object declares out of the row of one of its symbols.
+fn clear_visible(table: &mut Vec<Vec<Declared>>, key: usize, symbol: Numbered)
+    requires { HasRow (length table.old.items) symbol }
+    ensures { (ss : List Numbered) (was : List (Vec Declared Global)) → ClearedWhere key ss was table.old.items
+        → ClearedWhere key (ss ++ symbol ∷ []) was table.new.items }
+{
+    if is_visible(&symbol.symbol) {
+        clear_once(&mut table[symbol.name], key);
+    }
+}
+
+fn clear_all(table: &mut Vec<Vec<Declared>>, key: usize, symbols: &[Numbered])
+    requires { All (HasRow (length table.old.items)) symbols.now }
+    ensures { ClearedWhere key symbols.now table.old.items table.new.items }
+{
+    for symbol in symbols {
+        clear_visible(table, key, *symbol);
+    }
+}
+
+/// Takes out what an object declares. Each row is gone through twice at most, however many of the symbols have its
+/// name: once a row ends in a declaration of the key, the others of them are passed over.
 pub fn remove_all(table: &mut Vec<Vec<Declared>>, key: usize, symbols: &[Numbered])
     requires known { All (HasRow (length table.old.items)) symbols.now }
     ensures table { (os : List Entered) → HasSymbols key symbols.now os → IsTable table.old.items os
         → IsTable table.new.items (without key os) }
     ensures room { KeepsRoom table.old.items table.new.items }
 {
-    for symbol in symbols {
-        remove_visible(table, key, *symbol);
-    }
+    gather_all(table, key, symbols);
+    clear_all(table, key, symbols);
 }
 
 /// How many of the symbols have each name.

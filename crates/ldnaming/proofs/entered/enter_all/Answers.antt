@@ -2,6 +2,7 @@ use Rattle.std.proofs.Common.{◌≡◌, ◌∙◌, ℕ, ◌≤◌, ◌<◌, Lis
 use Rattle.std.specs.List.{insert}
 use Rattle.std.proofs.lemmas.List.{take_all}
 use Rattle.std.specs.Prelude.{◌==◌}
+use Rattle.symres.specs.State.{State}
 use Rattle.ldnaming.specs.Entered.{tables_of}
 use Rattle.ldnaming.proofs.Entering.{Table, symbols_of, length-tables, length-first, one_more, fresh_at}
 use Rattle.ldnaming.proofs.entered.enter_all.Goals as goal
@@ -32,8 +33,9 @@ loop-place-preserved c =
     ∙ one_more c.args.inputs.now c.loop-place.place c.index-inputs-place.result (omega (arith, c.loop-place-test.true))
     (sym c.index-inputs-place.is))
 
-pub returns : goal.returns
-returns c =
-    c.loop-place.invariant
+pub returns-clause-objects : goal.returns-clause-objects
+returns-clause-objects c =
+    ap (λ (s : State). s.objects) c.sort_names.ensures.same
+    ∙ (c.loop-place.invariant
     ∙ take_all c.loop-place.place (tables_of c.args.inputs.now)
-    (omega (arith, length-tables c.args.inputs.now, c.loop-place-test.false))
+    (omega (arith, length-tables c.args.inputs.now, c.loop-place-test.false)))

@@ -10,7 +10,7 @@ overflow_add-index c =
     state_of c.self.inside.names c.self.inside.cases.items c.self.inside.keys.items c.self.inside.starts.items in
     let seen = subst (λ (x : NamingState). IsSeenAt x.objects c.args.place c.args.symbol.0) (sym c.self.view_is)
     c.requires in
-    let f = found a c.args.place c.args.symbol.0 c.self.invariant seen in
+    let f = found a c.args.place c.args.symbol.0 c.self.invariant.0 seen in
     omega (
       arith,
       start_is a c.args.place c.args.symbol.0 c.index.result.now f c.index.ensures,
@@ -25,7 +25,7 @@ index-requires-2 c =
     state_of c.self.inside.names c.self.inside.cases.items c.self.inside.keys.items c.self.inside.starts.items in
     let seen = subst (λ (x : NamingState). IsSeenAt x.objects c.args.place c.args.symbol.0) (sym c.self.view_is)
     c.requires in
-    let f = found a c.args.place c.args.symbol.0 c.self.invariant seen in
+    let f = found a c.args.place c.args.symbol.0 c.self.invariant.0 seen in
     omega (
       arith,
       start_is a c.args.place c.args.symbol.0 c.index.result.now f c.index.ensures,
@@ -40,7 +40,7 @@ unreachable-requires c =
     state_of c.self.inside.names c.self.inside.cases.items c.self.inside.keys.items c.self.inside.starts.items in
     let seen = subst (λ (x : NamingState). IsSeenAt x.objects c.args.place c.args.symbol.0) (sym c.self.view_is)
     c.requires in
-    let f = found a c.args.place c.args.symbol.0 c.self.invariant seen in
+    let f = found a c.args.place c.args.symbol.0 c.self.invariant.0 seen in
     not_none a c.args.place c.args.symbol.0 seen f
     (sym c.in-None.is
     ∙ read_key a c.args.place c.args.symbol.0 c.index.result.now c.index-2.result.now f c.index.ensures
@@ -52,7 +52,7 @@ returns-clause-name c =
     state_of c.self.inside.names c.self.inside.cases.items c.self.inside.keys.items c.self.inside.starts.items in
     let seen = subst (λ (x : NamingState). IsSeenAt x.objects c.args.place c.args.symbol.0) (sym c.self.view_is)
     c.requires in
-    let f = found a c.args.place c.args.symbol.0 c.self.invariant seen in
+    let f = found a c.args.place c.args.symbol.0 c.self.invariant.0 seen in
     subst (λ (x : NamingState). IsNameAt x c.args.place c.args.symbol.0 c.in-Some.key.0) c.self.view_is
     (name_found a c.args.place c.args.symbol.0 c.in-Some.key f
     (sym c.in-Some.is
@@ -65,7 +65,7 @@ returns-clause-case c =
     state_of c.self.inside.names c.self.inside.cases.items c.self.inside.keys.items c.self.inside.starts.items in
     let seen = subst (λ (x : NamingState). IsSeenAt x.objects c.args.place c.args.symbol.0) (sym c.self.view_is)
     c.requires in
-    let f = found a c.args.place c.args.symbol.0 c.self.invariant seen in
+    let f = found a c.args.place c.args.symbol.0 c.self.invariant.0 seen in
     subst (λ (x : NamingState). HasCase x.cases c.in-Some.key.0) c.self.view_is
     (case_found a c.args.place c.args.symbol.0 c.in-Some.key f
     (sym c.in-Some.is

@@ -3,10 +3,10 @@ use Rattle.symres.proofs.known.Known.sort.Goals as goal
 
 pub invariant_of-self : goal.invariant_of-self
 invariant_of-self c =
-    paired_sorted c.self.inside.numbers.entries c.sort_unstable_keys.new.self.entries c.self.inside.names.slots
-    c.self.invariant c.sort_unstable_keys.ensures.reordered.0 c.sort_unstable_keys.ensures.reordered.2
+    paired_sorted c.self.inside.numbers.entries c.sort_keys.new.self.entries c.self.inside.names.slots
+    c.self.invariant c.sort_keys.ensures.reordered.0 c.sort_keys.ensures.reordered.2
 
 pub returns-clause-sorted : goal.returns-clause-sorted
 returns-clause-sorted c =
-    sorted_ok c.sort_unstable_keys.result (sorted_spelled c.sort_unstable_keys.new.self.entries)
-    c.sort_unstable_keys.ensures.sorted
+    sorted_ok c.sort_keys.result (sorted_spelled c.sort_keys.new.self.entries)
+    c.sort_keys.ensures.sorted

@@ -1,0 +1,70 @@
+//! What the conditions of ASSERTs may name.
+
+ghost use Rattle.std.specs.Prelude.{◌≡◌, option_copied};
+ghost use Rattle.ldasserting.specs.FinalScope as definition;
+ghost use Rattle.ldmodel.specs.Assertions.{number_if_any};
+ghost use Rattle.ldtargets.specs.Values.{value_of};
+
+use ldmodel::laid::{Laid, Placed, PlacedRegion};
+use ldscript::script::Script;
+use ldtargets::value::SymbolValue;
+use ldvalue::scope::Scope;
+use ldvalues::values::OutputSymbol;
+
+/// What stands in the output at the end of a link: its symbols, output sections and memory regions.
+#[derive(Clone, Copy)]
+pub struct FinalScope<'a, 'b> {
+    /// The script.
+    pub script: &'a Script,
+    /// Where its output sections and memory regions are.
+    pub laid: Laid<'a>,
+    /// The symbols of the output.
+    pub symbols: &'a [OutputSymbol<'b>],
+}
+
+/// The number of a value, if it has one.
+fn number_of(value: SymbolValue) -> Option<u64>
+    ensures { result ≡ number_if_any (value_of value) }
+{
+    match value {
+        SymbolValue::Number(number) => Some(number),
+        SymbolValue::NotDefined | SymbolValue::NotInOutput => None,
+    }
+}
+
+/// The symbol of a name.
+fn find_symbol<'s, 'b>(symbols: &'s [OutputSymbol<'b>], name: &[u8]) -> Option<&'s OutputSymbol<'b>>
+    ensures { option_copied result ≡ definition.found_symbol symbols.now name.now }
+{
+    symbols.iter().find(|symbol| symbol.name == name)
+}
+
+impl<'a, 'b> Scope for FinalScope<'a, 'b> {
+    ghost use Rattle.std.specs.Prelude.{⊤};
+    ghost use Rattle.ldasserting.specs.FinalScope.{meaning_of};
+
+    ghost can_look_up = { λ _. ⊤ };
+
+    ghost meaning = { λ f. meaning_of f };
+
+    fn symbol(&self, name: &[u8]) -> Option<u64> {
+        match find_symbol(self.symbols, name) {
+            Some(symbol) => number_of(symbol.value),
+            None => None,
+        }
+    }
+
+    fn section(&self, name: &[u8]) -> Option<Placed> {
+        match self.script.section_number(name) {
+            Some(number) => self.laid.sections.get(number).copied(),
+            None => None,
+        }
+    }
+
+    fn region(&self, name: &[u8]) -> Option<PlacedRegion> {
+        match self.script.region_number(name) {
+            Some(number) => self.laid.regions.get(number).copied(),
+            None => None,
+        }
+    }
+}

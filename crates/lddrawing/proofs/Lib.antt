@@ -1,0 +1,14 @@
+mod AllRows
+mod Fills
+mod Joining
+mod Lists
+mod Named
+mod Numbering
+mod Walking
+mod Whole
+mod OfRows
+mod OfSections
+mod Running
+mod Sizing
+mod OfSizes
+mod OfSymbols

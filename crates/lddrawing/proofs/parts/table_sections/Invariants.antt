@@ -1,0 +1,13 @@
+-- Those so far are of the output sections.
+use Rattle.std.proofs.Common.{take}
+use Rattle.std.specs.List.{AllZip}
+use Rattle.ldmodel.specs.Layout.{Layout}
+use Rattle.ldmodel.specs.Project.{Project}
+use Rattle.ldtail.specs.Tables.{IsTableSection}
+use Rattle.lddrawing.proofs.parts.table_sections.Given as goal
+use Rattle.lddrawing.specs.Output.{IsOutput}
+
+abbrev pub invariant-loop-output : goal.invariant-loop-output
+invariant-loop-output l =
+    (p : Project) (s : Layout) → AllZip (IsOutput p s) s.sections l.outputs
+    → AllZip (IsTableSection s) (take l.output-index s.sections) l.sections.items

@@ -1,0 +1,9 @@
+pub mod DataRuns
+pub mod Drawable
+pub mod Joined
+pub mod Numbers
+pub mod Offsets
+pub mod Output
+pub mod Pieces
+pub mod Sizes
+pub mod Symbols

@@ -1,0 +1,21 @@
+-- Output sections beside the segments that they stand in.
+use Rattle.std.specs.Prelude.{ℕ, ◌+◌, ◌-◌, List, [], ◌∷◌, Bool, ◌==◌, if◌then◌else◌}
+use Rattle.ldmodel.specs.declared.laid.Placed.{Placed}
+use Rattle.ldmodel.specs.declared.segment.Segment.{Segment}
+
+-- where an output section of a segment begins in the file
+abbrev pub offset_at : Segment → Placed → ℕ
+offset_at g q = g.offset + (q.start - g.start)
+
+-- the last output section of a segment ends where the segment does
+abbrev pub is_last : Segment → Placed → Bool
+is_last g q = ((q.start + q.size) - g.start) == g.memory_size
+
+-- where output sections begin in the file: one of size 0 at 0, each other one in the first of the segments, up to the
+-- last one of that
+abbrev pub offsets_in : List Placed → List Segment → List ℕ
+offsets_in [] gs = []
+offsets_in (q ∷ qs) [] = if q.size == 0 then 0 ∷ offsets_in qs [] else []
+offsets_in (q ∷ qs) (g ∷ gs) =
+    if q.size == 0 then 0 ∷ offsets_in qs (g ∷ gs)
+    else (offset_at g q ∷ (if is_last g q then offsets_in qs gs else offsets_in qs (g ∷ gs)))

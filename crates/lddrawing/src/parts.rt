@@ -1,0 +1,105 @@
+//! The parts of a drawing, of the output sections of a link.
+
+ghost use Rattle.std.specs.Prelude.{◌≡◌, ◌++◌, ◌∷◌, [], IfOk, OnOk, List};
+ghost use Rattle.std.specs.List.{AllZip};
+ghost use Rattle.ldlaying.specs.Laying.{IsLaying};
+ghost use Rattle.ldmodel.specs.Layout.{Layout, PlacedSection};
+ghost use Rattle.ldmodel.specs.Project.{Project};
+ghost use Rattle.ldtail.specs.Tables.{IsTableSection};
+ghost use Rattle.lddrawing.specs.Output.{AreDrawn, AreDrawnOf, IsDrawn, IsOutput};
+
+use crate::output::Output;
+use ldimage::section::ImageSection;
+use ldlaws::segments::segments_by_neighbours;
+use ldlaying::laying::Laying;
+use ldmodel::memory::NoMemory;
+use ldoverlap::law::outputs_are_of_script;
+use ldproject::view::ProjectView;
+use ldtail::sections::TableSection;
+use std::alloc::{AllocError, Global};
+
+/// One more than the greatest offset that a section header can state.
+const PAST_OFFSETS: u128 = 1 << 64;
+
+/// An output section as its header is made of it.
+fn table_section<'a>(output: &Output<'a>) -> TableSection<'a>
+    ensures { (p : Project) (s : Layout) (q : PlacedSection) → IsOutput p s q output.now → IsTableSection s q result }
+{
+    TableSection {
+        name: output.name,
+        placed: output.placed,
+        offset: (output.offset % PAST_OFFSETS) as u64,
+    }
+}
+
+/// The output sections as their headers are made of them. An error says that memory ran out.
+pub(crate) fn table_sections<'a>(
+    alloc: Global,
+    outputs: &[Output<'a>],
+) -> Result<Vec<TableSection<'a>>, NoMemory>
+    ensures { IfOk result (λ v. (p : Project) (s : Layout) → AllZip (IsOutput p s) s.sections outputs.now
+        → AllZip (IsTableSection s) s.sections v.items) }
+{
+    let mut sections = Vec::with_capacity(alloc, outputs.len())?;
+    for output in outputs {
+        sections.push(table_section(output))?;
+    }
+    Ok(sections)
+}
+
+/// An output section as it is drawn. An error says that it begins past any file.
+fn image_section<'a>(output: &Output<'a>) -> Result<ImageSection<'a>, NoMemory>
+    ensures { IfOk result (λ y. (p : Project) (s : Layout) (q : PlacedSection) → IsOutput p s q output.now
+        → IsDrawn p s q y) }
+{
+    match u64::try_from(output.offset) {
+        Err(_too_great) => Err(AllocError),
+        Ok(offset) => Ok(ImageSection {
+            offset,
+            start: output.placed.start,
+            size: output.placed.size,
+            fill: output.fill,
+            pieces: output.pieces,
+            data_commands: output.data_commands,
+        }),
+    }
+}
+
+/// Adds an output section to those that are drawn, if it has bytes in the file.
+fn add_section<'a>(
+    sections: &mut Vec<ImageSection<'a>>,
+    output: &Output<'a>,
+) -> Result<(), NoMemory>
+    ensures { OnOk result ((p : Project) (s : Layout) (q : PlacedSection) (qs : List PlacedSection)
+        → IsOutput p s q output.now → AreDrawnOf p s qs sections.old.items
+        → AreDrawnOf p s (qs ++ q ∷ []) sections.new.items) }
+{
+    if output.placed.size == 0 || output.placed.load_size == 0 {
+        return Ok(());
+    }
+    let section = image_section(output)?;
+    sections.push(section)?;
+    Ok(())
+}
+
+/// The output sections with bytes in the file, as they are drawn. An error says that memory ran out.
+pub(crate) fn image_sections<'a>(
+    alloc: Global,
+    project: &ProjectView<'_>,
+    laying: &Laying,
+    outputs: &[Output<'a>],
+) -> Result<Vec<ImageSection<'a>>, NoMemory>
+    ensures { IfOk result (λ v. (s : Layout) → IsLaying project.now s laying.now
+        → AllZip (IsOutput project.now s) s.sections outputs.now → AreDrawn project.now s v.items) }
+{
+    outputs_are_of_script();
+    segments_by_neighbours();
+    let script = project.script();
+    let _statements = script.statements();
+    let _segments = laying.segments.len();
+    let mut sections = Vec::new(alloc);
+    for output in outputs {
+        add_section(&mut sections, output)?;
+    }
+    Ok(sections)
+}

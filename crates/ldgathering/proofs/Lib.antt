@@ -1,0 +1,12 @@
+pub mod Seen
+pub mod Lists
+pub mod Owning
+pub mod Owners
+pub mod ByNumber
+pub mod Named
+pub mod Preparing
+pub mod Sorting
+pub mod Tables
+pub mod Keyed
+pub mod Referring
+pub mod Starting

@@ -1,0 +1,109 @@
+-- Lists of objects and of symbols with their numbers.
+use Rattle.std.proofs.Common.{◌≡◌, ◌∙◌, ℕ, zero, suc, ◌+◌, ◌<◌, ◌≤◌, List, [], ◌∷◌, ◌++◌, length, get_or, map, take, ap}
+use Rattle.std.proofs.Common.{sym, subst, arith, refl, add-zero}
+use Rattle.std.specs.Prelude.{Option, Some, None, slice_get, flat_map, option_to_list}
+use Rattle.std.specs.List.{All, AllZip, cons_option, enumerate_from, filter_map}
+use Rattle.std.specs.Option.{option_map}
+use Rattle.std.proofs.Math.Seq.{take-suc}
+use Rattle.std.proofs.lemmas.List.{take_all}
+use Rattle.std.proofs.lemmas.List.Concat.{flat_map-cons}
+use Rattle.std.proofs.lemmas.List.Elements.{All-append, All-cons, All-head, All-nil, All-tail}
+use Rattle.std.proofs.lemmas.List.FromFn.{length-enumerate_from, get_or-enumerate_from}
+use Rattle.std.proofs.lemmas.Option.{slice_get-get_or, slice_get_within, get_or_from_slice_get}
+use Rattle.std.proofs.lemmas.Slice.Zip.{all_zipped_more}
+
+-- one more of a list with numbers
+pub enumerate_more : {X : Type 0} (a n : ℕ) (xs : List X) (d : X) → n < length xs → enumerate_from a (take (suc n) xs)
+    ≡ enumerate_from a (take n xs) ++ (a + n, get_or xs n d) ∷ []
+enumerate_more a n [] d h = absurd (omega (arith, h))
+enumerate_more {X} a zero (x ∷ xs) d h = ap (λ (k : ℕ). let y : ℕ × X = (k, x) in y ∷ []) (sym (add-zero a))
+enumerate_more {X} a (suc n) (x ∷ xs) d h =
+    let shift : a + 1 + n ≡ a + suc n = omega arith in
+    ap (λ (l : List (ℕ × X)). (a, x) ∷ l) (enumerate_more (a + 1) n xs d (omega (arith, h))
+    ∙ ap (λ (k : ℕ). enumerate_from (a + 1) (take n xs) ++ (k, get_or xs n d) ∷ []) shift)
+
+-- a member with its number
+pub numbered : {X : Type 0} (xs : List X) (n : ℕ) (x : X) (d : ℕ × X) → slice_get xs n ≡ Some x
+    → get_or (enumerate_from 0 xs) n d ≡ (n, x)
+numbered {X} xs n x d e =
+    let from_0 : 0 + n ≡ n = omega arith in
+    get_or-enumerate_from 0 xs n d (slice_get_within xs n x e)
+    ∙ (ap (λ (k : ℕ). let y : ℕ × X = (k, get_or xs n d.1) in y) from_0
+    ∙ ap (λ (v : X). let y : ℕ × X = (n, v) in y) (get_or_from_slice_get xs n x d.1 e))
+
+module _ {X Y : Type 0} (R : ℕ × X → Y → Type 0) (os : List X) where
+  pub zip_more : (xs : List Y) (n : ℕ) (o : X) (x : Y) → slice_get os n ≡ Some o → R (n, o) x
+      → AllZip R (take n (enumerate_from 0 os)) xs → AllZip R (take (n + 1) (enumerate_from 0 os)) (xs ++ x ∷ [])
+  zip_more xs n o x e r h =
+      let t : ℕ × X = (n, o) in
+      let all : List (ℕ × X) = enumerate_from 0 os in
+      let within : n < length all = omega (arith, length-enumerate_from 0 os, slice_get_within os n o e) in
+      let suc_is : suc n ≡ n + 1 = omega arith in
+      let more : take (n + 1) all ≡ take n all ++ t ∷ [] =
+      ap (λ (k : ℕ). take k all) (sym suc_is)
+      ∙ (take-suc all n t within ∙ ap (λ (y : ℕ × X). take n all ++ y ∷ []) (numbered os n o t e)) in
+      subst (λ (l : List (ℕ × X)). AllZip R l (xs ++ x ∷ [])) (sym more)
+      (all_zipped_more R (take n all) xs t x h r)
+
+  pub zip_end : (xs : List Y) (n : ℕ) → length os ≤ n → AllZip R (take n (enumerate_from 0 os)) xs
+      → AllZip R (enumerate_from 0 os) xs
+  zip_end xs n past h =
+      subst (λ (l : List (ℕ × X)). AllZip R l xs)
+      (take_all n (enumerate_from 0 os) (omega (arith, past, length-enumerate_from 0 os))) h
+
+zip_get : {A B : Type 0} (R : A → B → Type 0) (xs : List A) (ys : List B) (k : ℕ) (d : A) (e : B) → AllZip R xs ys
+    → k < length xs → R (get_or xs k d) (get_or ys k e)
+zip_get R [] [] k d e h l = absurd (omega (arith, l))
+zip_get R [] (y ∷ ys) k d e h l = absurd h
+zip_get R (x ∷ xs) [] k d e h l = absurd h
+zip_get R (x ∷ xs) (y ∷ ys) zero d e h l = h.0
+zip_get R (x ∷ xs) (y ∷ ys) (suc k) d e h l = zip_get R xs ys k d e h.1 (omega (arith, l))
+
+-- what belongs to a member
+pub zip_at : {X Y : Type 0} (R : ℕ × X → Y → Type 0) (os : List X) (xs : List Y) (n : ℕ) (o : X) (d : Y)
+    → slice_get os n ≡ Some o → AllZip R (enumerate_from 0 os) xs → R (n, o) (get_or xs n d)
+zip_at {X} R os xs n o d e h =
+    let t : ℕ × X = (n, o) in
+    subst (λ (y : ℕ × X). R y (get_or xs n d)) (numbered os n o t e)
+    (zip_get R (enumerate_from 0 os) xs n t d h
+    (omega (arith, length-enumerate_from 0 os, slice_get_within os n o e)))
+
+pub all_numbered : {X : Type 0} (P : ℕ × X → Type 0) (xs : List X)
+    → ((n : ℕ) (x : X) → slice_get xs n ≡ Some x → P (n, x)) → All P (enumerate_from 0 xs)
+all_numbered P xs h = λ k d low.
+    let within : k < length xs = omega (arith, low, length-enumerate_from 0 xs) in
+    let is = slice_get-get_or xs k d.1 within in
+    subst P (sym (numbered xs k (get_or xs k d.1) d is)) (h k (get_or xs k d.1) is)
+
+pub all_flat_map : {X Y : Type 0} (P : Y → Type 0) (f : X → List Y) (xs : List X) → All (λ x. All P (f x)) xs
+    → All P (flat_map f xs)
+all_flat_map P f [] h = All-nil P
+all_flat_map P f (x ∷ xs) h =
+    subst (All P) (sym (flat_map-cons f x xs))
+    (All-append P (f x) (flat_map f xs) (All-head (λ x. All P (f x)) x xs h)
+    (all_flat_map P f xs (All-tail (λ x. All P (f x)) x xs h)))
+
+pub all_filter_map : {X Y : Type 0} (P : Y → Type 0) (f : X → Option Y) (xs : List X)
+    → ((x : X) (y : Y) → f x ≡ Some y → P y) → All P (filter_map f xs)
+all_filter_map P f [] h = All-nil P
+all_filter_map {X} {Y} P f (x ∷ xs) h = go (f x) refl (all_filter_map P f xs h)
+  where
+    go : (o : Option Y) → f x ≡ o → All P (filter_map f xs) → All P (cons_option o (filter_map f xs))
+    go None e rest = rest
+    go (Some y) e rest = All-cons P y (filter_map f xs) (h x y e) rest
+
+pub filter_map_one : {X Y : Type 0} (f : X → Option Y) (x : X) → filter_map f (x ∷ []) ≡ option_to_list (f x)
+filter_map_one {X} {Y} f x = go (f x)
+  where
+    go : (o : Option Y) → cons_option o [] ≡ option_to_list o
+    go None = refl
+    go (Some y) = refl
+
+pub map_option : {X Y : Type 0} (f : X → Y) (o : Option X) → map f (option_to_list o)
+    ≡ option_to_list (option_map f o)
+map_option f None = refl
+map_option f (Some x) = refl
+
+pub map_twice : {X Y Z : Type 0} (g : Y → Z) (f : X → Y) (xs : List X) → map g (map f xs) ≡ map (λ x. g (f x)) xs
+map_twice g f [] = refl
+map_twice g f (x ∷ xs) = ap (λ l. g (f x) ∷ l) (map_twice g f xs)

@@ -1,0 +1,18 @@
+-- Symbols of objects of a project, and what their names stand for.
+use Rattle.std.specs.Prelude.{◌≡◌, ℕ, Option, Some, None, slice_get, true, false}
+use Rattle.std.specs.Option.{option_map}
+use Rattle.elfobj.specs.Object.{ObjectData}
+use Rattle.elfobj.specs.Symbols.{NamedSymbol}
+use Rattle.ldmodel.specs.HandedOver.{decision_of}
+use Rattle.ldmodel.specs.Names.{decision, is_local}
+use Rattle.ldmodel.specs.Project.{NamedObject, Project}
+use Rattle.ldmodel.specs.declared.names.Case.{Case}
+
+-- the object at this place of the project
+abbrev pub IsObjectAt : Project → ℕ → ObjectData → Type 0
+IsObjectAt p i object = option_map (λ (o : NamedObject). o.object) (slice_get p.objects i) ≡ Some object
+
+-- a local symbol has no case; that of another is what its name stands for
+abbrev pub IsCaseOf : Project → NamedSymbol → Option Case → Type 0
+IsCaseOf p s None = is_local s.symbol.binding ≡ true
+IsCaseOf p s (Some c) = (is_local s.symbol.binding ≡ false) × (decision_of (λ key. key) c ≡ decision p s.name)

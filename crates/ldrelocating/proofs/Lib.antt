@@ -1,0 +1,5 @@
+mod Lists
+mod Ending
+mod Sizes
+mod Ordering
+mod Faulting

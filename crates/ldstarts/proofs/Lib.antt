@@ -1,0 +1,5 @@
+mod Ranks
+mod Searching
+mod Numbers
+mod Collecting
+mod Placing

@@ -1,0 +1,87 @@
+//! The names that may be symbols of the output, in byte order.
+
+ghost use Rattle.std.specs.Prelude.{◌≡◌, ◌++◌, IfOk, OnOk, map};
+ghost use Rattle.ldtree.specs.Numbered.{shown_commons};
+ghost use Rattle.ldnaming.specs.Naming.{NamingState};
+ghost use Rattle.ldnaming.specs.Sorted.{AreSorted};
+ghost use Rattle.ldvalues.specs.Candidates.{all_given, names_given, names_of, with_key, AreCandidates, AreKeyed};
+
+use ldmodel::memory::NoMemory;
+use ldmodel::names::NameKey;
+use ldnaming::naming::Naming;
+use ldnaming::sorted::NamedKey;
+use ldscript::script::Script;
+use ldscript::tree::{Common, CommonAt};
+use std::alloc::Global;
+
+/// A name that may be a symbol of the output.
+#[derive(Clone, Copy, Debug)]
+pub(crate) struct Candidate<'a> {
+    /// The name.
+    pub name: &'a [u8],
+    /// Its key, if it has one: the script alone gives the others.
+    pub key: Option<NameKey>,
+}
+
+/// Names with keys.
+fn with_keys<'a>(alloc: Global, sorted: &[NamedKey<'a>]) -> Result<Vec<Candidate<'a>>, NoMemory>
+    ensures { IfOk result (λ list. list.items ≡ map with_key sorted.now) }
+{
+    let mut list = Vec::with_capacity(alloc, sorted.len())?;
+    for named in sorted {
+        list.push(Candidate {
+            name: named.name,
+            key: Some(named.key),
+        })?;
+    }
+    Ok(list)
+}
+
+/// Adds the name that a command gives a value to, if it gives one.
+fn add_given<'a>(list: &mut Vec<Candidate<'a>>, command: &'a Common) -> Result<(), NoMemory>
+    ensures names { OnOk result (names_of list.new.items ≡ names_of list.old.items ++ names_given command.now) }
+    ensures keyed { OnOk result ((a : NamingState) → AreKeyed a list.old.items → AreKeyed a list.new.items) }
+{
+    match command {
+        Common::Assign(assignment) | Common::Provide(assignment) => {
+            list.push(Candidate {
+                name: assignment.name.as_bytes(),
+                key: None,
+            })?;
+            Ok(())
+        }
+        Common::Assert(_) => Ok(()),
+    }
+}
+
+/// The same for each of these commands.
+fn add_all_given<'a>(
+    list: &mut Vec<Candidate<'a>>,
+    commands: &[CommonAt<'a>],
+) -> Result<(), NoMemory>
+    ensures names { OnOk result (names_of list.new.items
+        ≡ names_of list.old.items ++ all_given (shown_commons commands.now)) }
+    ensures keyed { OnOk result ((a : NamingState) → AreKeyed a list.old.items → AreKeyed a list.new.items) }
+{
+    for at in commands {
+        add_given(list, at.command)?;
+    }
+    Ok(())
+}
+
+/// All names that objects declare or that the script gives values to, in byte order. Of those that are alike, one with
+/// a key is the first. An error says that memory ran out.
+pub(crate) fn candidates<'a>(
+    alloc: Global,
+    naming: &'a Naming,
+    script: &'a Script,
+) -> Result<Vec<Candidate<'a>>, NoMemory>
+    ensures { IfOk result (λ list. AreCandidates naming.now script.now list.items) }
+{
+    let sorted = naming.sorted(alloc)?;
+    let commands = script.common_commands(alloc)?;
+    let mut list = with_keys(alloc, &sorted)?;
+    add_all_given(&mut list, &commands)?;
+    list.sort_by(|x, y| x.name.cmp(y.name))?;
+    Ok(list)
+}

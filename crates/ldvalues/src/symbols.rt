@@ -1,0 +1,192 @@
+//! The symbols of the output: names that stand for something, in byte order.
+
+ghost use Rattle.std.specs.Prelude.{◌≡◌, ◌<◌, ◌++◌, ◌∷◌, [], ℕ, List, IfOk, IfSome, OnOk, length};
+ghost use Rattle.ldmodel.specs.HandedOver.{decision_of};
+ghost use Rattle.ldmodel.specs.Layout.{Layout, script_value};
+ghost use Rattle.ldmodel.specs.OutputSymbols.{is_defined, output_symbols};
+ghost use Rattle.ldmodel.specs.Project.{Project};
+ghost use Rattle.ldmodel.specs.SymbolValues.{decided_value};
+ghost use Rattle.ldtargets.specs.Values.{value_of};
+ghost use Rattle.symres.specs.State.{IsNamed};
+ghost use Rattle.ldvalues.specs.Candidates.{names_of, AreCandidates, HasKeyOr};
+ghost use Rattle.ldvalues.specs.Symbols.{defined, fresh, is_repeat, shown, AddsSymbols, AreSources};
+ghost use Rattle.ldvalues.specs.Values.{shown_symbol};
+
+use crate::candidate::Candidate;
+use crate::script_values::ScriptValues;
+use crate::values::OutputSymbol;
+use ldbase::meter::Meter;
+use ldmodel::memory::NoMemory;
+use ldmodel::names::{Case, NameKey};
+use ldnaming::naming::Naming;
+use ldscript::script::Script;
+use ldtargets::value::SymbolValue;
+use std::alloc::{AllocError, Global};
+
+/// What the symbols of the output are made of.
+#[derive(Clone, Copy)]
+pub(crate) struct Sources<'a> {
+    /// The script.
+    pub script: &'a Script,
+    /// What names stand for.
+    pub naming: &'a Naming,
+    /// The values of names under their keys.
+    pub names: &'a [SymbolValue],
+    /// The values that the script gives names.
+    pub given: &'a ScriptValues<'a>,
+}
+
+/// Whether a name stands for something.
+fn is_defined(case: Case) -> bool
+    ensures { result ≡ is_defined (decision_of (λ key. key) case) }
+{
+    match case {
+        Case::Strong(_) | Case::Script | Case::Common { .. } | Case::Weak(_) | Case::Provided => {
+            true
+        }
+        Case::Undefined | Case::Duplicate => false,
+    }
+}
+
+/// The value of a name that no object defines.
+fn value_by_script(case: Case, given: Option<u64>) -> Option<SymbolValue>
+    ensures { IfSome result (λ v. (p : Project) (s : Layout) (name : List ℕ) → given ≡ script_value s name → value_of v
+        ≡ decided_value p s name (decision_of (λ key. key) case)) }
+{
+    match case {
+        Case::Script | Case::Provided => match given {
+            Some(value) => Some(SymbolValue::Number(value)),
+            None => Some(SymbolValue::NotDefined),
+        },
+        Case::Undefined | Case::Duplicate => Some(SymbolValue::NotDefined),
+        Case::Strong(_) | Case::Weak(_) | Case::Common { .. } => None,
+    }
+}
+
+/// Adds a symbol, if its name stands for something.
+fn add_if_defined<'a>(
+    list: &mut Vec<OutputSymbol<'a>>,
+    symbol: OutputSymbol<'a>,
+) -> Result<(), NoMemory>
+    ensures { OnOk result (shown list.new.items ≡ shown list.old.items ++ defined (shown_symbol symbol.entry ∷ [])) }
+{
+    if !is_defined(symbol.case) {
+        return Ok(());
+    }
+    list.push(symbol)?;
+    Ok(())
+}
+
+/// Adds the symbol of a name with a key.
+fn add_named<'a>(
+    sources: &Sources<'_>,
+    name: &'a [u8],
+    key: NameKey,
+    list: &mut Vec<OutputSymbol<'a>>,
+) -> Result<(), NoMemory>
+    ensures { OnOk result ((p : Project) (s : Layout) → AreSources p s sources.now
+        → IsNamed sources.now.naming.now.names key.0 name.now
+        → AddsSymbols p s (name.now ∷ []) list.old.items list.new.items) }
+{
+    // it does not come to either error: each key of a name has a case and a value
+    let naming = sources.naming;
+    let Some(case) = naming.case_of(key) else {
+        return Err(AllocError);
+    };
+    let Some(value) = sources.names.get(key.0) else {
+        return Err(AllocError);
+    };
+    add_if_defined(
+        list,
+        OutputSymbol {
+            name,
+            case,
+            value: *value,
+        },
+    )
+}
+
+/// Adds the symbol of a name without a key. It is decided and counted.
+fn add_unnamed<'a>(
+    sources: &Sources<'_>,
+    name: &'a [u8],
+    list: &mut Vec<OutputSymbol<'a>>,
+    meter: &mut Meter,
+) -> Result<(), NoMemory>
+    ensures { OnOk result ((p : Project) (s : Layout) → AreSources p s sources.now
+        → AddsSymbols p s (name.now ∷ []) list.old.items list.new.items) }
+{
+    let naming = sources.naming;
+    let given = sources.given;
+    let case = naming.case_named(sources.script, name, meter);
+    let Some(value) = value_by_script(case, given.value(name)) else {
+        // it does not come to this: a name that an object defines has a key
+        return Err(AllocError);
+    };
+    add_if_defined(list, OutputSymbol { name, case, value })
+}
+
+/// Adds the symbol of a candidate.
+fn add_symbol<'a>(
+    sources: &Sources<'_>,
+    candidate: &Candidate<'a>,
+    list: &mut Vec<OutputSymbol<'a>>,
+    meter: &mut Meter,
+) -> Result<(), NoMemory>
+    ensures { OnOk result ((p : Project) (s : Layout) → AreSources p s sources.now
+        → HasKeyOr sources.now.naming.now candidate.now.name.now candidate.now.key
+        → AddsSymbols p s (candidate.now.name.now ∷ []) list.old.items list.new.items) }
+{
+    match candidate.key {
+        Some(key) => add_named(sources, candidate.name, key, list),
+        None => add_unnamed(sources, candidate.name, list, meter),
+    }
+}
+
+/// Whether the name at a place is that before it.
+fn is_repeat(candidates: &[Candidate<'_>], place: usize) -> bool
+    requires { place < length candidates.now }
+    ensures { result ≡ is_repeat (names_of candidates.now) place }
+{
+    if place == 0 {
+        return false;
+    }
+    candidates[place - 1].name == candidates[place].name
+}
+
+/// Adds the symbol of the candidate at a place, unless its name is that before it.
+fn add_unless_repeat<'a>(
+    sources: &Sources<'_>,
+    candidates: &[Candidate<'a>],
+    place: usize,
+    list: &mut Vec<OutputSymbol<'a>>,
+    meter: &mut Meter,
+) -> Result<(), NoMemory>
+    requires place { place < length candidates.now }
+    requires candidates { AreCandidates sources.now.naming.now sources.now.script.now candidates.now }
+    ensures { OnOk result ((p : Project) (s : Layout) → AreSources p s sources.now
+        → AddsSymbols p s (fresh (names_of candidates.now) place) list.old.items list.new.items) }
+{
+    if is_repeat(candidates, place) {
+        return Ok(());
+    }
+    add_symbol(sources, &candidates[place], list, meter)
+}
+
+/// The symbols of the output. An error says that memory ran out.
+pub(crate) fn symbols_of<'a>(
+    alloc: Global,
+    sources: &Sources<'_>,
+    candidates: &[Candidate<'a>],
+    meter: &mut Meter,
+) -> Result<Vec<OutputSymbol<'a>>, NoMemory>
+    requires { AreCandidates sources.now.naming.now sources.now.script.now candidates.now }
+    ensures { IfOk result (λ list. (p : Project) (s : Layout) → AreSources p s sources.now → shown list.items
+        ≡ output_symbols p s) }
+{
+    let mut list = Vec::new(alloc);
+    for place in 0..candidates.len() {
+        add_unless_repeat(sources, candidates, place, &mut list, meter)?;
+    }
+    Ok(list)
+}
