@@ -33,7 +33,7 @@ use ldproject::view::ProjectView;
 use ldrelocating::relocated::Relocated;
 use std::alloc::{AllocError, Global};
 
-/// An input section of so many bytes at an address, all of which are 0.
+/// An input section of this number of bytes at an address, all of which are 0.
 fn zeros<'a>(size: u64, start: u64) -> ImagePiece<'a>
     ensures { (result.start ≡ start) × (result.size ≡ size) × (result.bytes.now ≡ []) × (result.fields.now ≡ [])
         × (result.stays ≡ false) }
@@ -55,7 +55,7 @@ fn section_at(object: &Object, index: LinkedIndex) -> Section
     object.sections()[index.0]
 }
 
-/// A section of the object of a key, as an input section of so many bytes at an address. An error says that it
+/// A section of the object of a key, as an input section of this number of bytes at an address. An error says that it
 /// is not among those whose fields are known.
 fn section_piece<'a>(
     relocated: &'a Relocated,
