@@ -46,11 +46,7 @@ impl<'a> Model for ProjectView<'a> {
 
 impl<'a> ProjectView<'a> {
     /// These objects, in this order, with a script and options.
-    pub fn new(
-        inputs: &'a [Input<'a>],
-        script: &'a Script,
-        options: &'a Options,
-    ) -> ProjectView<'a>
+    pub fn new(inputs: &'a [Input<'a>], script: &'a Script, options: &'a Options) -> ProjectView<'a>
         requires { AreNamesDistinct (shown_inputs inputs.now) }
         ensures { result ≡ record {
           objects = shown_inputs inputs.now;
