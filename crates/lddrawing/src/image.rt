@@ -24,7 +24,7 @@ use ldbase::meter::Meter;
 use ldfields::canvas::Canvas;
 use ldimage::draw::draw;
 use ldimage::law::{drawing_stands, placement_is_in_memory};
-use ldimage::section::{Drawing, ImagePart};
+use ldimage::section::{Drawing, ImagePart, ImagePiece};
 use ldlaying::laying::Laying;
 use ldmodel::memory::NoMemory;
 use ldmodel::rows::Piece;
@@ -60,12 +60,12 @@ fn image_parts(tail: &TailParts) -> [ImagePart<'_>; 4]
 }
 
 /// Draws these output sections, and what else the image of a link has. An error says that memory ran out.
-fn draw_outputs<'a>(
+fn draw_outputs(
     alloc: Global,
     project: &ProjectView<'_>,
     laying: &Laying,
     starts: &Starts,
-    values: &'a Values<'a>,
+    values: &Values<'_>,
     outputs: &[Output<'_>],
     meter: &mut Meter,
 ) -> Result<Canvas, NoMemory>
@@ -103,11 +103,11 @@ fn draw_outputs<'a>(
 /// Draws the image of a link without faults, whose bytes are counted. An error says that memory ran out.
 pub fn draw_image<'a>(
     alloc: Global,
-    project: &'a ProjectView<'a>,
+    project: &'a ProjectView<'_>,
     rows: &[Vec<Piece>],
     laying: &'a Laying,
     starts: &Starts,
-    values: &'a Values<'a>,
+    values: &Values<'_>,
     relocated: &'a Relocated,
     meter: &mut Meter,
 ) -> Result<Canvas, NoMemory>
@@ -118,7 +118,8 @@ pub fn draw_image<'a>(
         → IsRelocated project.now s a relocated.now → image_length project.now s ≤ max_image_length
         → c.bytes ≡ definition.image project.now s) }
 {
-    let pieces = image_pieces(alloc, project, rows, laying, relocated)?;
+    // the borrow checker wants its lifetime named
+    let pieces: Vec<Vec<ImagePiece<'a>>> = image_pieces(alloc, project, rows, laying, relocated)?;
     let outputs = outputs(alloc, project, laying, &pieces)?;
     draw_outputs(alloc, project, laying, starts, values, &outputs, meter)
 }

@@ -111,7 +111,7 @@ fn join<'a>(
 /// out.
 pub(crate) fn outputs<'a>(
     alloc: Global,
-    project: &'a ProjectView<'a>,
+    project: &'a ProjectView<'_>,
     laying: &'a Laying,
     pieces: &'a [Vec<ImagePiece<'a>>],
 ) -> Result<Vec<Output<'a>>, NoMemory>

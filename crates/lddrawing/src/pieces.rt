@@ -94,7 +94,7 @@ fn section_piece<'a>(
 
 /// An entry of a row at an address. An error says that it is of no object.
 fn image_piece<'a>(
-    project: &ProjectView<'a>,
+    project: &'a ProjectView<'_>,
     relocated: &'a Relocated,
     firsts: &[usize],
     piece: &Piece,
@@ -125,7 +125,7 @@ fn image_piece<'a>(
 /// The entries of a row at these addresses. An error says that memory ran out.
 fn image_row<'a>(
     alloc: Global,
-    project: &ProjectView<'a>,
+    project: &'a ProjectView<'_>,
     relocated: &'a Relocated,
     firsts: &[usize],
     row: &[Piece],
@@ -151,7 +151,7 @@ fn image_row<'a>(
 /// The entries of rows at these addresses, row by row. An error says that memory ran out.
 fn image_rows<'a>(
     alloc: Global,
-    project: &ProjectView<'a>,
+    project: &'a ProjectView<'_>,
     relocated: &'a Relocated,
     firsts: &[usize],
     rows: &[Vec<Piece>],
@@ -178,7 +178,7 @@ fn image_rows<'a>(
 /// The input sections of each output section, in their order. An error says that memory ran out.
 pub(crate) fn image_pieces<'a>(
     alloc: Global,
-    project: &'a ProjectView<'a>,
+    project: &'a ProjectView<'_>,
     rows: &[Vec<Piece>],
     laying: &Laying,
     relocated: &'a Relocated,

@@ -183,7 +183,7 @@ pub(crate) fn table_symbols<'a>(
     alloc: Global,
     project: &ProjectView<'_>,
     starts: &Starts,
-    values: &'a Values<'a>,
+    values: &'a Values<'_>,
 ) -> Result<Vec<TableSymbol<'a>>, NoMemory>
     ensures { IfOk result (λ v. (s : Layout) (a : NamingState) → AreStarts project.now s starts.now
         → AreValues project.now s a values.now → AllZip (IsTableSymbol project.now s) (table_symbols project.now s)

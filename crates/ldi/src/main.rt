@@ -4,11 +4,16 @@
 //! the status of the link (0 or 1), with 2 after bytes that no command begins or where the words of the
 //! command line are refused, with 3 where a device failed or the system gives no seed for hash tables,
 //! and with 4 without memory to begin.
+//!
+//! `ldi link` reads a script and objects, links once, and writes the image and the map. It ends with 0 when they are
+//! written, with 1 after fault lines on standard error, with 2 where a file or the words of the command line are
+//! refused, with 3 where a file cannot be read or written, and with 4 out of memory.
 #![tactic(auto)]
 
 ghost use Rattle.std.specs.Prelude.{◌≡◌};
 ghost use Rattle.ldi.specs.Exit.{exit_status};
 
+use crate::linking::{FileNames, link_files};
 use ldmodel::options::Options;
 use ldstream::Status;
 use ldstream::fault::RunFault;
@@ -18,6 +23,10 @@ use std::hash::RandomState;
 use std::process::ExitCode;
 use std::{env, io};
 
+mod files;
+#[cfg(test)]
+mod link_tests;
+mod linking;
 mod session;
 #[cfg(test)]
 mod testing;
@@ -26,9 +35,9 @@ mod tests;
 
 /// The words of the command line are refused.
 const REFUSED: u8 = 2;
-/// The system gives no seed.
+/// The system gives no seed, or a file cannot be read or written.
 const DEVICE: u8 = 3;
-/// There is no memory to begin.
+/// There is no memory.
 const NO_MEMORY: u8 = 4;
 
 /// The status of a run.
@@ -67,14 +76,24 @@ fn refuse(rt: &HostRuntime, reason: &str) -> u8 {
 /// Makes the call of the command line, and gives the status to end with.
 fn run_words(rt: &HostRuntime, args: &[String]) -> u8 {
     match words(rt.alloc(), args) {
-        Ok(Call::Session(options)) => {
-            if options.is_default() {
-                answer_commands(rt, options)
-            } else {
-                refuse(rt, "ldi: this version links without options only")
-            }
+        Ok(Call::Session(options)) => answer_commands(rt, options),
+        Ok(
+            Call::Link {
+                script,
+                image,
+                map,
+                options,
+                objects,
+            },
+        ) => {
+            let names = FileNames {
+                script,
+                image,
+                map,
+                objects,
+            };
+            link_files(rt, &names, options)
         }
-        Ok(Call::Link { .. }) => refuse(rt, "ldi: this version has no `link`"),
         Err(fault) => fault.report(rt),
     }
 }

@@ -2,8 +2,9 @@
 
 ghost use Rattle.std.specs.Prelude.{List, ℕ, IfOk, IfSome};
 ghost use Rattle.std.specs.Io.KnownBytes.{Appends};
-ghost use Rattle.ldmodel.specs.ThinProject.{Project, empty_project};
-ghost use Rattle.ldstream.specs.Answers.{Answers};
+ghost use Rattle.ldmodel.specs.Answers.{Answers};
+ghost use Rattle.ldmodel.specs.Project.{Project, empty_project};
+ghost use Rattle.ldstream.specs.Ran.{status_of};
 ghost use Rattle.ldi.specs.Session.{Leaves};
 
 use ldmodel::memory::NoMemory;
@@ -39,12 +40,13 @@ pub fn session<R: Read + Drop, W: Write + Drop>(
     options: Options,
 ) -> Result<Ended<W>, NoMemory>
     // The answers are those of the definition, from the empty project with these options.
-    ensures answers { IfOk result (λ ended. IfOk ended.outcome (λ status. IfSome (R.remaining reader) (λ stream. (out : List ℕ)
-        × (last : Project)
+    ensures answers { IfOk result (λ ended. IfOk ended.outcome (λ status. IfSome (R.remaining reader) (λ stream.
+        (out : List ℕ) × (last : Project)
         × Appends (W.contents writer) (W.contents ended.writer) out
-        × Answers (empty_project options) stream out last status))) }
+        × Answers (empty_project options) stream out last (status_of status)))) }
     // What stands after each outcome.
-    ensures ran { IfOk result (λ ended. Leaves options (R.remaining reader) (W.contents writer) (W.contents ended.writer) ended.outcome) }
+    ensures ran { IfOk result (λ ended. Leaves options (R.remaining reader)
+        (W.contents writer) (W.contents ended.writer) ended.outcome) }
 {
     let mut source = CommandReader::new(alloc, reader)?;
     let mut sink = AnswerWriter::new(alloc, writer)?;

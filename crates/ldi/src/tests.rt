@@ -1,5 +1,5 @@
-//! Whole streams through `session`, with the answers that they must have: each with one byte a call, with seven and with
-//! all, and with a reader or a writer that fails at its kth call.
+//! Whole streams through `session`, with the answers that they must have: each with one byte a call, with seven and
+//! with all, and with a reader or a writer that fails at its kth call.
 
 use crate::session;
 use crate::testing::{Recorder, Scripted};
@@ -12,7 +12,7 @@ use std::process::Abort;
 use std::test::Fail;
 
 /// An object with the four bytes `90 90 90 C3` in `.text`.
-const OBJECT_A: [u8; 280] = [
+pub const OBJECT_A: [u8; 280] = [
     0x7f, 0x45, 0x4c, 0x46, 0x02, 0x01, 0x01, 0x00, 0x00, 0x00, 0x00, 0x00, 0x00, 0x00, 0x00, 0x00,
     0x01, 0x00, 0x3e, 0x00, 0x01, 0x00, 0x00, 0x00, 0x00, 0x00, 0x00, 0x00, 0x00, 0x00, 0x00, 0x00,
     0x00, 0x00, 0x00, 0x00, 0x00, 0x00, 0x00, 0x00, 0x58, 0x00, 0x00, 0x00, 0x00, 0x00, 0x00, 0x00,
@@ -33,94 +33,18 @@ const OBJECT_A: [u8; 280] = [
     0x00, 0x00, 0x00, 0x00, 0x00, 0x00, 0x00, 0x00,
 ];
 
-/// The image of the empty project.
-const EMPTY_IMAGE: [u8; 64] = [
-    0x7f, 0x45, 0x4c, 0x46, 0x02, 0x01, 0x01, 0x00, 0x00, 0x00, 0x00, 0x00, 0x00, 0x00, 0x00, 0x00,
-    0x02, 0x00, 0x3e, 0x00, 0x01, 0x00, 0x00, 0x00, 0x00, 0x00, 0x00, 0x00, 0x00, 0x00, 0x00, 0x00,
-    0x00, 0x00, 0x00, 0x00, 0x00, 0x00, 0x00, 0x00, 0x00, 0x00, 0x00, 0x00, 0x00, 0x00, 0x00, 0x00,
-    0x00, 0x00, 0x00, 0x00, 0x40, 0x00, 0x38, 0x00, 0x00, 0x00, 0x00, 0x00, 0x00, 0x00, 0x00, 0x00,
-];
-
-/// The headers of the image of object A at 0x401000.
-const HEADERS: [u8; 120] = [
-    0x7f, 0x45, 0x4c, 0x46, 0x02, 0x01, 0x01, 0x00, 0x00, 0x00, 0x00, 0x00, 0x00, 0x00, 0x00, 0x00,
-    0x02, 0x00, 0x3e, 0x00, 0x01, 0x00, 0x00, 0x00, 0x00, 0x00, 0x00, 0x00, 0x00, 0x00, 0x00, 0x00,
-    0x40, 0x00, 0x00, 0x00, 0x00, 0x00, 0x00, 0x00, 0x00, 0x00, 0x00, 0x00, 0x00, 0x00, 0x00, 0x00,
-    0x00, 0x00, 0x00, 0x00, 0x40, 0x00, 0x38, 0x00, 0x01, 0x00, 0x00, 0x00, 0x00, 0x00, 0x00, 0x00,
-    0x01, 0x00, 0x00, 0x00, 0x05, 0x00, 0x00, 0x00, 0x00, 0x10, 0x00, 0x00, 0x00, 0x00, 0x00, 0x00,
-    0x00, 0x10, 0x40, 0x00, 0x00, 0x00, 0x00, 0x00, 0x00, 0x10, 0x40, 0x00, 0x00, 0x00, 0x00, 0x00,
-    0x04, 0x00, 0x00, 0x00, 0x00, 0x00, 0x00, 0x00, 0x04, 0x00, 0x00, 0x00, 0x00, 0x00, 0x00, 0x00,
-    0x00, 0x10, 0x00, 0x00, 0x00, 0x00, 0x00, 0x00,
-];
-
-/// The bytes between these headers and the segment.
-const GAP: [u8; 3976] = [0; 3976];
-
 const SCRIPT: &[u8] = b"script 47\nSECTIONS { . = 0x401000; .text : { *(.text) } }";
 
 const ADD: &[u8] = b"add a.o 0 280\n";
 
+const REPLACE: &[u8] = b"replace a.o 280\n";
+
 const IMAGE: &[u8] = b"image\n";
 
-const ADD_B: &[u8] = b"add c.o 0 480\n";
-
-/// A change of one byte.
-type Change = (usize, u8);
-
-/// An object whose `.text` is `E8 00 00 00 00`, with a PLT32 at 1 to the global symbol `w`, which is not defined, and the
-/// addend -4. Its section headers begin at 160; the bytes of header number 0 may hold anything.
-const OBJECT_B: [u8; 480] = [
-    0x7f, 0x45, 0x4c, 0x46, 0x02, 0x01, 0x01, 0x00, 0x00, 0x00, 0x00, 0x00, 0x00, 0x00, 0x00, 0x00,
-    0x01, 0x00, 0x3e, 0x00, 0x01, 0x00, 0x00, 0x00, 0x00, 0x00, 0x00, 0x00, 0x00, 0x00, 0x00, 0x00,
-    0x00, 0x00, 0x00, 0x00, 0x00, 0x00, 0x00, 0x00, 0xa0, 0x00, 0x00, 0x00, 0x00, 0x00, 0x00, 0x00,
-    0x00, 0x00, 0x00, 0x00, 0x40, 0x00, 0x00, 0x00, 0x00, 0x00, 0x40, 0x00, 0x05, 0x00, 0x03, 0x00,
-    0xe8, 0x00, 0x00, 0x00, 0x00, 0x00, 0x00, 0x00, 0x00, 0x2e, 0x74, 0x65, 0x78, 0x74, 0x00, 0x77,
-    0x00, 0x00, 0x00, 0x00, 0x00, 0x00, 0x00, 0x00, 0x00, 0x00, 0x00, 0x00, 0x00, 0x00, 0x00, 0x00,
-    0x00, 0x00, 0x00, 0x00, 0x00, 0x00, 0x00, 0x00, 0x00, 0x00, 0x00, 0x00, 0x00, 0x00, 0x00, 0x00,
-    0x07, 0x00, 0x00, 0x00, 0x10, 0x00, 0x00, 0x00, 0x00, 0x00, 0x00, 0x00, 0x00, 0x00, 0x00, 0x00,
-    0x00, 0x00, 0x00, 0x00, 0x00, 0x00, 0x00, 0x00, 0x01, 0x00, 0x00, 0x00, 0x00, 0x00, 0x00, 0x00,
-    0x04, 0x00, 0x00, 0x00, 0x01, 0x00, 0x00, 0x00, 0xfc, 0xff, 0xff, 0xff, 0xff, 0xff, 0xff, 0xff,
-    0x00, 0x00, 0x00, 0x00, 0x00, 0x00, 0x00, 0x00, 0x00, 0x00, 0x00, 0x00, 0x00, 0x00, 0x00, 0x00,
-    0x00, 0x00, 0x00, 0x00, 0x00, 0x00, 0x00, 0x00, 0x00, 0x00, 0x00, 0x00, 0x00, 0x00, 0x00, 0x00,
-    0x00, 0x00, 0x00, 0x00, 0x00, 0x00, 0x00, 0x00, 0x00, 0x00, 0x00, 0x00, 0x00, 0x00, 0x00, 0x00,
-    0x00, 0x00, 0x00, 0x00, 0x00, 0x00, 0x00, 0x00, 0x00, 0x00, 0x00, 0x00, 0x00, 0x00, 0x00, 0x00,
-    0x01, 0x00, 0x00, 0x00, 0x01, 0x00, 0x00, 0x00, 0x06, 0x00, 0x00, 0x00, 0x00, 0x00, 0x00, 0x00,
-    0x00, 0x00, 0x00, 0x00, 0x00, 0x00, 0x00, 0x00, 0x40, 0x00, 0x00, 0x00, 0x00, 0x00, 0x00, 0x00,
-    0x05, 0x00, 0x00, 0x00, 0x00, 0x00, 0x00, 0x00, 0x00, 0x00, 0x00, 0x00, 0x00, 0x00, 0x00, 0x00,
-    0x01, 0x00, 0x00, 0x00, 0x00, 0x00, 0x00, 0x00, 0x00, 0x00, 0x00, 0x00, 0x00, 0x00, 0x00, 0x00,
-    0x00, 0x00, 0x00, 0x00, 0x02, 0x00, 0x00, 0x00, 0x00, 0x00, 0x00, 0x00, 0x00, 0x00, 0x00, 0x00,
-    0x00, 0x00, 0x00, 0x00, 0x00, 0x00, 0x00, 0x00, 0x58, 0x00, 0x00, 0x00, 0x00, 0x00, 0x00, 0x00,
-    0x30, 0x00, 0x00, 0x00, 0x00, 0x00, 0x00, 0x00, 0x03, 0x00, 0x00, 0x00, 0x01, 0x00, 0x00, 0x00,
-    0x08, 0x00, 0x00, 0x00, 0x00, 0x00, 0x00, 0x00, 0x18, 0x00, 0x00, 0x00, 0x00, 0x00, 0x00, 0x00,
-    0x00, 0x00, 0x00, 0x00, 0x03, 0x00, 0x00, 0x00, 0x00, 0x00, 0x00, 0x00, 0x00, 0x00, 0x00, 0x00,
-    0x00, 0x00, 0x00, 0x00, 0x00, 0x00, 0x00, 0x00, 0x48, 0x00, 0x00, 0x00, 0x00, 0x00, 0x00, 0x00,
-    0x09, 0x00, 0x00, 0x00, 0x00, 0x00, 0x00, 0x00, 0x00, 0x00, 0x00, 0x00, 0x00, 0x00, 0x00, 0x00,
-    0x01, 0x00, 0x00, 0x00, 0x00, 0x00, 0x00, 0x00, 0x00, 0x00, 0x00, 0x00, 0x00, 0x00, 0x00, 0x00,
-    0x00, 0x00, 0x00, 0x00, 0x04, 0x00, 0x00, 0x00, 0x00, 0x00, 0x00, 0x00, 0x00, 0x00, 0x00, 0x00,
-    0x00, 0x00, 0x00, 0x00, 0x00, 0x00, 0x00, 0x00, 0x88, 0x00, 0x00, 0x00, 0x00, 0x00, 0x00, 0x00,
-    0x18, 0x00, 0x00, 0x00, 0x00, 0x00, 0x00, 0x00, 0x02, 0x00, 0x00, 0x00, 0x01, 0x00, 0x00, 0x00,
-    0x08, 0x00, 0x00, 0x00, 0x00, 0x00, 0x00, 0x00, 0x18, 0x00, 0x00, 0x00, 0x00, 0x00, 0x00, 0x00,
-];
-
-/// The symbol is a local one at 0 of `.text`.
-const LOCAL: [Change; 3] = [(116, 0x00), (118, 0x01), (332, 0x02)];
-
-/// The symbol is a local absolute one of the value 0x80000000, and the addend 0.
-const ABSOLUTE: [Change; 13] = [
-    (116, 0x00),
-    (118, 0xf1),
-    (119, 0xff),
-    (123, 0x80),
-    (332, 0x02),
-    (152, 0x00),
-    (153, 0x00),
-    (154, 0x00),
-    (155, 0x00),
-    (156, 0x00),
-    (157, 0x00),
-    (158, 0x00),
-    (159, 0x00),
-];
+/// The answer to `map` where object A stands at 0x401000.
+const MAP: &[u8] = b"bytes 142\nentry 0000000000000000\n\
+section .text 0000000000401000 0000000000401000 0000000000000004 r-x\n\
+piece 0000000000401000 0000000000000004 a.o .text\n";
 
 /// A stream and the answers to it, both in parts, and how the run ends.
 type Row<'a> = (&'a [&'a [u8]], &'a [&'a [u8]], Status);
@@ -184,17 +108,29 @@ fn check_rows(
 
 #[test]
 fn answers_streams(rt: HostRuntime) -> Result<(), Fail> {
-    let rows: [Row<'_>; 9] = [
+    let rows: [Row<'_>; 6] = [
         (&[], &[], Status::Done(0)),
-        (&[IMAGE], &[b"bytes 64\n", &EMPTY_IMAGE], Status::Done(0)),
         (
-            &[ADD, &OBJECT_A, IMAGE],
-            &[b"linked 1 0\nbytes 0\n"],
+            &[ADD, &OBJECT_A, b"image\nmap\nfaults\n"],
+            &[b"linked 1 0\nbytes 0\nbytes 0\nbytes 13\nF3 a.o .text\n"],
             Status::Done(1),
         ),
         (
-            &[b"script 0\n", ADD, &OBJECT_A, SCRIPT],
-            &[b"linked 0 64\nlinked 1 0\nlinked 0 4100\n"],
+            &[
+                SCRIPT,
+                ADD,
+                &OBJECT_A,
+                b"map\nfaults\n",
+                REPLACE,
+                &OBJECT_A,
+                b"move a.o 0\nremove a.o\nmap\n",
+            ],
+            &[
+                b"linked 0 448\nlinked 0 4488\n",
+                MAP,
+                b"bytes 0\nlinked 0 4488\nlinked 0 4488\nlinked 0 448\nbytes 92\nentry 0000000000000000\n",
+                b"section .text 0000000000401000 0000000000401000 0000000000000000 r--\n",
+            ],
             Status::Done(0),
         ),
         (
@@ -204,48 +140,22 @@ fn answers_streams(rt: HostRuntime) -> Result<(), Fail> {
                 &OBJECT_A,
                 ADD,
                 &OBJECT_A,
-                b"add b.o 2 0\n",
-                b"add b.o 0 280\n",
-                &OBJECT_A,
-                b"script 1\n~",
-                IMAGE,
+                b"add b.o 2 0\nreplace b.o 0\nmove b.o 9\nmove a.o 1\nremove b.o\nreplace a.o 1\n\x7fscript 1\n~map\n",
             ],
             &[
-                b"linked 0 64\nlinked 0 4100\nrefused 1 0\nrefused 3 0\nrefused 6 0\nrefused 5 2\nbytes 4100\n",
-                &HEADERS,
-                &GAP,
-                b"\x90\x90\x90\xc3",
+                b"linked 0 448\nlinked 0 4488\nrefused 1 0\nrefused 3 0\nrefused 2 0\nrefused 2 0\nrefused 3 0\n",
+                b"refused 2 0\nrefused 4 1\nrefused 5 2\n",
+                MAP,
             ],
             Status::Done(0),
         ),
-        (
-            &[b"add a 18446744073709551615 0\nscript 31\nSECTIONS{.=0;.-a:{*(x)}}       IMAGE\n"],
-            &[b"refused 3 0\nrefused 5 2\nstream\n"],
-            Status::Malformed,
-        ),
         (&[b"script 5\nSECT"], &[b"stream\n"], Status::Malformed),
-        (&[b"image"], &[b"stream\n"], Status::Malformed),
         (
-            &[b"script 0\nimage\nbad\nimage\n"],
-            &[b"linked 0 64\nbytes 64\n", &EMPTY_IMAGE, b"stream\n"],
+            &[b"script 0\nbad\nimage\n"],
+            &[b"linked 0 376\nstream\n"],
             Status::Malformed,
         ),
     ];
-    check_rows(&rt, rt.alloc(), RandomState::new(&rt)?, &rows)
-}
-
-#[test]
-fn refuses_names_outside_the_limits(rt: HostRuntime) -> Result<(), Fail> {
-    let long = [b'n'; 256];
-    let rows: [Row<'_>; 1] = [(
-        &[
-            b"add ",
-            &long,
-            b" 0 0\nadd a\tb 0 0\nadd a 1 0\nadd a 0 0\n",
-        ],
-        &[b"refused 6 0\nrefused 6 0\nrefused 3 0\nrefused 4 1\n"],
-        Status::Done(0),
-    )];
     check_rows(&rt, rt.alloc(), RandomState::new(&rt)?, &rows)
 }
 
@@ -253,29 +163,34 @@ fn refuses_names_outside_the_limits(rt: HostRuntime) -> Result<(), Fail> {
 #[test]
 fn reads_lines_as_spelled(rt: HostRuntime) -> Result<(), Fail> {
     let bad: &[u8] = b"stream\n";
-    let lines: [(&[u8], &[u8]); 23] = [
+    let lines: [(&[u8], &[u8]); 28] = [
         (b"add a.o 1 0\n", b"refused 3 0\n"),
         (b"add a 18446744073709551615 0\n", b"refused 3 0\n"),
         (b"add \xff\r\t 1 0\n", b"refused 3 0\n"),
-        (b"script 0\n", b"linked 0 64\n"),
+        (b"add \xff 0 0\n", b"refused 6 0\n"),
+        (b"replace a.o 0\n", b"refused 2 0\n"),
+        (b"move a.o 18446744073709551615\n", b"refused 2 0\n"),
+        (b"remove a.o\n", b"refused 2 0\n"),
+        (b"script 0\n", b"linked 0 376\n"),
+        (b"faults\n", b"bytes 0\n"),
+        (b"map\n", b"bytes 23\nentry 0000000000000000\n"),
         (b"add a.o 01 0\n", bad),
         (b"add a.o 0 00\n", bad),
-        (b"add  a.o 0 0\n", bad),
         (b"add  0 0\n", bad),
         (b"add a.o 0 0 \n", bad),
         (b"add a.o 0\n", bad),
         (b"add a\no 0 0\n", bad),
         (b"add a.o 0 67108865\n", bad),
         (b"add a 18446744073709551616 0\n", bad),
-        (b"add a.o -0 0\n", bad),
         (b"ADD a.o 0 0\n", bad),
-        (b"script\n", bad),
-        (b"script \n", bad),
+        (b"replace a.o 0 0\n", bad),
+        (b"move a.o\n", bad),
+        (b"move a.o 18446744073709551616\n", bad),
+        (b"remove\n", bad),
+        (b"remove a.o 0\n", bad),
         (b"script +5\n", bad),
-        (b"script 67108865\n", bad),
-        (b"script 0 0\n", bad),
         (b"image \n", bad),
-        (b"IMAGE\n", bad),
+        (b"maps\n", bad),
         (b"\n", bad),
     ];
     let alloc = rt.alloc();
@@ -291,120 +206,6 @@ fn reads_lines_as_spelled(rt: HostRuntime) -> Result<(), Fail> {
         line.extend_from_slice(b" 0 0\n")?;
         let (_outcome, written) = answers(alloc, seed, &line, usize::MAX, 0, 0)?;
         assert_eq!(rt; written.as_slice(), want);
-    }
-    Ok(())
-}
-
-#[test]
-fn links_at_each_start(rt: HostRuntime) -> Result<(), Fail> {
-    let table: [(&[u8], &[u8], u8); 8] = [
-        (b"0x401000", b"linked 0 4100\n", 0),
-        (b"0x401001", b"linked 0 4101\n", 0),
-        (b"0x4010C8", b"linked 0 204\n", 0),
-        (b"0xFFFFFFFFFFFFFFFB", b"linked 0 4095\n", 0),
-        (b"0xFFFFFFFFFFFFFFFC", b"linked 1 0\n", 1),
-        (b"4K", b"linked 0 4100\n", 0),
-        (b"0x77", b"linked 0 4219\n", 0),
-        (b"0x78", b"linked 0 124\n", 0),
-    ];
-    let alloc = rt.alloc();
-    let seed = RandomState::new(&rt)?;
-    for (start, linked, status) in table {
-        let script = joined(
-            alloc,
-            &[b"SECTIONS { . = ", start, b"; .text : { *(.text) } }"],
-        )?;
-        let line = format!(in alloc; "script {}\n", script.len())?;
-        let stream = joined(alloc, &[line.as_bytes(), &script, ADD, &OBJECT_A])?;
-        let want = joined(alloc, &[b"linked 0 64\n", linked])?;
-        check_stream(&rt, alloc, seed, &stream, &want, Status::Done(status))?;
-    }
-    Ok(())
-}
-
-/// The answers to the script, object B with these changes, and `image`.
-fn answers_to(
-    alloc: Global,
-    seed: RandomState,
-    changes: &[Change],
-    more: &[Change],
-) -> Result<Vec<u8>, Fail> {
-    let mut object = joined(alloc, &[&OBJECT_B])?;
-    for (at, value) in changes.iter().chain(more.iter()) {
-        if let Some(byte) = object.get_mut(*at) {
-            *byte = *value;
-        }
-    }
-    let stream = joined(alloc, &[SCRIPT, ADD_B, &object, IMAGE])?;
-    let (_outcome, written) = answers(alloc, seed, &stream, usize::MAX, 0, 0)?;
-    Ok(written)
-}
-
-#[test]
-fn relocates_against_local_symbols(rt: HostRuntime) -> Result<(), Fail> {
-    let good: &[u8] = b"linked 0 64\nlinked 0 4101\nbytes 4101\n";
-    let faulty: &[u8] = b"linked 0 64\nlinked 1 0\nbytes 0\n";
-    let rows: [(&[Change], &[Change], &[u8], &[u8]); 15] = [
-        (&LOCAL, &[], good, b"\xe8\xfb\xff\xff\xff"),
-        // a value of 2 is added
-        (&LOCAL, &[(120, 0x02)], good, b"\xe8\xfd\xff\xff\xff"),
-        // type 32: S + A
-        (&LOCAL, &[(144, 0x0a)], good, b"\xe8\xfc\x0f\x40\x00"),
-        // symbol number 0 counts as 0
-        (&LOCAL, &[(148, 0x00)], good, b"\xe8\xfb\xef\xbf\xff"),
-        // NONE is not evaluated
-        (&LOCAL, &[(144, 0x00)], good, b"\xe8\x00\x00\x00\x00"),
-        // an absolute symbol of 0x80000000 fits type 32
-        (&ABSOLUTE, &[(144, 0x0a)], good, b"\xe8\x00\x00\x00\x80"),
-        // a second entry, in the bytes of header number 0, for a field before the first one: type 8, addend 0x12
-        (
-            &LOCAL,
-            &[(448, 0x30), (168, 0x0e), (176, 0x12)],
-            good,
-            b"\x12\xfb\xff\xff\xff",
-        ),
-        // type 8: 0x400FFC is out of range
-        (&LOCAL, &[(144, 0x0e)], faulty, b""),
-        // type 32S: 0x80000000 is out of range
-        (&ABSOLUTE, &[(144, 0x0b)], faulty, b""),
-        // the symbol is in a section that isn't linked
-        (&LOCAL, &[(118, 0x03)], faulty, b""),
-        // of two entries the second one is out of range
-        (
-            &LOCAL,
-            &[(448, 0x30), (168, 0x0e), (177, 0x01)],
-            faulty,
-            b"",
-        ),
-        // a global symbol
-        (&[], &[], b"linked 0 64\nrefused 4 15\nbytes 64\n", b""),
-        // a weak symbol
-        (
-            &[(116, 0x20)],
-            &[],
-            b"linked 0 64\nrefused 4 15\nbytes 64\n",
-            b"",
-        ),
-        // what the profile refuses goes first
-        (
-            &[(144, 0x09)],
-            &[],
-            b"linked 0 64\nrefused 4 11\nbytes 64\n",
-            b"",
-        ),
-        // two fields share a byte
-        (
-            &[(448, 0x30), (160, 0x04), (168, 0x0e)],
-            &[],
-            b"linked 0 64\nrefused 4 13\nbytes 64\n",
-            b"",
-        ),
-    ];
-    let seed = RandomState::new(&rt)?;
-    for (changes, more, first, last) in rows {
-        let written = answers_to(rt.alloc(), seed, changes, more)?;
-        assert!(rt; written.starts_with(first));
-        assert!(rt; written.ends_with(last));
     }
     Ok(())
 }
@@ -428,15 +229,7 @@ fn reports_failed_devices(rt: HostRuntime) -> Result<(), Fail> {
     let alloc = rt.alloc();
     let seed = RandomState::new(&rt)?;
     let stream = joined(alloc, &[SCRIPT, ADD, &OBJECT_A, IMAGE])?;
-    let want = joined(
-        alloc,
-        &[
-            b"linked 0 64\nlinked 0 4100\nbytes 4100\n",
-            &HEADERS,
-            &GAP,
-            b"\x90\x90\x90\xc3",
-        ],
-    )?;
+    let (_outcome, want) = answers(alloc, seed, &stream, usize::MAX, 0, 0)?;
     let mut read_faults = 0u64;
     let mut write_faults = 0u64;
     for at in 1..100u64 {
@@ -455,7 +248,7 @@ fn reports_failed_devices(rt: HostRuntime) -> Result<(), Fail> {
     }
     // 357 bytes are read in four calls, and the end in a fifth.
     assert_eq!(rt; read_faults, 5);
-    // Two answers of a write and a flush, and one of 42 writes and a flush.
-    assert_eq!(rt; write_faults, 47);
+    // Two answers of a write and a flush, and one of 45 writes and a flush.
+    assert_eq!(rt; write_faults, 50);
     Ok(())
 }

@@ -134,7 +134,7 @@ no_feed_query Image = no_by_test 10 (codes "image") refl
 no_feed_query Map = no_by_test 10 (codes "map") refl
 no_feed_query Faults = no_by_test 10 (codes "faults") refl
 
-no_feed : (c : Command) → IsCommand c → HasNo 10 (line c)
+pub no_feed : (c : Command) → IsCommand c → HasNo 10 (line c)
 unfolding line
 no_feed (Edit c) h = rw (line_of c)
     (no_append 10 (first_word c) _ (no_feed_first c) (after_space _ (no_feed_words c h.words)))

@@ -1,7 +1,12 @@
 //! Laws of streams of commands.
 
 ghost use Rattle.std.specs.Prelude.{◌≡◌, ◌++◌, ℕ, List, flat_map};
-ghost use Rattle.ldmodel.specs.Commands.{AreCommands, BeginsCommand, Command, IsCommand, spelling};
+ghost use Rattle.ldmodel.specs.Commands.{AreCommands, BeginsCommand, Command, HasNo, IsCommand, line, spelling};
+
+/// The line of a command has no line feed.
+pub fn lines_without_feed()
+    ensures { (c : Command) → IsCommand c → HasNo 10 (line c) }
+{}
 
 /// No spelling of a command begins another: a text that begins with two commands begins with one, and what follows it
 /// is the same.

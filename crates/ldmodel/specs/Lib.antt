@@ -3,6 +3,7 @@
 pub mod Options
 pub mod Project
 pub mod Edits
+pub mod EditMeaning
 pub mod ScriptNames
 pub mod Names
 pub mod NameFaults
@@ -50,9 +51,5 @@ pub mod Gaps
 pub mod Commands
 pub mod Answers
 pub mod LinkCommand
-pub mod ThinProject
-pub mod ThinEdits
-pub mod ThinEditMeaning
-pub mod ThinLink
 pub use Rattle.ldbase.specs.Counts
 pub use Rattle.ldbase.specs.Raised

@@ -1,5 +1,12 @@
 //! Edits of a project, and the answers to them.
 
+ghost use Rattle.std.specs.Prelude.{◌≡◌};
+ghost use Rattle.ldmodel.specs.EditMeaning.{refusal_of};
+ghost use Rattle.ldmodel.specs.Edits.{inner_number, refusal_number};
+
+use elfobj::refusal::ObjectRefusal;
+use ldscript::refusal::ScriptRefusal;
+
 /// The greatest number of bytes that an object or a script may have: 2^26.
 pub const MAX_PAYLOAD: usize = 0x400_0000;
 /// The greatest number of bytes of an object's name.
@@ -10,12 +17,31 @@ pub const MAX_OBJECT_NAME: usize = 255;
 pub enum Edit<'a> {
     /// Adds an object.
     Add {
-        /// Its name.
+        /// Its name: 1 to 255 bytes from `!` to `~`.
         name: &'a [u8],
         /// Before which of the objects it is to stand, from 0 to their number.
         at: u64,
         /// Its bytes.
         bytes: Vec<u8>,
+    },
+    /// Puts another object in the place of one.
+    Replace {
+        /// The name of both.
+        name: &'a [u8],
+        /// The bytes of the other.
+        bytes: Vec<u8>,
+    },
+    /// Takes an object out, and puts it in again at another place.
+    Move {
+        /// Its name.
+        name: &'a [u8],
+        /// Before which of the other objects it is to stand, from 0 to their number.
+        to: u64,
+    },
+    /// Takes an object out.
+    Remove {
+        /// Its name.
+        name: &'a [u8],
     },
     /// Sets the script.
     Script {
@@ -35,15 +61,47 @@ pub struct Linked {
 
 /// Why an edit is refused.
 #[derive(Clone, Copy, Debug, PartialEq, Eq)]
-pub struct EditRefusal {
-    /// 1 name in use, 2 name unknown, 3 position past the end, 4 object, 5 script, 6 limit, 7 out of memory.
-    pub n: u8,
-    /// For 4 and 5 the reader's own number, or in this version 15 for an object and 7 for a script that isn't linked
-    /// yet; else 0.
-    pub m: u8,
+pub enum EditRefusal {
+    /// 1: an object has the name already.
+    InUse,
+    /// 2: no object has the name.
+    Unknown,
+    /// 3: the position is past the end.
+    PastEnd,
+    /// 4: the bytes are no object of the profile.
+    NotAnObject(ObjectRefusal),
+    /// 5: the text is no script of the profile.
+    NotAScript(ScriptRefusal),
+    /// 6: the name, the bytes or the number of objects is outside the limits.
+    Limit,
+    /// 7: out of memory.
+    NoMemory,
 }
 
 impl EditRefusal {
-    /// Out of memory.
-    pub const NO_MEMORY: EditRefusal = EditRefusal { n: 7, m: 0 };
+    /// The number under which it is reported, from 1 to 7.
+    pub fn number(self) -> u8
+        ensures { result ≡ refusal_number (refusal_of self) }
+    {
+        match self {
+            EditRefusal::InUse => 1,
+            EditRefusal::Unknown => 2,
+            EditRefusal::PastEnd => 3,
+            EditRefusal::NotAnObject(_) => 4,
+            EditRefusal::NotAScript(_) => 5,
+            EditRefusal::Limit => 6,
+            EditRefusal::NoMemory => 7,
+        }
+    }
+
+    /// For an object or a script the number of its reader's own refusal, else 0.
+    pub fn inner_number(self) -> u8
+        ensures { result ≡ inner_number (refusal_of self) }
+    {
+        match self {
+            EditRefusal::NotAnObject(why) => why.number(),
+            EditRefusal::NotAScript(why) => why.number(),
+            _ => 0,
+        }
+    }
 }

@@ -5,7 +5,6 @@
 pub mod edit;
 pub mod fault;
 pub mod laid;
-pub mod law;
 pub mod linker;
 pub mod names;
 pub mod options;

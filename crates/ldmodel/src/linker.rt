@@ -2,10 +2,10 @@
 
 ghost use Rattle.std.specs.Prelude.{◌≡◌, IfOk, IfErr, OnOk, OnErr, Ok};
 ghost use Rattle.ldbase.specs.Counts.{Counts};
-ghost use Rattle.ldmodel.specs.ThinProject.{Project};
-ghost use Rattle.ldmodel.specs.ThinEdits.{Change, After, RefusedAs};
-ghost use Rattle.ldmodel.specs.ThinEditMeaning.{change_of};
-ghost use Rattle.ldmodel.specs.ThinLink.{link, linked_of};
+ghost use Rattle.ldmodel.specs.EditMeaning.{change_of, linked_of, refusal_of};
+ghost use Rattle.ldmodel.specs.Edits.{Change, After, RefusedAs};
+ghost use Rattle.ldmodel.specs.Link.{link};
+ghost use Rattle.ldmodel.specs.Project.{Project};
 
 use crate::edit::{Edit, EditRefusal, Linked};
 use ldbase::meter::Meter;
@@ -23,18 +23,25 @@ pub trait Linker {
     ///
     /// # Errors
     ///
-    /// A refused edit changes nothing. Refusal 7 says that there was no memory, and never stands in place of 1, 2, 3
-    /// or 6.
+    /// A refused edit changes nothing. `NoMemory` never stands in place of `InUse`, `Unknown`, `PastEnd` or `Limit`.
     fn apply(&mut self, edit: Edit<'_>, meter: &mut Meter) -> Result<Linked, EditRefusal>
         ensures accepted { IfOk result (λ l. After (project self.old) (change_of edit.entry) (Ok (project self.new))) }
         ensures linked { IfOk result (λ l. l ≡ linked_of (link (project self.new))) }
         ensures counted { OnOk result (bound (project self.old) (change_of edit.entry) (project self.new) meter.old meter.new) }
-        ensures refused { IfErr result (λ r. RefusedAs (project self.old) (change_of edit.entry) r) }
+        ensures refused { IfErr result (λ r. RefusedAs (project self.old) (change_of edit.entry) (refusal_of r)) }
         ensures unchanged { OnErr result (project self.new ≡ project self.old) };
 
     /// The image of the link; empty where it has faults.
     fn image(&self) -> &[u8]
         ensures { result.now ≡ (link (project self.now)).image };
+
+    /// The map of the link; empty where it has faults.
+    fn map(&self) -> &[u8]
+        ensures { result.now ≡ (link (project self.now)).map };
+
+    /// The fault lines of the link; empty where it has none.
+    fn faults(&self) -> &[u8]
+        ensures { result.now ≡ (link (project self.now)).faults };
 
     /// 0 where the link has no faults, else 1.
     fn status(&self) -> u8

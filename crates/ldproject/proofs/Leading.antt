@@ -5,10 +5,10 @@ use Rattle.ldtree.specs.declared.statement.Statement.{Statement}
 use Rattle.ldmodel.specs.Edits.{Change, SetScript, Accepts, early_refusal, with_objects}
 use Rattle.ldmodel.specs.Project.{NamedObject, Project}
 use Rattle.ldscript.specs.Script.{IsScript}
-use Rattle.ldproject.specs.EditMeaning.{refusal_of}
+use Rattle.ldmodel.specs.EditMeaning.{refusal_of}
 use Rattle.ldproject.specs.Holding.{Holding, Makes, MakesScript, Stages, held, next_listing, project_of}
 use Rattle.ldproject.specs.Staging.{IsStaged}
-use Rattle.ldproject.specs.declared.edit.Refusal.{Refusal}
+use Rattle.ldmodel.specs.declared.edit.EditRefusal.{EditRefusal}
 use Rattle.ldproject.specs.declared.staged.Staged.{Staged}
 
 -- where the objects and the script are known, the next project is
@@ -23,7 +23,7 @@ leads h s objects script staged e =
     record { objects = objects; script = unwrap_or m h.script; options = h.options } in p) e
 
 -- an edit of the objects alone
-pub stages_objects : (h : Holding) (c : Change) (next : List NamedObject) (r : Result Staged Refusal)
+pub stages_objects : (h : Holding) (c : Change) (next : List NamedObject) (r : Result Staged EditRefusal)
     → early_refusal (held h) c ≡ None
     → Accepts (held h) c (with_objects (held h) next) → Makes h next r → Stages h c r
 stages_objects h c next (Ok s) early accepts made =
@@ -31,7 +31,7 @@ stages_objects h c next (Ok s) early accepts made =
 stages_objects h c next (Err r) early accepts made = inr (early, ap refusal_of made)
 
 -- an edit of the script
-pub stages_script : (h : Holding) (text : List ℕ) (script : List Statement) (r : Result Staged Refusal)
+pub stages_script : (h : Holding) (text : List ℕ) (script : List Statement) (r : Result Staged EditRefusal)
     → early_refusal (held h) (SetScript text) ≡ None
     → IsScript text script → MakesScript h script r → Stages h (SetScript text) r
 stages_script h text script (Ok s) early is made =

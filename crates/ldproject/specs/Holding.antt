@@ -7,12 +7,12 @@ use Rattle.ldmodel.specs.Options.{LinkOptions}
 use Rattle.ldmodel.specs.Project.{Project, NamedObject}
 use Rattle.ldmodel.specs.Raised.{raised}
 use Rattle.ldmodel.specs.declared.meter.Count.TheVariants.{Objects}
-use Rattle.ldproject.specs.EditMeaning.{refusal_of}
+use Rattle.ldmodel.specs.EditMeaning.{refusal_of}
 use Rattle.ldproject.specs.Listing.{Entry, Contents, objects_of}
 use Rattle.ldproject.specs.Next.{Fits, next_entries}
 use Rattle.ldproject.specs.Staging.{IsStaged, SameButRoom}
-use Rattle.ldproject.specs.declared.edit.Refusal.{Refusal}
-use Rattle.ldproject.specs.declared.edit.Refusal.TheVariants.{NoMemory}
+use Rattle.ldmodel.specs.declared.edit.EditRefusal.{EditRefusal}
+use Rattle.ldmodel.specs.declared.edit.EditRefusal.TheVariants.{NoMemory}
 use Rattle.ldproject.specs.declared.staged.Staged.{Staged}
 
 -- objects under keys, the script and the options
@@ -51,17 +51,17 @@ pub record SameHolding (old new : Holding) : Type 0 where
   pub rest : new ≡ record old { contents = new.contents }
 
 -- all growths of an edit of the objects alone, which leads to these; or there was no memory
-abbrev pub Makes : Holding → List NamedObject → Result Staged Refusal → Type 0
+abbrev pub Makes : Holding → List NamedObject → Result Staged EditRefusal → Type 0
 Makes h next (Ok s) = IsStaged h.contents s.objects next × (s.script ≡ None)
 Makes h next (Err r) = r ≡ NoMemory
 
 -- the same of another script
-abbrev pub MakesScript : Holding → List Statement → Result Staged Refusal → Type 0
+abbrev pub MakesScript : Holding → List Statement → Result Staged EditRefusal → Type 0
 MakesScript h next (Ok s) = IsStaged h.contents s.objects (held h).objects × (s.script ≡ Some next)
 MakesScript h next (Err r) = r ≡ NoMemory
 
 -- the edit is staged, and leads where the definition says; or it is refused
-abbrev pub Stages : Holding → Change → Result Staged Refusal → Type 0
+abbrev pub Stages : Holding → Change → Result Staged EditRefusal → Type 0
 Stages h change (Ok s) = Fits h.contents s.objects × After (held h) change (Ok (project_of (next_listing h s)))
 Stages h change (Err r) = RefusedAs (held h) change (refusal_of r)
 

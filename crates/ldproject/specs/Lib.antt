@@ -1,4 +1,4 @@
-pub mod EditMeaning
+pub mod Refused
 pub mod Listing
 pub mod Slots
 pub mod Next

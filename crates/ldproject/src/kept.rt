@@ -1,15 +1,18 @@
 //! The objects of a project under stable keys, in their order.
 
-ghost use Rattle.std.specs.Prelude.{◌≡◌, ◌==◌, ◌<◌, [], ℕ, length, is_some, true};
-ghost use Rattle.ldmodel.specs.Edits.{place_of, is_in_use};
+ghost use Rattle.std.specs.Prelude.{◌≡◌, ◌==◌, ◌<◌, [], ℕ, IfOk, length, is_some, true};
+ghost use Rattle.ldmodel.specs.Edits.{AreNamesDistinct, place_of, is_in_use};
+ghost use Rattle.ldproject.specs.Inputs.{shown_inputs};
 ghost use Rattle.ldproject.specs.Listing.{objects_of, key_count};
 ghost use Rattle.ldproject.specs.Next.{Fits, next_entries, CanChange, next_slot, named_under, KeysAreStable};
 ghost use Rattle.slab.specs.Slab.{get};
 
 mod growing;
 
+use crate::input::Input;
 use crate::named::NamedObject;
 use crate::staged::{StagedObjects, Step};
+use ldmodel::memory::NoMemory;
 use slab::Slab;
 use std::alloc::Global;
 use std::marker::Model;
@@ -104,6 +107,24 @@ impl Kept {
         ensures { result.now ≡ named_under self.now.entries key }
     {
         &self.objects[key]
+    }
+
+    /// No two objects have one name.
+    pub(crate) fn names_differ(&self)
+        ensures { AreNamesDistinct (objects_of self.now.entries) }
+    {
+        let _objects = &self.objects;
+    }
+
+    /// All objects, in their order. An error says that memory ran out.
+    pub(crate) fn inputs(&self, alloc: Global) -> Result<Vec<Input<'_>>, NoMemory>
+        ensures { IfOk result (λ v. shown_inputs v.items ≡ objects_of self.now.entries) }
+    {
+        let mut inputs = Vec::with_capacity(alloc, self.order.len())?;
+        for key in self.order.iter() {
+            inputs.push(self.objects[*key].input())?;
+        }
+        Ok(inputs)
     }
 
     /// Makes a staged edit, with no allocation.

@@ -1,7 +1,9 @@
 //! Objects under their names.
 
 ghost use Rattle.std.specs.Prelude.{◌≡◌, IfOk};
+ghost use Rattle.ldproject.specs.Inputs.{shown_input};
 
+use crate::input::Input;
 use elfobj::object::Object;
 use ldmodel::memory::NoMemory;
 use std::alloc::Global;
@@ -43,5 +45,15 @@ impl NamedObject {
         ensures { result.now ≡ self.now.object }
     {
         &self.object
+    }
+
+    /// The object under its name, lent for a link.
+    pub fn input(&self) -> Input<'_>
+        ensures { shown_input result ≡ self.now }
+    {
+        Input {
+            name: &self.name,
+            object: &self.object,
+        }
     }
 }

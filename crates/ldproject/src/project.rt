@@ -1,6 +1,8 @@
 //! A project, changed by edits in two parts.
 
-ghost use Rattle.std.specs.Prelude.{◌≡◌, ◌==◌, ◌<◌, length, Some, IfOk, slice_get};
+ghost use Rattle.std.specs.Prelude.{◌≡◌, ◌==◌, ◌<◌, length, Some, Ok, IfErr, IfOk, OnErr, OnOk, slice_get};
+ghost use Rattle.ldmodel.specs.EditMeaning.{change_of, refusal_of};
+ghost use Rattle.ldmodel.specs.Edits.{After, RefusedAs};
 ghost use Rattle.ldmodel.specs.Project.{empty_project};
 ghost use Rattle.ldproject.specs.Holding.{held, listing_of, next_listing};
 ghost use Rattle.ldproject.specs.Inputs.{shown_inputs};
@@ -8,13 +10,16 @@ ghost use Rattle.ldproject.specs.Listing.{objects_of};
 ghost use Rattle.ldproject.specs.Next.{Fits, KeysAreStable};
 
 mod early;
+mod lending;
 mod staging;
 
 use crate::input::Input;
 use crate::kept::Kept;
 use crate::named::NamedObject;
 use crate::staged::Staged;
+use ldmodel::edit::{Edit, EditRefusal};
 use ldmodel::memory::NoMemory;
+use ldmodel::meter::Meter;
 use ldmodel::names::ObjectKey;
 use ldmodel::options::Options;
 use ldscript::script::Script;
@@ -77,6 +82,25 @@ impl Project {
         self.kept.commit(objects);
         if let Some(script) = script {
             self.script = script;
+        }
+    }
+
+    /// Makes an edit at once, for a project that isn't linked after each.
+    ///
+    /// # Errors
+    ///
+    /// As `stage`. The project is then as it was.
+    pub fn edit(&mut self, edit: Edit<'_>) -> Result<(), EditRefusal>
+        ensures accepted { OnOk result (After (held self.old) (change_of edit.entry) (Ok (held self.new))) }
+        ensures refused { IfErr result (λ r. RefusedAs (held self.old) (change_of edit.entry) (refusal_of r)) }
+        ensures unchanged { OnErr result (held self.new ≡ held self.old) }
+    {
+        match self.stage(edit, &mut Meter::new()) {
+            Err(refusal) => Err(refusal),
+            Ok(staged) => {
+                self.commit(staged);
+                Ok(())
+            }
         }
     }
 }

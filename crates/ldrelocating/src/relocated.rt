@@ -59,7 +59,7 @@ impl Relocated {
     pub fn of(
         alloc: Global,
         project: &ProjectView<'_>,
-        link: &LinkView<'_>,
+        link: &LinkView<'_, '_>,
         values: &Values<'_>,
         meter: &mut Meter,
     ) -> Result<Relocated, NoMemory>

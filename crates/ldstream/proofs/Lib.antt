@@ -1,9 +1,11 @@
 pub mod StreamLines
 pub mod StreamWriting
+pub mod StreamBytes
 pub mod StreamGrammar
 pub mod StreamRuns
 pub mod StreamSteps
 pub mod StreamEnds
 pub mod StreamWords
-pub mod StreamCutting
+pub mod StreamHeads
+pub mod StreamReplies
 pub mod KnownBuffers

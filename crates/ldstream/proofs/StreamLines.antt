@@ -1,24 +1,27 @@
-use Rattle.std.proofs.Common.{◌≡◌, ◌≢◌, ℕ, ◌+◌, ◌<◌, ◌≤◌, ◌-◌, take_all, take-add, length-drop, List, [], ◌∷◌, ◌++◌, length, take, drop, set, ap, arith, ◌∙◌, length-take}
+use Rattle.std.proofs.Common.{◌≡◌, ◌≢◌, ℕ, ◌+◌, ◌<◌, ◌≤◌, ◌-◌, take_all, take-add, length-drop, List, [], ◌∷◌, ◌++◌}
+use Rattle.std.proofs.Common.{length, take, drop, set, ap, arith, ◌∙◌, length-take}
 use Rattle.std.proofs.lemmas.Grind.{common_steps}
 use Rattle.std.proofs.lemmas.List.{take-append-le}
 use Rattle.std.proofs.Math.Seq.{take-append-add}
 use borrow.Rule.Slice.PartMut.{put_mid, post_of}
-use Rattle.ldstream.specs.Commands.{HasNoFeed}
+use Rattle.ldmodel.specs.Commands.{HasNo}
 
-pub NoFeed-more : (xs : List ℕ) (b : ℕ) → HasNoFeed xs → b ≢ 10 → HasNoFeed (xs ++ b ∷ [])
+pub NoFeed-more : (xs : List ℕ) (b : ℕ) → HasNo 10 xs → b ≢ 10 → HasNo 10 (xs ++ b ∷ [])
 NoFeed-more [] b h n = (n, tt)
 NoFeed-more (x ∷ xs) b h n = (h.0, NoFeed-more xs b h.1 n)
 
 pub take_set : (xs : List ℕ) (i b : ℕ) → i < length xs → take (i + 1) (set xs i b) ≡ take i xs ++ b ∷ []
 take_set xs i b h = grind (arith, common_steps)
 
-pub take_two : (xs : List ℕ) (i n : ℕ) → i ≤ length xs → n ≤ length (take (length xs - i) (drop i xs)) → take (i + n) xs ≡ take i xs ++ take n (take (length xs - i) (drop i xs))
+pub take_two : (xs : List ℕ) (i n : ℕ) → i ≤ length xs → n ≤ length (take (length xs - i) (drop i xs))
+    → take (i + n) xs ≡ take i xs ++ take n (take (length xs - i) (drop i xs))
 take_two xs i n h k =
     let all : take (length xs - i) (drop i xs) ≡ drop i xs = take_all _ _ (simp length-drop (omega arith)) in
     rw all (take-add i n xs)
 
 -- a read into `buf[i..]`
-pub put_front : (xs ys : List ℕ) (i n : ℕ) → i ≤ length xs → n ≤ length ys → take (i + n) (put_mid i (length xs - i) xs ys) ≡ take i xs ++ take n ys
+pub put_front : (xs ys : List ℕ) (i n : ℕ) → i ≤ length xs → n ≤ length ys
+    → take (i + n) (put_mid i (length xs - i) xs ys) ≡ take i xs ++ take n ys
 put_front xs ys i n h k =
     let rest = ys ++ post_of i (length xs - i) xs in
     let long : length (take i xs) ≡ i = simp length-take (omega arith) in

@@ -1,67 +1,105 @@
-use Rattle.std.proofs.Common.{◌≡◌, ℕ, ◌<◌, inl, inr, List, [], ◌∷◌, ◌++◌, length, Option, Result, Ok, Err, refl, sym, ap, subst, arith, append_assoc, length-append}
+-- An edit whose line was read, and then what comes of it.
+use Rattle.std.proofs.Common.{◌≡◌, ℕ, ◌-◌, ◌<◌, inl, inr, List, [], ◌∷◌, ◌++◌, length, replicate, Option, Result, Ok}
+use Rattle.std.proofs.Common.{Err, refl, arith, append_assoc, length-append}
+use Rattle.std.proofs.lemmas.List.{length-replicate}
 use Rattle.std.specs.Io.KnownBytes.{Consumes}
-use Rattle.std.proofs.KnownBytes.{Consumes-trans}
-use Rattle.ldmodel.specs.ThinProject.{Project}
-use Rattle.ldmodel.specs.ThinEdits as edits
-use Rattle.ldmodel.specs.ThinEdits.{Change}
-use Rattle.ldstream.specs.Commands.{Command, Add, SetScript, Head, AddHead, ScriptHead, head_of, payload_of, head_line, IsHead, IsCommand, spelling}
-use Rattle.ldstream.specs.Answers.{EditReply, Reply}
-use Rattle.ldstream.specs.Ran.{world}
+use Rattle.std.proofs.KnownBytes.{Consumes-trans, Keeps-refl}
+use Rattle.ldmodel.specs.Commands.{Edit, HasNo, edit_payload, spelling}
+use Rattle.ldmodel.specs.Project.{Project}
+use Rattle.ldstream.specs.Heads.{edit_of, announced, Says}
+use Rattle.ldstream.specs.Ran.{world, CutShort}
 use Rattle.ldstream.specs.Stepped.{Stepped, EditStepped}
 use Rattle.ldstream.specs.declared.fault.RunFault.{RunFault}
 use Rattle.ldstream.specs.declared.fault.RunFault.TheVariants.{Read, Write, Long}
+use Rattle.ldstream.specs.declared.head.Aim.TheVariants as aim
+use Rattle.ldstream.specs.declared.head.EditHead.{EditHead}
+use Rattle.ldstream.specs.declared.head.EditHead.TheVariants as edit
+use Rattle.ldstream.specs.declared.head.Head.TheVariants as head
 use Rattle.ldstream.specs.declared.serve.Step.{Step}
 use Rattle.ldstream.specs.declared.serve.Step.TheVariants.{Next, End}
-use Rattle.ldstream.proofs.StreamGrammar.{NotBegun, announced, short_payload, bad_at_end}
+use Rattle.ldstream.proofs.StreamGrammar.{OneFirst, NotBegun, no_line, short_payload, bad_at_end}
 
--- a head, and the command that it becomes with a payload
-pub record IsEdit (h : Head) (command : List ℕ → Command) (change : List ℕ → Change) (n : ℕ) : Type 0 where
-  pub announces : announced h ≡ n
-  pub head : (bytes : List ℕ) → length bytes ≡ n → head_of (command bytes) ≡ h
-  pub payload : (bytes : List ℕ) → payload_of (command bytes) ≡ bytes
-  pub replies : (p q : Project) (bytes answer : List ℕ) → EditReply p (change bytes) answer q → Reply p (command bytes) answer q
+-- a read failed within a line
+pub cut_line : (old new : Option (List ℕ)) (out : Option (List ℕ)) (p : Project) (part : List ℕ) → HasNo 10 part
+    → Consumes old new part → CutShort (world old out p) (world new out p)
+cut_line old new out p part h read =
+    record { part = part; none = no_line part h; read = read; wrote = Keeps-refl out; same = refl }
 
-pub script_edit : (n : ℕ) → IsEdit (ScriptHead n) SetScript edits.SetScript n
-script_edit n = record { announces = refl; head = λ bytes e. ap ScriptHead e; payload = λ bytes. refl; replies = λ p q bytes answer r. r }
+nothing : (bytes : List ℕ) → length bytes ≡ 0 → [] ≡ bytes
+nothing [] e = refl
+nothing (b ∷ bs) e = absurd (omega (arith, e))
 
-pub add_edit : (name : List ℕ) (at n : ℕ) → IsEdit (AddHead name at n) (Add name at) (edits.Add name at) n
-add_edit name at n = record { announces = refl; head = λ bytes e. ap (AddHead name at) e; payload = λ bytes. refl; replies = λ p q bytes answer r. r }
+brings : (h : EditHead) (bytes : List ℕ) → length bytes ≡ announced h → edit_payload (edit_of h bytes) ≡ bytes
+brings (edit.WithPayload (aim.Add name at) count) bytes e = refl
+brings (edit.WithPayload (aim.Replace name) count) bytes e = refl
+brings (edit.WithPayload aim.Script count) bytes e = refl
+brings (edit.Move name to) bytes e = nothing bytes e
+brings (edit.Remove name) bytes e = nothing bytes e
 
-short_read : (h : Head) (n : ℕ) (part : List ℕ) → announced h ≡ n → IsHead h → length part < n → NotBegun ((head_line h ++ 10 ∷ []) ++ part)
-short_read h n part e i l = rw append_assoc (short_payload h part i (omega arith))
+module _ (one_first : OneFirst) (h : EditHead) (text : List ℕ) (says : Says text (head.Edit h)) where
+  cut_short : (part : List ℕ) → length part < announced h → NotBegun ((text ++ 10 ∷ []) ++ part)
+  cut_short part l =
+      let missing : List ℕ = replicate (announced h - length part) 0 in
+      let long : length (part ++ missing) ≡ announced h = rw (length-append part missing, length-replicate)
+      (omega (arith, l)) in
+      let some : 0 < length missing = rw length-replicate (omega (arith, l)) in
+      rw append_assoc (short_payload one_first (Edit (edit_of h (part ++ missing))) text part missing
+      (says (part ++ missing) long) (brings h (part ++ missing) long) some)
 
-module _ (h : Head) (command : List ℕ → Command) (change : List ℕ → Change) (n : ℕ) (is : IsEdit h command change n) (i : IsHead h) where
-  is_command : (bytes : List ℕ) → length bytes ≡ n → IsCommand (command bytes)
-  is_command bytes l = subst IsHead (sym (is.head bytes l)) i
+  whole : (rest mid end : Option (List ℕ)) (bytes : List ℕ) → length bytes ≡ announced h
+      → Consumes rest mid (text ++ 10 ∷ []) → Consumes mid end bytes
+      → Consumes rest end (spelling (Edit (edit_of h bytes)))
+  whole rest mid end bytes l first more =
+      let all = Consumes-trans rest mid end _ _ first more in
+      rw ((says bytes l).spelled, brings h bytes l) (rw append_assoc at all)
 
-  whole : (rest mid end : Option (List ℕ)) (bytes : List ℕ) → length bytes ≡ n → Consumes rest mid (head_line h ++ 10 ∷ []) → Consumes mid end bytes → Consumes rest end (spelling (command bytes))
-  whole rest mid end bytes l line more =
-      rw (is.head bytes l, is.payload bytes) (let all = Consumes-trans rest mid end _ _ line more in rw append_assoc at all)
+  some_line : (part : List ℕ) → 0 < length ((text ++ 10 ∷ []) ++ part)
+  some_line part = rw length-append (rw length-append (omega arith))
 
-  -- a line that says how long the payload is, and then what comes of it
-  pub edit_stepped : (rest mid end : Option (List ℕ)) (out out' : Option (List ℕ)) (p p' : Project) (r : Result Step RunFault) → Consumes rest mid (head_line h ++ 10 ∷ [])
-      → EditStepped change n (world mid out p) (world end out' p') r → Stepped (world rest out p) (world end out' p') r
-  edit_stepped rest mid end out out' p p' (Ok Next) line s =
+  pub edit_stepped : (rest mid end : Option (List ℕ)) (out out' : Option (List ℕ)) (p p' : Project)
+      (r : Result Step RunFault) → Consumes rest mid (text ++ 10 ∷ [])
+      → EditStepped (edit_of h) (announced h) (world mid out p) (world end out' p') r
+      → Stepped (world rest out p) (world end out' p') r
+  edit_stepped rest mid end out out' p p' (Ok Next) first s =
       record {
-        command = command s.0;
+        command = Edit (edit_of h s.0);
         answer = s.1;
-        is = is_command s.0 s.2;
-        read = whole rest mid end s.0 s.2 line s.3;
+        is = (says s.0 s.2).is;
+        read = whole rest mid end s.0 s.2 first s.3;
         wrote = s.4;
-        reply = is.replies p p' s.0 s.1 s.5;
+        reply = s.5;
       }
-  edit_stepped rest mid end out out' p p' (Ok (End status)) line s =
+  edit_stepped rest mid end out out' p p' (Ok (End status)) first s =
       inr (record {
-        bad = bad_at_end _ _ _ (rw length-append (rw length-append (omega arith))) (short_read h n s.0 is.announces i s.1) (Consumes-trans _ _ _ _ _ line s.2) s.3;
+        bad = bad_at_end _ _ _ (some_line s.0) (cut_short s.0 s.1) (Consumes-trans _ _ _ _ _ first s.2) s.3;
         wrote = s.4;
         same = s.5;
         tells = s.6;
       })
-  edit_stepped rest mid end out out' p p' (Err Read) line s =
-      record { part = (head_line h ++ 10 ∷ []) ++ s.0; read = Consumes-trans _ _ _ _ _ line s.2; none = short_read h n s.0 is.announces i s.1; wrote = s.3; same = s.4 }
-  edit_stepped rest mid end out out' p p' (Err Write) line s =
+  edit_stepped rest mid end out out' p p' (Err Read) first s =
+      record {
+        part = (text ++ 10 ∷ []) ++ s.0;
+        read = Consumes-trans _ _ _ _ _ first s.2;
+        none = cut_short s.0 s.1;
+        wrote = s.3;
+        same = s.4;
+      }
+  edit_stepped rest mid end out out' p p' (Err Write) first s =
       elim s [
-        | inl a ↦ inl (record { command = command a.0; answer = a.1; n = a.2; is = is_command a.0 a.3; read = whole rest mid end a.0 a.3 line a.4; wrote = a.5; reply = is.replies p p' a.0 a.1 a.6 })
-        | inr b ↦ inr (record { bad = bad_at_end _ _ _ (rw length-append (rw length-append (omega arith))) (short_read h n b.0 is.announces i b.2) (Consumes-trans _ _ _ _ _ line b.3) b.4; n = b.1; wrote = b.5; same = b.6 })
+        | inl a ↦ inl (record {
+          command = Edit (edit_of h a.0);
+          answer = a.1;
+          n = a.2;
+          is = (says a.0 a.3).is;
+          read = whole rest mid end a.0 a.3 first a.4;
+          wrote = a.5;
+          reply = a.6;
+        })
+        | inr b ↦ inr (record {
+          bad = bad_at_end _ _ _ (some_line b.0) (cut_short b.0 b.2) (Consumes-trans _ _ _ _ _ first b.3) b.4;
+          n = b.1;
+          wrote = b.5;
+          same = b.6;
+        })
       ]
-  edit_stepped rest mid end out out' p p' (Err Long) line s = s
+  edit_stepped rest mid end out out' p p' (Err Long) first s = s

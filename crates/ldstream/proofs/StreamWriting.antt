@@ -1,4 +1,5 @@
-use Rattle.std.proofs.Common.{◌≡◌, ℕ, zero, suc, ◌+◌, List, [], ◌∷◌, ◌++◌, length, take, Option, Result, Ok, Err, refl, ap, subst, arith}
+use Rattle.std.proofs.Common.{◌≡◌, ℕ, zero, suc, ◌+◌, List, [], ◌∷◌, ◌++◌, length, take, Option, Result, Ok, Err}
+use Rattle.std.proofs.Common.{refl, ap, subst, arith}
 use Rattle.std.specs.Result.{IsErrAnd, MatchResult}
 use Rattle.std.proofs.lemmas.Grind.{common_steps}
 use Rattle.std.specs.Io.KnownBytes.{Appends, Keeps}
@@ -27,20 +28,25 @@ Part-whole a b c x h k = (length x, rw (take_all x) (Appends-kept a b c x h k))
     take_all : (x : List ℕ) → take (length x) x ≡ x
     take_all x = grind (arith, common_steps)
 
-pub Writes-cut : {T E : Type 0} (Q : E → Type 0) (a b : Option (List ℕ)) (text : List ℕ) (r : Result T E) → IsErrAnd r Q → Part a b text → Writes a b text r
+pub Writes-cut : {T E : Type 0} (Q : E → Type 0) (a b : Option (List ℕ)) (text : List ℕ) (r : Result T E)
+    → IsErrAnd r Q → Part a b text → Writes a b text r
 Writes-cut Q a b text (Ok x) h p = absurd h
 Writes-cut Q a b text (Err e) h p = p
 
 -- a last call, returned as it is
-pub Writes-then : {T E : Type 0} (a b c : Option (List ℕ)) (x y : List ℕ) (r : Result T E) → Appends a b x → Writes b c y r → Writes a c (x ++ y) r
+pub Writes-then : {T E : Type 0} (a b c : Option (List ℕ)) (x y : List ℕ) (r : Result T E) → Appends a b x
+    → Writes b c y r → Writes a c (x ++ y) r
 Writes-then a b c x y (Ok v) h w = Appends-trans a b c x y h w
 Writes-then a b c x y (Err e) h w = Part-then a b c x y h w
 
-pub Writes-kept : {T E : Type 0} (a b c : Option (List ℕ)) (x : List ℕ) (r : Result T E) → Appends a b x → Keeps b c → Writes a c x r
+pub Writes-kept : {T E : Type 0} (a b c : Option (List ℕ)) (x : List ℕ) (r : Result T E) → Appends a b x → Keeps b c
+    → Writes a c x r
 Writes-kept a b c x (Ok v) h k = Appends-kept a b c x h k
 Writes-kept a b c x (Err e) h k = Part-whole a b c x h k
 
 -- what `write_all` ensures, as one fact
-pub Writes-both : {T E : Type 0} (a b : Option (List ℕ)) (x : List ℕ) (r : Result T E) → MatchResult r (λ _. Appends a b x) (λ _. Unit {0}) → MatchResult r (λ _. Unit {0}) (λ _. Part a b x) → Writes a b x r
+pub Writes-both : {T E : Type 0} (a b : Option (List ℕ)) (x : List ℕ) (r : Result T E)
+    → MatchResult r (λ _. Appends a b x) (λ _. Unit {0}) → MatchResult r (λ _. Unit {0}) (λ _. Part a b x)
+    → Writes a b x r
 Writes-both a b x (Ok v) h k = h
 Writes-both a b x (Err e) h k = k

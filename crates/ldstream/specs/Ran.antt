@@ -1,13 +1,21 @@
 -- What a run leaves, by cases on its result, over what the devices show and what the linker holds.
-use Rattle.std.specs.Prelude.{◌≡◌, ℕ, ◌+◌, ◌-◌, ◌^◌, min, ◌⊎◌, List, [], length, take, flat_map, Option, IfSome, Result, Ok, Err}
+use Rattle.std.specs.Prelude.{◌≡◌, ℕ, ◌+◌, ◌-◌, ◌^◌, min, ◌⊎◌, List, [], length, take, flat_map, Option, IfSome}
+use Rattle.std.specs.Prelude.{Result, Ok, Err}
 use Rattle.std.specs.Io.KnownBytes.{Consumes, Appends, Keeps, IsAtEnd}
-use Rattle.ldmodel.specs.ThinProject.{Project}
-use Rattle.ldstream.specs.Commands.{Command, IsCommand, spelling}
-use Rattle.ldstream.specs.Answers.{AreCommands, Reply, Replies, BeginsCommand, IsBad, status_of, stream_line}
+use Rattle.ldmodel.specs.Answers as answers
+use Rattle.ldmodel.specs.Answers.{Reply, Replies, stream_line}
+use Rattle.ldmodel.specs.Commands.{Command, IsCommand, AreCommands, BeginsCommand, IsBad, spelling}
+use Rattle.ldmodel.specs.Link.{link}
+use Rattle.ldmodel.specs.Project.{Project}
 use Rattle.ldstream.specs.declared.Status.{Status}
-use Rattle.ldstream.specs.declared.Status.TheVariants.{Malformed}
+use Rattle.ldstream.specs.declared.Status.TheVariants.{Done, Malformed}
 use Rattle.ldstream.specs.declared.fault.RunFault.{RunFault}
 use Rattle.ldstream.specs.declared.fault.RunFault.TheVariants.{Read, Write, Long}
+
+-- how a session ends
+abbrev pub status_of : Status → answers.Status
+status_of (Done status) = answers.Ended status
+status_of Malformed = answers.Malformed
 
 -- what the devices show and what the linker holds
 pub record World : Type 0 where
@@ -33,7 +41,7 @@ pub record AtEnd (old new : World) (status : Status) : Type 0 where
   pub at : IsAtEnd new.rest
   pub wrote : Keeps old.written new.written
   pub same : new.project ≡ old.project
-  pub tells : status ≡ status_of old.project
+  pub tells : status ≡ Done (link old.project).status
 
 pub record AtBad (old new : World) (status : Status) : Type 0 where
   pub bad : IfSome old.rest IsBad

@@ -1,24 +1,18 @@
 -- What the steps of a run do, by cases on their results, over what the devices show and what the linker holds.
-use Rattle.std.specs.Prelude.{◌≡◌, ℕ, ◌<◌, ◌≤◌, ◌⊎◌, List, [], ◌∷◌, ◌++◌, length, take, Option, Some, None, IfSome, Result, Ok, Err, MatchResult}
-use Rattle.std.specs.List.{slice_range}
+use Rattle.std.specs.Prelude.{◌≡◌, ℕ, ◌<◌, ◌≤◌, ◌⊎◌, List, [], ◌∷◌, ◌++◌, length, take}
+use Rattle.std.specs.Prelude.{Option, Some, None, Result, Ok, Err, MatchResult}
 use Rattle.std.specs.Io.KnownBytes.{Consumes, Appends, Keeps, IsAtEnd}
-use Rattle.ldmodel.specs.ThinEdits as edits
-use Rattle.ldmodel.specs.ThinEdits.{Change}
-use Rattle.ldstream.specs.Commands.{Command, Head, AddHead, ScriptHead, ImageHead, head_line, IsHead, IsCommand, HasNoFeed, spelling}
-use Rattle.ldstream.specs.Answers.{Reply, EditReply, BeginsCommand, IsBad, stream_line}
+use Rattle.ldmodel.specs.Answers.{Reply, EditReply, stream_line}
+use Rattle.ldmodel.specs.Commands.{Command, IsCommand, HasNo, spelling}
+use Rattle.ldmodel.specs.Edits.{Change}
 use Rattle.ldstream.specs.Ran.{World, AtEnd, AtBad, CutShort, AnswerCut, BadCut, risen}
 use Rattle.ldstream.specs.declared.Status.TheVariants.{Malformed}
 use Rattle.ldstream.specs.declared.fault.RunFault.{RunFault}
 use Rattle.ldstream.specs.declared.fault.RunFault.TheVariants.{Read, Write, Long}
-use Rattle.ldstream.specs.declared.head.HeadInLine.{HeadInLine}
-use Rattle.ldstream.specs.declared.head.HeadInLine.TheVariants.{Add, Script, Image}
 use Rattle.ldstream.specs.declared.line.LineEnd.{LineEnd}
 use Rattle.ldstream.specs.declared.line.LineEnd.TheVariants.{Line, Ended, Broken}
 use Rattle.ldstream.specs.declared.payload.Payload.{Payload}
 use Rattle.ldstream.specs.declared.payload.Payload.TheVariants.{Whole, NoMemory, Short}
-use Rattle.ldstream.specs.declared.serve.Aim.{Aim}
-use Rattle.ldstream.specs.declared.serve.Aim.TheVariants as aim
-use Rattle.ldstream.specs.declared.serve.Start.{Start}
 use Rattle.ldstream.specs.declared.serve.Step.{Step}
 use Rattle.ldstream.specs.declared.serve.Step.TheVariants.{Next, End}
 
@@ -43,29 +37,11 @@ ByteRead old new (Ok None) = Consumes old new [] × IsAtEnd new
 ByteRead old new (Err e) = Keeps old new
 
 abbrev pub LineRead : {E : Type 0} → Option (List ℕ) → Option (List ℕ) → List ℕ → Result LineEnd E → Type 0
-LineRead old new line (Ok (Line n)) = (n ≤ 512) × HasNoFeed (take n line) × Consumes old new (take n line ++ 10 ∷ [])
+LineRead old new line (Ok (Line n)) = (n ≤ 512) × HasNo 10 (take n line) × Consumes old new (take n line ++ 10 ∷ [])
 LineRead old new line (Ok Ended) = Consumes old new [] × IsAtEnd new
-LineRead old new line (Ok Broken) = (bytes : List ℕ) × (0 < length bytes) × HasNoFeed bytes × Consumes old new bytes × (IsAtEnd new ⊎ (512 < length bytes))
-LineRead old new line (Err e) = (bytes : List ℕ) × HasNoFeed bytes × Consumes old new bytes
-
--- a head whose name lies in the line after `add `
-abbrev pub head_in : List ℕ → HeadInLine → Head
-head_in line (Add name_end at count) = AddHead (slice_range line 4 name_end) at count
-head_in line (Script count) = ScriptHead count
-head_in line Image = ImageHead
-
--- where the name lies in the line
-abbrev pub LiesIn : List ℕ → HeadInLine → Type 0
-LiesIn line (Add name_end at count) = (4 ≤ name_end) × (name_end ≤ length line)
-LiesIn line (Script count) = Unit {0}
-LiesIn line Image = Unit {0}
-
--- the line that a command begins with
-abbrev pub Started : {E : Type 0} → Option (List ℕ) → Option (List ℕ) → List ℕ → Result Start E → Type 0
-Started old new line (Ok Start.Ended) = Consumes old new [] × IsAtEnd new
-Started old new line (Ok Start.Bad) = IfSome old IsBad
-Started old new line (Ok (Start.Command h)) = LiesIn line h × IsHead (head_in line h) × Consumes old new (head_line (head_in line h) ++ 10 ∷ [])
-Started old new line (Err e) = (part : List ℕ) × (BeginsCommand part → ⊥) × Consumes old new part
+LineRead old new line (Ok Broken) =
+    (bytes : List ℕ) × (0 < length bytes) × HasNo 10 bytes × Consumes old new bytes × (IsAtEnd new ⊎ (512 < length bytes))
+LineRead old new line (Err e) = (bytes : List ℕ) × HasNo 10 bytes × Consumes old new bytes
 
 -- the text is written, or a beginning of it
 abbrev pub Writes : {T E : Type 0} → Option (List ℕ) → Option (List ℕ) → List ℕ → Result T E → Type 0
@@ -98,17 +74,20 @@ Stepped old new (Err Read) = CutShort old new
 Stepped old new (Err Write) = AnswerCut old new ⊎ BadCut old new
 Stepped old new (Err Long) = ⊥
 
--- the edit that a payload is meant for
-abbrev pub aimed : Aim → List ℕ → Change
-aimed (aim.Object name at) payload = edits.Add name.now at payload
-aimed aim.Script payload = edits.SetScript payload
-
--- the same of an edit whose line was read, with this number of bytes of payload to come
+-- the same of an edit whose line was read, with this number of bytes of payload to come, and of what it is with them
 abbrev pub EditStepped : (List ℕ → Change) → ℕ → World → World → Result Step RunFault → Type 0
-EditStepped change n old new (Ok Next) = (payload answer : List ℕ) × (length payload ≡ n) × Consumes old.rest new.rest payload × Appends old.written new.written answer × EditReply old.project (change payload) answer new.project
-EditStepped change n old new (Ok (End status)) = (part : List ℕ) × (length part < n) × Consumes old.rest new.rest part × IsAtEnd new.rest × Appends old.written new.written stream_line × (new.project ≡ old.project) × (status ≡ Malformed)
-EditStepped change n old new (Err Read) = (part : List ℕ) × (length part < n) × Consumes old.rest new.rest part × Keeps old.written new.written × (new.project ≡ old.project)
+EditStepped change n old new (Ok Next) =
+    (payload answer : List ℕ) × (length payload ≡ n) × Consumes old.rest new.rest payload
+    × Appends old.written new.written answer × EditReply old.project (change payload) answer new.project
+EditStepped change n old new (Ok (End status)) =
+    (part : List ℕ) × (length part < n) × Consumes old.rest new.rest part × IsAtEnd new.rest
+    × Appends old.written new.written stream_line × (new.project ≡ old.project) × (status ≡ Malformed)
+EditStepped change n old new (Err Read) =
+    (part : List ℕ) × (length part < n) × Consumes old.rest new.rest part
+    × Keeps old.written new.written × (new.project ≡ old.project)
 EditStepped change n old new (Err Write) =
-    ((payload answer : List ℕ) × (k : ℕ) × (length payload ≡ n) × Consumes old.rest new.rest payload × Appends old.written new.written (take k answer) × EditReply old.project (change payload) answer new.project)
-    ⊎ ((part : List ℕ) × (k : ℕ) × (length part < n) × Consumes old.rest new.rest part × IsAtEnd new.rest × Appends old.written new.written (take k stream_line) × (new.project ≡ old.project))
+    ((payload answer : List ℕ) × (k : ℕ) × (length payload ≡ n) × Consumes old.rest new.rest payload
+    × Appends old.written new.written (take k answer) × EditReply old.project (change payload) answer new.project)
+    ⊎ ((part : List ℕ) × (k : ℕ) × (length part < n) × Consumes old.rest new.rest part × IsAtEnd new.rest
+    × Appends old.written new.written (take k stream_line) × (new.project ≡ old.project))
 EditStepped change n old new (Err Long) = ⊥

@@ -1,8 +1,9 @@
 //! Answers, each written whole and then flushed.
 
-ghost use Rattle.std.specs.Prelude.{◌≡◌, ◌++◌, ◌∷◌, [], ℕ, take, decimal, OnOk, OnErr};
+ghost use Rattle.std.specs.Prelude.{◌≡◌, ◌∷◌, [], ℕ, take, codes, decimal, OnOk, OnErr};
 ghost use Rattle.std.specs.Io.KnownBytes.{Appends};
-ghost use Rattle.ldstream.specs.Answers.{linked_line, refused_line, answer_line, bytes_answer, stream_line};
+ghost use Rattle.ldmodel.specs.Answers.{answer_line, bytes_answer, refused_line, stream_line};
+ghost use Rattle.ldmodel.specs.EditMeaning.{refusal_of};
 ghost use Rattle.ldstream.specs.Stepped.{CountsFailure, Writes};
 
 use crate::devices::Sink;
@@ -23,26 +24,27 @@ fn write_all<W: Sink>(sink: &mut W, bytes: &[u8]) -> Result<(), WriteFault>
     Ok(())
 }
 
-/// Writes a number in decimal, and the byte after it.
-fn write_number<W: Sink>(sink: &mut W, n: u64, end: u8) -> Result<(), WriteFault>
-    ensures text { Writes (W.written sink.old) (W.written sink.new) (decimal n ++ end ∷ []) result }
+/// Writes a space, and a number in decimal.
+fn write_number<W: Sink>(sink: &mut W, n: u64) -> Result<(), WriteFault>
+    ensures text { Writes (W.written sink.old) (W.written sink.new) (32 ∷ decimal n) result }
     ensures counted { CountsFailure (W.failed sink.old) (W.failed sink.new) result }
 {
     let mut buffer = Buffer::new();
-    write_all(sink, buffer.format(n).as_bytes())?;
-    write_all(sink, &[end])
+    write_all(sink, b" ")?;
+    write_all(sink, buffer.format(n).as_bytes())
 }
 
-/// Writes an answer of one line: a word with its space, and two numbers.
-#[tactic(auto, unfolding(crate::specs::Answers::answer_line))]
+/// Writes an answer of one line: a word and two numbers.
+#[tactic(auto, unfolding(ldmodel::specs::Answers::answer_line))]
 fn write_answer<W: Sink>(sink: &mut W, word: &[u8], a: u64, b: u64) -> Result<(), WriteFault>
     ensures text { Writes (W.written sink.old) (W.written sink.new) (answer_line word.now a b) result }
     ensures flushed { OnOk result (W.held sink.new ≡ []) }
     ensures counted { CountsFailure (W.failed sink.old) (W.failed sink.new) result }
 {
     write_all(sink, word)?;
-    write_number(sink, a, b' ')?;
-    write_number(sink, b, b'\n')?;
+    write_number(sink, a)?;
+    write_number(sink, b)?;
+    write_all(sink, b"\n")?;
     sink.flush()
 }
 
@@ -52,11 +54,12 @@ fn write_answer<W: Sink>(sink: &mut W, word: &[u8], a: u64, b: u64) -> Result<()
 ///
 /// Where a call of `sink` failed: a beginning of the answer is written then.
 pub fn write_linked<W: Sink>(sink: &mut W, linked: Linked) -> Result<(), WriteFault>
-    ensures text { Writes (W.written sink.old) (W.written sink.new) (linked_line linked) result }
+    ensures text { Writes (W.written sink.old) (W.written sink.new)
+        (answer_line (codes "linked") linked.status linked.length) result }
     ensures flushed { OnOk result (W.held sink.new ≡ []) }
     ensures counted { CountsFailure (W.failed sink.old) (W.failed sink.new) result }
 {
-    write_answer(sink, b"linked ", u64::from(linked.status), linked.length)
+    write_answer(sink, b"linked", u64::from(linked.status), linked.length)
 }
 
 /// Answers a refused edit: `refused`, its number and the reader's own.
@@ -65,31 +68,29 @@ pub fn write_linked<W: Sink>(sink: &mut W, linked: Linked) -> Result<(), WriteFa
 ///
 /// Where a call of `sink` failed: a beginning of the answer is written then.
 pub fn write_refused<W: Sink>(sink: &mut W, refusal: EditRefusal) -> Result<(), WriteFault>
-    ensures text { Writes (W.written sink.old) (W.written sink.new) (refused_line refusal) result }
+    ensures text { Writes (W.written sink.old) (W.written sink.new) (refused_line (refusal_of refusal)) result }
     ensures flushed { OnOk result (W.held sink.new ≡ []) }
     ensures counted { CountsFailure (W.failed sink.old) (W.failed sink.new) result }
 {
-    write_answer(
-        sink,
-        b"refused ",
-        u64::from(refusal.n),
-        u64::from(refusal.m),
-    )
+    let number = u64::from(refusal.number());
+    let inner = u64::from(refusal.inner_number());
+    write_answer(sink, b"refused", number, inner)
 }
 
-/// Answers with an image: `bytes` and its length in a line, and then its bytes.
+/// Answers a query: `bytes` and their number in a line, and then the bytes.
 ///
 /// # Errors
 ///
 /// Where a call of `sink` failed: a beginning of the answer is written then.
-#[tactic(auto, unfolding(crate::specs::Answers::bytes_answer))]
+#[tactic(auto, unfolding(ldmodel::specs::Answers::bytes_answer))]
 pub fn write_bytes<W: Sink>(sink: &mut W, bytes: &[u8]) -> Result<(), WriteFault>
     ensures text { Writes (W.written sink.old) (W.written sink.new) (bytes_answer bytes.now) result }
     ensures flushed { OnOk result (W.held sink.new ≡ []) }
     ensures counted { CountsFailure (W.failed sink.old) (W.failed sink.new) result }
 {
-    write_all(sink, b"bytes ")?;
-    write_number(sink, bytes.len() as u64, b'\n')?;
+    write_all(sink, b"bytes")?;
+    write_number(sink, bytes.len() as u64)?;
+    write_all(sink, b"\n")?;
     write_all(sink, bytes)?;
     sink.flush()
 }

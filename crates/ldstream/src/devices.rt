@@ -134,7 +134,11 @@ pub struct AnswerWriter<W: Write + Drop> {
 impl<W: Write + Drop> Model for AnswerWriter<W> {
     ghost Value = { WriterState };
 
-    ghost view = { λ s. record { written = writer_contents W.contents s.writer; held = writer_buffer s.writer; failed = s.failures } };
+    ghost view = { λ s. record {
+      written = writer_contents W.contents s.writer;
+      held = writer_buffer s.writer;
+      failed = s.failures;
+    } };
 }
 
 impl<W: Write + Drop> AnswerWriter<W> {

@@ -3,8 +3,8 @@
 
 ghost use Rattle.std.specs.Prelude.{List, ℕ, IfOk, IfSome};
 ghost use Rattle.std.specs.Io.KnownBytes.{Appends};
-ghost use Rattle.ldstream.specs.Answers.{Answers};
-ghost use Rattle.ldstream.specs.Ran.{Ran, FaultsCounted, Flushed, world};
+ghost use Rattle.ldmodel.specs.Answers.{Answers};
+ghost use Rattle.ldstream.specs.Ran.{Ran, FaultsCounted, Flushed, status_of, world};
 
 use crate::devices::{Sink, Source};
 use crate::fault::RunFault;
@@ -16,7 +16,6 @@ pub mod answer;
 pub mod devices;
 pub mod fault;
 pub mod head;
-pub mod law;
 pub mod line;
 pub mod payload;
 pub mod serve;
@@ -49,14 +48,15 @@ pub fn run<R: Source, W: Sink, L: Linker>(
     // The answers are those of the definition.
     ensures answers { IfOk result (λ status. IfSome (R.rest source.old) (λ stream. (out : List ℕ)
         × Appends (W.written sink.old) (W.written sink.new) out
-        × Answers (L.project linker.old) stream out (L.project linker.new) status)) }
+        × Answers (L.project linker.old) stream out (L.project linker.new) (status_of status))) }
     // What stands after each outcome.
     ensures ran { Ran (world (R.rest source.old) (W.written sink.old) (L.project linker.old))
         (world (R.rest source.new) (W.written sink.new) (L.project linker.new)) result }
     // Nothing written is held back where a read fails, as any might, and at the end.
     ensures flushed { Flushed (W.held sink.old) (W.held sink.new) result }
     // A fault is reported where a device's count of failures rose, and nowhere else.
-    ensures counted { FaultsCounted (R.failed source.old) (R.failed source.new) (W.failed sink.old) (W.failed sink.new) result }
+    ensures counted { FaultsCounted (R.failed source.old) (R.failed source.new)
+        (W.failed sink.old) (W.failed sink.new) result }
 {
     for _turn in 0..u64::MAX {
         match serve_one(alloc, source, sink, linker)? {

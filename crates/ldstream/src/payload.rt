@@ -40,8 +40,10 @@ fn fill<R: Source>(source: &mut R, buf: &mut [u8]) -> Result<usize, ReadFault>
 
 /// Reads past at most `count` bytes, and says how many there were.
 fn skip<R: Source>(source: &mut R, count: usize) -> Result<usize, ReadFault>
-    ensures ok { IfOk result (λ n. (bytes : List ℕ) × (length bytes ≡ n) × (n ≤ count) × Consumes (R.rest source.old) (R.rest source.new) bytes × (n < count → IsAtEnd (R.rest source.new))) }
-    ensures err { OnErr result ((bytes : List ℕ) × (length bytes < count) × Consumes (R.rest source.old) (R.rest source.new) bytes) }
+    ensures ok { IfOk result (λ n. (bytes : List ℕ) × (length bytes ≡ n) × (n ≤ count)
+        × Consumes (R.rest source.old) (R.rest source.new) bytes × (n < count → IsAtEnd (R.rest source.new))) }
+    ensures err { OnErr result ((bytes : List ℕ) × (length bytes < count)
+        × Consumes (R.rest source.old) (R.rest source.new) bytes) }
     ensures counted { CountsFailure (R.failed source.old) (R.failed source.new) result }
 {
     let mut chunk = [0u8; SKIP_STEP];

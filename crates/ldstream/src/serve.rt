@@ -1,18 +1,23 @@
 //! One command of a stream: read, made and answered.
 
-ghost use Rattle.std.specs.Prelude.{◌≡◌, ℕ, List, [], length, OnOk};
-ghost use Rattle.ldstream.specs.Answers.{EditReply};
-ghost use Rattle.ldmodel.specs.ThinEditMeaning.{change_of};
+ghost use Rattle.std.specs.Prelude.{◌≡◌, ℕ, List, [], Option, length, IfSome, OnOk};
+ghost use Rattle.ldmodel.specs.Answers.{EditReply, asked};
+ghost use Rattle.ldmodel.specs.Commands.{IsBad};
+ghost use Rattle.ldmodel.specs.EditMeaning.{change_of};
+ghost use Rattle.ldmodel.specs.Link.{link};
+ghost use Rattle.ldmodel.specs.Project.{Project};
+ghost use Rattle.ldstream.specs.Heads.{aimed, announced, edit_of, query_of};
 ghost use Rattle.ldstream.specs.Ran.{FaultsCounted, Flushed, world};
-ghost use Rattle.ldstream.specs.Stepped.{CountsFailure, Writes, Started, Stepped, EditStepped, aimed};
+ghost use Rattle.ldstream.specs.Stepped.{CountsFailure, EditStepped, Stepped, Writes};
 
 use crate::Status;
 use crate::answer::{write_bytes, write_linked, write_malformed, write_refused};
 use crate::devices::{Sink, Source};
-use crate::fault::{ReadFault, RunFault, WriteFault};
-use crate::head::{HeadInLine, NAME_START, read_head};
+use crate::fault::{RunFault, WriteFault};
+use crate::head::{Aim, EditHead, Head, Query, read_head};
 use crate::line::{LineEnd, MAX_LINE, read_line};
 use crate::payload::{Payload, read_payload};
+use ldlaws::streams::{lines_without_feed, one_first_command};
 use ldmodel::edit::{Edit, EditRefusal};
 use ldmodel::linker::Linker;
 use ldmodel::meter::Meter;
@@ -25,47 +30,6 @@ pub enum Step {
     Next,
     /// The run has ended.
     End(Status),
-}
-
-/// What a stream goes on with.
-#[derive(Clone, Copy, Debug, PartialEq, Eq)]
-pub enum Start {
-    /// Nothing.
-    Ended,
-    /// Bytes that no command begins.
-    Bad,
-    /// A command's line.
-    Command(HeadInLine),
-}
-
-/// What a payload is meant for.
-#[derive(Clone, Copy, Debug)]
-pub enum Aim<'a> {
-    /// A new object of this name, before the object at this place.
-    Object {
-        /// The name.
-        name: &'a [u8],
-        /// The place.
-        at: u64,
-    },
-    /// The script.
-    Script,
-}
-
-/// Reads the line that a command begins with into `line`.
-fn read_start<R: Source>(source: &mut R, line: &mut [u8]) -> Result<Start, ReadFault>
-    requires { length line.old ≡ 512 }
-    ensures started { Started (R.rest source.old) (R.rest source.new) line.new result }
-    ensures counted { CountsFailure (R.failed source.old) (R.failed source.new) result }
-{
-    match read_line(source, line)? {
-        LineEnd::Ended => Ok(Start::Ended),
-        LineEnd::Broken => Ok(Start::Bad),
-        LineEnd::Line(n) => match read_head(&line[..n]) {
-            None => Ok(Start::Bad),
-            Some(head) => Ok(Start::Command(head)),
-        },
-    }
 }
 
 /// Makes an edit and answers it.
@@ -91,35 +55,25 @@ fn use_payload<W: Sink, L: Linker>(
     sink: &mut W,
     linker: &mut L,
     aim: Aim<'_>,
-    payload: Vec<u8>,
+    bytes: Vec<u8>,
 ) -> Result<(), WriteFault>
     ensures text { (answer : List ℕ) × Writes (W.written sink.old) (W.written sink.new) answer result
-        × EditReply (L.project linker.old) (aimed aim.entry payload.items) answer (L.project linker.new) }
+        × EditReply (L.project linker.old) (aimed aim.entry bytes.items) answer (L.project linker.new) }
     ensures flushed { OnOk result (W.held sink.new ≡ []) }
     ensures counted { CountsFailure (W.failed sink.old) (W.failed sink.new) result }
 {
     match aim {
-        Aim::Object { name, at } => make_edit(
-            sink,
-            linker,
-            Edit::Add {
-                name,
-                at,
-                bytes: payload,
-            },
-        ),
-        Aim::Script => make_edit(
-            sink,
-            linker,
-            Edit::Script {
-                text: payload.as_slice(),
-            },
-        ),
+        Aim::Add { name, at } => make_edit(sink, linker, Edit::Add { name, at, bytes }),
+        Aim::Replace { name } => make_edit(sink, linker, Edit::Replace { name, bytes }),
+        Aim::Script => {
+            let text = bytes.as_slice();
+            make_edit(sink, linker, Edit::Script { text })
+        }
     }
 }
 
 /// Reads the payload of an edit, makes the edit and answers it.
-fn serve_edit<R: Source, W: Sink, L: Linker>(
+fn serve_payload<R: Source, W: Sink, L: Linker>(
     alloc: Global,
     source: &mut R,
     sink: &mut W,
@@ -127,18 +81,20 @@ fn serve_edit<R: Source, W: Sink, L: Linker>(
     aim: Aim<'_>,
     count: usize,
 ) -> Result<Step, RunFault>
-    ensures stepped { EditStepped (aimed aim.entry) count (world (R.rest source.old) (W.written sink.old) (L.project linker.old))
+    ensures stepped { EditStepped (aimed aim.entry) count
+        (world (R.rest source.old) (W.written sink.old) (L.project linker.old))
         (world (R.rest source.new) (W.written sink.new) (L.project linker.new)) result }
     ensures flushed { Flushed (W.held sink.old) (W.held sink.new) result }
-    ensures counted { FaultsCounted (R.failed source.old) (R.failed source.new) (W.failed sink.old) (W.failed sink.new) result }
+    ensures counted { FaultsCounted (R.failed source.old) (R.failed source.new)
+        (W.failed sink.old) (W.failed sink.new) result }
 {
     match read_payload(alloc, source, count)? {
-        Payload::Whole(payload) => {
-            use_payload(sink, linker, aim, payload)?;
+        Payload::Whole(bytes) => {
+            use_payload(sink, linker, aim, bytes)?;
             Ok(Step::Next)
         }
         Payload::NoMemory => {
-            write_refused(sink, EditRefusal::NO_MEMORY)?;
+            write_refused(sink, EditRefusal::NoMemory)?;
             Ok(Step::Next)
         }
         Payload::Short => {
@@ -146,6 +102,68 @@ fn serve_edit<R: Source, W: Sink, L: Linker>(
             Ok(Step::End(Status::Malformed))
         }
     }
+}
+
+/// Makes an edit that brings no payload, and answers it.
+fn serve_bare<W: Sink, L: Linker>(
+    sink: &mut W,
+    linker: &mut L,
+    edit: Edit<'_>,
+) -> Result<Step, RunFault>
+    ensures stepped { (rest : Option (List ℕ)) → EditStepped (λ _. change_of edit.entry) 0
+        (world rest (W.written sink.old) (L.project linker.old))
+        (world rest (W.written sink.new) (L.project linker.new)) result }
+    ensures flushed { Flushed (W.held sink.old) (W.held sink.new) result }
+    ensures counted { (r : ℕ) → FaultsCounted r r (W.failed sink.old) (W.failed sink.new) result }
+{
+    make_edit(sink, linker, edit)?;
+    Ok(Step::Next)
+}
+
+/// Makes the edit of a line that was read, with its payload, and answers it.
+fn serve_edit<R: Source, W: Sink, L: Linker>(
+    alloc: Global,
+    source: &mut R,
+    sink: &mut W,
+    linker: &mut L,
+    head: EditHead<'_>,
+) -> Result<Step, RunFault>
+    ensures stepped { EditStepped (edit_of head.entry) (announced head.entry)
+        (world (R.rest source.old) (W.written sink.old) (L.project linker.old))
+        (world (R.rest source.new) (W.written sink.new) (L.project linker.new)) result }
+    ensures flushed { Flushed (W.held sink.old) (W.held sink.new) result }
+    ensures counted { FaultsCounted (R.failed source.old) (R.failed source.new)
+        (W.failed sink.old) (W.failed sink.new) result }
+{
+    match head {
+        EditHead::WithPayload { aim, count } => {
+            serve_payload(alloc, source, sink, linker, aim, count)
+        }
+        EditHead::Move { name, to } => serve_bare(sink, linker, Edit::Move { name, to }),
+        EditHead::Remove { name } => serve_bare(sink, linker, Edit::Remove { name }),
+    }
+}
+
+/// What a query asks of the link.
+fn asked<L: Linker>(linker: &L, query: Query) -> &[u8]
+    ensures { result.now ≡ asked (query_of query) (link (L.project linker.now)) }
+{
+    match query {
+        Query::Image => linker.image(),
+        Query::Map => linker.map(),
+        Query::Faults => linker.faults(),
+    }
+}
+
+/// Answers bytes that no command begins.
+fn serve_bad<W: Sink>(sink: &mut W) -> Result<Step, RunFault>
+    ensures stepped { (old new : Option (List ℕ)) (p : Project) → IfSome old IsBad
+        → Stepped (world old (W.written sink.old) p) (world new (W.written sink.new) p) result }
+    ensures flushed { Flushed (W.held sink.old) (W.held sink.new) result }
+    ensures counted { (r : ℕ) → FaultsCounted r r (W.failed sink.old) (W.failed sink.new) result }
+{
+    write_malformed(sink)?;
+    Ok(Step::End(Status::Malformed))
 }
 
 /// Reads one command, makes it and answers it; or meets the end of the stream, or bytes that no command
@@ -163,31 +181,22 @@ pub fn serve_one<R: Source, W: Sink, L: Linker>(
     ensures stepped { Stepped (world (R.rest source.old) (W.written sink.old) (L.project linker.old))
         (world (R.rest source.new) (W.written sink.new) (L.project linker.new)) result }
     ensures flushed { Flushed (W.held sink.old) (W.held sink.new) result }
-    ensures counted { FaultsCounted (R.failed source.old) (R.failed source.new) (W.failed sink.old) (W.failed sink.new) result }
+    ensures counted { FaultsCounted (R.failed source.old) (R.failed source.new)
+        (W.failed sink.old) (W.failed sink.new) result }
 {
+    one_first_command();
+    lines_without_feed();
     let mut line = [0u8; MAX_LINE];
-    match read_start(source, &mut line)? {
-        Start::Ended => Ok(Step::End(Status::Done(linker.status()))),
-        Start::Bad => {
-            write_malformed(sink)?;
-            Ok(Step::End(Status::Malformed))
-        }
-        Start::Command(HeadInLine::Image) => {
-            write_bytes(sink, linker.image())?;
-            Ok(Step::Next)
-        }
-        Start::Command(HeadInLine::Script { count }) => {
-            serve_edit(alloc, source, sink, linker, Aim::Script, count)
-        }
-        Start::Command(
-            HeadInLine::Add {
-                name_end,
-                at,
-                count,
-            },
-        ) => {
-            let name = &line[NAME_START..name_end];
-            serve_edit(alloc, source, sink, linker, Aim::Object { name, at }, count)
-        }
+    match read_line(source, &mut line)? {
+        LineEnd::Ended => Ok(Step::End(Status::Done(linker.status()))),
+        LineEnd::Broken => serve_bad(sink),
+        LineEnd::Line(n) => match read_head(&line[..n]) {
+            None => serve_bad(sink),
+            Some(Head::Ask(query)) => {
+                write_bytes(sink, asked(linker, query))?;
+                Ok(Step::Next)
+            }
+            Some(Head::Edit(head)) => serve_edit(alloc, source, sink, linker, head),
+        },
     }
 }

@@ -57,7 +57,7 @@ fn start_in(starts: &Starts, section: SectionKey) -> Option<u64>
     }
 }
 
-impl<'a> Known for LinkView<'a> {
+impl<'a, 'p> Known for LinkView<'a, 'p> {
     ghost knows = { λ v l. IsLinkView l v };
 
     fn object(&self, key: ObjectKey) -> Option<&Object> {

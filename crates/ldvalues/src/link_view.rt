@@ -18,8 +18,8 @@ use std::alloc::Global;
 
 /// A link whose names are decided and whose parts have their places: it is `Known` to the evaluation of relocations.
 #[derive(Drop)]
-pub struct LinkView<'a> {
-    pub(crate) project: &'a ProjectView<'a>,
+pub struct LinkView<'a, 'p> {
+    pub(crate) project: &'a ProjectView<'p>,
     pub(crate) naming: &'a Naming,
     pub(crate) starts: &'a Starts,
     // what the script gives the name of each key
@@ -27,17 +27,17 @@ pub struct LinkView<'a> {
     ghost seen: { AreSeen project.now naming.now },
 }
 
-impl<'a> LinkView<'a> {
+impl<'a, 'p> LinkView<'a, 'p> {
     ghost use Rattle.ldvalues.specs.LinkView.{IsLinkView, known_link};
 
     /// The link of a project with these names and this layout. An error says that memory ran out.
     pub fn new(
         alloc: Global,
-        project: &'a ProjectView<'a>,
+        project: &'a ProjectView<'p>,
         naming: &'a Naming,
         laying: &Laying,
         starts: &'a Starts,
-    ) -> Result<LinkView<'a>, NoMemory>
+    ) -> Result<LinkView<'a, 'p>, NoMemory>
         requires { IsNaming project.now naming.now }
         ensures { IfOk result (λ v. (s : Layout) → IsLaying project.now s laying.now
             → AreStarts project.now s starts.now → IsLinkView (known_link project.now s naming.now) v) }

@@ -51,7 +51,7 @@ fn entry_value(
     project: &ProjectView<'_>,
     naming: &Naming,
     given: &ScriptValues<'_>,
-    link: &LinkView<'_>,
+    link: &LinkView<'_, '_>,
     meter: &mut Meter,
 ) -> SymbolValue
     ensures { (s : Layout) → IsNaming project.now naming.now → AreScriptValues s given.now
@@ -72,10 +72,10 @@ impl<'a> Values<'a> {
     /// counted. An error says that memory ran out.
     pub fn of(
         alloc: Global,
-        project: &'a ProjectView<'a>,
+        project: &'a ProjectView<'_>,
         naming: &'a Naming,
         laying: &Laying,
-        link: &LinkView<'_>,
+        link: &LinkView<'_, '_>,
         meter: &mut Meter,
     ) -> Result<Values<'a>, NoMemory>
         requires { IsNaming project.now naming.now }

@@ -1,7 +1,1 @@
-pub mod OneSectionGathering
-pub mod OneSectionPlacement
-pub mod Patched
-pub mod OneSectionImage
-pub mod OneSectionMembers
-pub mod OneSectionRelocating
-pub mod OneObject
+pub mod Stopping

@@ -1,3 +1,4 @@
 pub mod Applied
-pub mod Holds
+pub mod Phases
+pub mod Stops
 pub mod Unbounded

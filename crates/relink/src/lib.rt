@@ -1,12 +1,8 @@
 //! Linkers: `Plain` links from scratch after every edit.
 #![tactic(auto)]
 
-mod gather;
-mod image_writer;
 mod link;
-mod linked_part;
-mod linked_script;
-mod not_yet;
-mod place;
+pub mod output;
+mod passes;
 pub mod plain;
-mod relocate;
+mod stop;

@@ -1,9 +1,9 @@
 //! The commands of the layer.
 
+use ldmodel::edit::Edit;
 use ldmodel::meter::Meter;
 use ldmodel::options::Options;
 use ldnaming::naming::Naming;
-use ldproject::edit::Edit;
 use ldproject::project::{Next, Project};
 use std::alloc::{AllocError, Global};
 use std::hash::RandomState;

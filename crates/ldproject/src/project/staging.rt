@@ -1,22 +1,23 @@
 //! Staging an edit: all growths that it needs, before anything changes.
 
 ghost use Rattle.std.specs.Prelude.{◌≡◌, List, IfOk};
+ghost use Rattle.ldmodel.specs.EditMeaning.{change_of};
 ghost use Rattle.ldmodel.specs.Edits.{Add, Replace, Move, Remove, SetScript};
 ghost use Rattle.ldmodel.specs.Project.{NamedObject};
-ghost use Rattle.ldproject.specs.EditMeaning.{change_of};
 ghost use Rattle.ldproject.specs.Holding.{Holding, Makes, MakesScript, Stages, SameHolding, ReadsAtMostOne};
 ghost use Rattle.ldproject.specs.Staging.{IsStaged};
 
-use crate::edit::{Edit, Refusal, object_refused, script_refused};
+use crate::edit::{object_refused, script_refused};
 use crate::project::Project;
 use crate::staged::{Staged, StagedObjects};
 use elfobj::object::Object;
+use ldmodel::edit::{Edit, EditRefusal};
 use ldmodel::memory::NoMemory;
 use ldmodel::meter::Meter;
 use ldscript::script::Script;
 
 /// An edit of the objects alone, for which all memory was had.
-fn staged(grown: Result<StagedObjects, NoMemory>) -> Result<Staged, Refusal>
+fn staged(grown: Result<StagedObjects, NoMemory>) -> Result<Staged, EditRefusal>
     ensures ok { (h : Holding) (next : List NamedObject) → IfOk grown (λ s. IsStaged h.contents s next)
         → Makes h next result }
 {
@@ -25,7 +26,7 @@ fn staged(grown: Result<StagedObjects, NoMemory>) -> Result<Staged, Refusal>
             objects,
             script: None,
         }),
-        Err(_) => Err(Refusal::NoMemory),
+        Err(_) => Err(EditRefusal::NoMemory),
     }
 }
 
@@ -36,7 +37,7 @@ impl Project {
         at: u64,
         bytes: Vec<u8>,
         meter: &mut Meter,
-    ) -> Result<Staged, Refusal>
+    ) -> Result<Staged, EditRefusal>
         ensures same { SameHolding self.old self.new }
         ensures staged { Stages self.new (Add name.now at bytes.items) result }
         ensures counted { ReadsAtMostOne meter.old meter.new }
@@ -56,7 +57,7 @@ impl Project {
         name: &[u8],
         bytes: Vec<u8>,
         meter: &mut Meter,
-    ) -> Result<Staged, Refusal>
+    ) -> Result<Staged, EditRefusal>
         ensures staged { Stages self.now (Replace name.now bytes.items) result }
         ensures counted { ReadsAtMostOne meter.old meter.new }
     {
@@ -70,7 +71,7 @@ impl Project {
         }
     }
 
-    fn stage_move(&self, name: &[u8], to: u64) -> Result<Staged, Refusal>
+    fn stage_move(&self, name: &[u8], to: u64) -> Result<Staged, EditRefusal>
         ensures { Stages self.now (Move name.now to) result }
     {
         match self.place_to_move(name, to) {
@@ -79,7 +80,7 @@ impl Project {
         }
     }
 
-    fn stage_remove(&self, name: &[u8]) -> Result<Staged, Refusal>
+    fn stage_remove(&self, name: &[u8]) -> Result<Staged, EditRefusal>
         ensures { Stages self.now (Remove name.now) result }
     {
         match self.place_to_remove(name) {
@@ -89,7 +90,7 @@ impl Project {
     }
 
     /// Stages a script, which has been read.
-    fn stage_read(&self, script: Script) -> Result<Staged, Refusal>
+    fn stage_read(&self, script: Script) -> Result<Staged, EditRefusal>
         ensures { MakesScript self.now script result }
     {
         match self.kept.grow_same() {
@@ -97,11 +98,11 @@ impl Project {
                 objects,
                 script: Some(script),
             }),
-            Err(_) => Err(Refusal::NoMemory),
+            Err(_) => Err(EditRefusal::NoMemory),
         }
     }
 
-    fn stage_script(&self, text: &[u8]) -> Result<Staged, Refusal>
+    fn stage_script(&self, text: &[u8]) -> Result<Staged, EditRefusal>
         ensures { Stages self.now (SetScript text.now) result }
     {
         if let Err(refusal) = self.may_read(text) {
@@ -120,7 +121,7 @@ impl Project {
     ///
     /// The first refusal that applies, or out of memory where no refusal applies for which the object or the script
     /// need not be read.
-    pub fn stage(&mut self, edit: Edit<'_>, meter: &mut Meter) -> Result<Staged, Refusal>
+    pub fn stage(&mut self, edit: Edit<'_>, meter: &mut Meter) -> Result<Staged, EditRefusal>
         ensures same { SameHolding self.old self.new }
         ensures staged { Stages self.new (change_of edit.entry) result }
         ensures counted { ReadsAtMostOne meter.old meter.new }

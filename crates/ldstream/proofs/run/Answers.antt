@@ -5,7 +5,8 @@ use Rattle.ldstream.proofs.StreamEnds.{answered}
 use Rattle.ldstream.proofs.run.Goals as goal
 
 pub loop-turn-init : goal.loop-turn-init
-loop-turn-init g c = record { done = at_start _; turns = at_start_length _; flushed = λ e. e; read_counted = refl; write_counted = refl }
+loop-turn-init g c =
+    record { done = at_start _; turns = at_start_length _; flushed = λ e. e; read_counted = refl; write_counted = refl }
 
 pub loop-turn-preserved : goal.loop-turn-preserved
 loop-turn-preserved g c =
@@ -26,6 +27,12 @@ returns-clause-ran g c = (c.loop-turn.invariant.done, omega arith)
 pub returns-in-End-clause-answers : goal.returns-in-End-clause-answers
 returns-in-End-clause-answers g c =
     let last = rw c.in-End.is at c.in_ok-serve_one.ensures.stepped in
-    answered (world (g.R.Source.rest c.args.source.now) (g.W.Sink.written c.args.sink.now) (g.L.Linker.project c.args.linker.now))
-    (world (g.R.Source.rest c.serve_one.new.source) (g.W.Sink.written c.serve_one.new.sink) (g.L.Linker.project c.serve_one.new.linker)) c.in-End.status
-    (world (g.R.Source.rest c.loop-turn.source) (g.W.Sink.written c.loop-turn.sink) (g.L.Linker.project c.loop-turn.linker), c.loop-turn.invariant.done, last)
+    answered (world (g.R.Source.rest c.args.source.now) (g.W.Sink.written c.args.sink.now)
+    (g.L.Linker.project c.args.linker.now))
+    (world (g.R.Source.rest c.serve_one.new.source) (g.W.Sink.written c.serve_one.new.sink)
+    (g.L.Linker.project c.serve_one.new.linker)) c.in-End.status (
+      world (g.R.Source.rest c.loop-turn.source) (g.W.Sink.written c.loop-turn.sink)
+          (g.L.Linker.project c.loop-turn.linker),
+      c.loop-turn.invariant.done,
+      last,
+    )

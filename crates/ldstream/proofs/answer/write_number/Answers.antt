@@ -1,13 +1,9 @@
 use Rattle.std.proofs.Common.{◌∙◌}
-use Rattle.ldstream.proofs.StreamWriting.{Part-front, Writes-cut, Writes-then, Writes-both}
+use Rattle.ldstream.proofs.StreamWriting.{Writes-then, Writes-both}
 use Rattle.ldstream.proofs.answer.write_number.Goals as goal
-
-pub returns-in_err-write_all-clause-text : goal.returns-in_err-write_all-clause-text
-returns-in_err-write_all-clause-text g c =
-    let text = c.as_bytes.ensures.value ∙ c.format.ensures.text in
-    Writes-cut _ _ _ _ _ c.from_residual.ensures.1 (Part-front _ _ _ _ (rw text at c.in_err-write_all.ensures.err))
 
 pub returns-clause-text : goal.returns-clause-text
 returns-clause-text g c =
     let text = c.as_bytes.ensures.value ∙ c.format.ensures.text in
-    Writes-then _ _ _ _ _ _ (rw text at c.in_ok-write_all.ensures.ok) (Writes-both _ _ _ _ c.write_all-2.ensures.ok c.write_all-2.ensures.err)
+    Writes-then _ _ _ _ _ _ c.in_ok-write_all.ensures.ok
+    (rw text at (Writes-both _ _ _ _ c.write_all-2.ensures.ok c.write_all-2.ensures.err))

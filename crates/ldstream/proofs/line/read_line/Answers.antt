@@ -17,5 +17,10 @@ loop-at-preserved g c =
 pub returns-then-at-eq-MAX_LINE-clause-read : goal.returns-then-at-eq-MAX_LINE-clause-read
 returns-then-at-eq-MAX_LINE-clause-read g c =
     let line = take c.loop-at.at c.loop-at.line in
-    let long : 512 < length (line ++ c.in-Some.byte ∷ []) = simp (length-append, length-take) (omega arith) in
-    (line ++ c.in-Some.byte ∷ [], omega (arith, long), NoFeed-more _ _ c.loop-at.invariant.no_feed c.if-byte-eq10.false, Consumes-trans _ _ _ _ _ c.loop-at.invariant.read (rw c.in-Some.is at c.in_ok-byte.ensures.read), inr long)
+    let long : 512 < length (line ++ c.in-Some.byte ∷ []) = simp (length-append, length-take) (omega arith) in (
+      line ++ c.in-Some.byte ∷ [],
+      omega (arith, long),
+      NoFeed-more _ _ c.loop-at.invariant.no_feed c.if-byte-eq10.false,
+      Consumes-trans _ _ _ _ _ c.loop-at.invariant.read (rw c.in-Some.is at c.in_ok-byte.ensures.read),
+      inr long,
+    )

@@ -6,7 +6,8 @@ abbrev pub invariant-loop-at : goal.invariant-loop-at
 invariant-loop-at g l = record {
   within : l.at ≤ l.count;
   room : length l.chunk ≡ 512;
-  read : (bytes : List ℕ) × (length bytes ≡ l.at) × Consumes (g.R.Source.rest l.fn.source) (g.R.Source.rest l.source) bytes;
+  read : (bytes : List ℕ) × (length bytes ≡ l.at)
+      × Consumes (g.R.Source.rest l.fn.source) (g.R.Source.rest l.source) bytes;
   counted : g.R.Source.failed l.source ≡ g.R.Source.failed l.fn.source;
 }
 

@@ -1,4 +1,4 @@
-use Rattle.std.proofs.Common.{◌≡◌, ◌∙◌, ◌∷◌, [], ◌++◌, ℕ, List, ap, sym, map, take}
+use Rattle.std.proofs.Common.{◌≡◌, ◌∙◌, ◌∷◌, [], ◌++◌, ℕ, List, ap, sym, take}
 use Rattle.std.proofs.lemmas.List.{map-append}
 use Rattle.elfobj.specs.Object.{ObjectData}
 use Rattle.ldmodel.specs.Project.{NamedObject}

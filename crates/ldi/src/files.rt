@@ -1,0 +1,62 @@
+//! The files of a link. No contract can say what a file holds: these are tested on the built program.
+
+use ldlink::file::ObjectFile;
+use ldmodel::edit::MAX_PAYLOAD;
+use std::fs::{File, OpenOptions};
+use std::io;
+use std::io::{Read, Write};
+use std::os::unix::fs::OpenOptionsExt;
+
+/// The permission bits of an image that is made: all may read and run it. As of each file that is made, the system
+/// takes away those of the umask.
+pub const IMAGE_MODE: u32 = 0o755;
+/// The permission bits of a map that is made: all may read it.
+pub const MAP_MODE: u32 = 0o644;
+
+/// The most bytes of a file that are read: one more than an object or a script may have, so that a file which is too
+/// long is seen to be, and one without an end is not read for ever.
+const MOST: usize = MAX_PAYLOAD + 1;
+
+/// The bytes of a file, in a buffer of its size.
+///
+/// # Errors
+///
+/// Where the file can't be read; of kind `OutOfMemory` where memory runs out.
+pub fn read_file(rt: &HostRuntime, name: &str) -> io::Result<Vec<u8>> {
+    let file = File::open(rt, name)?;
+    let size = file.metadata()?.len();
+    let room = usize::try_from(size).unwrap_or(MOST).min(MOST);
+    let mut bytes = Vec::with_capacity(rt.alloc(), room)?;
+    file.take(MOST as u64).read_to_end(&mut bytes)?;
+    Ok(bytes)
+}
+
+/// The object files of these names, each under its name.
+///
+/// # Errors
+///
+/// As `read_file`, for the first that fails.
+pub fn read_objects(rt: &HostRuntime, names: &[String]) -> io::Result<Vec<ObjectFile>> {
+    let mut files = Vec::with_capacity(rt.alloc(), names.len())?;
+    for name in names {
+        let word = Vec::from_slice(rt.alloc(), name.as_bytes())?;
+        let bytes = read_file(rt, name.as_str())?;
+        files.push(ObjectFile { word, bytes })?;
+    }
+    Ok(files)
+}
+
+/// Writes a file: a new one with these permission bits, or in place of what it held.
+///
+/// # Errors
+///
+/// Where the file can't be written. It may hold a beginning of the bytes then.
+pub fn write_file(rt: &HostRuntime, name: &str, mode: u32, bytes: &[u8]) -> io::Result<()> {
+    let mut file = OpenOptions::new()
+        .write(true)
+        .create(true)
+        .truncate(true)
+        .mode(mode)
+        .open(rt, name)?;
+    file.write_all(bytes)
+}

@@ -1,0 +1,169 @@
+//! The phases of a link that may have faults, each with an early end.
+
+ghost use Rattle.std.specs.Prelude.{◌≡◌, IfErr, IfOk, OnOk, map};
+ghost use Rattle.ldlaying.specs.Laying.{HasLayout};
+ghost use Rattle.ldmodel.specs.Link.{gathering_faults, layout, link, placed, unless};
+ghost use Rattle.ldmodel.specs.Rows as model;
+ghost use Rattle.ldmodel.specs.declared.fault.Fault.TheVariants.{Orphan};
+ghost use Rattle.ldnaming.specs.Naming.{IsNaming};
+ghost use Rattle.ldproject.specs.ByPlace.{rows_in};
+ghost use Rattle.relink.specs.Phases.{IsFaultless, IsFilled, IsPlaced, IsShort};
+ghost use Rattle.relink.specs.Stops.{IsStop};
+
+use crate::stop::{Stop, end_if_faulty, faulty_link};
+use ldasserting::asserting::assertion_faults;
+use lddrawing::length::image_length;
+use ldgathering::gathering::Gathering;
+use ldlaying::laying::{LayFault, Laying};
+use ldmodel::fault::Fault;
+use ldmodel::memory::NoMemory;
+use ldmodel::meter::Meter;
+use ldmodel::rows::Piece;
+use ldmodel::sections::SectionKey;
+use ldnaming::naming::Naming;
+use ldproject::view::ProjectView;
+use ldrelocating::relocated::Relocated;
+use ldsegments::length::length_fault;
+use ldstarts::starts::Starts;
+use ldvalues::link_view::LinkView;
+use ldvalues::values::Values;
+use std::alloc::Global;
+use std::hash::RandomState;
+
+/// Names: what each stands for.
+#[tactic(auto, unfolding(ldmodel::specs::Link::link))]
+pub(crate) fn named(
+    alloc: Global,
+    seed: RandomState,
+    project: &ProjectView<'_>,
+    meter: &mut Meter,
+) -> Result<Naming, Stop>
+    ensures naming { IfOk result (λ naming. IsNaming project.now naming) }
+    ensures rest { OnOk result (link project.now
+        ≡ unless (gathering_faults project.now) (placed project.now (layout project.now))) }
+    ensures stop { IfErr result (λ stop. IsStop (link project.now) stop) }
+{
+    let naming = Naming::of(alloc, seed, project.inputs(), project.script(), meter)?;
+    let faults = naming.faults(alloc, project, meter)?;
+    match end_if_faulty(alloc, project, &faults) {
+        Ok(()) => Ok(naming),
+        Err(stop) => Err(stop),
+    }
+}
+
+/// Orphans as faults. An error says that memory ran out.
+fn orphan_faults(alloc: Global, orphans: &[SectionKey]) -> Result<Vec<Fault>, NoMemory>
+    ensures { IfOk result (λ v. v.items ≡ map Orphan orphans.now) }
+{
+    orphans.iter().map(|key| Fault::Orphan(*key)).collect(alloc)
+}
+
+/// Gathering: the row of each output section.
+pub(crate) fn gathered(
+    alloc: Global,
+    project: &ProjectView<'_>,
+    naming: &Naming,
+) -> Result<Vec<Vec<Piece>>, Stop>
+    requires naming { IsNaming project.now naming.now }
+    requires rest { link project.now
+        ≡ unless (gathering_faults project.now) (placed project.now (layout project.now)) }
+    ensures rows { IfOk result (λ v. rows_in project.now v.items ≡ model.rows project.now) }
+    ensures rest { OnOk result (link project.now ≡ placed project.now (layout project.now)) }
+    ensures stop { IfErr result (λ stop. IsStop (link project.now) stop) }
+{
+    let gathering = Gathering::of(alloc, project, naming)?;
+    let faults = orphan_faults(alloc, &gathering.orphans)?;
+    match end_if_faulty(alloc, project, &faults) {
+        Ok(()) => Ok(gathering.rows),
+        Err(stop) => Err(stop),
+    }
+}
+
+/// Layout: where everything stands.
+pub(crate) fn laid(
+    alloc: Global,
+    project: &ProjectView<'_>,
+    naming: &Naming,
+    rows: &[Vec<Piece>],
+    meter: &mut Meter,
+) -> Result<Laying, Stop>
+    requires naming { IsNaming project.now naming.now }
+    requires rows { rows_in project.now rows.now ≡ model.rows project.now }
+    requires rest { link project.now ≡ placed project.now (layout project.now) }
+    ensures good { IfOk result (λ laying. HasLayout project.now laying) }
+    ensures stop { IfErr result (λ stop. IsStop (link project.now) stop) }
+{
+    match Laying::of(alloc, project, naming, rows, meter) {
+        Ok(laying) => Ok(laying),
+        Err(LayFault::NoMemory) => Err(Stop::NoMemory),
+        Err(LayFault::Faulty(faults)) => {
+            let output = faulty_link(alloc, project, &faults)?;
+            Err(Stop::Faulty(output))
+        }
+    }
+}
+
+/// The end of layout: the image is not too long.
+pub(crate) fn fits(
+    alloc: Global,
+    project: &ProjectView<'_>,
+    laying: &Laying,
+    starts: &Starts,
+    view: &LinkView<'_, '_>,
+    values: &Values<'_>,
+) -> Result<(), Stop>
+    requires { IsPlaced project.now laying.now starts.now view.now values.now }
+    ensures good { OnOk result (IsShort project.now laying.now starts.now view.now values.now) }
+    ensures stop { IfErr result (λ stop. IsStop (link project.now) stop) }
+{
+    let length = image_length(alloc, project, laying, values)?;
+    match length_fault(length) {
+        None => Ok(()),
+        Some(fault) => {
+            let output = faulty_link(alloc, project, &[fault])?;
+            Err(Stop::Faulty(output))
+        }
+    }
+}
+
+/// Relocation: the fields of all relocations.
+pub(crate) fn relocated(
+    alloc: Global,
+    project: &ProjectView<'_>,
+    laying: &Laying,
+    starts: &Starts,
+    view: &LinkView<'_, '_>,
+    values: &Values<'_>,
+    meter: &mut Meter,
+) -> Result<Relocated, Stop>
+    requires { IsShort project.now laying.now starts.now view.now values.now }
+    ensures good { IfOk result (λ r. IsFilled project.now laying.now starts.now view.now values.now r) }
+    ensures stop { IfErr result (λ stop. IsStop (link project.now) stop) }
+{
+    let relocated = Relocated::of(alloc, project, view, values, meter)?;
+    match end_if_faulty(alloc, project, &relocated.faults) {
+        Ok(()) => Ok(relocated),
+        Err(stop) => Err(stop),
+    }
+}
+
+/// Assertions: each holds.
+pub(crate) fn asserted(
+    alloc: Global,
+    project: &ProjectView<'_>,
+    laying: &Laying,
+    starts: &Starts,
+    view: &LinkView<'_, '_>,
+    values: &Values<'_>,
+    fields: &Relocated,
+) -> Result<(), Stop>
+    requires { IsFilled project.now laying.now starts.now view.now values.now fields.now }
+    ensures good { OnOk result (IsFaultless project.now laying.now starts.now view.now values.now fields.now) }
+    ensures stop { IfErr result (λ stop. IsStop (link project.now) stop) }
+{
+    let faults = assertion_faults(alloc, project, laying, values)?;
+    match end_if_faulty(alloc, project, &faults) {
+        Ok(()) => Ok(()),
+        Err(stop) => Err(stop),
+    }
+}

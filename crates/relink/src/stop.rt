@@ -1,0 +1,65 @@
+//! How a link ends before its last phase.
+
+ghost use Rattle.std.specs.Prelude.{◌≡◌, List, IfErr, IfOk, OnOk};
+ghost use Rattle.ldmodel.specs.Fault as model;
+ghost use Rattle.ldmodel.specs.Link.{Link, faulty, unless};
+ghost use Rattle.ldproject.specs.ByPlace.{faults_in};
+ghost use Rattle.relink.specs.Stops.{IsStop};
+
+use crate::output::Output;
+use ldlisting::fault_lines::fault_text;
+use ldmodel::fault::Fault;
+use ldmodel::memory::NoMemory;
+use ldproject::view::ProjectView;
+use std::alloc::{AllocError, Global};
+
+/// Why a link ends before its last phase.
+#[derive(Drop)]
+pub(crate) enum Stop {
+    /// A phase has faults, and this is the link.
+    Faulty(Output),
+    /// Out of memory.
+    NoMemory,
+}
+
+impl From<AllocError> for Stop {
+    ghost use Rattle.std.specs.Prelude.{◌≡◌};
+    ghost use Rattle.relink.specs.declared.stop.Stop.TheVariants as stop;
+
+    ghost from_gives = { λ _ result. result ≡ stop.NoMemory };
+
+    fn from(_error: AllocError) -> Stop {
+        Stop::NoMemory
+    }
+}
+
+/// The link of a project with these faults. An error says that memory ran out.
+pub(crate) fn faulty_link(
+    alloc: Global,
+    project: &ProjectView<'_>,
+    faults: &[Fault],
+) -> Result<Output, NoMemory>
+    ensures { IfOk result (λ o. o ≡ faulty (faults_in project.now faults.now)) }
+{
+    let text = fault_text(alloc, project, faults)?;
+    Ok(Output::faulty(alloc, text))
+}
+
+/// Ends the link if a phase has faults.
+#[tactic(auto, using(crate::proofs::Stopping::unless_none, crate::proofs::Stopping::unless_some))]
+pub(crate) fn end_if_faulty(
+    alloc: Global,
+    project: &ProjectView<'_>,
+    faults: &[Fault],
+) -> Result<(), Stop>
+    ensures good { OnOk result ((fs : List model.Fault) (next : Link) → faults_in project.now faults.now ≡ fs
+        → unless fs next ≡ next) }
+    ensures stop { IfErr result (λ stop. (fs : List model.Fault) (next : Link)
+        → faults_in project.now faults.now ≡ fs → IsStop (unless fs next) stop) }
+{
+    if faults.is_empty() {
+        return Ok(());
+    }
+    let output = faulty_link(alloc, project, faults)?;
+    Err(Stop::Faulty(output))
+}

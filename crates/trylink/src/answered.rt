@@ -1,0 +1,57 @@
+//! What a whole stream is answered, and whether two ways agree.
+
+use std::io;
+use std::io::Write;
+use trystream::printing::print_bytes;
+
+/// The status after bytes that no command begins.
+pub const MALFORMED: u8 = 2;
+/// How many bytes are shown from the first one that differs.
+const SHOWN: usize = 64;
+
+/// The answers to a stream, and the status of the run.
+#[derive(Debug, Drop)]
+pub struct Answered {
+    /// All answers, as a session writes them.
+    pub answers: Vec<u8>,
+    /// The status.
+    pub status: u8,
+}
+
+/// How many bytes two lists begin with alike.
+fn common_length(a: &[u8], b: &[u8]) -> usize {
+    a.iter().zip(b).take_while(|(x, y)| x == y).count()
+}
+
+/// Prints the bytes from a place on, and the status.
+fn print_from<W: Write>(label: &str, run: &Answered, at: usize, out: &mut W) -> io::Result<()> {
+    writeln!(
+        out,
+        "  {label}: status {}, {} bytes",
+        run.status,
+        run.answers.len()
+    )?;
+    out.write_all(b"    ")?;
+    for byte in run.answers.iter().skip(at).take(SHOWN) {
+        print_bytes(out, &[*byte])?;
+    }
+    out.write_all(b"\n")
+}
+
+/// Prints the status, and whether a session and the calls gave the same.
+pub fn print_agreement<W: Write>(
+    by_session: &Answered,
+    by_calls: &Answered,
+    out: &mut W,
+) -> io::Result<()> {
+    writeln!(out, "status {}", by_session.status)?;
+    if by_session.status == by_calls.status
+        && by_session.answers.as_slice() == by_calls.answers.as_slice()
+    {
+        return out.write_all(b"same\n");
+    }
+    let at = common_length(&by_session.answers, &by_calls.answers);
+    writeln!(out, "DIFFERENT from byte {at} of the answers on")?;
+    print_from("session", by_session, at, out)?;
+    print_from("calls", by_calls, at, out)
+}

@@ -1,0 +1,104 @@
+//! The way of `ldi link`, once for each edit: the edit is made in a project, and the whole project linked.
+
+use crate::answer::Answer;
+use crate::answered::{Answered, MALFORMED};
+use crate::command::{Command, split_command};
+use ldmodel::edit::Edit;
+use ldmodel::memory::NoMemory;
+use ldmodel::meter::Meter;
+use ldmodel::options::Options;
+use ldproject::project::Project;
+use ldstream::head::Query;
+use relink::output::Output;
+use std::alloc::Global;
+use std::hash::RandomState;
+use std::io;
+use std::io::Write;
+
+/// A project and its link.
+#[derive(Drop)]
+struct Calls {
+    alloc: Global,
+    seed: RandomState,
+    project: Project,
+    output: Output,
+}
+
+/// The link of a project.
+fn link_of(alloc: Global, seed: RandomState, project: &Project) -> Result<Output, NoMemory> {
+    let inputs = project.inputs(alloc)?;
+    Output::of(alloc, seed, &project.view(&inputs), &mut Meter::new())
+}
+
+impl Calls {
+    /// The empty project.
+    fn new(alloc: Global, seed: RandomState, options: Options) -> Result<Calls, NoMemory> {
+        let project = Project::new(alloc, options);
+        let output = link_of(alloc, seed, &project)?;
+        Ok(Calls {
+            alloc,
+            seed,
+            project,
+            output,
+        })
+    }
+
+    /// Makes an edit, and links the project that it leads to.
+    fn make(&mut self, edit: Edit<'_>) -> Result<Answer<'_>, NoMemory> {
+        match self.project.edit(edit) {
+            Err(refusal) => Ok(Answer::Refused(refusal)),
+            Ok(()) => {
+                self.output = link_of(self.alloc, self.seed, &self.project)?;
+                Ok(Answer::Linked(self.output.summary()))
+            }
+        }
+    }
+
+    /// What a query asks of the link.
+    fn asked(&self, query: Query) -> Answer<'_> {
+        match query {
+            Query::Image => Answer::Image(self.output.image()),
+            Query::Map => Answer::Text(self.output.map()),
+            Query::Faults => Answer::Text(self.output.faults()),
+        }
+    }
+
+    /// The answer to a command.
+    fn answer(&mut self, command: Command<'_>) -> Result<Answer<'_>, NoMemory> {
+        match command {
+            Command::Make(edit) => self.make(edit),
+            Command::Ask(query) => Ok(self.asked(query)),
+        }
+    }
+}
+
+/// The answers to a stream by calls, each printed as it comes.
+pub fn answer_by_calls<W: Write>(
+    alloc: Global,
+    seed: RandomState,
+    options: Options,
+    stream: &[u8],
+    out: &mut W,
+) -> io::Result<Answered> {
+    let mut calls = Calls::new(alloc, seed, options)?;
+    let mut answers = Vec::new(alloc);
+    let mut rest = stream;
+    // a command takes a byte at least
+    for _ in 0..=stream.len() {
+        if rest.is_empty() {
+            break;
+        }
+        let Some((command, others)) = split_command(alloc, rest)? else {
+            Answer::Malformed.spell(&mut answers)?;
+            Answer::Malformed.print(out)?;
+            let status = MALFORMED;
+            return Ok(Answered { answers, status });
+        };
+        rest = others;
+        let answer = calls.answer(command)?;
+        answer.spell(&mut answers)?;
+        answer.print(out)?;
+    }
+    let status = calls.output.status();
+    Ok(Answered { answers, status })
+}

@@ -1,0 +1,56 @@
+//! The commands of a stream, cut from its bytes.
+
+use ldmodel::edit::Edit;
+use ldstream::head::{Aim, EditHead, Head, Query, read_head};
+use std::alloc::{AllocError, Global};
+
+/// A command.
+#[derive(Drop)]
+pub enum Command<'a> {
+    /// An edit is to be made.
+    Make(Edit<'a>),
+    /// Something is asked of the link.
+    Ask(Query),
+}
+
+/// The edit that a payload is meant for.
+fn edit_of<'a>(alloc: Global, aim: Aim<'a>, payload: &'a [u8]) -> Result<Edit<'a>, AllocError> {
+    match aim {
+        Aim::Add { name, at } => {
+            let bytes = Vec::from_slice(alloc, payload)?;
+            Ok(Edit::Add { name, at, bytes })
+        }
+        Aim::Replace { name } => {
+            let bytes = Vec::from_slice(alloc, payload)?;
+            Ok(Edit::Replace { name, bytes })
+        }
+        Aim::Script => Ok(Edit::Script { text: payload }),
+    }
+}
+
+/// The first command of these bytes, and the bytes after it; `None` where no command begins them.
+pub fn split_command(
+    alloc: Global,
+    stream: &[u8],
+) -> Result<Option<(Command<'_>, &[u8])>, AllocError> {
+    let Some(end) = stream.iter().position(|b| *b == b'\n') else {
+        return Ok(None);
+    };
+    let (line, rest) = (&stream[..end], &stream[end + 1..]);
+    match read_head(line) {
+        None => Ok(None),
+        Some(Head::Ask(query)) => Ok(Some((Command::Ask(query), rest))),
+        Some(Head::Edit(EditHead::Move { name, to })) => {
+            Ok(Some((Command::Make(Edit::Move { name, to }), rest)))
+        }
+        Some(Head::Edit(EditHead::Remove { name })) => {
+            Ok(Some((Command::Make(Edit::Remove { name }), rest)))
+        }
+        Some(Head::Edit(EditHead::WithPayload { aim, count })) => {
+            let Some((payload, rest)) = rest.split_at_checked(count) else {
+                return Ok(None);
+            };
+            Ok(Some((Command::Make(edit_of(alloc, aim, payload)?), rest)))
+        }
+    }
+}

@@ -1,0 +1,91 @@
+//! `trylink`: answers whole streams of commands twice, and compares the answers: as `ldi session` does, and by the calls
+//! that `ldi link` makes (`Project::edit` and `Output::of`).
+//!
+//! It reads frames from standard input, one after another:
+//!
+//!     stream NAME LEN WORDS..
+//!
+//! and a line feed, and then the LEN bytes of a stream. The WORDS, one space between each two, are those after
+//! `ldi session`.
+//!
+//! For each frame it prints `stream NAME`, and then for each command the line of its answer. Under that of a map or of
+//! fault lines stands the text; that of an image goes on with a checksum (`answer::checksum`). Then it prints
+//! `status S`, and `same` where both ways give one status and the same bytes, or else where they differ.
+#![tactic(auto)]
+
+mod answer;
+mod answered;
+mod calls;
+mod command;
+mod frame;
+mod session;
+
+use crate::answered::print_agreement;
+use crate::calls::answer_by_calls;
+use crate::frame::{Frame, split_frame};
+use crate::session::answer_by_session;
+use std::alloc::Global;
+use std::hash::RandomState;
+use std::io;
+use std::io::{BufWriter, Read, Write};
+use std::process::ExitCode;
+use trystream::layer::{CUT, DONE, FAILED};
+use trystream::printing::print_bytes;
+
+/// Answers the stream of a frame in both ways.
+fn try_frame<W: Write>(
+    alloc: Global,
+    seed: RandomState,
+    frame: &Frame<'_>,
+    out: &mut W,
+) -> io::Result<()> {
+    out.write_all(b"stream ")?;
+    print_bytes(out, frame.name.as_bytes())?;
+    out.write_all(b"\n")?;
+    let (Some(options), Some(same_options)) = (frame.options(alloc)?, frame.options(alloc)?) else {
+        return out.write_all(b"bad words\n");
+    };
+    let by_session = answer_by_session(alloc, seed, options, frame.commands)?;
+    let by_calls = answer_by_calls(alloc, seed, same_options, frame.commands, out)?;
+    print_agreement(&by_session, &by_calls, out)
+}
+
+/// Tries all frames, and gives the status to end with.
+fn try_frames<W: Write>(
+    alloc: Global,
+    seed: RandomState,
+    input: &[u8],
+    out: &mut W,
+) -> io::Result<u8> {
+    let mut rest = input;
+    // a frame takes a byte at least
+    for _ in 0..=input.len() {
+        if rest.is_empty() {
+            break;
+        }
+        let Some((frame, others)) = split_frame(rest) else {
+            return Ok(CUT);
+        };
+        rest = others;
+        try_frame(alloc, seed, &frame, out)?;
+    }
+    Ok(DONE)
+}
+
+/// Reads standard input, prints, and gives the status to end with.
+fn show(rt: &HostRuntime) -> io::Result<u8> {
+    let alloc = rt.alloc();
+    let mut input = Vec::new(alloc);
+    rt.reader().read_to_end(&mut input)?;
+    let mut out = BufWriter::new(alloc, io::writer(rt))?;
+    let status = try_frames(alloc, RandomState::new(rt)?, &input, &mut out)?;
+    out.flush()?;
+    Ok(status)
+}
+
+fn main(rt: HostRuntime) -> ExitCode {
+    match show(&rt) {
+        Ok(status) => ExitCode::from(status),
+        Err(_) => ExitCode::from(FAILED),
+    }
+}

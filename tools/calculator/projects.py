@@ -1,0 +1,57 @@
+"""Projects for benches: n objects as a compiler of `-ffunction-sections` writes them, and a script like a kernel's."""
+import random
+
+from . import elf
+from .build import CODE, DATA, READ_ONLY, Rel, Sec, Sym, build
+
+SCRIPT = b"""ENTRY(_start)
+SECTIONS {
+  . = 0x401000;
+  .text : { KEEP(*(.text.start)) *(.text .text.*) }
+  . = ALIGN(4096);
+  .rodata : { *(.rodata .rodata.*) }
+  . = ALIGN(4096);
+  .data : { *(.data .data.*) }
+  .bss : { *(.bss .bss.*) *(COMMON) }
+  PROVIDE(end = .);
+}
+"""
+
+FUNCTIONS, DATA_OBJECTS, RELOCATIONS = 10, 5, 250
+PLT32, ABS32 = 4, 10
+
+
+def called(number, count, chance):
+    """The name of a function of some object, this one or another."""
+    other = chance.randrange(count) if chance.random() < 0.5 else number
+    return f"f{other}_{chance.randrange(FUNCTIONS)}"
+
+
+def project_object(number, count, size=512):
+    """Object `number` of `count`: ten functions of 25 relocations each, calls and addresses, and five data objects."""
+    chance = random.Random(number)
+    sections, symbols, relocations, wanted = [], [], [], {}
+    for k in range(FUNCTIONS):
+        name = "_start" if number == 0 and k == 0 else f"f{number}_{k}"
+        section = ".text.start" if name == "_start" else f".text.{name}"
+        sections.append(Sec(section, b"\x90" * size, CODE, alignment=16))
+        symbols.append(Sym(name, len(sections), 0, size, elf.STB_GLOBAL, elf.STT_FUNC))
+        if name == "_start":
+            symbols.append(Sym(f"f{number}_{k}", len(sections), 0, size, elf.STB_GLOBAL, elf.STT_FUNC))
+        for i in range(RELOCATIONS // FUNCTIONS):
+            if i % 5 == 4:
+                relocations.append((len(sections), 1 + 20 * i, ABS32, f"d{number}_{i % DATA_OBJECTS}", 0))
+            else:
+                relocations.append((len(sections), 1 + 20 * i, PLT32, called(number, count, chance), -4))
+    for k in range(DATA_OBJECTS):
+        sections.append(Sec(f".data.d{number}_{k}", bytes(64), DATA, alignment=8))
+        symbols.append(Sym(f"d{number}_{k}", len(sections), 0, 64, elf.STB_GLOBAL, elf.STT_OBJECT))
+    sections.append(Sec(f".rodata.r{number}", b"text\0" * 20, READ_ONLY))
+    have = {symbol.name for symbol in symbols}
+    for entry in relocations:
+        if entry[3] not in have and entry[3] not in wanted:
+            wanted[entry[3]] = Sym(entry[3])
+    symbols += wanted.values()
+    numbers = {symbol.name: i + 1 for i, symbol in enumerate(symbols)}
+    return build(sections, symbols, [Rel(of, at, kind, numbers[name], addend)
+                                     for of, at, kind, name, addend in relocations])
