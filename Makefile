@@ -1,34 +1,58 @@
-# make demo: builds the program without proofs, links the worked example and shows the image.
-# make ldi: proves every crate that the program stands on, and builds it.
-# make test: the merge gate, every proof from nothing.
-# make check-real: compares the object reader with readelf on objects of gcc. Needs gcc and readelf, and is no part of the gate.
-# make check-images: links C programs by a session, runs them, and compares them with GNU ld's. Needs gcc and binutils, and is no
-#   part of the gate.
-# make check-model: compares the program with the calculator of links on 2,000 random streams. No part of the gate.
-# make check-link: links files by `ldi link`, and compares statuses, lines and files with the calculator's. No part of the gate.
-# make mutants: tries the wrong bodies under mutants/, of one crate with CRATE=NAME. Takes hours, and is no part of the gate.
-.PHONY: demo ldi test check-real check-images check-model check-link mutants
+# Each target has its line of help after two number signs; `make help` prints them.
+# LDI is the program that the examples and the checks run, PREFIX where `make install` puts it.
 
-demo:
-	tools/demo
+LDI ?= $(CURDIR)/crates/ldi/out/ldi
+PREFIX ?= /usr/local
+export LDI
 
-ldi:
-	tools/build-ldi
+.PHONY: help demo ldi install check test fmt examples bench check-real check-images check-model check-link \
+        check-readers mutants
 
-test:
+help: ## this list
+	@awk -F ':.*## ' '/^[a-z-]+:.*## / { printf "make %-14s %s\n", $$1, $$2 }' Makefile
+	@echo
+	@echo "LDI=PATH names another program than crates/ldi/out/ldi, PREFIX=PATH where it is installed."
+
+demo: ## builds ldi without its proofs, links the smallest program and shows the image
+	@tools/demo
+
+ldi: ## proves every crate that the program stands on, and builds it: crates/ldi/out/ldi
+	@tools/build-ldi
+
+install: ## puts the program that `make ldi` built into PREFIX/bin; PREFIX is /usr/local by default
+	@test -x crates/ldi/out/ldi || { echo "crates/ldi/out/ldi is not built: run 'make ldi' first" >&2; exit 1; }
+	install -d "$(DESTDIR)$(PREFIX)/bin"
+	install -m 755 crates/ldi/out/ldi "$(DESTDIR)$(PREFIX)/bin/ldi"
+
+check: ## proves every crate, over what earlier runs have proved
+	rt all check
+
+test: ## the merge gate: every proof from nothing, the edits that must fail, the tests and the stored runs
 	rt ci
 
-check-real:
+fmt: ## lays out the files of every crate, and prints those that changed
+	@tools/fmt
+
+examples: ## builds the examples with gcc and ldi, checks them by readelf, runs linux, boots kernel if QEMU is there
+	@tools/examples
+
+bench: ## measures links, sessions and the layers whose programs are built
+	@tools/bench
+
+check-real: ## compares the object reader with readelf on objects of gcc
 	tools/check-real
 
-check-images:
-	tools/check-images
+check-images: ## links C programs by a session, runs them, and compares them with GNU ld's
+	tools/check-images "$(LDI)"
 
-check-model:
-	tools/check-model
+check-model: ## compares the program with the calculator of links on 2,000 random streams
+	tools/check-model 2000 1 "$(LDI)"
 
-check-link:
-	tools/check-link
+check-link: ## links files by `ldi link`, and compares statuses, lines and files with the calculator's
+	tools/check-link "$(LDI)"
 
-mutants:
+check-readers: ## tries `readobj FILE` and `readscript FILE` on refused files
+	tools/check-readers
+
+mutants: ## tries the wrong bodies under mutants/, of one crate with CRATE=NAME; all take hours
 	tools/mutants $(CRATE)
