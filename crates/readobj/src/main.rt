@@ -1,6 +1,17 @@
 //! `readobj`: prints what the object reader sees of objects.
 //!
-//! It reads a stream of objects from standard input, each of which is a line `object LEN` or `object LEN TITLE` and LEN
+//! `readobj FILE` says of one file whether it is an object, by one of
+//!
+//!     FILE: an object with N sections, N symbols, N relocations
+//!     FILE: refused 4 N
+//!       PLACE: REASON
+//!
+//! on standard output. Sections and relocations are the linked ones, symbols the entries of the symbol table from entry
+//! 0 on. N after `refused 4` is the reader's number; a file that is too long for `ldi` is `refused 6 0`. It ends with
+//! status 0 where the file is an object, with 1 where it is refused, with 2 where there are more words, with 3 where the
+//! file cannot be read or standard output cannot be written, and with 4 out of memory.
+//!
+//! Without a word it reads a stream of objects from standard input, each of which is a line `object LEN` or `object LEN TITLE` and LEN
 //! bytes right after it. For each it prints a line `object TITLE`, then one line for each linked section, then one for
 //! each entry of the symbol table from entry 0 on, then one for each relocation of each linked section, all in table
 //! order:
@@ -20,20 +31,27 @@
 //! was refused.
 #![tactic(auto)]
 
+mod file;
 mod listing;
 mod names;
 mod stream;
 
+use crate::file::show_file;
 use crate::listing::print_object;
 use crate::stream::{Frame, split_frame};
 use elfobj::object::Object;
 use elfobj::refusal::ObjectRefusal;
 use elfwhy::explain::explain;
+use filearg::fault::FileFault;
+use filearg::file::{NamedFile, named_file};
 use ldbase::meter::Meter;
 use std::alloc::Global;
 use std::io;
 use std::io::{BufWriter, Read, Write};
 use std::process::ExitCode;
+
+/// How the program is called.
+const USAGE: &str = "usage: readobj [FILE], all words in UTF-8";
 
 /// All objects were read.
 const READ: u8 = 0;
@@ -86,7 +104,7 @@ fn show_objects<W: Write>(alloc: Global, out: &mut W, stream: &[u8]) -> io::Resu
 }
 
 /// Reads standard input, prints, and gives the status to end with.
-fn show(rt: &HostRuntime) -> io::Result<u8> {
+fn show_stream(rt: &HostRuntime) -> io::Result<u8> {
     let alloc = rt.alloc();
     let mut stream = Vec::new(alloc);
     rt.reader().read_to_end(&mut stream)?;
@@ -96,9 +114,22 @@ fn show(rt: &HostRuntime) -> io::Result<u8> {
     Ok(status)
 }
 
+/// Prints what is to be said of a file, and gives the status to end with.
+fn show_named(rt: &HostRuntime, file: NamedFile) -> io::Result<u8> {
+    let mut out = BufWriter::new(rt.alloc(), io::writer(rt))?;
+    let status = show_file(rt.alloc(), &mut out, file)?;
+    out.flush()?;
+    Ok(status)
+}
+
 fn main(rt: HostRuntime) -> ExitCode {
-    match show(&rt) {
-        Ok(status) => ExitCode::from(status),
-        Err(_) => ExitCode::from(FAILED),
-    }
+    let status = match named_file(&rt) {
+        Ok(None) => show_stream(&rt).unwrap_or(FAILED),
+        Ok(Some(file)) => match show_named(&rt, file) {
+            Ok(status) => status,
+            Err(error) => FileFault::from(error).report(&rt, USAGE),
+        },
+        Err(fault) => fault.report(&rt, USAGE),
+    };
+    ExitCode::from(status)
 }
