@@ -8,7 +8,7 @@ import subprocess
 import sys
 import tempfile
 
-from . import choices, elf, objects, patterns, relocation, rows
+from . import choices, elf, image_rows, objects, patterns, relocation, rows
 from .build import DATA, Rel, Sec, Sym, build, changed, object_a, object_b
 from .edits import Options
 from .rows import (FAULTS, IMAGE, MAP, Result, Row, add, at, has_lines, lacks, length, linked, move, refused, remove,
@@ -401,6 +401,13 @@ def all_rows():
         yield from group()
 
 
+def rows_with_images():
+    """All of these, and the rows for the bytes of images."""
+    found = list(all_rows())
+    yield from found
+    yield from image_rows.all_rows(found)
+
+
 def field_cases(result):
     """The fields of single relocations: type, S, A, P, and the bytes or None for an overflow."""
     table = [
@@ -475,7 +482,7 @@ def main(folders):
     result, count = Result(), 0
     for folder in folders:
         os.makedirs(folder, exist_ok=True)
-    for row in all_rows():
+    for row in rows_with_images():
         rows.run(row, result)
         for folder in folders:
             if len(rows.stream(row)) < 2 ** 21:

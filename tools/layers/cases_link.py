@@ -1,5 +1,5 @@
-"""Whole streams of commands: the calculator's worked rows (all but those of more than 2^17 bytes) and random streams.
-What must be printed is made of the calculator's answers (tools/calculator/answers.py)."""
+"""Whole streams of commands: the calculator's worked rows and its rows for images (all but those of more than 2^17
+bytes), and random streams. What must be printed is made of the calculator's answers (tools/calculator/answers.py)."""
 import re
 import sys
 
@@ -13,7 +13,7 @@ SEEDS = range(1, 31)
 def frames():
     """The name, the options and the bytes of each stream."""
     sys.setrecursionlimit(10_000)
-    for number, row in enumerate(worked.all_rows()):
+    for number, row in enumerate(worked.rows_with_images()):
         if len(rows.stream(row)) <= LONGEST_STREAM:
             title = re.sub(r"[^!-~]+", "-", row.title)[:LONGEST_TITLE]
             yield f"row-{number:03}:{title}", row.options, rows.stream(row)
