@@ -1,0 +1,97 @@
+"""Links the same files by each linker in turn and prints what each took; for bench/link and bench/image."""
+import os
+import shutil
+import statistics
+import tempfile
+
+import measuring
+
+ROOT = os.path.realpath(os.path.join(os.path.dirname(os.path.abspath(__file__)), ".."))
+SCRIPT_NAME = "t.ld"
+
+
+def program(words):
+    """The path of `ldi`: the first of the words, if it is no number, and else LDI, or where proving leaves it."""
+    if words and not words[0].isdigit():
+        return os.path.abspath(words.pop(0))
+    return os.path.abspath(os.environ.get("LDI", os.path.join(ROOT, "crates/ldi/out/ldi")))
+
+
+def linkers(ldi):
+    """The name and the command of each linker that is here."""
+    found = [("ldi", [ldi, "link"])]
+    for name, words in ("ld.bfd", []), ("ld.lld", ["--threads=1"]):
+        path = shutil.which(name)
+        if path is None:
+            print(f"{name} is not installed")
+        else:
+            found.append((name, [path, *words]))
+    return found
+
+
+def write(folder, name, data):
+    """Makes a file, and gives its length."""
+    with open(os.path.join(folder, name), "wb") as file:
+        return file.write(data)
+
+
+class Link:
+    """The links of one project by one linker."""
+
+    def __init__(self, name, command, folder, words):
+        self.name, self.folder = name, folder
+        self.image = os.path.join(folder, f"{name}.out")
+        self.command = [*command, "-T", SCRIPT_NAME, "-o", self.image, *words]
+        self.runs, self.failed = [], None
+
+    def run(self):
+        """Links once; keeps what it took, or how it failed."""
+        if os.path.exists(self.image):
+            os.remove(self.image)
+        with tempfile.TemporaryFile() as said:
+            usage = measuring.run(self.command, cwd=self.folder, stdout=said, stderr=said)
+            self.runs.append(usage)
+            if usage.status != 0:
+                said.seek(0)
+                lines = said.read(200).decode(errors="replace").splitlines()
+                self.failed = f"status {usage.status}: {''.join(lines[:1])}"
+
+    @property
+    def length(self):
+        """The length of the image."""
+        return os.path.getsize(self.image)
+
+    @property
+    def seconds(self):
+        """The least time of all runs on the clock."""
+        return min(run.seconds for run in self.runs)
+
+    @property
+    def processor(self):
+        """The least time of the processor of all runs."""
+        return min(run.processor for run in self.runs)
+
+    @property
+    def memory(self):
+        return max(run.memory for run in self.runs)
+
+    def line(self, given):
+        """A line of the table; `given` is the length of all input."""
+        if self.failed is not None:
+            return f"  {self.name:8} {self.failed}"
+        middle = statistics.median(run.seconds for run in self.runs)
+        return (f"  {self.name:8} {self.seconds * 1000:9.1f} {middle * 1000:9.1f} {self.processor * 1000:9.1f} "
+                f"{self.memory / 1e6:9.1f} {self.memory / given:6.1f} {self.length:11}")
+
+
+HEAD = f"  {'':8} {'ms, least':>9} {'median':>9} {'processor':>9} {'peak MB':>9} {'/input':>6} {'image':>11}"
+
+
+def measure(title, found, folder, words, given, rounds):
+    """Links by all linkers in turn, in each of several rounds; prints a table and gives the links by their names."""
+    links = [Link(name, command, folder, words) for name, command in found]
+    for _ in range(rounds):
+        for one in links:
+            one.run()
+    print(f"{title}, {given / 1e6:.1f} MB of input", HEAD, *(one.line(given) for one in links), sep="\n", flush=True)
+    return {one.name: one for one in links}
