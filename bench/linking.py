@@ -84,14 +84,22 @@ class Link:
                 f"{self.memory / 1e6:9.1f} {self.memory / given:6.1f} {self.length:11}")
 
 
+def links(found, folder, words):
+    """The links of one project by all linkers."""
+    return [Link(name, command, folder, words) for name, command in found]
+
+
+def run(all_links, rounds):
+    """Runs links one after the other in each of several rounds."""
+    for _ in range(rounds):
+        for one in all_links:
+            one.run()
+
+
 HEAD = f"  {'':8} {'ms, least':>9} {'median':>9} {'processor':>9} {'peak MB':>9} {'/input':>6} {'image':>11}"
 
 
-def measure(title, found, folder, words, given, rounds):
-    """Links by all linkers in turn, in each of several rounds; prints a table and gives the links by their names."""
-    links = [Link(name, command, folder, words) for name, command in found]
-    for _ in range(rounds):
-        for one in links:
-            one.run()
-    print(f"{title}, {given / 1e6:.1f} MB of input", HEAD, *(one.line(given) for one in links), sep="\n", flush=True)
-    return {one.name: one for one in links}
+def show(title, some_links, given):
+    """Prints the table of a project's links; `given` is the length of all input."""
+    lines = [f"{title}, {given / 1e6:.1f} MB of input", HEAD, *(one.line(given) for one in some_links)]
+    print("\n".join(lines), flush=True)
