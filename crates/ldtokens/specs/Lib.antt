@@ -4,3 +4,4 @@ pub mod Modes
 pub mod Numbers
 pub mod Words
 pub mod Limits
+pub mod Names

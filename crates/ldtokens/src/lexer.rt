@@ -17,14 +17,14 @@ pub const MAX_TEXT: usize = 1 << 20;
 impl Piece {
     /// The token in a text that has so many more bytes before it, on this line.
     fn behind(self, before: usize, line: u32) -> CodeToken
-        requires room { before + self.end ≤ 2 ^ 32 }
+        requires room { before + self.end ≤ 2 ^ 20 }
         requires order { self.start ≤ self.end }
         ensures { result ≡ record { kind = self.kind; start = before + self.start; end = before + self.end; line = line } }
     {
         CodeToken {
             kind: self.kind,
-            start: before + self.start,
-            end: before + self.end,
+            start: (before + self.start) as u32,
+            end: (before + self.end) as u32,
             line,
         }
     }

@@ -1,22 +1,50 @@
 //! Names and words that are kept.
 
-ghost use Rattle.std.specs.Prelude.{◌≡◌, IfOk};
+ghost use Rattle.std.specs.Prelude.{◌≡◌, ◌≤◌, IfOk, length};
+ghost use Rattle.ldtokens.specs.Names.{kept, IsKept};
 
 use std::alloc::{AllocError, Global};
 use std::marker::Model;
 
+/// The greatest length of a name that lies in its value itself, in bytes.
+const MAX_INLINE: usize = 14;
+
+/// Where the bytes of a name lie. Most names are short, and a script may have a million of them, so that a name takes
+/// no more than 16 bytes and none on the heap.
+#[derive(Drop)]
+enum NameBytes {
+    /// Here: so many of these.
+    Inline(u8, [u8; MAX_INLINE]),
+    /// On the heap.
+    Heap(Box<Vec<u8>>),
+}
+
 /// Bytes that a script gives: a name, a word, or the text of a message.
 #[derive(Drop)]
 pub struct ScriptName {
-    bytes: Vec<u8>,
+    bytes: NameBytes,
 }
 
 impl Model for ScriptName {
     ghost use Rattle.std.specs.Prelude.{ℕ, List};
+    ghost use Rattle.ldtokens.specs.Names.{kept, IsKept};
 
     ghost Value = { List ℕ };
 
-    ghost view = { λ n. n.bytes.items };
+    ghost view = { λ n. kept n.bytes };
+
+    ghost invariant = { λ n. IsKept n.bytes };
+}
+
+/// The bytes, in a value of their own.
+fn inline(bytes: &[u8]) -> NameBytes
+    requires { length bytes.now ≤ 14 }
+    ensures value { kept result ≡ bytes.now }
+    ensures fits { IsKept result }
+{
+    let mut kept = [0; MAX_INLINE];
+    kept[..bytes.len()].copy_from_slice(bytes);
+    NameBytes::Inline(bytes.len() as u8, kept)
 }
 
 impl ScriptName {
@@ -24,7 +52,13 @@ impl ScriptName {
     pub fn new(alloc: Global, bytes: &[u8]) -> Result<ScriptName, AllocError>
         ensures { IfOk result (λ n. n ≡ bytes.now) }
     {
+        if bytes.len() <= MAX_INLINE {
+            return Ok(ScriptName {
+                bytes: inline(bytes),
+            });
+        }
         let bytes = Vec::from_slice(alloc, bytes)?;
+        let bytes = NameBytes::Heap(Box::new(alloc, bytes)?);
         Ok(ScriptName { bytes })
     }
 
@@ -32,6 +66,9 @@ impl ScriptName {
     pub fn as_bytes(&self) -> &[u8]
         ensures { result.now ≡ self.now }
     {
-        &self.bytes
+        match &self.bytes {
+            NameBytes::Inline(length, bytes) => &bytes[..usize::from(*length)],
+            NameBytes::Heap(bytes) => bytes.as_slice(),
+        }
     }
 }

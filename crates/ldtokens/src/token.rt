@@ -92,15 +92,15 @@ pub enum TokenKind {
     Punctuation(Mark),
 }
 
-/// A token by its place in a text.
+/// A token by its place in a text. A text may have as many tokens as bytes, so it takes 16 bytes.
 #[derive(Clone, Copy, Debug, PartialEq, Eq)]
 pub struct CodeToken {
     /// What it is.
     pub kind: TokenKind,
     /// The index of its first byte; of a text in double quotes, of the first byte between them.
-    pub start: usize,
+    pub start: u32,
     /// The index after its last byte, and at least `start`.
-    pub end: usize,
+    pub end: u32,
     /// Its line in the text, from 1.
     pub line: u32,
 }
@@ -111,7 +111,7 @@ impl CodeToken {
         requires { IsPlace (length text.now) self.now }
         ensures { result.now ≡ slice_range text.now self.now.start self.now.end }
     {
-        &text[self.start..self.end]
+        &text[self.start as usize..self.end as usize]
     }
 }
 
