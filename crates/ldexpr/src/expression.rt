@@ -28,6 +28,7 @@ pub enum SectionQuery {
 
 /// An expression. Parentheses leave nothing in it.
 #[derive(Drop)]
+#[cycle(expr)]
 pub enum Expr {
     /// A number, scaled by its suffix.
     Number(u64),
@@ -39,8 +40,8 @@ pub enum Expr {
     Unary(UnaryOperator, Box<Expr>),
     /// An operator with its left and right operand.
     Binary(BinaryOperator, Box<Expr>, Box<Expr>),
-    /// `test ? a : b`, in this order.
-    Choice(Box<Expr>, Box<Expr>, Box<Expr>),
+    /// `test ? first : second`. Its parts lie together, so that no expression takes more than 24 bytes.
+    Choice(Box<Branches>),
     /// `ORIGIN(region)` or `LENGTH(region)`.
     OfRegion(RegionQuery, ScriptName),
     /// `ADDR(section)`, `LOADADDR(section)` or `SIZEOF(section)`.
@@ -49,6 +50,18 @@ pub enum Expr {
     AlignDot(Box<Expr>),
     /// `ALIGN(a, b)`: `a`, aligned to `b`.
     Align(Box<Expr>, Box<Expr>),
+}
+
+/// The parts of a `test ? first : second`.
+#[derive(Drop)]
+#[cycle(expr)]
+pub struct Branches {
+    /// What is tested.
+    pub test: Expr,
+    /// The value where the test is not 0.
+    pub first: Expr,
+    /// The value where the test is 0.
+    pub second: Expr,
 }
 
 impl Expr {
@@ -61,7 +74,7 @@ impl Expr {
             Expr::Number(_) | Expr::Name(_) | Expr::OfRegion(_, _) | Expr::OfSection(_, _) => false,
             Expr::Unary(_, a) | Expr::AlignDot(a) => a.has_dot(),
             Expr::Binary(_, a, b) | Expr::Align(a, b) => a.has_dot() || b.has_dot(),
-            Expr::Choice(test, a, b) => test.has_dot() || a.has_dot() || b.has_dot(),
+            Expr::Choice(of) => of.test.has_dot() || of.first.has_dot() || of.second.has_dot(),
         }
     }
 
@@ -78,8 +91,8 @@ impl Expr {
             | Expr::OfSection(_, _) => false,
             Expr::Unary(_, a) => a.has_align_dot(),
             Expr::Binary(_, a, b) | Expr::Align(a, b) => a.has_align_dot() || b.has_align_dot(),
-            Expr::Choice(test, a, b) => {
-                test.has_align_dot() || a.has_align_dot() || b.has_align_dot()
+            Expr::Choice(of) => {
+                of.test.has_align_dot() || of.first.has_align_dot() || of.second.has_align_dot()
             }
         }
     }
@@ -97,7 +110,9 @@ impl Expr {
             | Expr::OfSection(_, _) => false,
             Expr::Unary(_, a) => a.has_align(),
             Expr::Binary(_, a, b) => a.has_align() || b.has_align(),
-            Expr::Choice(test, a, b) => test.has_align() || a.has_align() || b.has_align(),
+            Expr::Choice(of) => of.test.has_align()
+                || of.first.has_align()
+                || of.second.has_align(),
         }
     }
 }

@@ -5,7 +5,7 @@ ghost use Rattle.std.specs.Prelude.{suc, ◌<◌, ◌≤◌};
 ghost use Rattle.ldexpr.specs.Expressions.{expr_of};
 ghost use Rattle.ldexpr.specs.Grammar.{Reads, Primary, Arguments, Within, Whole};
 
-use crate::expression::Expr;
+use crate::expression::{Branches, Expr};
 use crate::fault::ParseFault;
 use crate::head::{Head, after, binary_ahead, name_in_parentheses, read_head, unary_ahead};
 use ldtokens::cursor::Cursor;
@@ -145,11 +145,12 @@ fn whole<'a>(alloc: Global, tokens: Cursor<'a>) -> Result<(Expr, Cursor<'a>), Pa
         return Err(ParseFault::NotAnExpression);
     };
     let (second, rest) = whole(alloc, rest)?;
-    let tree = Expr::Choice(
-        Box::new(alloc, test)?,
-        Box::new(alloc, first)?,
-        Box::new(alloc, second)?,
-    );
+    let branches = Branches {
+        test,
+        first,
+        second,
+    };
+    let tree = Expr::Choice(Box::new(alloc, branches)?);
     Ok((tree, rest))
 }
 

@@ -118,7 +118,7 @@ whole-returns-in_err-second t c =
 
 pub whole-returns : goal.whole-returns
 whole-returns t c =
-    rw (c.in_ok-new.ensures.ok, c.in_ok-new-2.ensures.ok, c.in_ok-new-3.ensures.ok)
+    rw c.in_ok-new.ensures.ok
     (choice_reading c.in_ok-test.ensures c.in-Some.ensures c.in_ok-first.ensures c.in-Some-after.ensures c.in_ok-second.ensures)
 
 pub arguments-returns : goal.arguments-returns
