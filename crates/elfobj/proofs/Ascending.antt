@@ -1,7 +1,7 @@
 -- The numbers of linked sections ascend, so that a binary search finds them.
-use Rattle.std.proofs.Common.{◌≡◌, ◌≢◌, ℕ, zero, suc, ◌+◌, ◌<◌, ◌≤◌, List, [], ◌∷◌, ◌++◌, get_or, length, map, Some, None, Option, Result, Ok, Err, refl, ap, sym, ◌∙◌, subst, inl, inr, arith}
+use Rattle.std.proofs.Common.{◌≡◌, ◌≢◌, ℕ, zero, suc, ◌<◌, ◌≤◌, List, ◌++◌, get_or, length, map, Some, None, Option, Ok, Err, ap, sym, subst, inl, inr, arith}
 use Rattle.std.specs.List.{All, AllPairs}
-use Rattle.std.specs.List.Sorted.{IsSearchInRange, IsBinarySearchResult, IsNonDecreasingBy}
+use Rattle.std.specs.List.Sorted.{IsBinarySearchResult, IsNonDecreasingBy}
 use Rattle.std.specs.Option.{option_to_list}
 use Rattle.std.specs.Ordering.{nat_cmp, ordering_index}
 use Rattle.std.proofs.lemmas.Bool.{cases_lt}
@@ -15,7 +15,7 @@ use Rattle.elfobj.specs.ElfHeader.{e_shnum}
 use Rattle.elfobj.specs.LinkedKinds.{linked_kind}
 use Rattle.elfobj.specs.Numbering.{IsNumberedAt}
 use Rattle.elfobj.specs.SectionHeaders.{header}
-use Rattle.elfobj.specs.Sections.{LinkedSection, linked_section, section_of, sections_below, sections_of}
+use Rattle.elfobj.specs.Sections.{linked_section, section_of, sections_below, sections_of}
 use Rattle.elfdefs.specs.declared.section.Section.{Section}
 use Rattle.elfdefs.specs.declared.section.SectionIndex.{SectionIndex}
 use Rattle.elfdefs.specs.declared.section.SectionKind.{SectionKind}

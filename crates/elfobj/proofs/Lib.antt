@@ -5,7 +5,6 @@ pub mod Steps
 pub mod Refusals
 pub mod Limits
 pub mod NameTables
-pub mod Overlaps
 pub mod Found
 pub mod SymbolTables
 pub mod RelocationTables
@@ -14,3 +13,6 @@ pub mod Ascending
 pub mod RelocationReads
 pub mod SymbolLimits
 pub mod RelocationLimits
+pub mod EntryTests
+pub mod FieldMarks
+pub mod FieldsBelow

@@ -25,7 +25,7 @@ use Rattle.elfobj.specs.declared.section_header.SectionHeader.{SectionHeader}
 use Rattle.elfobj.proofs.Passing.{none_at}
 use Rattle.elfobj.proofs.Steps.{linkable, linked_parts, kind_not_null}
 
-cond_none : (b : Bool) (r : ObjectRefusal) (o : Option ObjectRefusal) → cond b (Some r) o ≡ None → (b ≡ false) × (o ≡ None)
+pub cond_none : (b : Bool) (r : ObjectRefusal) (o : Option ObjectRefusal) → cond b (Some r) o ≡ None → (b ≡ false) × (o ≡ None)
 cond_none true r o h = cc
 cond_none false r o h = (refl, h)
 

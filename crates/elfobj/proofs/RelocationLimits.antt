@@ -22,7 +22,7 @@ use Rattle.elfdefs.specs.declared.section.SectionKind.TheVariants.{Progbits, Nob
 use Rattle.elfobj.specs.declared.section_header.SectionHeader.{SectionHeader}
 use Rattle.elfobj.proofs.Limits.{accepted_parts}
 
-field_inside : (kind : SectionKind) (size : ℕ) (r : Relocation) → is_outside kind size r ≡ false → field_end r ≤ size
+pub field_inside : (kind : SectionKind) (size : ℕ) (r : Relocation) → is_outside kind size r ≡ false → field_end r ≤ size
 field_inside Progbits size r h = ltb-false size (field_end r) h
 field_inside Nobits size r h = absurd (true≢false h)
 field_inside Note size r h = ltb-false size (field_end r) h
@@ -47,7 +47,7 @@ none_meets : (r : Relocation) (rs : List Relocation) → list_any (meets r) rs �
 none_meets r [] h = All-nil (λ q. meets r q ≡ false)
 none_meets r (q ∷ rs) h = let p = or_parts _ _ h in All-cons (λ q. meets r q ≡ false) q rs p.0 (none_meets r rs p.1)
 
-all_apart : (rs : List Relocation) → share_bytes rs ≡ false → AreApart rs
+pub all_apart : (rs : List Relocation) → share_bytes rs ≡ false → AreApart rs
 unfolding share_bytes
 all_apart [] h = λ i j d l m. absurd (omega arith)
 all_apart (r ∷ rs) h =

@@ -1,10 +1,12 @@
-use Rattle.std.proofs.Common.{◌≡◌, ℕ, zero, suc, ◌+◌, ◌-◌, ◌*◌, ◌<◌, ◌≤◌, List, [], ◌∷◌, ◌++◌, Bool, true, false, ◌||◌, ◌⊎◌, get_or, length, map, take, refl, ap, sym, ◌∙◌, subst, arith, inl, inr, ⊎_elim, find, Option, Some, None}
+use Rattle.std.proofs.Common.{◌≡◌, ℕ, zero, suc, ◌+◌, ◌*◌, ◌<◌, ◌≤◌, List, [], ◌∷◌, ◌++◌, Bool, true, false, ◌||◌, ◌⊎◌, get_or, length, map, take, refl, ap, sym, ◌∙◌, subst, arith, inl, inr, ⊎_elim, find, Option, Some, None}
 use Rattle.std.specs.List.{All, list_any}
 use Rattle.std.specs.Option.{IfSome, option_or, option_to_list}
-use Rattle.std.proofs.lemmas.Bool.{and_parts, both_ways, cases_lt, false_from_ne_true, or_from, or_left, or_parts, or_right}
-use Rattle.std.proofs.lemmas.List.{get_or-take, length-take-le, map-append, map_push, take_all, take_more}
+use Rattle.std.proofs.lemmas.Bool.{and_parts, cases_lt, or_from, or_left, or_parts, or_right}
+use Rattle.std.proofs.lemmas.List.{map-append, map_push, take_all, take_more}
 use Rattle.std.proofs.lemmas.List.Elements.{All-append, All-cons, All-get_or, All-map, All-nil, All-push}
-use Rattle.std.proofs.lemmas.List.Folds.{find-append, list_any-append}
+use Rattle.std.specs.List.Sorted.{IsPermutation}
+use Rattle.std.proofs.lemmas.List.Folds.{find-append, list_any-append, list_any_none}
+use Rattle.std.proofs.lemmas.List.Sorted.{All-permutation, IsPermutation-map, list_any-IsPermutation}
 use Rattle.elfobj.specs.ElfHeader.{e_shnum}
 use Rattle.elfobj.specs.LinkedKinds.{linked_kind}
 use Rattle.elfobj.specs.Linkable.{PassesTests}
@@ -12,17 +14,16 @@ use Rattle.elfobj.specs.Places.{AreRelocated, relocations_in}
 use Rattle.elfobj.specs.Refusal.{entry_refusals, holds, is_out_of_bounds, relocation_refusals}
 use Rattle.elfobj.specs.RelocationEntries.{relocation_entry_at, relocation_entries_below}
 use Rattle.elfobj.specs.Relocations.{changes, entries_in, relocation_entries, relocation_of, relocation_section, relocations_at, share_bytes}
-use Rattle.elfobj.specs.Runs.{AreAlike, AreTablesOf, IsTableOf, has_refused_entry, is_refused_for, table_entries}
+use Rattle.elfobj.specs.Runs.{AreTablesOf, IsTableOf, has_refused_entry, is_refused_for, table_entries}
 use Rattle.elfobj.specs.SectionHeaders.{header, headers}
 use Rattle.elfobj.specs.Sections.{LinkedSection, linked_section, section_of, sections_below, sections_of}
 use Rattle.elfobj.specs.Symbols.{symbols_of}
-use Rattle.elfobj.specs.Tables.{has_field_outside, has_overlap, has_shared_bytes, has_strange_symbol, has_strange_type, has_wrong_bounds, has_wrong_relocation_section, has_wrong_type, is_outside, is_strange_type, is_wrong_below, linked_sections, names_no_symbol}
+use Rattle.elfobj.specs.Tables.{has_field_outside, has_overlap, has_shared_bytes, has_strange_symbol, has_strange_type, has_wrong_bounds, has_wrong_relocation_section, has_wrong_type, is_outside, is_wrong_below, linked_sections}
 use Rattle.elfobj.specs.declared.place.Span.{Span}
 use Rattle.elfdefs.specs.declared.refusal.ObjectRefusal.{ObjectRefusal}
 use Rattle.elfdefs.specs.declared.refusal.ObjectRefusal.TheVariants.{FieldOverlap, FieldBounds, NoMemory, RelocationSection, RelocationType}
 use Rattle.elfdefs.specs.declared.relocation.Relocation.{Relocation}
 use Rattle.elfobj.specs.declared.relocation_entry.RelocationEntry.{RelocationEntry}
-use Rattle.elfobj.specs.declared.relocation_fault.EntryFault.{EntryFault}
 use Rattle.elfobj.specs.declared.relocation_fault.EntryFault.TheVariants.{Any, Symbol, Kind, Bounds}
 use Rattle.elfobj.specs.declared.relocation_run.SectionTable.{SectionTable}
 use Rattle.elfdefs.specs.declared.section.Section.{Section}
@@ -183,35 +184,26 @@ pub sections_same : (bytes : List ℕ) (ss : List Section) (ts ts' : List Sectio
 sections_same bytes ss ts ts' all spans e a r =
     subst (λ xs. AreRelocated (map (λ (s : Section). relocations_at bytes s.number.0) xs) all spans) (ap (map (λ (t : SectionTable). t.section)) e ∙ a.same) r
 
--- a table like the one before gives nothing new
-same_for : (fault : EntryFault) (n : ℕ) (s t : Section) (e : RelocationEntry) → s.kind ≡ t.kind → s.size ≡ t.size → is_refused_for fault n s e ≡ is_refused_for fault n t e
-same_for Any n s t e k z = ap (λ m. names_no_symbol n e || is_strange_type e || is_outside m s.size (relocation_of e)) k ∙ ap (λ m. names_no_symbol n e || is_strange_type e || is_outside t.kind m (relocation_of e)) z
-same_for Symbol n s t e k z = refl
-same_for Kind n s t e k z = refl
-same_for Bounds n s t e k z = ap (λ m. is_outside m s.size (relocation_of e)) k ∙ ap (λ m. is_outside t.kind m (relocation_of e)) z
-
-alike_same : (fault : EntryFault) (bytes : List ℕ) (n : ℕ) (t u : SectionTable) → IsTableOf bytes t → IsTableOf bytes u → AreAlike t u → has_refused_entry fault bytes n t.section ≡ has_refused_entry fault bytes n u.section
-alike_same fault bytes n t u a b l =
-    ap (list_any (is_refused_for fault n t.section)) (sym a.entries ∙ ap (λ k. relocation_entries_below bytes k t.count) l.start ∙ ap (λ k. relocation_entries_below bytes u.start k) l.count ∙ b.entries)
-    ∙ any_same (is_refused_for fault n t.section) (is_refused_for fault n u.section) (relocation_entries bytes u.section.number.0) (λ e. same_for fault n t.section u.section e l.kind l.size)
-
-none_before : {X Y : Type 0} (f : X → Y) (p : Y → Bool) (xs : List X) (i k : ℕ) (d : X) → k < i → i ≤ length xs → list_any p (map f (take i xs)) ≡ false → p (f (get_or xs k d)) ≡ false
-none_before f p xs i k d l m h =
-    false_from_ne_true _ (λ e. both_ways _ h (found_mapped f p (take i xs) k d (omega (arith, length-take-le i xs m)) (ap (λ x. p (f x)) (get_or-take i xs k d l) ∙ e)))
-
-pub refused_more : (fault : EntryFault) (bytes : List ℕ) (n : ℕ) (ts : List SectionTable) (i : ℕ) (d : SectionTable) → i < length ts → has_refused_entry fault bytes n (get_or ts i d).section ≡ false
-    → list_any (has_refused_entry fault bytes n) (map (λ (t : SectionTable). t.section) (take i ts)) ≡ false → list_any (has_refused_entry fault bytes n) (map (λ (t : SectionTable). t.section) (take (i + 1) ts)) ≡ false
-refused_more fault bytes n ts i d l e h =
-    ap (λ xs. list_any (has_refused_entry fault bytes n) (map (λ (t : SectionTable). t.section) xs)) (take_more ts i d l)
-    ∙ ap (list_any (has_refused_entry fault bytes n)) (map_push (λ (t : SectionTable). t.section) (take i ts) (get_or ts i d))
-    ∙ list_any-append (has_refused_entry fault bytes n) (map (λ (t : SectionTable). t.section) (take i ts)) ((get_or ts i d).section ∷ [])
+-- one more that does not pass a test
+pub none_more : {X Y : Type 0} (f : X → Y) (p : Y → Bool) (xs : List X) (i : ℕ) (d : X) → i < length xs → p (f (get_or xs i d)) ≡ false → list_any p (map f (take i xs)) ≡ false → list_any p (map f (take (i + 1) xs)) ≡ false
+none_more f p xs i d l e h =
+    ap (λ ys. list_any p (map f ys)) (take_more xs i d l)
+    ∙ ap (list_any p) (map_push f (take i xs) (get_or xs i d))
+    ∙ list_any-append p (map f (take i xs)) (f (get_or xs i d) ∷ [])
     ∙ or_from _ _ h (or_from _ _ e refl)
 
-pub refused_more_same : (fault : EntryFault) (bytes : List ℕ) (n : ℕ) (ts : List SectionTable) (i : ℕ) (d : SectionTable) → i < length ts → 0 < i → All (IsTableOf bytes) ts → AreAlike (get_or ts i d) (get_or ts (i - 1) d)
-    → list_any (has_refused_entry fault bytes n) (map (λ (t : SectionTable). t.section) (take i ts)) ≡ false → list_any (has_refused_entry fault bytes n) (map (λ (t : SectionTable). t.section) (take (i + 1) ts)) ≡ false
-refused_more_same fault bytes n ts i d l z a e h =
-    let before = none_before (λ (t : SectionTable). t.section) (has_refused_entry fault bytes n) ts i (i - 1) d (omega arith) (omega arith) h in
-    refused_more fault bytes n ts i d l (alike_same fault bytes n (get_or ts i d) (get_or ts (i - 1) d) (a i d l) (a (i - 1) d (omega arith)) e ∙ before) h
+pub none_mapped : {X Y : Type 0} (f : X → Y) (p : Y → Bool) (xs : List X) → All (λ x. p (f x) ≡ false) xs → list_any p (map f xs) ≡ false
+none_mapped f p xs h = any_mapped f p xs ∙ list_any_none (λ x. p (f x)) xs h
+
+-- the same of all tables in another order
+pub sorted_tables : (bytes : List ℕ) (ts ts' ds : List SectionTable) → ds ≡ ts' → IsPermutation ts ts' → All (IsTableOf bytes) ts → All (IsTableOf bytes) ds
+sorted_tables bytes ts ts' ds e q h = subst (All (IsTableOf bytes)) (sym e) (All-permutation (IsTableOf bytes) ts ts' q h)
+
+pub any_sorted : (p : Section → Bool) (ss : List Section) (ts ts' ds : List SectionTable) (r : Bool) → ds ≡ ts' → IsPermutation ts ts' → map (λ (t : SectionTable). t.section) ts ≡ ss
+    → r ≡ list_any p (map (λ (t : SectionTable). t.section) ds) → r ≡ list_any p ss
+any_sorted p ss ts ts' ds r d q e h =
+    h ∙ ap (λ xs. list_any p (map (λ (t : SectionTable). t.section) xs)) d
+    ∙ sym (list_any-IsPermutation p _ _ (IsPermutation-map (λ (t : SectionTable). t.section) ts ts' q)) ∙ ap (list_any p) e
 
 -- no entry is refused in any way
 any_none : (n : ℕ) (s : Section) (es : List RelocationEntry) → list_any (is_refused_for Any n s) es ≡ false

@@ -3,7 +3,7 @@ use Rattle.std.specs.List.{All, slice_range}
 use Rattle.std.proofs.Math.Nat.{div-add-mod}
 use Rattle.std.proofs.Math.Seq.{drop-append-add}
 use Rattle.std.proofs.lemmas.Bool.{cases_lt}
-use Rattle.std.proofs.lemmas.List.{append-nil, append_assoc, drop-append-le, drop-take, get_or_append_left, get_or_push, length-append, length-drop, length-map, map-append, take-append-le, take_all, take_more, map_push}
+use Rattle.std.proofs.lemmas.List.{append-nil, append_assoc, drop-append-le, get_or_append_left, get_or_push, length-append, length-drop, length-map, map-append, take-append-le, take_all, take_more, map_push}
 use Rattle.std.proofs.lemmas.List.Elements.{All-head, All-more, All-push, All-tail, All-weaker}
 use Rattle.elfobj.specs.Places.{AreRelocated, IsInside, relocations_in}
 use Rattle.elfobj.specs.RelocationEntries.{relocation_entry_at, relocation_entries_below}
@@ -11,7 +11,6 @@ use Rattle.elfobj.specs.Relocations.{relocation_of, relocations_at}
 use Rattle.elfobj.specs.Runs.{AreRuns, IsCovered, IsRun, IsTableOf, table_entries}
 use Rattle.elfobj.specs.declared.place.Span.{Span}
 use Rattle.elfdefs.specs.declared.relocation.Relocation.{Relocation}
-use Rattle.elfobj.specs.declared.relocation_entry.RelocationEntry.{RelocationEntry}
 use Rattle.elfobj.specs.declared.relocation_run.Run.{Run}
 use Rattle.elfobj.specs.declared.relocation_run.SectionTable.{SectionTable}
 use Rattle.elfdefs.specs.declared.section.Section.{Section}

@@ -17,6 +17,8 @@ pub mod Relocations
 pub mod Sections
 pub mod Tables
 pub mod Runs
+pub mod EntryTests
+pub mod FieldMarks
 pub mod Numbering
 pub mod Places
 pub mod Object

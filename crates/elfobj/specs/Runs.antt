@@ -26,13 +26,6 @@ pub record AreTablesOf (bytes : List ℕ) (sections : List Section) (tables : Li
   pub same : map (λ t. t.section) tables ≡ sections
   pub each : All (IsTableOf bytes) tables
 
--- two tables at one place, of sections of one kind and size
-pub record AreAlike (t u : SectionTable) : Type 0 where
-  pub start : t.start ≡ u.start
-  pub count : t.count ≡ u.count
-  pub kind : t.section.kind ≡ u.section.kind
-  pub size : t.section.size ≡ u.section.size
-
 -- whether an entry of a section is outside the profile, in one of the ways; n is the number of symbols
 abbrev pub is_refused_for : EntryFault → ℕ → Section → RelocationEntry → Bool
 is_refused_for Any n s e = names_no_symbol n e || is_strange_type e || is_outside s.kind s.size (relocation_of e)

@@ -1,8 +1,7 @@
-//! The fields that relocations change: whether they lie in their section, and whether two of them share a byte.
+//! The fields that relocations change: whether they lie in their section, and their order.
 
-ghost use Rattle.std.specs.Prelude.{◌≡◌, IfOk, OnOk, true};
+ghost use Rattle.std.specs.Prelude.{◌≡◌, OnOk, true};
 ghost use Rattle.std.specs.List.Sorted.{IsNonDecreasingBy, IsPermutation};
-ghost use Rattle.elfobj.specs.Relocations.{share_bytes};
 ghost use Rattle.elfobj.specs.Tables.{is_outside};
 
 use crate::relocation::Relocation;
@@ -33,26 +32,6 @@ fn are_ascending(relocations: &[Relocation]) -> bool
     true
 }
 
-/// Whether two of these, in the order of their offsets, share a byte.
-fn do_neighbours_meet(relocations: &[Relocation]) -> bool
-    requires { IsNonDecreasingBy (λ r. r.offset) relocations.now }
-    ensures { result ≡ share_bytes relocations.now }
-{
-    let mut offset = 0;
-    let mut width = 0;
-    for relocation in relocations {
-        let size = relocation.kind.width();
-        if size > 0 {
-            if relocation.offset - offset < width {
-                return true;
-            }
-            offset = relocation.offset;
-            width = size;
-        }
-    }
-    false
-}
-
 /// Makes `room` these relocations in the order of their offsets. They are copied where they have it, as assemblers write
 /// them, and else sorted.
 pub fn put_in_order(
@@ -68,18 +47,4 @@ pub fn put_in_order(
         room.sort_unstable_by_key(|r| r.offset);
     }
     Ok(())
-}
-
-/// Whether two of these share a byte. One pass where their offsets are ascending; else they are sorted in `room` first.
-pub fn is_any_shared(
-    relocations: &[Relocation],
-    room: &mut Vec<Relocation>,
-) -> Result<bool, AllocError>
-    ensures { IfOk result (λ b. b ≡ share_bytes relocations.now) }
-{
-    if are_ascending(relocations) {
-        return Ok(do_neighbours_meet(relocations));
-    }
-    put_in_order(relocations, room)?;
-    Ok(do_neighbours_meet(room))
 }

@@ -2,7 +2,9 @@
 #![tactic(auto)]
 
 pub mod elf_header;
+mod entry_test;
 pub mod field;
+mod field_marks;
 mod linked;
 pub mod names;
 pub mod object;

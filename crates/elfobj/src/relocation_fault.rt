@@ -1,14 +1,18 @@
 //! The tests of the entries of relocation sections, before any of them is kept.
 
-ghost use Rattle.std.specs.Prelude.{◌≡◌, map, true};
+ghost use Rattle.std.specs.Prelude.{◌≡◌, ◌≢◌, ℕ, ◌≤◌, ◌<◌, ◌+◌, ◌*◌, ◌%◌, IfOk, false, get_or, length, map, true};
 ghost use Rattle.std.specs.List.{All, list_any};
-ghost use Rattle.elfobj.specs.Runs.{AreAlike, IsTableOf, has_refused_entry, is_refused_for};
+ghost use Rattle.std.specs.List.Sorted.{IsNonDecreasingBy, IsPermutation};
+ghost use Rattle.elfobj.specs.EntryTests.{PassesIn, field_ends};
+ghost use Rattle.elfobj.specs.Runs.{IsCovered, IsTableOf, has_refused_entry, is_refused_for};
 
+use crate::entry_test::{is_table_refused, none_passed};
 use crate::field::is_outside;
-use crate::relocation_entry::{RelocationEntry, read_relocation_entry};
-use crate::relocation_run::SectionTable;
-use crate::section::Section;
+use crate::relocation_entry::RelocationEntry;
+use crate::relocation_run::{SectionTable, class_range};
+use crate::section::{Section, SectionKind};
 use elfdefs::constants::RELA_SIZE;
+use std::alloc::{AllocError, Global};
 
 /// A way in which an entry is outside the profile, in the order of the refusals' numbers.
 #[derive(Clone, Copy)]
@@ -23,7 +27,8 @@ pub enum EntryFault {
     Bounds,
 }
 
-fn is_refused_for(
+/// Whether an entry is outside the profile in this way, for this section.
+pub fn is_refused_for(
     fault: EntryFault,
     symbols: usize,
     section: &Section,
@@ -43,48 +48,111 @@ fn is_refused_for(
     }
 }
 
-/// Whether an entry of a table is outside the profile in this way. It stops at the first one.
-fn has_refused_entry(bytes: &[u8], table: &SectionTable, fault: EntryFault, symbols: usize) -> bool
-    requires { IsTableOf bytes.now table.now }
-    ensures { result ≡ has_refused_entry fault bytes.now symbols table.now.section }
+impl SectionTable {
+    ghost use Rattle.elfobj.specs.EntryTests.{field_ends};
+
+    /// How many ends a field may have in its section: those from 0 to its size, of which a section without bytes in the
+    /// file has none. An entry whose field lies in a section lies in all that have no fewer.
+    fn field_ends(&self) -> u128
+        ensures { result ≡ field_ends self.now.section }
+    {
+        match self.section.kind {
+            SectionKind::Nobits => 0,
+            _ => u128::from(self.section.size) + 1,
+        }
+    }
+
+    fn is_of_class(&self, class: usize) -> bool
+        ensures yes { result ≡ true → (0 < self.now.count) × (self.now.start % 24 ≡ class) }
+        ensures no { result ≡ false → 0 < self.now.count → self.now.start % 24 ≢ class }
+    {
+        self.count > 0 && self.start % RELA_SIZE == class
+    }
+}
+
+/// These tables, those of the smallest sections first.
+pub fn smallest_first(
+    alloc: Global,
+    tables: &[SectionTable],
+) -> Result<Vec<SectionTable>, AllocError>
+    ensures same { IfOk result (λ v. IsPermutation tables.now v.items) }
+    ensures order { IfOk result (λ v. IsNonDecreasingBy (λ t. field_ends t.section) v.items) }
 {
-    for k in 0..table.count {
-        let entry = read_relocation_entry(bytes, table.start + RELA_SIZE * k);
-        if is_refused_for(fault, symbols, &table.section, &entry) {
-            return true;
+    let mut sorted = tables.to_vec(alloc)?;
+    sorted.sort_unstable_by_key(|t| t.field_ends());
+    Ok(sorted)
+}
+
+/// Whether an entry of a table of a class is outside the profile in this way, where `past` knows of no entry that it has
+/// passed. Each entry that passes is tested once, since the tables come in the order of the room in their sections.
+fn is_refused_among(
+    bytes: &[u8],
+    tables: &[SectionTable],
+    class: usize,
+    low: usize,
+    past: &mut [usize],
+    fault: EntryFault,
+    symbols: usize,
+) -> bool
+    requires tables { All (IsTableOf bytes.now) tables.now }
+    requires order { IsNonDecreasingBy (λ t. field_ends t.section) tables.now }
+    requires covers { All (IsCovered class low (low + length past.old)) tables.now }
+    requires within { 24 * low + class + 24 * length past.old ≤ length bytes.now }
+    requires own { (k : ℕ) → k < length past.old → get_or past.old k 0 ≡ k }
+    ensures some { result ≡ true → list_any (has_refused_entry fault bytes.now symbols) (map (λ t. t.section) tables.now) ≡ true }
+    ensures none { result ≡ false → All (PassesIn class fault bytes.now symbols) tables.now }
+{
+    let base = RELA_SIZE * low + class;
+    for table in tables {
+        if table.is_of_class(class) {
+            let first = table.start / RELA_SIZE - low;
+            if is_table_refused(bytes, table, base, first, past, fault, symbols) {
+                return true;
+            }
         }
     }
     false
 }
 
-/// Whether two tables have the same entries for sections of the same kind and size.
-fn are_alike(table: &SectionTable, other: &SectionTable) -> bool
-    ensures { result ≡ true → AreAlike table.now other.now }
+/// Whether an entry of a table of a class is outside the profile in this way.
+fn is_class_refused(
+    alloc: Global,
+    bytes: &[u8],
+    tables: &[SectionTable],
+    class: usize,
+    fault: EntryFault,
+    symbols: usize,
+) -> Result<bool, AllocError>
+    requires class { class < 24 }
+    requires long { 24 ≤ length bytes.now }
+    requires tables { All (IsTableOf bytes.now) tables.now }
+    requires order { IsNonDecreasingBy (λ t. field_ends t.section) tables.now }
+    ensures some { IfOk result (λ b. b ≡ true → list_any (has_refused_entry fault bytes.now symbols) (map (λ t. t.section) tables.now) ≡ true) }
+    ensures none { IfOk result (λ b. b ≡ false → All (PassesIn class fault bytes.now symbols) tables.now) }
 {
-    table.start == other.start
-        && table.count == other.count
-        && table.section.kind == other.section.kind
-        && table.section.size == other.section.size
+    let (low, end) = class_range(tables, class, bytes.len());
+    let mut past = none_passed(alloc, end - low)?;
+    Ok(is_refused_among(bytes, tables, class, low, &mut past, fault, symbols))
 }
 
-/// Whether an entry of one of these tables is outside the profile in this way. It stops at the first one, and passes over
-/// a table that is like the one before.
+/// Whether an entry of one of these tables, those of the smallest sections first, is outside the profile in this way. It
+/// stops at the first one.
 pub fn is_any_refused(
+    alloc: Global,
     bytes: &[u8],
     tables: &[SectionTable],
     fault: EntryFault,
     symbols: usize,
-) -> bool
-    requires { All (IsTableOf bytes.now) tables.now }
-    ensures { result ≡ list_any (has_refused_entry fault bytes.now symbols) (map (λ t. t.section) tables.now) }
+) -> Result<bool, AllocError>
+    requires long { 24 ≤ length bytes.now }
+    requires tables { All (IsTableOf bytes.now) tables.now }
+    requires order { IsNonDecreasingBy (λ t. field_ends t.section) tables.now }
+    ensures { IfOk result (λ b. b ≡ list_any (has_refused_entry fault bytes.now symbols) (map (λ t. t.section) tables.now)) }
 {
-    for i in 0..tables.len() {
-        if i > 0 && are_alike(&tables[i], &tables[i - 1]) {
-            continue;
-        }
-        if has_refused_entry(bytes, &tables[i], fault, symbols) {
-            return true;
+    for class in 0..RELA_SIZE {
+        if is_class_refused(alloc, bytes, tables, class, fault, symbols)? {
+            return Ok(true);
         }
     }
-    false
+    Ok(false)
 }

@@ -48,7 +48,7 @@ pub struct Relocations {
 }
 
 /// The numbers of the entries of a class from the first to past the last that a table has.
-fn class_range(tables: &[SectionTable], class: usize, len: usize) -> (usize, usize)
+pub fn class_range(tables: &[SectionTable], class: usize, len: usize) -> (usize, usize)
     requires class { class < 24 }
     requires long { 24 ≤ len }
     requires within { All (λ t. t.start + 24 * t.count ≤ len) tables.now }

@@ -2,7 +2,9 @@
 
 ghost use Rattle.std.specs.Prelude.{◌≡◌, ℕ, ◌≤◌, ◌<◌, ◌+◌, ◌*◌, ◌⊎◌, IfErr, IfOk, IfSome, List, None, Some, false, true, find, length, map, replicate};
 ghost use Rattle.std.specs.List.{All, list_any};
+ghost use Rattle.std.specs.List.Sorted.{IsNonDecreasingBy, IsPermutation};
 ghost use Rattle.elfobj.specs.ElfHeader.{e_shnum};
+ghost use Rattle.elfobj.specs.FieldMarks.{AreBelow};
 ghost use Rattle.elfobj.specs.Linkable.{PassesTests};
 ghost use Rattle.elfobj.specs.Places.{AreRelocated, IsInside, relocations_in};
 ghost use Rattle.elfobj.specs.Reading.{AreTables, entered, is_wrong_after};
@@ -16,10 +18,10 @@ ghost use Rattle.elfobj.specs.Symbols.{symbols_of};
 ghost use Rattle.elfobj.specs.Tables.{is_linked, is_wrong_below, is_wrong_table, linked_sections};
 ghost use Rattle.elfdefs.specs.declared.refusal.ObjectRefusal.TheVariants.{NoMemory, RelocationSection};
 
-use crate::field::is_any_shared;
+use crate::field_marks::is_any_shared;
 use crate::place::Span;
 use crate::refusal::ObjectRefusal;
-use crate::relocation_fault::{EntryFault, is_any_refused};
+use crate::relocation_fault::{EntryFault, is_any_refused, smallest_first};
 use crate::relocation_run::{Relocations, SectionTable, read_tables};
 use crate::section::Section;
 use crate::section_header::SectionHeader;
@@ -158,45 +160,65 @@ fn section_tables(
 }
 
 /// The lowest refusal that an entry of these tables gives.
-fn entry_refusal(bytes: &[u8], tables: &[SectionTable], symbols: usize) -> Option<ObjectRefusal>
+fn entry_refusal(
+    alloc: Global,
+    bytes: &[u8],
+    tables: &[SectionTable],
+    symbols: usize,
+) -> Result<Option<ObjectRefusal>, AllocError>
+    requires long { 24 ≤ length bytes.now }
     requires right { is_wrong_below bytes.now (e_shnum bytes.now) ≡ false }
     requires tables { AreTablesOf bytes.now (linked_sections bytes.now) tables.now }
     requires symbols { symbols ≡ length (symbols_of bytes.now) }
-    ensures { result ≡ find (holds bytes.now) entry_refusals }
+    ensures { IfOk result (λ o. o ≡ find (holds bytes.now) entry_refusals) }
 {
-    if !is_any_refused(bytes, tables, EntryFault::Any, symbols) {
-        return None;
+    let sorted = smallest_first(alloc, tables)?;
+    if !is_any_refused(alloc, bytes, &sorted, EntryFault::Any, symbols)? {
+        return Ok(None);
     }
-    if is_any_refused(bytes, tables, EntryFault::Symbol, symbols) {
-        return Some(ObjectRefusal::RelocationSection);
+    if is_any_refused(alloc, bytes, &sorted, EntryFault::Symbol, symbols)? {
+        return Ok(Some(ObjectRefusal::RelocationSection));
     }
-    if is_any_refused(bytes, tables, EntryFault::Kind, symbols) {
-        return Some(ObjectRefusal::RelocationType);
+    if is_any_refused(alloc, bytes, &sorted, EntryFault::Kind, symbols)? {
+        return Ok(Some(ObjectRefusal::RelocationType));
     }
-    if is_any_refused(bytes, tables, EntryFault::Bounds, symbols) {
-        return Some(ObjectRefusal::FieldBounds);
+    if is_any_refused(alloc, bytes, &sorted, EntryFault::Bounds, symbols)? {
+        return Ok(Some(ObjectRefusal::FieldBounds));
     }
-    None
+    Ok(None)
 }
 
-/// Whether two relocations of one section share a byte. A section with the same table as the one before is passed over.
-fn is_any_overlap(alloc: Global, relocations: &Relocations) -> Result<bool, AllocError>
-    requires { All (IsInside (length relocations.now.all.items)) relocations.now.spans.items }
+/// The size of the largest section that has entries.
+fn largest_size(tables: &[SectionTable]) -> u64
+    ensures { All (λ t. 0 < t.count → t.section.size ≤ result) tables.now }
+{
+    let mut largest = 0;
+    for table in tables {
+        if table.count > 0 {
+            largest = table.section.size.max(largest);
+        }
+    }
+    largest
+}
+
+/// These spans in the order of their starts.
+fn in_order(alloc: Global, spans: &[Span]) -> Result<Vec<Span>, AllocError>
+    ensures same { IfOk result (λ v. IsPermutation spans.now v.items) }
+    ensures order { IfOk result (λ v. IsNonDecreasingBy (λ s. s.start) v.items) }
+{
+    let mut sorted = spans.to_vec(alloc)?;
+    sorted.sort_unstable_by_key(|s| s.start);
+    Ok(sorted)
+}
+
+/// Whether two relocations of one section share a byte. All fields end at `size` or before.
+fn is_any_overlap(alloc: Global, relocations: &Relocations, size: usize) -> Result<bool, AllocError>
+    requires within { All (IsInside (length relocations.now.all.items)) relocations.now.spans.items }
+    requires fields { All (λ s. AreBelow relocations.now.all.items s.start s.end size) relocations.now.spans.items }
     ensures { IfOk result (λ b. b ≡ list_any share_bytes (map (relocations_in relocations.now.all.items) relocations.now.spans.items)) }
 {
-    let all = relocations.all.as_slice();
-    let mut room = Vec::new(alloc);
-    let mut last = Span { start: 0, end: 0 };
-    for span in &relocations.spans {
-        if span.start == last.start && span.end == last.end {
-            continue;
-        }
-        if is_any_shared(&all[span.start..span.end], &mut room)? {
-            return Ok(true);
-        }
-        last = *span;
-    }
-    Ok(false)
+    let spans = in_order(alloc, &relocations.spans)?;
+    is_any_shared(alloc, &relocations.all, &spans, size)
 }
 
 /// Reads the relocations of the linked sections of a file whose section headers and symbols have passed their tests, or
@@ -221,13 +243,16 @@ pub fn read_relocations(
     let Ok(tables) = section_tables(alloc, bytes, sections, &changing) else {
         return Err(ObjectRefusal::NoMemory);
     };
-    if let Some(refusal) = entry_refusal(bytes, &tables, symbols) {
+    let Ok(refusal) = entry_refusal(alloc, bytes, &tables, symbols) else {
+        return Err(ObjectRefusal::NoMemory);
+    };
+    if let Some(refusal) = refusal {
         return Err(refusal);
     }
     let Ok(relocations) = read_tables(alloc, bytes, &tables) else {
         return Err(ObjectRefusal::NoMemory);
     };
-    match is_any_overlap(alloc, &relocations) {
+    match is_any_overlap(alloc, &relocations, largest_size(&tables) as usize) {
         Ok(false) => Ok(relocations),
         Ok(true) => Err(ObjectRefusal::FieldOverlap),
         Err(_) => Err(ObjectRefusal::NoMemory),

@@ -1,0 +1,10 @@
+use Rattle.std.proofs.Common.{◌≡◌, ◌≤◌, length}
+use Rattle.elfobj.specs.FieldMarks.{IsWindow}
+use Rattle.elfobj.proofs.field_marks.enter.Given as goal
+
+abbrev pub invariant-loop-at : goal.invariant-loop-at
+invariant-loop-at l = record {
+  window : IsWindow l.all l.from l.at l.marks;
+  long : length l.marks ≡ length l.initial.marks;
+  order : l.at ≤ l.end;
+}

@@ -1,0 +1,83 @@
+//! The test of the entries of one table, among tables whose entries may overlap in the file: an entry that has passed is
+//! passed over.
+//!
+//! Entries that follow one another in the file have numbers from 0 on. A list of numbers `past` says of each entry that
+//! those from it on and before `past` of it have passed, so that none is known to have passed where `past` is the
+//! entry's own number. Each walk shortens its next ones, as in a union-find structure.
+
+ghost use Rattle.std.specs.Prelude.{◌≡◌, ℕ, ◌≤◌, ◌<◌, ◌+◌, ◌*◌, IfOk, List, get_or, length};
+ghost use Rattle.std.specs.List.{list_any};
+ghost use Rattle.elfobj.specs.EntryTests.{HavePassed};
+ghost use Rattle.elfobj.specs.Runs.{is_refused_for, table_entries};
+ghost use Rattle.elfobj.specs.declared.relocation_fault.EntryFault.{EntryFault};
+ghost use Rattle.elfdefs.specs.declared.section.Section.{Section};
+
+use crate::relocation_entry::read_relocation_entry;
+use crate::relocation_fault::{EntryFault, is_refused_for};
+use crate::relocation_run::SectionTable;
+use elfdefs::constants::RELA_SIZE;
+use std::alloc::{AllocError, Global};
+
+/// The list for entries of which none is known to have passed.
+pub fn none_passed(alloc: Global, count: usize) -> Result<Vec<usize>, AllocError>
+    ensures long { IfOk result (λ v. length v.items ≡ count) }
+    ensures own { IfOk result (λ v. (k : ℕ) → k < count → get_or v.items k 0 ≡ k) }
+{
+    let mut past = Vec::with_capacity(alloc, count)?;
+    for entry in 0..count {
+        past.push(entry)?;
+    }
+    Ok(past)
+}
+
+/// The entry past those from this one on that are known to have passed. It is noted what that entry knows.
+fn step_over(past: &mut [usize], entry: usize) -> usize
+    requires { entry < length past.old }
+    ensures value { result ≡ get_or past.old entry 0 }
+    ensures long { length past.new ≡ length past.old }
+    ensures kept { (fault : EntryFault) (bytes : List ℕ) (n : ℕ) (s : Section) (base : ℕ)
+        → HavePassed fault bytes n s base past.old → HavePassed fault bytes n s base past.new }
+{
+    let next = past[entry];
+    if next < past.len() {
+        past[entry] = past[next];
+    }
+    next
+}
+
+/// Whether an entry of a table is outside the profile in this way. Its first entry has number `first` among those that
+/// follow one another from `base` on. It stops at the first one.
+pub fn is_table_refused(
+    bytes: &[u8],
+    table: &SectionTable,
+    base: usize,
+    first: usize,
+    past: &mut [usize],
+    fault: EntryFault,
+    symbols: usize,
+) -> bool
+    requires start { table.now.start ≡ base + 24 * first }
+    requires end { first + table.now.count ≤ length past.old }
+    requires within { base + 24 * length past.old ≤ length bytes.now }
+    requires passed { HavePassed fault bytes.now symbols table.now.section base past.old }
+    ensures value { result ≡ list_any (is_refused_for fault symbols table.now.section) (table_entries bytes.now table.now) }
+    ensures long { length past.new ≡ length past.old }
+    ensures passed { HavePassed fault bytes.now symbols table.now.section base past.new }
+{
+    let end = first + table.count;
+    let mut at = first;
+    while at < end {
+        let next = step_over(past, at);
+        if next > at {
+            at = next;
+            continue;
+        }
+        let entry = read_relocation_entry(bytes, base + RELA_SIZE * at);
+        if is_refused_for(fault, symbols, &table.section, &entry) {
+            return true;
+        }
+        past[at] = at + 1;
+        at += 1;
+    }
+    false
+}
