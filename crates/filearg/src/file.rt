@@ -32,7 +32,8 @@ impl NamedFile {
     }
 }
 
-/// The bytes that a reader has left, the first `most` of them where there are more, in a buffer with `room` bytes or more.
+/// The bytes that a reader has left, the first `most` of them where there are more, in a buffer that has room for
+/// `room` bytes from the beginning.
 ///
 /// # Errors
 ///
@@ -50,8 +51,8 @@ pub fn read_bytes<R: Read + Drop>(
     Ok(bytes)
 }
 
-/// The bytes of a file, in a buffer of its size; one more than `MAX_FILE` where it has more, so that a file which is too
-/// long is seen to be, and one without an end is not read for ever.
+/// The bytes of a file, in a buffer of its size; one more than `MAX_FILE` where it has more, so that a file which is
+/// too long is seen to be, and one without an end is not read for ever.
 ///
 /// # Errors
 ///

@@ -1,5 +1,5 @@
-//! The file that the command line of a program names: its word, and its bytes. A file is read as `ldi link` reads it, and
-//! the statuses are those of `ldi`.
+//! The file that the command line of a program names: its word, and its bytes. A file is read as `ldi link` reads it,
+//! and the statuses are those of `ldi`.
 //!
 //! No contract of std says what a file holds. That all bytes of a reader are given, up to a limit, is proved for every
 //! reader whose bytes are known; that a file's are is tested on the built programs.

@@ -1,7 +1,18 @@
 //! `readscript`: prints what the script reader sees of texts.
 //!
-//! It reads standard input to its end: frames, each a line and the bytes that it counts. White space before a frame is
-//! skipped. All lengths are decimal.
+//! `readscript FILE` says of one file whether it is a script, by one of
+//!
+//!     FILE: a script of N statements
+//!     FILE: refused 5 N
+//!       line LINE: REASON
+//!
+//! on standard output. The statements are those that stand outside of all others. N after `refused 5` is the reader's
+//! number; a file that is too long for `ldi` is `refused 6 0`. It ends with status 0 where the file is a script, with 1
+//! where it is refused, with 2 where there are more words, with 3 where the file cannot be read or standard output
+//! cannot be written, and with 4 out of memory.
+//!
+//! Without a word it reads standard input to its end: frames, each a line and the bytes that it counts. White space
+//! before a frame is skipped. All lengths are decimal.
 //!
 //!     script LENGTH           a script
 //!     numbers LENGTH          a script, for the numbers of its statements
@@ -49,6 +60,7 @@
 
 mod common;
 mod expression;
+mod file;
 mod frame;
 mod input;
 mod numbers;
@@ -59,15 +71,21 @@ mod statement;
 mod text;
 mod tokens;
 
+use crate::file::show_file;
 use crate::frame::{Frame, Next, next_frame};
 use crate::numbers::push_numbers;
 use crate::pattern::push_match;
 use crate::script::push_script;
 use crate::tokens::push_tokens;
+use filearg::fault::FileFault;
+use filearg::file::{NamedFile, named_file};
 use std::alloc::{AllocError, Global};
 use std::io;
 use std::io::{BufWriter, Read, Write};
 use std::process::ExitCode;
+
+/// How the program is called.
+const USAGE: &str = "usage: readscript [FILE], all words in UTF-8";
 
 /// A frame is malformed.
 const MALFORMED: u8 = 2;
@@ -108,7 +126,7 @@ fn print_answers<W: Write>(alloc: Global, out: &mut W, input: &[u8]) -> io::Resu
 }
 
 /// Reads standard input, prints, and gives the status to end with.
-fn show(rt: &HostRuntime) -> io::Result<u8> {
+fn show_stream(rt: &HostRuntime) -> io::Result<u8> {
     let alloc = rt.alloc();
     let mut input = Vec::new(alloc);
     rt.reader().read_to_end(&mut input)?;
@@ -118,9 +136,22 @@ fn show(rt: &HostRuntime) -> io::Result<u8> {
     Ok(status)
 }
 
+/// Prints what is to be said of a file, and gives the status to end with.
+fn show_named(rt: &HostRuntime, file: &NamedFile) -> io::Result<u8> {
+    let mut out = BufWriter::new(rt.alloc(), io::writer(rt))?;
+    let status = show_file(rt.alloc(), &mut out, file)?;
+    out.flush()?;
+    Ok(status)
+}
+
 fn main(rt: HostRuntime) -> ExitCode {
-    match show(&rt) {
-        Ok(status) => ExitCode::from(status),
-        Err(_) => ExitCode::from(FAILED),
-    }
+    let status = match named_file(&rt) {
+        Ok(None) => show_stream(&rt).unwrap_or(FAILED),
+        Ok(Some(file)) => match show_named(&rt, &file) {
+            Ok(status) => status,
+            Err(error) => FileFault::from(error).report(&rt, USAGE),
+        },
+        Err(fault) => fault.report(&rt, USAGE),
+    };
+    ExitCode::from(status)
 }

@@ -1,0 +1,52 @@
+//! What is printed of a file that the command line names.
+
+use filearg::file::{NamedFile, print_too_long};
+use ldscript::refusal::ScriptRefusal;
+use ldscript::script::Script;
+use scriptwhy::explain::explain;
+use std::alloc::Global;
+use std::io;
+use std::io::{ErrorKind, Write};
+
+/// The file is a script.
+const READ: u8 = 0;
+/// The file is refused.
+const REFUSED: u8 = 1;
+
+/// That a file is refused, with the numbers that `ldi` says of it, and where and why.
+fn print_refused<W: Write>(
+    alloc: Global,
+    out: &mut W,
+    file: &NamedFile,
+    refusal: ScriptRefusal,
+) -> io::Result<()> {
+    writeln!(out, "{}: refused 5 {}", file.name, refusal.number())?;
+    match explain(alloc, &file.bytes)? {
+        Some(explanation) => writeln!(out, "  {explanation}"),
+        None => Ok(()),
+    }
+}
+
+/// Says of a file that it is read, or where and why it is refused, and gives the status to end with.
+///
+/// # Errors
+///
+/// Where the lines cannot be written; of kind `OutOfMemory` where memory runs out.
+pub fn show_file<W: Write>(alloc: Global, out: &mut W, file: &NamedFile) -> io::Result<u8> {
+    if file.is_too_long() {
+        print_too_long(out, file.name.as_str())?;
+        return Ok(REFUSED);
+    }
+    match Script::read(alloc, &file.bytes) {
+        Ok(script) => {
+            let count = script.statements().len();
+            writeln!(out, "{}: a script of {count} statements", file.name)?;
+            Ok(READ)
+        }
+        Err(ScriptRefusal::NoMemory) => Err(ErrorKind::OutOfMemory.into()),
+        Err(refusal) => {
+            print_refused(alloc, out, file, refusal)?;
+            Ok(REFUSED)
+        }
+    }
+}
