@@ -6,15 +6,15 @@
 //!     FILE: refused 4 N
 //!       PLACE: REASON
 //!
-//! on standard output. Sections and relocations are the linked ones, symbols the entries of the symbol table from entry
-//! 0 on. N after `refused 4` is the reader's number; a file that is too long for `ldi` is `refused 6 0`. It ends with
-//! status 0 where the file is an object, with 1 where it is refused, with 2 where there are more words, with 3 where the
-//! file cannot be read or standard output cannot be written, and with 4 out of memory.
+//! on standard output. Sections and relocations are the linked ones, symbols the entries of the symbol table from
+//! entry 0 on. N after `refused 4` is the reader's number; a file that is too long for `ldi` is `refused 6 0`. It ends
+//! with status 0 where the file is an object, with 1 where it is refused, with 2 where there are more words, with 3
+//! where the file cannot be read or standard output cannot be written, and with 4 out of memory.
 //!
-//! Without a word it reads a stream of objects from standard input, each of which is a line `object LEN` or `object LEN TITLE` and LEN
-//! bytes right after it. For each it prints a line `object TITLE`, then one line for each linked section, then one for
-//! each entry of the symbol table from entry 0 on, then one for each relocation of each linked section, all in table
-//! order:
+//! Without a word it reads a stream of objects from standard input, each of which is a line `object LEN` or
+//! `object LEN TITLE` and LEN bytes right after it. For each it prints a line `object TITLE`, then one line for each
+//! linked section, then one for each entry of the symbol table from entry 0 on, then one for each relocation of each
+//! linked section, all in table order:
 //!
 //!     section NUMBER KIND FLAGS SIZE ALIGNMENT NAME
 //!     symbol NUMBER BINDING KIND PLACE VALUE SIZE [NAME]
@@ -25,10 +25,9 @@
 //! `COM` or the number of a section. SECTION is the number of the section that a relocation changes, SYMBOL the number
 //! of the entry that it names. A local symbol has no NAME.
 //!
-//! Of bytes that are no object it prints `refused N` with the reader's number instead, and a line with two spaces and the
-//! place and the reason, for people. It ends with status 0 after the
-//! last object, with status 1 where the stream goes on with no object, and with status 3 where a device failed or memory
-//! was refused.
+//! Of bytes that are no object it prints `refused N` with the reader's number instead, and a line with two spaces and
+//! the place and the reason, for people. It ends with status 0 after the last object, with status 1 where the stream
+//! goes on with no object, and with status 3 where a device failed or memory was refused.
 #![tactic(auto)]
 
 mod file;
