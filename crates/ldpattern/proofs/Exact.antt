@@ -1,14 +1,14 @@
 -- Patterns of bytes alone, and the pattern `*`.
-use Rattle.std.proofs.Common.{◌≡◌, ℕ, ◌+◌, ◌<◌, ◌≤◌, ◌↔◌, List, [], ◌∷◌, ◌++◌, length, drop, Option, Some, None, MatchOption, IfSome, refl, sym, ◌∙◌, ap, subst, append-nil, append_assoc}
+use Rattle.std.proofs.Common.{◌≡◌, ℕ, ◌↔◌, List, [], ◌∷◌, ◌++◌, map, Option, Some, None, MatchOption, IfSome, refl, sym, ◌∙◌, ap, subst, append-nil, append_assoc}
 use Rattle.std.specs.Borrow.{Bor}
 use Rattle.std.specs.Option.{option_map}
-use Rattle.std.proofs.lemmas.List.{drop_all}
 use Rattle.ldpattern.specs.Parts.{Part, AnyRun, AnyByte, Byte, OneOf, part_of, code_byte}
 use Rattle.ldpattern.specs.Matching.{Matches, nothing, part, exact_name}
-use Rattle.ldpattern.specs.Trying.{parts_of}
+use Rattle.ldpattern.specs.Spelling.{Spells}
+use Rattle.ldpattern.specs.Trying.{BeginsWith, EndsHere}
 use Rattle.ldpattern.specs.declared.part.CodePart.{CodePart}
 use Rattle.ldpattern.specs.declared.part.CodePart.TheVariants as code
-use Rattle.ldpattern.proofs.Stars.{parts_here, part_at, nothing_left}
+use Rattle.ldpattern.proofs.Stars.{nothing_left}
 
 pub any_matches : (ps : List Part) → ps ≡ AnyRun ∷ [] → (name : List ℕ) → Matches ps name
 any_matches ps e name = subst (λ v. Matches v name) (sym e) (part name [] tt (sym (append-nil name)) nothing)
@@ -38,16 +38,38 @@ pub only_of_value : (ps : List Part) (r : Option (Bor (List ℕ))) → MatchOpti
 only_of_value ps None h = tt
 only_of_value ps (Some n) h = only_exact ps n.now h
 
--- a loop over the parts of the program, with the bytes so far
-pub record IsExactTo (ps : List CodePart) (bytes : List ℕ) (i : ℕ) : Type 0 where
-  pub goes_on : (word : List ℕ) → option_map (λ v. bytes ++ v) (exact_name (parts_of word (drop i ps))) ≡ exact_name (parts_of word ps)
+-- the pattern of these bytes alone
+pub exact_of_bytes : (bytes : List ℕ) → exact_name (map (λ b. Byte b) bytes) ≡ Some bytes
+exact_of_bytes [] = refl
+exact_of_bytes (b ∷ bytes) = ap (option_map (λ v. b ∷ v)) (exact_of_bytes bytes)
+
+pub bytes_of_exact : (ps : List Part) (bytes : List ℕ) → exact_name ps ≡ Some bytes → ps ≡ map (λ b. Byte b) bytes
+bytes_of_exact [] bytes e = ap (map (λ b. Byte b)) (let b : [] ≡ bytes = cc in b)
+bytes_of_exact (AnyRun ∷ ps) bytes e = absurd (cc)
+bytes_of_exact (AnyByte ∷ ps) bytes e = absurd (cc)
+bytes_of_exact (OneOf rs ∷ ps) bytes e = absurd (cc)
+bytes_of_exact (Byte b ∷ ps) bytes e =
+    let x = exact_more b (exact_name ps) bytes e in
+    ap (λ v. Byte b ∷ v) (bytes_of_exact ps x.0 x.1) ∙ ap (map (λ b. Byte b)) (sym x.2)
+
+pub matches_bytes : (bytes name : List ℕ) → Matches (map (λ b. Byte b) bytes) name ↔ name ≡ bytes
+matches_bytes bytes name = only_exact (map (λ b. Byte b) bytes) bytes (exact_of_bytes bytes) name
+
+pub no_star : (bytes : List ℕ) → map (λ b. Byte b) bytes ≡ AnyRun ∷ [] → ⊥
+no_star [] e = absurd (cc)
+no_star (b ∷ bytes) e = absurd (cc)
+
+-- a reader with the bytes so far
+abbrev pub IsExactTo : List ℕ → List ℕ → List ℕ → Type 0
+IsExactTo word bytes rest =
+    (ps : List Part) → Spells ps word → (qs : List Part) × Spells qs rest × (option_map (λ v. bytes ++ v) (exact_name qs) ≡ exact_name ps)
 
 map_none : (o : Option (List ℕ)) → option_map (λ v. [] ++ v) o ≡ o
 map_none None = refl
 map_none (Some v) = refl
 
-pub exact_none : (ps : List CodePart) → IsExactTo ps [] 0
-exact_none ps = record { goes_on = λ word. map_none (exact_name (parts_of word ps)) }
+pub exact_start : (word : List ℕ) → IsExactTo word [] word
+exact_start word ps s = (ps, s, map_none (exact_name ps))
 
 byte_of_code : (word : List ℕ) (p : CodePart) (ps : List Part) (b : ℕ) → code_byte p ≡ Some b → exact_name (part_of word p ∷ ps) ≡ option_map (λ v. b ∷ v) (exact_name ps)
 byte_of_code word code.AnyRun ps b e = absurd (cc)
@@ -65,23 +87,31 @@ map_more : (bytes : List ℕ) (b : ℕ) (o : Option (List ℕ)) → option_map (
 map_more bytes b None = refl
 map_more bytes b (Some v) = ap Some (append_assoc bytes (b ∷ []) v)
 
-pub exact_step : (ps : List CodePart) (bytes : List ℕ) (i b : ℕ) → IsExactTo ps bytes i → i < length ps → code_byte (part_at ps i) ≡ Some b → IsExactTo ps (bytes ++ b ∷ []) (i + 1)
-exact_step ps bytes i b x h e = record {
-  goes_on = λ word.
-      let others = parts_of word (drop (i + 1) ps) in
-      map_more bytes b (exact_name others)
-      ∙ ap (option_map (λ v. bytes ++ v)) (sym (byte_of_code word (part_at ps i) others b e))
-      ∙ ap (λ v. option_map (λ w. bytes ++ w) (exact_name v)) (sym (parts_here word ps i h))
-      ∙ x.goes_on word;
-}
+pub exact_step : (word bytes rest : List ℕ) (p : CodePart) (more : List ℕ) (b : ℕ) → IsExactTo word bytes rest → BeginsWith rest (part_of rest p) more
+    → code_byte p ≡ Some b → IsExactTo word (bytes ++ b ∷ []) more
+exact_step word bytes rest p more b x begins e ps s =
+    let h = x ps s in
+    let o = begins.only h.0 h.1 in (
+      o.0,
+      o.2,
+      map_more bytes b (exact_name o.0) ∙ ap (option_map (λ v. bytes ++ v)) (sym (byte_of_code rest p o.0 b e))
+          ∙ ap (λ v. option_map (λ w. bytes ++ w) (exact_name v)) (sym o.1) ∙ h.2,
+    )
 
-pub exact_stop : (ps : List CodePart) (bytes : List ℕ) (i : ℕ) → IsExactTo ps bytes i → i < length ps → code_byte (part_at ps i) ≡ None
-    → (word : List ℕ) → None ≡ exact_name (parts_of word ps)
-exact_stop ps bytes i x h e word =
-    let others = parts_of word (drop (i + 1) ps) in
-    sym (ap (option_map (λ v. bytes ++ v)) (ap exact_name (parts_here word ps i h) ∙ no_byte_of_code word (part_at ps i) others e)) ∙ x.goes_on word
+pub exact_stop : (word bytes rest : List ℕ) (p : CodePart) (more : List ℕ) → IsExactTo word bytes rest → BeginsWith rest (part_of rest p) more
+    → code_byte p ≡ None → (ps : List Part) → Spells ps word → None ≡ exact_name ps
+exact_stop word bytes rest p more x begins e ps s =
+    let h = x ps s in
+    let o = begins.only h.0 h.1 in
+    sym (ap (option_map (λ v. bytes ++ v)) (ap exact_name o.1 ∙ no_byte_of_code rest p o.0 e)) ∙ h.2
 
-pub exact_end : (ps : List CodePart) (bytes : List ℕ) (i : ℕ) → IsExactTo ps bytes i → length ps ≤ i
-    → (word : List ℕ) → Some bytes ≡ exact_name (parts_of word ps)
-exact_end ps bytes i x h word =
-    ap Some (sym (append-nil bytes)) ∙ sym (ap (λ v. option_map (λ w. bytes ++ w) (exact_name (parts_of word v))) (drop_all i ps h)) ∙ x.goes_on word
+pub exact_end : (word bytes rest : List ℕ) → IsExactTo word bytes rest → EndsHere rest → (ps : List Part) → Spells ps word → Some bytes ≡ exact_name ps
+exact_end word bytes rest x ends ps s =
+    let h = x ps s in
+    ap Some (sym (append-nil bytes)) ∙ sym (ap (λ v. option_map (λ w. bytes ++ w) (exact_name v)) (ends h.0 h.1)) ∙ h.2
+
+-- what is kept of a word of bytes alone
+pub exact_spells : (ps : List Part) (word bytes kept : List ℕ) → Spells ps word → exact_name ps ≡ Some bytes → kept ≡ bytes
+    → Spells (map (λ b. Byte b) kept) word
+exact_spells ps word bytes kept s e k =
+    subst (λ v. Spells v word) (bytes_of_exact ps bytes e ∙ ap (map (λ b. Byte b)) (sym k)) s

@@ -193,7 +193,7 @@ set_spelled b rest q m s e =
       | inr (t, h) ↦ absurd (no_front q m h)
     ]
 
-empty_front : front [] ≡ None
+pub empty_front : front [] ≡ None
 unfolding front
 empty_front = refl
 

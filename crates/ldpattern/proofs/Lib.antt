@@ -3,3 +3,4 @@ pub mod Fronts
 pub mod Reading
 pub mod Exact
 pub mod Testing
+pub mod Patterns

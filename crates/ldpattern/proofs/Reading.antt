@@ -1,24 +1,15 @@
 -- A word read part by part.
-use Rattle.std.proofs.Common.{◌≡◌, ℕ, ◌+◌, ◌-◌, ◌≤◌, ◌<◌, ◌^◌, List, [], ◌∷◌, ◌++◌, length, take, drop, Some, None, refl, sym, ◌∙◌, ap, subst, append_assoc, append-nil, arith}
-use Rattle.std.specs.List.{slice_range}
+use Rattle.std.proofs.Common.{◌≡◌, ℕ, zero, suc, ◌≤◌, ◌<◌, ◌↔◌, Bool, false, IsTrue, eqb, List, [], ◌∷◌, ◌++◌, length, take, drop, None, refl, sym, ◌∙◌, ap, subst, length-append, arith}
 use Rattle.std.proofs.Math.Seq.{drop-append_seam}
-use Rattle.std.proofs.lemmas.List.{drop-drop, map-append, take-append-drop}
-use Rattle.ldpattern.specs.Parts.{Part, OneOf, ranges_of, part_of, part_behind, IsPlace, IsRoomBehind}
+use Rattle.std.proofs.lemmas.Bool.{false≢true, eqb-true, eq-eqb}
+use Rattle.std.proofs.lemmas.List.{nil_from_length, take-append-drop}
+use Rattle.ldpattern.specs.Parts.{Part, AnyRun}
 use Rattle.ldpattern.specs.Spelling.{SpellsPart, Spells, IsPatternOf, nothing, part}
-use Rattle.ldpattern.specs.Front.{front, front_part, front_of}
-use Rattle.ldpattern.specs.Trying.{parts_of}
-use Rattle.ldpattern.specs.declared.part.CodePart.{CodePart}
-use Rattle.ldpattern.specs.declared.part.CodePart.TheVariants as code
-use Rattle.ldpattern.specs.declared.front.Spelled.{Spelled}
-use Rattle.ldpattern.proofs.Fronts.{front_same, front_of_spelled, spelled_at_front, nothing_in_front}
-
--- so far these parts are read, and what the rest of the word spells goes on from them
-pub record IsReadTo (word : List ℕ) (done : List Part) (rest : List ℕ) : Type 0 where
-  pub on : (ps : List Part) → Spells ps rest → Spells (done ++ ps) word
-  pub only : (all : List Part) → Spells all word → (ps : List Part) × (all ≡ done ++ ps) × Spells ps rest
-
-pub read_start : (word : List ℕ) → IsReadTo word [] word
-read_start word = record { on = λ ps s. s; only = λ all s. (all, refl, s) }
+use Rattle.ldpattern.specs.Front.{front, front_part}
+use Rattle.ldpattern.specs.Matching.{exact_name}
+use Rattle.ldpattern.specs.Forms.{with_rest, spelled_within, spelled}
+use Rattle.ldpattern.specs.Trying.{IsSpelled, EndsHere, BeginsWith}
+use Rattle.ldpattern.proofs.Fronts.{front_same, front_of_spelled, spelled_at_front, nothing_in_front, empty_front}
 
 none_left : {word : List ℕ} {ps : List Part} → word ≡ [] → Spells ps word → ps ≡ []
 none_left e nothing = refl
@@ -39,29 +30,30 @@ no_first e some (part {p = q} {word = word} bytes more s eq others) =
     let f : front word ≡ front_part q (length bytes) = ap front eq ∙ front_of_spelled q bytes more s in
     cc
 
-pub read_more : (word : List ℕ) (done : List Part) (rest : List ℕ) (p : Part) (n : ℕ) → IsReadTo word done rest → front rest ≡ front_part p n → 0 < length rest
-    → IsReadTo word (done ++ p ∷ []) (drop n rest)
-read_more word done rest p n c e some = record {
-  on = λ ps s. subst (λ v. Spells v word) (sym (append_assoc done (p ∷ []) ps))
-      (c.on (p ∷ ps) (part (take n rest) (drop n rest) (spelled_at_front rest p n e) (sym (take-append-drop n rest)) s));
-  only = λ all s.
-      let o = c.only all s in
-      let k = first_of p n e o.2 some in
-      (k.0, o.1 ∙ ap (λ v. done ++ v) k.1 ∙ sym (append_assoc done (p ∷ []) k.0), k.2);
+-- the steps of a reader
+pub ends_empty : (word : List ℕ) → word ≡ [] → EndsHere word
+ends_empty word e ps s = none_left e s
+
+pub ends_unspelled : (word : List ℕ) → front word ≡ None → 0 < length word → EndsHere word
+ends_unspelled word e some ps s = absurd (no_first e some s)
+
+pub begins_with : (word : List ℕ) (p : Part) (n : ℕ) → front word ≡ front_part p n → 0 < length word → BeginsWith word p (drop n word)
+begins_with word p n e some = record {
+  on = λ qs s. part (take n word) (drop n word) (spelled_at_front word p n e) (sym (take-append-drop n word)) s;
+  only = λ ps s. first_of p n e s some;
 }
 
-pub read_none : (word : List ℕ) (done : List Part) (rest : List ℕ) → IsReadTo word done rest → front rest ≡ None → 0 < length rest
-    → (ps : List Part) → Spells ps word → ⊥
-read_none word done rest c e some ps s = no_first e some (c.only ps s).2
+pub spelled_step : (word : List ℕ) (p : Part) (rest : List ℕ) → BeginsWith word p rest → IsSpelled rest ↔ IsSpelled word
+spelled_step word p rest b = (λ s. (p ∷ s.0, b.on s.0 s.1), λ s. let o = b.only s.0 s.1 in (o.0, o.2))
 
-pub read_all : (word : List ℕ) (done : List Part) (rest : List ℕ) → IsReadTo word done rest → rest ≡ [] → IsPatternOf word done
-read_all word done rest c e = record {
-  spelled = subst (λ v. Spells v word) (append-nil done) (c.on [] (subst (λ v. Spells [] v) (sym e) nothing));
-  only = λ all s. let o = c.only all s in o.1 ∙ ap (λ v. done ++ v) (none_left e o.2) ∙ append-nil done;
-}
+nothing_spelled : {word : List ℕ} → Spells [] word → word ≡ []
+nothing_spelled nothing = refl
 
--- a part by its place in the whole word
--- no word spells two patterns
+pub spelled_end : (word : List ℕ) → EndsHere word → IsSpelled word ↔ word ≡ []
+spelled_end word ends = (
+  λ s. nothing_spelled (subst (λ v. Spells v word) (ends s.0 s.1) s.1),
+  λ e. ([], subst (λ v. Spells [] v) (sym e) nothing),
+)
 
 some_word : (word bytes rest : List ℕ) (p : Part) → SpellsPart p bytes → word ≡ bytes ++ rest → 0 < length word
 some_word [] bytes rest p s e = absurd (nothing_in_front bytes rest p s e)
@@ -75,34 +67,56 @@ one_pattern (p ∷ ps) qs word (part bytes rest s e others) t =
     let d : drop (length bytes) word ≡ rest = ap (drop (length bytes)) e ∙ drop-append_seam bytes rest in
     ap (λ v. p ∷ v) (one_pattern ps q.0 rest others (subst (λ v. Spells q.0 v) d q.2)) ∙ sym q.1
 
-range_behind : (word : List ℕ) (at start end : ℕ) → slice_range word (at + start) (at + end) ≡ slice_range (drop at word) start end
-range_behind word at start end =
-    let e : (at + end) - (at + start) ≡ end - start = omega arith in
-    rw (e, drop-drop) refl
+-- the parts that a word spells are those that are read from it
+some_bytes : (bytes : List ℕ) (p : Part) → SpellsPart p bytes → 0 < length bytes
+some_bytes [] p s = absurd (nothing_in_front [] [] p s refl)
+some_bytes (b ∷ bs) p s = omega arith
 
-part_behind_is : (word : List ℕ) (at : ℕ) (p : CodePart) → part_of word (part_behind at p) ≡ part_of (drop at word) p
-part_behind_is word at code.AnyRun = refl
-part_behind_is word at code.AnyByte = refl
-part_behind_is word at (code.Byte b) = refl
-part_behind_is word at (code.OneOf start end) = ap (λ v. OneOf (ranges_of v)) (range_behind word at start end)
+spelled_in : (n : ℕ) (ps : List Part) (word : List ℕ) → Spells ps word → length word ≤ n → spelled_within n word ≡ ps
+spelled_in zero [] word nothing l = refl
+spelled_in (suc n) [] word nothing l = ap (λ f. with_rest f (λ k. spelled_within n (drop k []))) empty_front
+spelled_in zero (p ∷ ps) word (part bytes rest s e others) l =
+    let no : length word < length word = omega (arith, some_bytes bytes p s, ap length e, length-append bytes rest, l) in
+    absurd (omega (arith, no))
+spelled_in (suc n) (p ∷ ps) word (part bytes rest s e others) l =
+    let f : front word ≡ front_part p (length bytes) = ap front e ∙ front_of_spelled p bytes rest s in
+    let d : drop (length bytes) word ≡ rest = ap (drop (length bytes)) e ∙ drop-append_seam bytes rest in
+    let short : length rest ≤ n = omega (arith, some_bytes bytes p s, ap length e, length-append bytes rest, l) in
+    ap (λ f. with_rest f (λ k. spelled_within n (drop k word))) f
+    ∙ ap (λ v. p ∷ spelled_within n v) d ∙ ap (λ v. p ∷ v) (spelled_in n ps rest others short)
 
-pub place_behind : (at room len : ℕ) (p : CodePart) → IsPlace room p → at + room ≤ len → IsPlace len (part_behind at p)
-place_behind at room len code.AnyRun h l = tt
-place_behind at room len code.AnyByte h l = tt
-place_behind at room len (code.Byte b) h l = tt
-place_behind at room len (code.OneOf start end) h l = (omega (arith, h.0), omega (arith, h.1))
+pub spelled_is : (ps : List Part) (word : List ℕ) → Spells ps word → spelled word ≡ ps
+spelled_is ps word s = spelled_in (length word) ps word s (omega arith)
 
-pub room_behind : (at room : ℕ) (p : CodePart) → IsPlace room p → at + room < 2 ^ 64 → IsRoomBehind at p
-room_behind at room code.AnyRun h l = tt
-room_behind at room code.AnyByte h l = tt
-room_behind at room (code.Byte b) h l = tt
-room_behind at room (code.OneOf start end) h l = (omega (arith, h.0, h.1), omega (arith, h.1))
+pub only_pattern : (ps : List Part) (word : List ℕ) → Spells ps word → IsPatternOf word ps
+only_pattern ps word s = record { spelled = s; only = λ qs t. one_pattern qs ps word t s }
 
-pub read_found : (word : List ℕ) (items : List CodePart) (at : ℕ) (s : Spelled) → IsReadTo word (parts_of word items) (drop at word)
-    → front_of (drop at word) (Some s) ≡ front (drop at word) → 0 < length (drop at word)
-    → IsReadTo word (parts_of word (items ++ part_behind at s.part ∷ [])) (drop (at + s.count) word)
-read_found word items at s c e some =
-    let p = part_of word (part_behind at s.part) in
-    let f : front (drop at word) ≡ front_part p s.count = sym e ∙ ap (λ v. front_part v s.count) (sym (part_behind_is word at s.part)) in
-    subst (λ done. IsReadTo word done (drop (at + s.count) word)) (sym (map-append (part_of word) items (part_behind at s.part ∷ [])))
-    (subst (λ rest. IsReadTo word (parts_of word items ++ p ∷ []) rest) (drop-drop s.count at word) (read_more word (parts_of word items) (drop at word) p s.count c f some))
+-- the word `*`
+star_word : Spells (AnyRun ∷ []) (42 ∷ [])
+star_word = part (42 ∷ []) [] refl refl nothing
+
+word_of_star : {word : List ℕ} → Spells (AnyRun ∷ []) word → word ≡ 42 ∷ []
+word_of_star (part bytes rest met e others) = e ∙ ap (λ v. v ++ rest) met ∙ ap (λ v. 42 ∷ v) (nothing_spelled others)
+
+pub any_is_star : (word : List ℕ) → Spells (spelled word) word → word ≡ 42 ∷ [] ↔ spelled word ≡ AnyRun ∷ []
+any_is_star word s = (
+  λ e. ap spelled e ∙ spelled_is (AnyRun ∷ []) (42 ∷ []) star_word,
+  λ e. word_of_star (subst (λ v. Spells v word) e s),
+)
+
+-- what is kept of a word that has not bytes alone
+pub wild_form : (ps : List Part) (word kept : List ℕ) → Spells ps word → kept ≡ word → exact_name ps ≡ None
+    → Spells (spelled kept) kept × (exact_name (spelled kept) ≡ None)
+wild_form ps word kept s e none =
+    subst (λ w. Spells (spelled w) w × (exact_name (spelled w) ≡ None)) (sym e)
+    (subst (λ v. Spells v word) (sym (spelled_is ps word s)) s, ap exact_name (spelled_is ps word s) ∙ none)
+
+pub wild_spells : (ps : List Part) (word kept : List ℕ) → Spells ps word → kept ≡ word → Spells (spelled kept) word
+wild_spells ps word kept s e = subst (λ v. Spells v word) (sym (ap spelled e ∙ spelled_is ps word s)) s
+
+pub some_left : (xs : List ℕ) (b : Bool) → b ≡ eqb (length xs) 0 → b ≡ false → 0 < length xs
+some_left [] b e f = absurd (false≢true (sym f ∙ e))
+some_left (x ∷ xs) b e f = omega arith
+
+pub empty_test : (xs : List ℕ) (b : Bool) → b ≡ eqb (length xs) 0 → IsTrue b ↔ xs ≡ []
+empty_test xs b e = (λ t. nil_from_length xs (eqb-true (length xs) 0 (sym e ∙ t)), λ n. e ∙ eq-eqb (length xs) 0 (ap length n))

@@ -3,3 +3,4 @@ pub mod Spelling
 pub mod Front
 pub mod Matching
 pub mod Trying
+pub mod Forms

@@ -1,5 +1,5 @@
 -- The parts of a name pattern of a linker script (GNU ld manual, "Input Section Wildcard Patterns").
-use Rattle.std.specs.Prelude.{ℕ, ◌≤◌, ◌<◌, ◌+◌, ◌^◌, Bool, ◌&&◌, ◌==◌, nat_le, List, [], ◌∷◌, Option, Some, None, if◌then◌else◌, slice_range}
+use Rattle.std.specs.Prelude.{ℕ, ◌≤◌, Bool, ◌&&◌, ◌==◌, nat_le, List, [], ◌∷◌, Option, Some, None, if◌then◌else◌, slice_range}
 use Rattle.std.specs.List.{list_any}
 use Rattle.ldpattern.specs.declared.set.ByteRange.{ByteRange}
 use Rattle.ldpattern.specs.declared.part.CodePart.{CodePart}
@@ -42,19 +42,6 @@ IsPlace len code.AnyRun = Unit {0}
 IsPlace len code.AnyByte = Unit {0}
 IsPlace len (code.Byte b) = Unit {0}
 IsPlace len (code.OneOf start end) = (start ≤ end) × (end ≤ len)
-
--- its offsets still fit where so many more bytes stand before it
-abbrev pub IsRoomBehind : ℕ → CodePart → Type 0
-IsRoomBehind before code.AnyRun = Unit {0}
-IsRoomBehind before code.AnyByte = Unit {0}
-IsRoomBehind before (code.Byte b) = Unit {0}
-IsRoomBehind before (code.OneOf start end) = (before + start < 2 ^ 64) × (before + end < 2 ^ 64)
-
-abbrev pub part_behind : ℕ → CodePart → CodePart
-part_behind before code.AnyRun = code.AnyRun
-part_behind before code.AnyByte = code.AnyByte
-part_behind before (code.Byte b) = code.Byte b
-part_behind before (code.OneOf start end) = code.OneOf (before + start) (before + end)
 
 -- it takes one byte
 abbrev pub IsSingle : CodePart → Type 0

@@ -8,3 +8,4 @@ mod matching;
 mod part;
 pub mod pattern;
 mod set;
+mod word;

@@ -1,95 +1,86 @@
 //! Matching of a name.
 
-ghost use Rattle.std.specs.Prelude.{◌≡◌, ◌≤◌, ◌<◌, ◌+◌, ◌↔◌, ◌∷◌, IsTrue, All, drop, length};
-ghost use Rattle.ldpattern.specs.Parts.{IsPlace, AnyRun};
+ghost use Rattle.std.specs.Prelude.{◌≡◌, ◌↔◌, ◌∷◌, [], IsTrue, List, MatchOption, length};
+ghost use Rattle.ldpattern.specs.Parts.{AnyRun, Part};
 ghost use Rattle.ldpattern.specs.Matching.{Matches};
-ghost use Rattle.ldpattern.specs.Trying.{IsWithin, TriedAs, parts_of};
+ghost use Rattle.ldpattern.specs.Spelling.{Spells};
+ghost use Rattle.ldpattern.specs.Trying.{IsWithin, TriedAs};
 
-use crate::part::CodePart;
+use crate::word::first_part;
 
 /// What trying parts at the front of a name came to.
-#[derive(Clone, Copy, Debug, PartialEq, Eq)]
-pub enum Tried {
+#[derive(Clone, Copy)]
+pub enum Tried<'w, 'n> {
     /// Each part took one byte, and the name ends with the last.
     Whole,
-    /// So many parts took one byte each, and a `*` follows.
-    Star(usize),
+    /// Each part before a `*` took one byte. These are the rest of the word after the `*`, and of the name.
+    Star(&'w [u8], &'n [u8]),
     /// No match from here: a part is not met, the name ends too early, or it goes on after the last part.
     Missed,
 }
 
-/// Lets each part take a byte of the name's front, up to the first `*`.
-fn try_front(word: &[u8], parts: &[CodePart], name: &[u8]) -> Tried
-    requires { All (IsPlace (length word.now)) parts.now }
-    ensures value { TriedAs word.now parts.now name.now result }
-    ensures within { IsWithin (length parts.now) (length name.now) result }
+/// The first of these bytes, and the others.
+fn split(bytes: &[u8]) -> Option<(u8, &[u8])>
+    ensures { MatchOption result (bytes.now ≡ []) (λ x. bytes.now ≡ x.0 ∷ x.1.now) }
 {
-    for (i, part) in parts.iter().enumerate() {
+    let (first, rest) = bytes.split_first()?;
+    Some((*first, rest))
+}
+
+/// Lets each part of a word take a byte of the name's front, up to the first `*`.
+fn try_front<'w, 'n>(word: &'w [u8], name: &'n [u8]) -> Tried<'w, 'n>
+    ensures value { (ps : List Part) → Spells ps word.now → TriedAs ps name.now result }
+    ensures within { IsWithin (length word.now) (length name.now) result }
+{
+    let mut rest = word;
+    let mut left = name;
+    while let Some((part, more)) = first_part(rest) {
         if part.is_any_run() {
-            return Tried::Star(i);
+            return Tried::Star(more, left);
         }
-        if i >= name.len() {
+        let Some((byte, others)) = split(left) else {
+            return Tried::Missed;
+        };
+        if !part.is_met_by(rest, byte) {
             return Tried::Missed;
         }
-        if !part.is_met_by(word, name[i]) {
-            return Tried::Missed;
-        }
+        rest = more;
+        left = others;
     }
-    if name.len() == parts.len() {
-        Tried::Whole
-    } else {
-        Tried::Missed
+    match split(left) {
+        None => Tried::Whole,
+        Some(_) => Tried::Missed,
     }
 }
 
-/// The parts after one of them.
-fn parts_behind(parts: &[CodePart], at: usize) -> &[CodePart]
-    requires { at < length parts.now }
-    ensures { result.now ≡ drop (at + 1) parts.now }
+/// Whether a name is matched by `*` and then the parts of a word.
+fn matches_behind_star(word: &[u8], name: &[u8]) -> bool
+    ensures { (ps : List Part) → Spells ps word.now → IsTrue result ↔ Matches (AnyRun ∷ ps) name.now }
 {
-    &parts[at + 1..]
-}
-
-/// A name from a byte on.
-fn name_from(name: &[u8], at: usize) -> &[u8]
-    requires { at ≤ length name.now }
-    ensures { result.now ≡ drop at name.now }
-{
-    &name[at..]
-}
-
-/// Whether a name is matched by `*` and then these parts.
-fn matches_behind_star(word: &[u8], parts: &[CodePart], name: &[u8]) -> bool
-    requires { All (IsPlace (length word.now)) parts.now }
-    ensures { IsTrue result ↔ Matches (AnyRun ∷ parts_of word.now parts.now) name.now }
-{
-    let mut after = parts;
+    let mut after = word;
     let mut left = name;
     loop {
-        match try_front(word, after, left) {
+        match try_front(after, left) {
             Tried::Whole => return true,
-            Tried::Star(n) => {
-                after = parts_behind(after, n);
-                left = name_from(left, n);
+            Tried::Star(rest, behind) => {
+                after = rest;
+                left = behind;
             }
-            Tried::Missed => {
-                if left.is_empty() {
-                    return false;
-                }
-                left = name_from(left, 1);
-            }
+            Tried::Missed => match split(left) {
+                None => return false,
+                Some((_, others)) => left = others,
+            },
         }
     }
 }
 
-/// Whether the parts match the whole name.
-pub fn matches_parts(word: &[u8], parts: &[CodePart], name: &[u8]) -> bool
-    requires { All (IsPlace (length word.now)) parts.now }
-    ensures { IsTrue result ↔ Matches (parts_of word.now parts.now) name.now }
+/// Whether the parts that a word spells match the whole name.
+pub fn matches_word(word: &[u8], name: &[u8]) -> bool
+    ensures { (ps : List Part) → Spells ps word.now → IsTrue result ↔ Matches ps name.now }
 {
-    match try_front(word, parts, name) {
+    match try_front(word, name) {
         Tried::Whole => true,
-        Tried::Star(n) => matches_behind_star(word, parts_behind(parts, n), name_from(name, n)),
+        Tried::Star(rest, left) => matches_behind_star(rest, left),
         Tried::Missed => false,
     }
 }

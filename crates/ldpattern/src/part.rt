@@ -1,7 +1,7 @@
 //! The parts of a pattern.
 
 ghost use Rattle.std.specs.Prelude.{◌≡◌, ◌↔◌, ◌∷◌, [], IsTrue, MatchBool, length};
-ghost use Rattle.ldpattern.specs.Parts.{IsPlace, IsRoomBehind, IsSingle, code_byte, part_of, part_behind};
+ghost use Rattle.ldpattern.specs.Parts.{IsPlace, IsSingle, code_byte, part_of};
 ghost use Rattle.ldpattern.specs.Matching.{Meets};
 
 use crate::set::set_has;
@@ -46,17 +46,6 @@ impl CodePart {
         match self {
             CodePart::Byte(b) => Some(b),
             _ => None,
-        }
-    }
-
-    /// The same part in a word that has so many more bytes before it.
-    pub fn behind(self, before: usize) -> CodePart
-        requires { IsRoomBehind before self }
-        ensures { result ≡ part_behind before self }
-    {
-        match self {
-            CodePart::OneOf(start, end) => CodePart::OneOf(before + start, before + end),
-            part => part,
         }
     }
 }

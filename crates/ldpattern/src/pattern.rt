@@ -1,110 +1,70 @@
 //! A pattern of names.
 
-ghost use Rattle.std.specs.Prelude.{◌≡◌, ◌↔◌, ◌∷◌, [], ℕ, ◌<◌, ◌-◌, All, IsTrue, IfOk, IfSome, List, MatchOption, None, Some, drop, length};
-ghost use Rattle.std.specs.Option.{option_map};
-ghost use Rattle.ldpattern.specs.Parts.{Part, AnyRun, IsPlace};
-ghost use Rattle.ldpattern.specs.Front.{front, front_of, IsWithin};
-ghost use Rattle.ldpattern.specs.Trying.{parts_of};
+ghost use Rattle.std.specs.Prelude.{◌≡◌, ◌↔◌, ◌∷◌, [], ℕ, IsTrue, IfOk, IfSome, List, MatchOption, None, Some};
+ghost use Rattle.ldpattern.specs.Parts.{Part, AnyRun};
+ghost use Rattle.ldpattern.specs.Forms.{IsForm, parts_in};
 ghost use Rattle.ldpattern.specs.Spelling.{Spells, IsPatternOf};
 ghost use Rattle.ldpattern.specs.Matching.{Matches, exact_name, is_match};
+ghost use Rattle.ldpattern.specs.Trying.{IsSpelled};
 
-use crate::front::{Spelled, front};
-use crate::matching::matches_parts;
-use crate::part::CodePart;
+use crate::matching::matches_word;
+use crate::word::{exact_bytes, is_same, is_spelled, is_star};
+use ldtokens::name::ScriptName;
 use std::alloc::{AllocError, Global};
 use std::marker::Model;
+
+/// What is kept of a pattern. A script may have half a million, so its parts are read anew where a name is matched.
+#[derive(Drop)]
+enum Form {
+    /// The one name that it matches: it has bytes alone.
+    Exact(ScriptName),
+    /// The word that spells it, with a `*`, a `?` or a set.
+    Wild(ScriptName),
+}
 
 /// A pattern that names meet as a whole. `*` matches any run of bytes, also an empty one; `?` one byte; both match
 /// `/` too. `\x` is the byte x. A set between `[` and `]` matches one of its bytes; in it `x-y` are the bytes from
 /// x to y, and a `-` that begins or ends it is itself. Any other byte is itself.
 #[derive(Drop)]
 pub struct Pattern {
-    word: Vec<u8>,
-    parts: Vec<CodePart>,
-    exact: Option<Vec<u8>>,
+    form: Form,
 }
 
 impl Model for Pattern {
-    ghost use Rattle.std.specs.Prelude.{◌≡◌, All, List, length, map};
-    ghost use Rattle.std.specs.Option.{option_map};
-    ghost use Rattle.ldpattern.specs.Parts.{Part, IsPlace, part_of};
-    ghost use Rattle.ldpattern.specs.Matching.{exact_name};
+    ghost use Rattle.std.specs.Prelude.{List};
+    ghost use Rattle.ldpattern.specs.Forms.{IsForm, parts_in};
+    ghost use Rattle.ldpattern.specs.Parts.{Part};
 
     ghost Value = { List Part };
 
-    ghost view = { λ p. map (part_of p.word.items) p.parts.items };
+    ghost view = { λ p. parts_in p.form };
 
-    ghost invariant = { λ p. All (IsPlace (length p.word.items)) p.parts.items × (option_map (λ v. v.items) p.exact ≡ exact_name (map (part_of p.word.items) p.parts.items)) };
+    ghost invariant = { λ p. IsForm p.form };
 }
 
-/// The part that is spelled at an offset of a word. Its own offsets are counted from there.
-fn front_at(word: &[u8], at: usize) -> Option<Spelled>
-    requires { at < length word.now }
-    ensures value { front_of (drop at word.now) result ≡ front (drop at word.now) }
-    ensures within { IsWithin (length word.now - at) result }
+/// What is kept of the pattern that a word spells.
+fn form_of(alloc: Global, word: &[u8]) -> Result<Form, AllocError>
+    requires { IsSpelled word.now }
+    ensures form { IfOk result (λ f. IsForm f) }
+    ensures spelled { IfOk result (λ f. Spells (parts_in f) word.now) }
 {
-    front(&word[at..])
-}
-
-/// The parts that a word spells.
-fn read_parts(alloc: Global, word: &[u8]) -> Result<Option<Vec<CodePart>>, AllocError>
-    ensures read { IfOk result (λ r. MatchOption r ((ps : List Part) → Spells ps word.now → ⊥) (λ v. IsPatternOf word.now (parts_of word.now v.items))) }
-    ensures places { IfOk result (λ r. IfSome r (λ v. All (IsPlace (length word.now)) v.items)) }
-{
-    let mut parts = Vec::new(alloc);
-    let mut at = 0;
-    while at < word.len() {
-        match front_at(word, at) {
-            Some(spelled) => {
-                parts.push(spelled.part.behind(at))?;
-                at += spelled.count;
-            }
-            None => return Ok(None),
-        }
+    match exact_bytes(alloc, word)? {
+        Some(name) => Ok(Form::Exact(ScriptName::new(alloc, &name)?)),
+        None => Ok(Form::Wild(ScriptName::new(alloc, word)?)),
     }
-    parts.shrink_to_fit();
-    Ok(Some(parts))
-}
-
-/// The bytes of parts that are nothing but bytes.
-fn exact_bytes(alloc: Global, parts: &[CodePart]) -> Result<Option<Vec<u8>>, AllocError>
-    ensures { IfOk result (λ r. (word : List ℕ) → option_map (λ v. v.items) r ≡ exact_name (parts_of word parts.now)) }
-{
-    let mut bytes = Vec::new(alloc);
-    for part in parts {
-        match part.byte() {
-            Some(b) => bytes.push(b)?,
-            None => return Ok(None),
-        }
-    }
-    Ok(Some(bytes))
 }
 
 impl Pattern {
-    /// The pattern of these parts of a word.
-    fn of_parts(alloc: Global, word: &[u8], parts: Vec<CodePart>) -> Result<Pattern, AllocError>
-        requires { All (IsPlace (length word.now)) parts.items }
-        ensures { IfOk result (λ p. p ≡ parts_of word.now parts.items) }
-    {
-        let exact = exact_bytes(alloc, &parts)?;
-        let copy = Vec::from_slice(alloc, word)?;
-        Ok(Pattern {
-            word: copy,
-            parts,
-            exact,
-        })
-    }
-
     /// Reads the pattern that a word spells: `None` if it spells none, as one with a `]` outside a set, or with a
     /// set that is empty, has no end, or has a `[` or a `\` in it. Fails only where memory ran out.
     pub fn read(alloc: Global, word: &[u8]) -> Result<Option<Pattern>, AllocError>
         ensures { IfOk result (λ r. MatchOption r ((ps : List Part) → Spells ps word.now → ⊥) (λ p. IsPatternOf word.now p)) }
     {
-        match read_parts(alloc, word) {
-            Ok(Some(parts)) => Ok(Some(Pattern::of_parts(alloc, word, parts)?)),
-            Ok(None) => Ok(None),
-            Err(refused) => Err(refused),
+        if !is_spelled(word) {
+            return Ok(None);
         }
+        let form = form_of(alloc, word)?;
+        Ok(Some(Pattern { form }))
     }
 
     /// The one name that it matches, if it has bytes alone.
@@ -112,7 +72,10 @@ impl Pattern {
         ensures value { MatchOption result (exact_name self.now ≡ None) (λ name. exact_name self.now ≡ Some name.now) }
         ensures only { IfSome result (λ wanted. (name : List ℕ) → Matches self.now name ↔ name ≡ wanted.now) }
     {
-        self.exact.as_deref()
+        match &self.form {
+            Form::Exact(name) => Some(name.as_bytes()),
+            Form::Wild(_) => None,
+        }
     }
 
     /// Whether it is `*` alone, which matches every name.
@@ -120,7 +83,10 @@ impl Pattern {
         ensures value { IsTrue result ↔ self.now ≡ AnyRun ∷ [] }
         ensures all { IsTrue result → (name : List ℕ) → Matches self.now name }
     {
-        matches!(self.parts.as_slice(), [CodePart::AnyRun])
+        match &self.form {
+            Form::Exact(_) => false,
+            Form::Wild(word) => is_star(word.as_bytes()),
+        }
     }
 }
 
@@ -131,5 +97,8 @@ pub fn matches(pattern: &Pattern, name: &[u8]) -> bool
     ensures splits { IsTrue result ↔ Matches pattern.now name.now }
     ensures test { result ≡ is_match pattern.now name.now }
 {
-    matches_parts(&pattern.word, &pattern.parts, name)
+    match &pattern.form {
+        Form::Exact(exact) => is_same(name, exact.as_bytes()),
+        Form::Wild(word) => matches_word(word.as_bytes(), name),
+    }
 }

@@ -1,9 +1,15 @@
-use Rattle.std.proofs.Common.{◌≤◌, length}
+use Rattle.std.proofs.Common.{◌≤◌, List, length}
+use Rattle.ldpattern.specs.Parts.{Part}
+use Rattle.ldpattern.specs.Spelling.{Spells}
 use Rattle.ldpattern.specs.Trying.{Passed}
 use Rattle.ldpattern.proofs.matching.try_front.Given as goal
 
-abbrev pub invariant-loop-i : goal.invariant-loop-i
-invariant-loop-i l = record {
-  in_name : l.i ≤ length l.name;
-  passed : Passed l.word l.parts l.name l.i;
+abbrev pub invariant-loop-part : goal.invariant-loop-part
+invariant-loop-part l = record {
+  in_word : length l.rest ≤ length l.word;
+  in_name : length l.left ≤ length l.name;
+  passed : (ps : List Part) → Spells ps l.word → (qs : List Part) × Spells qs l.rest × Passed ps qs l.name l.left;
 }
+
+abbrev pub decreases-loop-part : goal.decreases-loop-part
+decreases-loop-part l = length l.rest
