@@ -183,6 +183,29 @@ fn add_of_key<L: Known>(
     }
 }
 
+/// How many relocations the sections of an object have that are in the output.
+fn count_of_object<L: Known>(link: &L, key: ObjectKey, object: &Object) -> usize {
+    let mut count: usize = 0;
+    for index in 0..object.sections().len() {
+        let part = Part::InTable(object.sections()[index].number);
+        if link.start(SectionKey { object: key, part }).is_some() {
+            count = count.saturating_add(object.relocations(LinkedIndex(index)).len());
+        }
+    }
+    count
+}
+
+/// How many fields there will be at most: one for each relocation of the sections in the output.
+fn count_fields<L: Known>(link: &L, objects: &[ObjectKey]) -> usize {
+    let mut count: usize = 0;
+    for key in objects {
+        if let Some(object) = link.object(*key) {
+            count = count.saturating_add(count_of_object(link, *key, object));
+        }
+    }
+    count
+}
+
 /// Evaluates all relocations of input sections in the output, each of which counts as one. `objects` are the keys of
 /// the objects, in their order, and `values` the values of all names.
 ///
@@ -207,7 +230,7 @@ pub fn all_fields<L: Known>(
     // so that the range of the count is known
     let _fields = meter.fields();
     let mut fields = Fields {
-        patches: Vec::new(alloc),
+        patches: Vec::with_capacity(alloc, count_fields(link, objects))?,
         ends: Vec::new(alloc),
         faults: Vec::new(alloc),
     };
