@@ -39,6 +39,7 @@ fn buckets<'a>(
 fn add_pieces(row: &mut Vec<Piece>, pieces: &[NamedPiece<'_>]) -> Result<(), NoMemory>
     ensures { OnOk result (row.new.items ≡ row.old.items ++ map (λ x. x.piece) pieces.now) }
 {
+    row.reserve(pieces.len())?;
     for piece in pieces {
         row.push(piece.piece)?;
     }
