@@ -1,7 +1,7 @@
 //! Lists of numbered symbols that are set aside, so that entering an object takes no memory.
 
 ghost use Rattle.std.specs.Prelude.{◌≡◌, ◌≤◌, ◌<◌, ◌+◌, ◌++◌, ℕ, List, [], length, map, remove, take, vec_len};
-ghost use Rattle.std.specs.Prelude.{vec_capacity, OnOk, slice_index_or, true, false};
+ghost use Rattle.std.specs.Prelude.{vec_capacity, OnOk, slice_index_or, true, false, ◌≢◌, MatchOption, Some};
 ghost use Rattle.std.specs.List.{All};
 ghost use Rattle.std.proofs.Common.{Vec, Global};
 ghost use Rattle.elfobj.specs.Symbols.{NamedSymbol};
@@ -9,7 +9,7 @@ ghost use Rattle.ldmodel.specs.Names.{is_local};
 ghost use Rattle.symres.specs.Known.{AddsNames};
 ghost use Rattle.symres.specs.Lists.{rooms, Takes, Adds};
 ghost use Rattle.symres.specs.Spelled.{HasName, spell_symbol, Spells, SpellsSeen};
-ghost use Rattle.symres.specs.State.{HasList, IsNamed, KeepsNames};
+ghost use Rattle.symres.specs.State.{slot, AreDistinct, HasList, IsNamed, KeepsNames};
 ghost use Rattle.symres.specs.declared.symbol.Numbered.{Numbered};
 
 use crate::known::Known;
@@ -65,8 +65,41 @@ pub fn park(spare: &mut Vec<Vec<Numbered>>, count: usize, entered: usize) -> Res
     Ok(())
 }
 
-/// A symbol of an object, by the number of its name.
-fn numbered(known: &Known, object: &Object, number: u32) -> Numbered
+/// The number of a name. The name is not hashed where it has the number that is guessed.
+fn number_of(known: &Known, guess: Option<usize>, name: &[u8]) -> Option<usize>
+    ensures number { MatchOption result ((n : ℕ) → slot known.now.slots n ≢ Some name.now) (λ n.
+        IsNamed known.now.slots n name.now) }
+    ensures distinct { AreDistinct known.now.slots }
+{
+    let _known = known.len();
+    if let Some(number) = guess {
+        if let Some(guessed) = known.name_of(number) {
+            if guessed == name {
+                return Some(number);
+            }
+        }
+    }
+    known.number_of(name)
+}
+
+/// The number that was guessed for the name of a symbol, if one was.
+fn guess_at(guesses: &[Numbered], at: usize, number: u32) -> Option<usize> {
+    match guesses.get(at) {
+        Some(guess) if guess.number == number => Some(guess.name),
+        _ => None,
+    }
+}
+
+/// Where the next guess stands, after this one or none at a place.
+fn place_after(at: usize, guess: Option<usize>) -> usize {
+    match guess {
+        Some(_) => at.saturating_add(1),
+        None => at,
+    }
+}
+
+/// A symbol of an object, by the number of its name, which may be guessed.
+fn numbered(known: &Known, object: &Object, number: u32, guess: Option<usize>) -> Numbered
     requires within { number < length object.now.symbols }
     requires known { (d : NamedSymbol) → is_local (slice_index_or object.now.symbols number d).symbol.binding ≡ false
         → (n : ℕ) × IsNamed known.now.slots n (slice_index_or object.now.symbols number d).name }
@@ -83,7 +116,7 @@ fn numbered(known: &Known, object: &Object, number: u32) -> Numbered
             symbol,
         };
     }
-    match known.number_of(object.name_of(SymbolIndex(number))) {
+    match number_of(known, guess, object.name_of(SymbolIndex(number))) {
         Some(name) => Numbered {
             name,
             number,
@@ -93,8 +126,9 @@ fn numbered(known: &Known, object: &Object, number: u32) -> Numbered
     }
 }
 
-/// Writes the symbols of an object by the numbers of their names.
-pub fn number_all(known: &Known, object: &Object, list: &mut Vec<Numbered>)
+/// Writes the symbols of an object by the numbers of their names. `guesses` are some of these symbols, in the order of
+/// their table, with the numbers that their names may have: a name that has the number guessed is not hashed.
+pub fn number_all(known: &Known, object: &Object, guesses: &[Numbered], list: &mut Vec<Numbered>)
     requires known { All (λ (s : NamedSymbol). is_local s.symbol.binding ≡ false → (n : ℕ)
         × IsNamed known.now.slots n s.name) object.now.symbols }
     requires empty { list.old.items ≡ [] }
@@ -102,8 +136,11 @@ pub fn number_all(known: &Known, object: &Object, list: &mut Vec<Numbered>)
     ensures spelled { Spells known.now.slots list.new.items object.now.symbols }
     ensures capacity { vec_capacity list.new ≡ vec_capacity list.old }
 {
+    let mut at: usize = 0;
     for number in 0..object.symbols().len() {
-        list.push_reserved(numbered(known, object, number as u32));
+        let guess = guess_at(guesses, at, number as u32);
+        at = place_after(at, guess);
+        list.push_reserved(numbered(known, object, number as u32, guess));
     }
 }
 

@@ -64,6 +64,8 @@ pub struct Names {
     known: Known,
     objects: Objects,
     spare: Vec<Vec<Numbered>>,
+    // the symbols of the object that was reserved last, as others see them: it is likely to be entered next
+    guesses: Vec<Numbered>,
 }
 
 impl Model for Names {
@@ -101,32 +103,33 @@ fn grow_rows(objects: &mut Objects, symbols: &[Numbered]) -> Result<(), NoMemory
     Ok(())
 }
 
-/// Makes the names of an object known, and room for its entries.
+/// Makes the names of an object known, and room for its entries. `list` is left with its symbols that others see.
 #[tactic(auto, using(crate::proofs::Ready::grows_refl, crate::proofs::Ready::grows_trans))]
 fn make_ready(
-    alloc: Global,
     known: &mut Known,
     objects: &mut Objects,
     object: &Object,
+    list: &mut Vec<Numbered>,
 ) -> Result<(), NoMemory>
     ensures kept { KeepsNames known.old.slots known.new.slots }
     ensures added { AddsNames known.old known.new }
     ensures same { GrowsRoom objects.old objects.new }
     ensures ok { OnOk result (IsReady known.new.slots objects.new object.now.symbols) }
 {
-    let mut list = Vec::with_capacity(alloc, object.symbols().len())?;
-    number_new(known, object, &mut list)?;
-    grow_rows(objects, &list)?;
-    objects.reserve(&list)
+    list.clear();
+    list.reserve(object.symbols().len())?;
+    number_new(known, object, list)?;
+    grow_rows(objects, list)?;
+    objects.reserve(list)
 }
 
 /// The same, where names that it made known are dropped again if memory is refused.
 #[tactic(auto, using(crate::proofs::Ready::grows_refl))]
 fn make_ready_or_not(
-    alloc: Global,
     known: &mut Known,
     objects: &mut Objects,
     object: &Object,
+    list: &mut Vec<Numbered>,
 ) -> Result<(), NoMemory>
     ensures kept { KeepsNames known.old.slots known.new.slots }
     ensures refused { OnErr result (SameNames known.old.slots known.new.slots) }
@@ -135,7 +138,7 @@ fn make_ready_or_not(
     ensures ok { OnOk result (IsReady known.new.slots objects.new object.now.symbols) }
 {
     let count = known.len();
-    match make_ready(alloc, known, objects, object) {
+    match make_ready(known, objects, object, list) {
         Ok(()) => Ok(()),
         Err(refused) => {
             known.drop_newer(count);
@@ -151,6 +154,7 @@ fn reserve_fields(
     objects: &mut Objects,
     spare: &mut Vec<Vec<Numbered>>,
     object: &Object,
+    list: &mut Vec<Numbered>,
 ) -> Result<(), NoMemory>
     requires { vec_len spare.old + length objects.old.objects ≤ vec_capacity spare.old }
     ensures kept { KeepsNames known.old.slots known.new.slots }
@@ -163,7 +167,7 @@ fn reserve_fields(
     ensures list { OnOk result (HasList (rooms spare.new.items) (length object.now.symbols)) }
 {
     park(spare, object.symbols().len(), objects.len())?;
-    make_ready_or_not(*spare.allocator(), known, objects, object)
+    make_ready_or_not(known, objects, object, list)
 }
 
 impl Names {
@@ -176,6 +180,7 @@ impl Names {
             known: Known::new(alloc, seed),
             objects: Objects::new(alloc),
             spare: Vec::new(alloc),
+            guesses: Vec::new(alloc),
         }
     }
 
@@ -275,7 +280,13 @@ impl Names {
         ensures more { IsMore self.old self.new }
         ensures refused { OnErr result (SameNames self.old.names self.new.names) }
     {
-        let reserved = reserve_fields(&mut self.known, &mut self.objects, &mut self.spare, object);
+        let reserved = reserve_fields(
+            &mut self.known,
+            &mut self.objects,
+            &mut self.spare,
+            object,
+            &mut self.guesses,
+        );
         let _known = self.known.len();
         reserved
     }
@@ -293,7 +304,7 @@ impl Names {
     {
         let _known = self.known.len();
         let mut list = take_list(&mut self.spare, object.symbols().len());
-        number_all(&self.known, object, &mut list);
+        number_all(&self.known, object, &self.guesses, &mut list);
         self.objects.enter(key.0, at, list);
     }
 

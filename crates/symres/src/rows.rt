@@ -297,6 +297,18 @@ fn count_all(alloc: Global, symbols: &[Numbered]) -> Result<IndexMap<usize, usiz
     Ok(counts)
 }
 
+/// Makes room for this many more entries of a name. A row that has to grow does so by a quarter, as there are many rows.
+fn reserve_row(row: &mut Vec<Declared>, count: usize) -> Result<(), AllocError>
+    ensures items { row.new.items ≡ row.old.items }
+    ensures capacity { vec_capacity row.old ≤ vec_capacity row.new }
+    ensures ok { OnOk result (vec_len row.new + count ≤ vec_capacity row.new) }
+{
+    if row.capacity() - row.len() >= count {
+        return Ok(());
+    }
+    row.reserve_exact(count.saturating_add(row.len() / 4))
+}
+
 /// Makes room in each row for those of the symbols that have its name. None of the symbols is local.
 pub fn reserve_all(table: &mut Vec<Vec<Declared>>, symbols: &[Numbered]) -> Result<(), AllocError>
     requires visible { All (λ (s : Numbered). not (is_local s.symbol.binding) ≡ true) symbols.now }
@@ -307,7 +319,7 @@ pub fn reserve_all(table: &mut Vec<Vec<Declared>>, symbols: &[Numbered]) -> Resu
     let counts = count_all(*table.allocator(), symbols)?;
     for symbol in symbols {
         let count = counts.get(&symbol.name).copied().unwrap_or(0);
-        table[symbol.name].reserve(count)?;
+        reserve_row(&mut table[symbol.name], count)?;
     }
     Ok(())
 }

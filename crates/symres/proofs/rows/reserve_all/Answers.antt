@@ -21,12 +21,12 @@ loop-symbol-preserved c =
     c.unwrap_or-count.ensures ∙ ap (λ r. unwrap_or r 0) (c.copied.ensures ∙ c.get.ensures.value)
     ∙ c.in_ok-counts.ensures s.name ∙ count_named s.name c.args.symbols.now c.requires.visible in
     record {
-      grow = grow_set c.args.table.now.items mid s.name c.index_mut.result.now c.reserve.new.self inv.grow w
-          c.index_mut.ensures.value c.reserve.ensures.items c.reserve.ensures.capacity;
+      grow = grow_set c.args.table.now.items mid s.name c.index_mut.result.now c.reserve_row.new.row inv.grow w
+          c.index_mut.ensures.value c.reserve_row.ensures.items c.reserve_row.ensures.capacity;
       roomy = roomy_step c.args.symbols.now (take i c.args.symbols.now) (take (i + 1) c.args.symbols.now) s mid
-          c.index_mut.result.now c.reserve.new.self c.unwrap_or-count.result
+          c.index_mut.result.now c.reserve_row.new.row c.unwrap_or-count.result
           (take_more c.args.symbols.now i nothing c.loop-symbol-test.true) w c.index_mut.ensures.value
-          c.in_ok-reserve.ensures.ok count inv.roomy;
+          c.in_ok-reserve_row.ensures.ok count inv.roomy;
     }
 
 pub returns-clause-room : goal.returns-clause-room
