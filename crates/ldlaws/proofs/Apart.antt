@@ -33,7 +33,7 @@ all_of_each P [] h k d l = absurd (omega (arith, l))
 all_of_each P (x ∷ xs) h zero d l = h.0
 all_of_each P (x ∷ xs) h (suc k) d l = all_of_each P xs h.1 k d (omega (arith, l))
 
-later_of_pairs : {X : Type 0} (R : X → X → Type 0) (xs : List X) → AllPairs R xs → EachLater R xs
+pub later_of_pairs : {X : Type 0} (R : X → X → Type 0) (xs : List X) → AllPairs R xs → EachLater R xs
 later_of_pairs R [] h = tt
 later_of_pairs R (x ∷ xs) h = (
   each_of_all (R x) xs (λ k d l. h 0 (suc k) d (omega arith) (omega (arith, l))),
@@ -65,7 +65,7 @@ bytes_wide kind.Abs8 v = refl
 bytes_wide kind.Pc8 v = refl
 bytes_wide kind.Pc64 v = refl
 
-some_width : (k : RelocationKind) → is_evaluated k ≡ true → 0 < width k
+pub some_width : (k : RelocationKind) → is_evaluated k ≡ true → 0 < width k
 some_width kind.None e = absurd (let none : ⊥ = cc in none)
 some_width kind.Abs64 e = omega arith
 some_width kind.Pc32 e = omega arith

@@ -28,6 +28,7 @@ pub mod Courses
 pub mod Finding
 pub mod PieceBytes
 pub mod Untouched
+pub mod InImage
 pub mod Once
 pub mod OnceInRows
 pub mod Goodness

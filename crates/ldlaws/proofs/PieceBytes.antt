@@ -90,7 +90,7 @@ sections_of end (g ∷ gs) =
     (sections_placed (begun end g) (sections_in g))
     ∙ ap (λ l. sections_in g ++ l) (sections_of (file_end end (begun end g)) gs)
 
-all_sections : (sections : List PlacedSection) → map section_in (in_file (segments sections)) ≡ nonempty sections
+pub all_sections : (sections : List PlacedSection) → map section_in (in_file (segments sections)) ≡ nonempty sections
 unfolding segments
 all_sections sections = sections_of (headers_end (length (groups (nonempty sections)))) (groups (nonempty sections))
     ∙ (is_grouping (nonempty sections)).parts
@@ -141,10 +141,10 @@ apart a n b m o h = go (covers a n o) (covers b m o) refl refl
     go true false e f = refl
     go true true e f = absurd (omega (arith, h, (covered a n o e).1, (covered b m o f).0))
 
-same_name : (name : List ℕ) → bytes_eq name name ≡ true
+pub same_name : (name : List ℕ) → bytes_eq name name ≡ true
 same_name name = (bytes_eq-Decides name name).1 refl
 
-one_name : (a b name : List ℕ) → bytes_eq a b ≡ false → (bytes_eq a name && bytes_eq b name) ≡ false
+pub one_name : (a b name : List ℕ) → bytes_eq a b ≡ false → (bytes_eq a name && bytes_eq b name) ≡ false
 one_name a b name h = go (bytes_eq a name) (bytes_eq b name) refl refl
   where
     go : (u v : Bool) → bytes_eq a name ≡ u → bytes_eq b name ≡ v → (u && v) ≡ false
@@ -155,6 +155,15 @@ one_name a b name h = go (bytes_eq a name) (bytes_eq b name) refl refl
         ∙ sym ((bytes_eq-Decides b name).0 f))) ∙ h))
 
 -- ---- an output section in the file
+
+-- the names of the output sections in the file differ
+pub names_apart : (sections : List PlacedSection) → AreNamed sections
+    → EachLater (λ (x y : SectionInFile). bytes_eq x.section.name y.section.name ≡ false) (in_file (segments sections))
+names_apart sections named =
+    later_of_map section_in (λ (r t : PlacedSection). bytes_eq r.name t.name ≡ false) (in_file (segments sections))
+    (subst (EachLater (λ (r t : PlacedSection). bytes_eq r.name t.name ≡ false)) (sym (all_sections sections))
+    (later_filtered (λ (r t : PlacedSection). bytes_eq r.name t.name ≡ false) (λ (r : PlacedSection).
+    not (r.size == 0)) sections named))
 
 module _ (sections : List PlacedSection) (named : AreNamed sections) (q : PlacedSection) (there : Contains sections q)
     (some : 0 < q.size) where
@@ -180,11 +189,7 @@ module _ (sections : List PlacedSection) (named : AreNamed sections) (q : Placed
   own = found.origin
 
   names_differ : EachLater (λ (x y : SectionInFile). bytes_eq x.section.name y.section.name ≡ false) fs
-  names_differ =
-      later_of_map section_in (λ (r t : PlacedSection). bytes_eq r.name t.name ≡ false) fs
-      (subst (EachLater (λ (r t : PlacedSection). bytes_eq r.name t.name ≡ false)) (sym (all_sections sections))
-      (later_filtered (λ (r t : PlacedSection). bytes_eq r.name t.name ≡ false) (λ (r : PlacedSection).
-      not (r.size == 0)) sections named))
+  names_differ = names_apart sections named
 
   own_offset : file_offset gs q ≡ own.offset
   own_offset =
@@ -203,9 +208,15 @@ module _ (sections : List PlacedSection) (named : AreNamed sections) (q : Placed
     order : AreInFileOrder gs
     order = files_in_order sections
 
+    between : (headers_end (length gs) ≤ own.offset) × (end_in_file own ≤ loaded_end gs)
+    between = member_of (λ (x : SectionInFile). (headers_end (length gs) ≤ x.offset)
+        × (end_in_file x ≤ loaded_end gs)) _ own order.inside in_bytes
+
     past_headers : headers_end (length gs) ≤ own.offset
-    past_headers = (member_of (λ (x : SectionInFile). (headers_end (length gs) ≤ x.offset)
-        × (end_in_file x ≤ loaded_end gs)) _ own order.inside in_bytes).0
+    past_headers = between.0
+
+    by_end : own.offset + q.size ≤ loaded_end gs
+    by_end = subst (λ (r : PlacedSection). own.offset + r.size ≤ loaded_end gs) found.gives between.1
 
     -- the offset of an address of the section finds the section
     finds : (at : ℕ) → own.offset ≤ at → at < own.offset + q.size
@@ -245,6 +256,10 @@ module _ (p : Project) (s : Layout) (q : PlacedSection) (x : PlacedPiece) (i : �
 
   at_is : at ≡ file.offset + (x.start - q.start) + i
   at_is = ap (λ n. n + (x.start - q.start) + i) (own_offset s.sections named q there some)
+
+  -- it lies in the loaded part
+  pub before_end : at < loaded_end (segments s.sections)
+  before_end = omega (arith, at_is, inside.0, inside.1, low, by_end s.sections named q there some bytes)
 
   section_found : section_at s at ≡ Some file
   section_found =

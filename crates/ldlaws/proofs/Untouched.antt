@@ -64,12 +64,12 @@ module _ (l : GoodLink) (good : IsGood l) where
       go false e k = absurd (omega (arith, k))
 
   -- what is known of a linked piece
-  record Known (x : LinkedPiece) : Type 0 where
+  pub record Known (x : LinkedPiece) : Type 0 where
     pub text : x.text ≡ text_of l.project x.object
     pub byte : (i : ℕ) → i < x.range.length → byte_at l.project l.layout (x.range.offset + i)
         ≡ part_byte l.project l.layout x.object x.part x.start i
 
-  known : (x : LinkedPiece) → Contains (pieces_in l) x → Known x
+  pub known : (x : LinkedPiece) → Contains (pieces_in l) x → Known x
   unfolding linked_pieces
   known x c =
       let k = in_flat_map (λ (q : PlacedSection). map (linked_piece l.project gs q) q.pieces) l.layout.sections x c in
@@ -79,7 +79,7 @@ module _ (l : GoodLink) (good : IsGood l) where
 
 -- ---- two linked pieces that are the same
 
-record SamePiece (x y : LinkedPiece) : Type 0 where
+pub record SamePiece (x y : LinkedPiece) : Type 0 where
   pub object : x.object ≡ y.object
   pub text : x.text ≡ y.text
   pub part : x.part ≡ y.part
@@ -93,7 +93,7 @@ same_part (InCommon k) (InCommon n) e = ap (λ m. InCommon (record { 0 = m })) (
 same_part (InTable k) (InCommon n) e = absurd (false≢true e)
 same_part (InCommon k) (InTable n) e = absurd (false≢true e)
 
-same : (x y : LinkedPiece) → same_piece x y ≡ true → SamePiece x y
+pub same : (x y : LinkedPiece) → same_piece x y ≡ true → SamePiece x y
 same x y e =
     let range = both_of _ _ e in
     let size = both_of _ _ range.0 in
@@ -181,7 +181,7 @@ same_bytes p r s u i bytes (t ∷ ts) h = go h.0.either (same_bytes p r s u i by
         (outside i t h.0.second k.0 k.2)) ∙ sym right
 
 -- the field of a site of an evaluated relocation has its width
-wide : (p : Project) (s : Layout) (o : NamedObject) (x : LinkedSection) (start : ℕ) (r : Relocation) (field : List ℕ)
+pub wide : (p : Project) (s : Layout) (o : NamedObject) (x : LinkedSection) (start : ℕ) (r : Relocation) (field : List ℕ)
     → is_evaluated r.kind ≡ true
     → site_field p s (record { object = o; section = x; start = start; relocation = r }) ≡ Ok field → length field
     ≡ width r.kind

@@ -1,10 +1,11 @@
 //! Laws of segments.
 
-ghost use Rattle.std.specs.Prelude.{◌≡◌, List};
+ghost use Rattle.std.specs.Prelude.{◌≡◌, Contains, List, map};
 ghost use Rattle.ldmodel.specs.FileLayout.{IsFileLayout};
 ghost use Rattle.ldmodel.specs.Layout.{PlacedSection};
-ghost use Rattle.ldmodel.specs.Segments.{Segment, segments};
+ghost use Rattle.ldmodel.specs.Segments.{SectionInFile, Segment, file_offset, in_file, nonempty, segments};
 ghost use Rattle.ldlaws.specs.FileOrder.{AreInFileOrder};
+ghost use Rattle.ldlaws.specs.ImageBytes.{AreNamed};
 
 /// The segments of output sections are their one file layout: two neighbours of nonzero size share a segment exactly
 /// where the test holds, and each segment begins at the least place past the file bytes before it that is congruent to
@@ -19,4 +20,13 @@ pub fn segments_by_neighbours()
 /// part, where the symbol table may begin, each past the earlier ones.
 pub fn files_in_order()
     ensures { (sections : List PlacedSection) → AreInFileOrder (segments sections) }
+{}
+
+/// The output sections in the file are those of nonzero size, in their order; and where names differ, each begins where
+/// the offset that its name has says.
+pub fn sections_in_file()
+    ensures all { (sections : List PlacedSection)
+        → map (λ (x : SectionInFile). x.section) (in_file (segments sections)) ≡ nonempty sections }
+    ensures offset { (sections : List PlacedSection) → AreNamed sections → (x : SectionInFile)
+        → Contains (in_file (segments sections)) x → file_offset (segments sections) x.section ≡ x.offset }
 {}
