@@ -35,7 +35,7 @@ sections-high from [] i d h l = absurd (omega arith)
 sections-high from (y ∷ ys) zero d h l = sections-end (file_end y) ys h.2
 sections-high from (y ∷ ys) (suc i) d h l = sections-high (file_end y) ys i d h.2 (omega arith)
 
-sections-order : (from : ℕ) (xs : List ImageSection) (i j : ℕ) (d e : ImageSection) → AreSections from xs → i < j
+pub sections-order : (from : ℕ) (xs : List ImageSection) (i j : ℕ) (d e : ImageSection) → AreSections from xs → i < j
     → j < length xs → file_end (get_or xs i d) ≤ (get_or xs j e).offset
 sections-order from [] i j d e h l m = absurd (omega arith)
 sections-order from (y ∷ ys) zero zero d e h l m = absurd (omega arith)
@@ -84,7 +84,7 @@ zero_spot : (d : Drawing) (o : ℕ) → length d.headers.now ≤ o → find (cov
 unfolding drawing_spot
 zero_spot d o h a b = rw (not_below o (length d.headers.now) h, a, b) refl
 
-in_section : (d : Drawing) (o : ℕ) (x : ImageSection) → length d.headers.now ≤ o
+pub in_section : (d : Drawing) (o : ℕ) (x : ImageSection) → length d.headers.now ≤ o
     → find (covers_section o) d.sections.now ≡ Some x → drawing_spot d o ≡ section_image x o
 unfolding drawing_spot
 in_section d o x h a = rw (not_below o (length d.headers.now) h, a) refl

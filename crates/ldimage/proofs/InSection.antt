@@ -73,7 +73,7 @@ module _ (x : ImageSection) (k j at to : ℕ) (r : IsReached x k j at) (ps : Pie
         (gap_from a l h))
 
 -- orders of input sections and of data commands
-pieces-end : (from end : ℕ) (xs : List ImagePiece) → ArePieces from end xs → from ≤ end
+pub pieces-end : (from end : ℕ) (xs : List ImagePiece) → ArePieces from end xs → from ≤ end
 pieces-end from end [] h = h
 pieces-end from end (y ∷ ys) h = let later = pieces-end (piece_end y) end ys h.1 in omega (arith, h.0)
 
@@ -90,7 +90,7 @@ pieces-high from end [] i d h l = absurd (omega arith)
 pieces-high from end (y ∷ ys) zero d h l = pieces-end (piece_end y) end ys h.1
 pieces-high from end (y ∷ ys) (suc i) d h l = pieces-high (piece_end y) end ys i d h.1 (omega arith)
 
-pieces-order : (from end : ℕ) (xs : List ImagePiece) (i j : ℕ) (d e : ImagePiece) → ArePieces from end xs → i < j
+pub pieces-order : (from end : ℕ) (xs : List ImagePiece) (i j : ℕ) (d e : ImagePiece) → ArePieces from end xs → i < j
     → j < length xs → piece_end (get_or xs i d) ≤ (get_or xs j e).start
 pieces-order from end [] i j d e h l m = absurd (omega arith)
 pieces-order from end (y ∷ ys) zero zero d e h l m = absurd (omega arith)

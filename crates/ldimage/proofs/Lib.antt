@@ -5,9 +5,12 @@ pub mod Found
 pub mod Growing
 pub mod InDrawing
 pub mod InSection
+pub mod Keeping
+pub mod Members
 pub mod OfLink
 pub mod Patching
 pub mod Planned
 pub mod Settling
+pub mod Sparing
 pub mod Standing
 pub mod Walking

@@ -73,10 +73,10 @@ data-long x y h = width-long y.width y.value ∙ ap (λ (bs : List ℕ). length 
     width-long Long v = refl
     width-long Quad v = refl
 
-covers-low : (n k at : ℕ) → covers n k at ≡ true → n ≤ at
+pub covers-low : (n k at : ℕ) → covers n k at ≡ true → n ≤ at
 covers-low n k at h = grind (arith, nat_tests)
 
-covers-high : (n k at : ℕ) → covers n k at ≡ true → at < n + k
+pub covers-high : (n k at : ℕ) → covers n k at ≡ true → at < n + k
 covers-high n k at h = grind (arith, nat_tests)
 
 module _ (p : Project) (s : Layout) where

@@ -25,7 +25,7 @@ planned image d patches canvas p h w =
           ∙ e) (sym (ap (λ ps. is_patched ps o) h.patched) ∙ n));
     }
 
-abbrev unless : Bool → ℕ → ℕ
+abbrev pub unless : Bool → ℕ → ℕ
 unless b n = cond b 0 n
 
 one_more : (b : Bool) (n : ℕ) → unless b n + unless b 1 ≡ unless b (suc n)
@@ -36,7 +36,7 @@ nothing : (b : Bool) → unless b 0 ≡ 0
 nothing true = refl
 nothing false = refl
 
-run : (f : ℕ → Spot) (from n : ℕ) (b : Bool) → ((o : ℕ) → from ≤ o → o < from + n → (f o).stays ≡ b)
+pub run : (f : ℕ → Spot) (from n : ℕ) (b : Bool) → ((o : ℕ) → from ≤ o → o < from + n → (f o).stays ≡ b)
     → count_unstayed f (from + n) ≡ count_unstayed f from + unless b n
 run f from zero b h =
     let z : unless b 0 ≡ 0 = nothing b in

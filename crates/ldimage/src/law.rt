@@ -1,20 +1,32 @@
 //! Laws of drawings.
 
-ghost use Rattle.std.specs.Prelude.{◌≡◌, ◌<◌, ◌^◌, ℕ, All, List, Ok, false, length, slice_index};
+ghost use Rattle.std.specs.Prelude.{◌≡◌, ◌≤◌, ◌<◌, ◌+◌, ◌++◌, ◌^◌, ℕ, All, List, Ok, false, length, slice_index};
+ghost use Rattle.std.specs.List.{AllZip};
+ghost use Rattle.std.specs.List.Sorted.{IsPermutation};
+ghost use Rattle.elfobj.specs.RelocationKinds.{width};
+ghost use Rattle.ldfields.specs.declared.patch.Patch.{Patch};
+ghost use Rattle.ldlaws.specs.Untouched.{IsGood};
 ghost use Rattle.ldmodel.specs.Image.{byte_at, image};
 ghost use Rattle.ldmodel.specs.Layout.{Layout};
 ghost use Rattle.ldmodel.specs.Placement.{placement};
 ghost use Rattle.ldmodel.specs.Project.{Project};
+ghost use Rattle.ldmodel.specs.Relocations.{Site};
 ghost use Rattle.ldmodel.specs.Rows.{Piece};
 ghost use Rattle.ldmodel.specs.SectionHeaders.{image_length};
 ghost use Rattle.ldmodel.specs.Segments.{nonempty};
+ghost use Rattle.ldmodel.specs.Stayed.{GoodLink, retargeted};
+ghost use Rattle.ldmodel.specs.WorkBound.{bytes_stayed, retargeted_bytes};
 ghost use Rattle.ldtree.specs.declared.statement.Statement.{Statement};
 ghost use Rattle.ldimage.specs.Drawing.{IsDrawing, drawing_end, drawing_spot};
 ghost use Rattle.ldimage.specs.InMemory.{AreFilled, IsInMemory};
+ghost use Rattle.ldimage.specs.Kept.{EachPiece, IsKept, IsRedrawing};
 ghost use Rattle.ldimage.specs.OfLink.{AreUnstayed, IsDrawingOf};
+ghost use Rattle.ldimage.specs.Plan.{IsDrawnFor, count_unstayed};
+ghost use Rattle.ldimage.specs.Stretches.{EndsBy, patch_bytes};
 ghost use Rattle.ldimage.specs.declared.section.Drawing.{Drawing};
 
-use ldlaws::segments::segments_by_neighbours;
+use ldlaws::segments::{sections_in_file, segments_by_neighbours};
+use ldlaws::stayed::{fields_in_image, pieces_in_image, stayed_in_both, untouched_bytes};
 
 /// A drawing whose parts are those of a link has the bytes of the link's image, but where they stay, and ends where it
 /// ends; where no input section stays, nothing does; and bytes that are those of the image, offset by offset, are it.
@@ -40,4 +52,40 @@ pub fn drawing_stands()
 pub fn placement_is_in_memory()
     ensures { (script : List Statement) (rows : List (List Piece)) (provided : List (List ℕ)) (s : Layout)
         → placement script rows provided ≡ Ok s → All IsInMemory (nonempty s.sections) }
+{}
+
+/// What is kept of the image of an old link is right for a new one, where only input sections that stayed are kept, and
+/// patches give the fields of their sites whose symbol has another value: then drawing and patches are those of the new
+/// image, and no patch ends past it.
+pub fn kept_is_image()
+    ensures drawn { (old new : GoodLink) (d : Drawing) (patches : List Patch) → IsGood old → IsGood new
+        → IsRedrawing old new d patches
+        → IsDrawnFor (byte_at new.project new.layout) d patches (image old.project old.layout) }
+    ensures within { (old new : GoodLink) (d : Drawing) (patches : List Patch) → IsGood old → IsGood new
+        → IsRedrawing old new d patches → All (EndsBy (drawing_end d)) patches }
+{
+    untouched_bytes();
+    stayed_in_both();
+    pieces_in_image();
+    fields_in_image();
+    sections_in_file();
+}
+
+/// Where all input sections that stayed are kept, what does not stay and the bytes of what stayed are no more than the
+/// image.
+pub fn kept_is_not_drawn()
+    ensures { (old new : GoodLink) (d : Drawing) → IsGood new → IsDrawing d → IsDrawingOf new.project new.layout d
+        → EachPiece (IsKept old new) new.layout d → count_unstayed (drawing_spot d) (drawing_end d)
+        + bytes_stayed old new ≤ image_length new.project new.layout }
+{
+    sections_in_file();
+}
+
+/// Patches of sites in input sections that stayed whose symbol has another value, at most one of each, have no more
+/// bytes than the fields of all these sites.
+pub fn patches_are_few()
+    ensures { (old new : GoodLink) (sites others : List Site) (patches : List Patch)
+        → IsPermutation (sites ++ others) (retargeted old new)
+        → AllZip (λ (t : Site) (q : Patch). length q.field ≡ width t.relocation.kind) sites patches
+        → patch_bytes patches ≤ retargeted_bytes old new }
 {}

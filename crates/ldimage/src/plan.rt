@@ -10,6 +10,7 @@ ghost use Rattle.ldimage.specs.Stretches.{EndsBy, Stand};
 use crate::add::{ZERO, add, add_fill};
 use crate::add_section::add_section;
 use crate::commit::write_image;
+use crate::law::{drawing_is_image, kept_is_image, kept_is_not_drawn};
 use crate::section::{Drawing, ImagePart, ImageSection};
 use crate::stretch::{Content, Stretch};
 use ldbase::meter::Meter;
@@ -170,7 +171,14 @@ impl<'a> Plan<'a> {
     ghost use Rattle.ldbase.specs.Raised.{raised};
     ghost use Rattle.ldbase.specs.declared.meter.Count.TheVariants as counts;
     ghost use Rattle.ldfields.specs.declared.patch.Patch.{Patch as PatchOf};
-    ghost use Rattle.ldimage.specs.Drawing.{drawing_end, drawing_spot};
+    ghost use Rattle.ldlaws.specs.Untouched.{IsGood};
+    ghost use Rattle.ldmodel.specs.Image as definition;
+    ghost use Rattle.ldmodel.specs.SectionHeaders.{image_length};
+    ghost use Rattle.ldmodel.specs.Stayed.{GoodLink};
+    ghost use Rattle.ldmodel.specs.WorkBound.{bytes_stayed, retargeted_bytes};
+    ghost use Rattle.ldimage.specs.Drawing.{IsDrawing, drawing_end, drawing_spot};
+    ghost use Rattle.ldimage.specs.Kept.{EachPiece, IsKept, IsRedrawing};
+    ghost use Rattle.ldimage.specs.OfLink.{IsDrawingOf};
     ghost use Rattle.ldimage.specs.Plan.{IsDrawnFor, IsPlanOf, count_unstayed};
     ghost use Rattle.ldimage.specs.Stretches.{patch_bytes};
     ghost use Rattle.ldimage.specs.declared.section.Drawing.{Drawing as DrawingOf};
@@ -185,7 +193,19 @@ impl<'a> Plan<'a> {
             → slice_index canvas.new.bytes o ≡ image o }
         ensures counted { (d : DrawingOf) (patches : List PatchOf) → IsPlanOf d patches self.now → meter.new
             ≡ raised meter.old counts.Bytes (patch_bytes patches + count_unstayed (drawing_spot d) (drawing_end d)) }
+        ensures redrawn { (old new : GoodLink) (d : DrawingOf) (patches : List PatchOf) → IsPlanOf d patches self.now
+            → IsGood old → IsGood new → IsRedrawing old new d patches
+            → canvas.old.bytes ≡ definition.image old.project old.layout
+            → canvas.new.bytes ≡ definition.image new.project new.layout }
+        ensures work { (old new : GoodLink) (d : DrawingOf) (patches : List PatchOf) → IsPlanOf d patches self.now
+            → IsGood new → IsDrawing d → IsDrawingOf new.project new.layout d
+            → EachPiece (IsKept old new) new.layout d → patch_bytes patches ≤ retargeted_bytes old new
+            → meter.new.bytes + bytes_stayed old new
+            ≤ meter.old.bytes + (image_length new.project new.layout + retargeted_bytes old new) }
     {
+        drawing_is_image();
+        kept_is_image();
+        kept_is_not_drawn();
         write_image(canvas, &self.stretches, self.end, self.patches, meter);
     }
 }

@@ -1,0 +1,32 @@
+use Rattle.ldimage.proofs.Keeping.{Laws, drawn_for, patches_end}
+use Rattle.ldimage.proofs.law.kept_is_image.Goals as goal
+
+pub returns-clause-drawn : goal.returns-clause-drawn
+returns-clause-drawn c = drawn_for (record {
+  untouched = c.untouched_bytes.ensures;
+  linked = c.stayed_in_both.ensures.linked;
+  stayed_are = c.stayed_in_both.ensures.stayed;
+  own = c.pieces_in_image.ensures.own;
+  in_old = c.pieces_in_image.ensures.old;
+  found = c.fields_in_image.ensures.found;
+  some = c.fields_in_image.ensures.some;
+  wide = c.fields_in_image.ensures.wide;
+  byte = c.fields_in_image.ensures.byte;
+  all = c.sections_in_file.ensures.all;
+  offset = c.sections_in_file.ensures.offset;
+})
+
+pub returns-clause-within : goal.returns-clause-within
+returns-clause-within c = patches_end (record {
+  untouched = c.untouched_bytes.ensures;
+  linked = c.stayed_in_both.ensures.linked;
+  stayed_are = c.stayed_in_both.ensures.stayed;
+  own = c.pieces_in_image.ensures.own;
+  in_old = c.pieces_in_image.ensures.old;
+  found = c.fields_in_image.ensures.found;
+  some = c.fields_in_image.ensures.some;
+  wide = c.fields_in_image.ensures.wide;
+  byte = c.fields_in_image.ensures.byte;
+  all = c.sections_in_file.ensures.all;
+  offset = c.sections_in_file.ensures.offset;
+})
