@@ -185,6 +185,10 @@ impl<'a> Plan<'a> {
 
     /// Writes the image of the plan onto the canvas: sets its length, writes the patches, and then each byte that does
     /// not stay, once. It takes no memory, and counts the bytes that it writes.
+    ///
+    /// A canvas that holds the image of an old link then holds that of the new one, where only input sections that
+    /// stayed are kept and the patches are the fields of their sites whose symbol has another value. Where all that
+    /// stayed are kept, no more bytes are written than the image has outside of them and these fields have.
     pub fn commit(&self, canvas: &mut Canvas, meter: &mut Meter)
         requires { self.now.end ≤ canvas.old.room }
         ensures len { length canvas.new.bytes ≡ self.now.end }
