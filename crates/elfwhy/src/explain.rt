@@ -11,9 +11,10 @@ use elfdefs::constants::{
 };
 use elfdefs::numbers::{read_u16, read_u32};
 use elfobj::elf_header::{name_table_number, section_count, section_table_offset};
-use elfobj::field::{is_any_shared, is_outside};
+use elfobj::field::{is_outside, put_in_order};
 use elfobj::names::is_graphic;
 use elfobj::refusal::ObjectRefusal;
+use elfobj::relocation::Relocation;
 use elfobj::relocation_entry::{RelocationEntry, read_relocation_entry};
 use elfobj::section::{Section, SectionIndex, SectionKind};
 use elfobj::section_header::{NULL_HEADER, SectionHeader, read_header};
@@ -457,6 +458,21 @@ fn entries(bytes: &[u8], refusal: ObjectRefusal) -> Option<Explanation> {
     None
 }
 
+/// Whether two of these, in the order of their offsets, share a byte.
+fn do_neighbours_meet(relocations: &[Relocation]) -> bool {
+    let mut end = 0;
+    for relocation in relocations {
+        let width = relocation.kind.width();
+        if width > 0 && relocation.offset < end {
+            return true;
+        }
+        if width > 0 {
+            end = relocation.offset.saturating_add(width);
+        }
+    }
+    false
+}
+
 /// Whether two relocations of a table share a byte.
 fn is_shared(alloc: Global, bytes: &[u8], table: &SectionHeader) -> Result<bool, AllocError> {
     let mut relocations = Vec::new(alloc);
@@ -465,7 +481,9 @@ fn is_shared(alloc: Global, bytes: &[u8], table: &SectionHeader) -> Result<bool,
             relocations.push(entry.relocation())?;
         }
     }
-    is_any_shared(&relocations, &mut Vec::new(alloc))
+    let mut sorted = Vec::new(alloc);
+    put_in_order(&relocations, &mut sorted)?;
+    Ok(do_neighbours_meet(&sorted))
 }
 
 fn overlap(alloc: Global, bytes: &[u8]) -> Result<Option<Explanation>, AllocError> {
