@@ -71,7 +71,7 @@ fn item_misplaces(item: &Item) -> bool
 {
     match &item.command {
         ItemCommand::Common(command) => assert_misplaces(command),
-        ItemCommand::Section(section) => any_body_misplaces(section.body.as_slice()),
+        ItemCommand::Section(section) => any_body_misplaces(section.get().body.as_slice()),
         ItemCommand::Dot(_) | ItemCommand::Discard(_) => false,
     }
 }

@@ -6,6 +6,7 @@ pub mod dots;
 pub mod fill;
 pub mod formula;
 pub mod given;
+pub mod held;
 pub mod input;
 mod mention;
 pub mod mentions;

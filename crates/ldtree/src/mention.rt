@@ -62,10 +62,10 @@ fn note_expression<'a>(list: &mut Vec<Mention<'a>>, expr: &'a Expr) -> Result<()
             note_expression(list, b)?;
             Ok(())
         }
-        Expr::Choice(test, a, b) => {
-            note_expression(list, test)?;
-            note_expression(list, a)?;
-            note_expression(list, b)?;
+        Expr::Choice(of) => {
+            note_expression(list, &of.test)?;
+            note_expression(list, &of.first)?;
+            note_expression(list, &of.second)?;
             Ok(())
         }
     }
@@ -193,7 +193,7 @@ fn note_item_command<'a>(
     match command {
         ItemCommand::Dot(command) => note_dot_command(list, command),
         ItemCommand::Common(command) => note_common(list, command),
-        ItemCommand::Section(section) => note_section(list, section),
+        ItemCommand::Section(section) => note_section(list, section.get()),
         ItemCommand::Discard(_) => Ok(()),
     }
 }

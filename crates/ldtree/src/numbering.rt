@@ -76,6 +76,7 @@ fn add_section<'a>(list: &mut Vec<OutputSectionAt<'a>>, item: &'a Item) -> Resul
     match &item.command {
         ItemCommand::Section(section) => {
             let line = item.line;
+            let section = section.get();
             list.push(OutputSectionAt { line, section })?;
             Ok(())
         }
@@ -163,7 +164,8 @@ fn add_item_inputs<'a>(
 {
     match command {
         ItemCommand::Section(section) => {
-            add_body_inputs(list, InputPlace::InSection(number), section.body.as_slice())
+            let body = section.get().body.as_slice();
+            add_body_inputs(list, InputPlace::InSection(number), body)
         }
         ItemCommand::Discard(inputs) => add_discarded(list, inputs.as_slice()),
         ItemCommand::Dot(_) | ItemCommand::Common(_) => Ok(()),
@@ -248,7 +250,7 @@ fn add_item_commons<'a>(list: &mut Vec<CommonAt<'a>>, item: &'a Item) -> Result<
 {
     match &item.command {
         ItemCommand::Common(command) => add_common(list, item.line, command),
-        ItemCommand::Section(section) => add_body_commons(list, section.body.as_slice()),
+        ItemCommand::Section(section) => add_body_commons(list, section.get().body.as_slice()),
         ItemCommand::Dot(_) | ItemCommand::Discard(_) => Ok(()),
     }
 }

@@ -2,6 +2,7 @@
 
 use crate::common::{Common, DotCommand};
 use crate::formula::Formula;
+use crate::held::Held;
 use crate::input::InputStatement;
 use crate::section::OutputSection;
 use crate::sequence::Sequence;
@@ -28,7 +29,7 @@ pub enum ItemCommand {
     /// `NAME = e`, `PROVIDE` or `ASSERT`.
     Common(Common),
     /// An output section.
-    Section(OutputSection),
+    Section(Held<OutputSection>),
     /// `/DISCARD/`: the input sections that are left out.
     Discard(Sequence<InputStatement>),
 }

@@ -24,10 +24,10 @@ pub fn add_symbols<'a>(list: &mut Vec<&'a [u8]>, expr: &'a Expr) -> Result<(), A
             add_symbols(list, b)?;
             Ok(())
         }
-        Expr::Choice(test, a, b) => {
-            add_symbols(list, test)?;
-            add_symbols(list, a)?;
-            add_symbols(list, b)?;
+        Expr::Choice(of) => {
+            add_symbols(list, &of.test)?;
+            add_symbols(list, &of.first)?;
+            add_symbols(list, &of.second)?;
             Ok(())
         }
     }

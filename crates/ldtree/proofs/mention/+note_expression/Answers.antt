@@ -8,7 +8,7 @@ use Rattle.ldtree.proofs.mention.+note_expression.Goals as goal
 pub returns-in_ok-note_expression-in-Choice-3 : goal.returns-in_ok-note_expression-in-Choice-3
 returns-in_ok-note_expression-in-Choice-3 t c =
     listed_three (shown c.args.list.now.items) (shown c.note_expression.new.list.items) (shown c.note_expression-in-Choice.new.list.items) (shown c.note_expression-in-Choice-2.new.list.items) (expr_of c.args.expr.now) _ _ _ _ _ _
-    (ap (λ e. regions_of (expr_of e)) c.in-Choice.is) (ap expr_of c.deref.ensures) (ap expr_of c.deref-in-Choice.ensures) (ap expr_of c.deref-in-Choice-2.ensures)
+    (ap (λ e. regions_of (expr_of e)) c.in-Choice.is) (ap (λ v. expr_of v.test) c.deref.ensures) (ap (λ v. expr_of v.first) c.deref-in-Choice.ensures) (ap (λ v. expr_of v.second) c.deref-in-Choice-2.ensures)
     c.in_ok-note_expression-in-Choice.ensures c.in_ok-note_expression-in-Choice-2.ensures c.in_ok-note_expression-in-Choice-3.ensures
 
 pub returns-in_ok-note_expression-in-Binary-2 : goal.returns-in_ok-note_expression-in-Binary-2
