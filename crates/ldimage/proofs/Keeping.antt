@@ -154,7 +154,8 @@ module _ (laws : Laws) (old new : GoodLink) (good_old : IsGood old) (good_new : 
         → Beside (λ x y. IsImageSection new.project s x y × Pieces x y) (covers_section o) (loaded s) y
         → (section_spot y (y.start + (o - y.offset))).stays ≡ true → KeptByte o
     unfolding section_spot
-    in_section_kept y o b e = go (find (covers_piece at) y.pieces.now) refl (find (covers_data at) y.data_commands.now) e
+    in_section_kept y o b e =
+        go (find (covers_piece at) y.pieces.now) refl (find (covers_data at) y.data_commands.now) e
       where
         at : ℕ
         at = y.start + (o - y.offset)

@@ -21,8 +21,9 @@ use Rattle.ldmodel.specs.Relocations.{Site}
 use Rattle.ldlaws.specs.Spread.{IsSpread}
 use Rattle.ldlaws.specs.Spread as spread
 use Rattle.ldlaws.specs.Untouched.{IsGood}
-use Rattle.ldimage.specs.Drawing.{AreParts, ArePieces, AreSections, IsDrawing, IsOrderly, covers_data, covers_piece, covers_section}
-use Rattle.ldimage.specs.Drawing.{drawing_end, drawing_spot, end_of_parts, end_of_sections, part_end, piece_end, section_spot, spot_among}
+use Rattle.ldimage.specs.Drawing.{AreParts, ArePieces, AreSections, IsDrawing, IsOrderly, covers_data, covers_piece}
+use Rattle.ldimage.specs.Drawing.{covers_section, drawing_end, drawing_spot, end_of_parts, end_of_sections, part_end}
+use Rattle.ldimage.specs.Drawing.{piece_end, section_spot, spot_among}
 use Rattle.ldimage.specs.Kept.{EachPiece, IsKept, linked_in}
 use Rattle.ldimage.specs.OfLink.{IsDrawingOf, IsImagePiece, IsImageSection, loaded}
 use Rattle.ldimage.specs.Plan.{count_unstayed}
@@ -199,7 +200,8 @@ module _ (d : Drawing) (h : IsDrawing d) where
 sum_filter : {X : Type 0} (g : X → ℕ) (test : X → Bool) (xs : List X) → sum_by g (filter test xs)
     ≡ sum_by (λ x. cond (test x) (g x) 0) xs
 sum_filter g test [] = refl
-sum_filter {X} g test (x ∷ xs) = go (test x) (sum_filter g test xs) ∙ sym (sum_by-cons (λ z. cond (test z) (g z) 0) x xs)
+sum_filter {X} g test (x ∷ xs) =
+    go (test x) (sum_filter g test xs) ∙ sym (sum_by-cons (λ z. cond (test z) (g z) 0) x xs)
   where
     go : (b : Bool) → sum_by g (filter test xs) ≡ sum_by (λ z. cond (test z) (g z) 0) xs
         → sum_by g (cond b (x ∷ filter test xs) (filter test xs))
@@ -314,7 +316,8 @@ module _ (old new : GoodLink) where
       mapped [] = refl
       mapped (q ∷ qs) =
           sum_by-cons (λ (q : PlacedSection). sum_by counted (map (linked_piece new.project gs q) q.pieces)) q qs
-          ∙ ap (λ n. n + sum_by (λ (q : PlacedSection). sum_by counted (map (linked_piece new.project gs q) q.pieces)) qs)
+          ∙ ap (λ n.
+          n + sum_by (λ (q : PlacedSection). sum_by counted (map (linked_piece new.project gs q) q.pieces)) qs)
           (sum_map counted (linked_piece new.project gs q) q.pieces)
           ∙ ap (λ n. stayed_in q + n) (mapped qs) ∙ sym (sum_by-cons stayed_in q qs)
 
@@ -360,7 +363,8 @@ module _ (old new : GoodLink) where
       no_length (linked_in new q u) (omega (arith, short, k.0, k.1, empty))) q.pieces h.pieces_inside)
 
   module _ (all_in_file : (sections : List PlacedSection)
-      → map (λ (x : SectionInFile). x.section) (in_file (segments sections)) ≡ nonempty sections) (good : IsGood new) where
+      → map (λ (x : SectionInFile). x.section) (in_file (segments sections)) ≡ nonempty sections)
+      (good : IsGood new) where
     by_loaded : bytes_stayed old new ≡ sum_by (λ (x : SectionInFile). stayed_in x.section) (loaded s)
     by_loaded =
         by_section
