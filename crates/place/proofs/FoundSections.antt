@@ -21,6 +21,8 @@ use Rattle.ldmodel.specs.declared.laid.Placed.{Placed}
 use Rattle.place.proofs.Lists.{same_name, is_same_name, other_name}
 use Rattle.place.proofs.Numbers.{sections_told, regions_told}
 use Rattle.place.proofs.Tabled.{found_under}
+use Rattle.place.proofs.Counting.{starts_grow}
+use Rattle.place.specs.Wholes.{starts_in}
 use Rattle.place.specs.Keyed.{KeyedSection, section_of}
 use Rattle.place.specs.Naming.{Naming}
 use Rattle.place.specs.SectionTable.{keyed, section_names, nameless, difference_by, AreSectionsOf, Fits}
@@ -32,7 +34,7 @@ placed_under xs name =
     option_map (λ (x : KeyedSection). x.placed) (find (λ (x : KeyedSection). bytes_eq x.name name) xs)
 
 module _ (script : List Statement) (xs : List Closed) (name : List ℕ) (differences : List ℕ) (other : ℕ)
-    (o : AreSectionsOf script (map keyed xs) differences other) where
+    (count : ℕ) (o : AreSectionsOf script (map keyed xs) differences other count) where
   under : placed_under (map keyed xs) name
       ≡ option_map (λ (x : KeyedSection).
       x.placed) (option_and_then (λ k. slice_get (map keyed xs) k) (section_number script name))
@@ -64,13 +66,14 @@ module _ (script : List Statement) (xs : List Closed) (name : List ℕ) (differe
       ∙ ap (option_map (λ (x : KeyedSection). x.placed)) (ap (option_and_then (λ j. slice_get (map keyed xs) j)) n)
 
 pub no_sections : (script : List Statement) (xs : List Closed) (ds : List ℕ) (n : ℕ) → xs ≡ [] → ds ≡ replicate n 0
-    → AreSectionsOf script (map keyed xs) ds 0
+    → AreSectionsOf script (map keyed xs) ds 0 0
 unfolding difference_by difference_in
 no_sections script xs ds n a b = rw (a, b) (record {
   order = λ k l. absurd (omega arith);
   differences_of = λ name k e l. get_or-replicate n k 0 0 (omega (arith, length-replicate {A = ℕ} n 0));
   elsewhere_of = refl;
   ends = λ k d l. absurd (omega arith);
+  counted = refl;
 })
 
 last_or_push : {X : Type 0} (o : Option X) (xs : List X) (x : X) → last_or o (xs ++ x ∷ []) ≡ Some x
@@ -103,8 +106,12 @@ difference_other xs x region e =
     ) refl
 
 module _ (script : List Statement) (xs : List KeyedSection) (x : KeyedSection) (ds : List ℕ) (elsewhere : ℕ)
-    (o : AreSectionsOf script xs ds elsewhere) (next : section_number script x.name ≡ Some (length xs)) (fits : Fits x)
+    (count more : ℕ) (o : AreSectionsOf script xs ds elsewhere count)
+    (next : section_number script x.name ≡ Some (length xs)) (fits : Fits x) (grown : more ≡ count + length x.pieces)
   where
+    counted_more : more ≡ length (starts_in (xs ++ x ∷ []))
+    counted_more = grown ∙ (ap (λ n. n + length x.pieces) o.counted ∙ sym (starts_grow xs x))
+
     order_more : AreInOrder (section_number script) (section_names (xs ++ x ∷ []))
     order_more k l = rw names (go (k == length xs) refl)
       where
@@ -131,18 +138,20 @@ module _ (script : List Statement) (xs : List KeyedSection) (x : KeyedSection) (
 
     -- a section that names no region
     pub pushed_elsewhere : x.region ≡ None
-        → AreSectionsOf script (xs ++ x ∷ []) ds (difference_of (section_of nameless x))
+        → AreSectionsOf script (xs ++ x ∷ []) ds (difference_of (section_of nameless x)) more
     pushed_elsewhere none = record {
       order = order_more;
       differences_of = λ name k e l. o.differences_of name k e l
           ∙ sym (difference_other xs x (Some name) (ap (λ r. same_region r (Some name)) none));
       elsewhere_of = sym (difference_same xs x None (ap (λ r. same_region r None) none));
       ends = All-push (λ (y : KeyedSection). Fits y) xs x o.ends fits;
+      counted = counted_more;
     }
 
     -- a section that names a region
     pub pushed_in : (region : List ℕ) (j : ℕ) → x.region ≡ Some region → region_number script region ≡ Some j
-        → j < length ds → AreSectionsOf script (xs ++ x ∷ []) (set ds j (difference_of (section_of nameless x))) elsewhere
+        → j < length ds
+        → AreSectionsOf script (xs ++ x ∷ []) (set ds j (difference_of (section_of nameless x))) elsewhere more
     pushed_in region j some number l = record {
       order = order_more;
       differences_of = λ name k e h.
@@ -150,6 +159,7 @@ module _ (script : List Statement) (xs : List KeyedSection) (x : KeyedSection) (
           refl;
       elsewhere_of = o.elsewhere_of ∙ sym (difference_other xs x None (ap (λ r. same_region r None) some));
       ends = All-push (λ (y : KeyedSection). Fits y) xs x o.ends fits;
+      counted = counted_more;
     }
       where
         go : (name : List ℕ) (k : ℕ) → region_number script name ≡ Some k → k < length ds → (b : Bool)

@@ -16,3 +16,4 @@ pub mod Reporting
 pub mod Good
 pub mod Multiples
 pub mod Counting
+pub mod Kept

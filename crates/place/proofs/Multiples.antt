@@ -26,7 +26,7 @@ pub record IsNext (a x y : ℕ) : Type 0 where
   pub near : y < x + a
   pub multiple : y % a ≡ 0
 
-is_next : (a x : ℕ) → 0 < a → IsNext a x (next_multiple_of x a)
+pub is_next : (a x : ℕ) → 0 < a → IsNext a x (next_multiple_of x a)
 is_next a x pos = ⊎_elim on past (eq-zero-or-pos (x % a))
   where
     on : x % a ≡ 0 → IsNext a x (next_multiple_of x a)

@@ -14,3 +14,4 @@ pub mod Heads
 pub mod Ends
 pub mod SectionTable
 pub mod Counted
+pub mod Kept

@@ -7,6 +7,7 @@ use Rattle.ldmodel.specs.SectionHead.{difference_in}
 use Rattle.place.specs.Keyed.{KeyedPiece, KeyedSection, section_of}
 use Rattle.place.specs.Naming.{Naming}
 use Rattle.place.specs.Tables.{AreInOrder}
+use Rattle.place.specs.Wholes.{starts_in}
 use Rattle.place.specs.declared.sections.Closed.{Closed}
 use Rattle.place.specs.declared.sections.PieceAt.{PieceAt}
 
@@ -40,11 +41,13 @@ Fits x = x.placed.start + x.placed.size < 2 ^ 64
 abbrev pub Ends : List KeyedSection → Type 0
 Ends sections = All (λ (x : KeyedSection). Fits x) sections
 
--- the sections stand under their numbers, their ends are addresses, and the differences under those of their regions
+-- the sections stand under their numbers, their ends are addresses, the differences under those of their regions, and
+-- their input sections are counted
 pub record AreSectionsOf (script : List Statement) (sections : List KeyedSection) (differences : List ℕ)
-    (elsewhere : ℕ) : Type 0 where
+    (elsewhere : ℕ) (count : ℕ) : Type 0 where
   pub order : AreInOrder (section_number script) (section_names sections)
   pub differences_of : (name : List ℕ) (k : ℕ) → region_number script name ≡ Some k → k < length differences
       → slice_index differences k ≡ difference_by sections (Some name)
   pub elsewhere_of : elsewhere ≡ difference_by sections None
   pub ends : Ends sections
+  pub counted : count ≡ length (starts_in sections)

@@ -1,13 +1,15 @@
 //! The body of an output section.
 
-ghost use Rattle.std.specs.Prelude.{◌^◌, ◌≤◌, IfSome, IfNone, ◌≡◌, ◌<◌, ◌+◌, length, drop, OnOk};
+ghost use Rattle.std.specs.Prelude.{◌^◌, ◌≤◌, IfSome, IfNone, ◌≡◌, ◌≢◌, ◌<◌, ◌+◌, length, drop, OnOk, Some, false};
+ghost use Rattle.std.specs.Prelude.{slice_get};
 ghost use Rattle.std.specs.Int.{next_multiple_of};
+ghost use Rattle.std.specs.Option.{option_copied};
 ghost use Rattle.ldexpr.specs.DotForms.{dot_form};
 ghost use Rattle.ldexpr.specs.Expressions.{expr_of};
-ghost use Rattle.ldmodel.specs.Body.{advanced, body_command_step, body_step, data_step, dot_step, input_step, moved};
+ghost use Rattle.ldmodel.specs.Body.{advanced, body_command_step, body_step, data_step, input_step, moved};
 ghost use Rattle.ldmodel.specs.Body.{piece_placed, piece_start, pieces_placed, set_to};
 ghost use Rattle.ldmodel.specs.Chain.{run};
-ghost use Rattle.place.specs.Counted.{Counted};
+ghost use Rattle.place.specs.Counted.{Counted, missed, starts_here};
 ghost use Rattle.place.specs.Naming.{Naming, piece_named, row_named};
 ghost use Rattle.place.specs.State.{body_of, Gives};
 
@@ -21,7 +23,8 @@ use ldscript::tree::{BodyCommand, BodyStatement, DotCommand, DotForm, Expr, Form
 #[tactic(auto, using(crate::proofs::Multiples::next_multiple_is))]
 fn taken_over(kept: Option<&u64>, dot: u64, alignment: u64) -> Option<u64>
     requires { 0 < alignment }
-    ensures { IfSome result (λ start. start ≡ next_multiple_of dot alignment) }
+    ensures right { IfSome result (λ start. start ≡ next_multiple_of dot alignment) }
+    ensures none { IfNone result (option_copied kept.entry ≢ Some (next_multiple_of dot alignment)) }
 {
     let start = match kept {
         Some(start) => *start,
@@ -40,6 +43,8 @@ impl<'d, 'a> Frame<'d, 'a> {
         ghost naming: { Naming }
         ensures some { IfSome result (λ s. s.0 ≡ piece_start here.now.dot (piece_named naming piece.now)) }
         ensures none { IfNone result (2 ^ 64 ≤ piece_start here.now.dot (piece_named naming piece.now)) }
+        ensures taken { IfSome result (λ s.
+            slice_get self.now.kept.now (length here.now.pieces.items) ≡ Some s.0 → s.1 ≡ false) }
     {
         let alignment = piece.alignment.max(1);
         match taken_over(self.kept.get(here.pieces.len()), here.dot, alignment) {
@@ -62,6 +67,8 @@ impl<'d, 'a> Frame<'d, 'a> {
         ensures one { OnOk result (length here.new.pieces.items ≡ length here.old.pieces.items + 1) }
         ensures anew { here.new.anew + length here.old.pieces.items ≤ here.old.anew + length here.new.pieces.items }
         ensures few { length here.new.pieces.items ≤ length here.old.pieces.items + 1 }
+        ensures taken { here.new.anew + missed self.now.kept.now (starts_here here.old)
+            ≤ here.old.anew + missed self.now.kept.now (starts_here here.new) }
     {
         let Some((start, is_new)) = self.start_of(here, piece) else {
             return Err(Stop::PastAddressSpace { line });
@@ -83,7 +90,7 @@ impl<'d, 'a> Frame<'d, 'a> {
             (pieces_placed line number (body_of naming here.old self.now)
             (row_named naming (drop (length here.old.pieces.items) self.now.row.now)))
             (body_of naming here.new self.now) result }
-        ensures counted { Counted here.old here.new (length self.now.row.now) }
+        ensures counted { Counted here.old here.new self.now }
     {
         while here.pieces.len() < self.row.len() {
             let piece = &self.row[here.pieces.len()];
@@ -100,7 +107,7 @@ impl<'d, 'a> Frame<'d, 'a> {
         ghost naming: { Naming }
         ensures gives { Gives (input_step line (body_of naming here.old self.now)) (body_of naming here.new self.now)
             result }
-        ensures counted { Counted here.old here.new (length self.now.row.now) }
+        ensures counted { Counted here.old here.new self.now }
     {
         let number = here.inputs;
         let Some(next) = number.checked_add(1) else {
@@ -123,7 +130,7 @@ impl<'d, 'a> Frame<'d, 'a> {
         ghost naming: { Naming }
         ensures gives { Gives (data_step line (body_of naming here.old self.now) width formula.now)
             (body_of naming here.new self.now) result }
-        ensures counted { Counted here.old here.new (length self.now.row.now) }
+        ensures counted { Counted here.old here.new self.now }
     {
         let value = here.formula(self.done, line, formula)?;
         let Some(end) = here.dot.checked_add(u64::from(width.byte_count())) else {
@@ -144,7 +151,7 @@ impl<'d, 'a> Frame<'d, 'a> {
         ghost naming: { Naming }
         ensures gives { Gives (moved line (body_of naming here.old self.now) (from + more))
             (body_of naming here.new self.now) result }
-        ensures counted { Counted here.old here.new (length self.now.row.now) }
+        ensures counted { Counted here.old here.new self.now }
     {
         let dot = here.dot;
         let Some(to) = from.checked_add(more) else {
@@ -162,7 +169,7 @@ impl<'d, 'a> Frame<'d, 'a> {
         ghost naming: { Naming }
         ensures gives { Gives (advanced line (body_of naming here.old self.now) (expr_of by.now))
             (body_of naming here.new self.now) result }
-        ensures counted { Counted here.old here.new (length self.now.row.now) }
+        ensures counted { Counted here.old here.new self.now }
     {
         let more = here.number(self.done, line, by)?;
         let from = here.dot;
@@ -175,7 +182,7 @@ impl<'d, 'a> Frame<'d, 'a> {
         ghost naming: { Naming }
         ensures gives { Gives (set_to line (body_of naming here.old self.now) (dot_form (expr_of to.now)))
             (body_of naming here.new self.now) result }
-        ensures counted { Counted here.old here.new (length self.now.row.now) }
+        ensures counted { Counted here.old here.new self.now }
     {
         match to.dot_form() {
             Some(DotForm::Advance(by)) => self.advance(here, line, by),
@@ -191,23 +198,6 @@ impl<'d, 'a> Frame<'d, 'a> {
         }
     }
 
-    fn move_dot(
-        &self,
-        here: &mut Here<'a>,
-        line: u32,
-        command: &'a DotCommand,
-    ) -> Result<(), Stop<'a>>
-        ghost naming: { Naming }
-        ensures gives { Gives (dot_step line (body_of naming here.old self.now) command.now)
-            (body_of naming here.new self.now) result }
-        ensures counted { Counted here.old here.new (length self.now.row.now) }
-    {
-        match command {
-            DotCommand::Add(by) => self.advance(here, line, by.expr()),
-            DotCommand::Set(to) => self.set_dot(here, line, to.expr()),
-        }
-    }
-
     #[tactic(auto, unfolding(ldmodel::specs::Body::body_command_step))]
     fn place_command(
         &self,
@@ -219,10 +209,11 @@ impl<'d, 'a> Frame<'d, 'a> {
         ensures gives { Gives
             (body_command_step self.now.provided.now line (body_of naming here.old self.now) command.now)
             (body_of naming here.new self.now) result }
-        ensures counted { Counted here.old here.new (length self.now.row.now) }
+        ensures counted { Counted here.old here.new self.now }
     {
         match command {
-            BodyCommand::Dot(command) => self.move_dot(here, line, command),
+            BodyCommand::Dot(DotCommand::Add(by)) => self.advance(here, line, by.expr()),
+            BodyCommand::Dot(DotCommand::Set(to)) => self.set_dot(here, line, to.expr()),
             BodyCommand::Common(command) => here.common(self.done, self.provided, line, command),
             BodyCommand::Data(width, formula) => self.place_data(here, line, *width, formula),
             BodyCommand::Input(_) => self.place_input(here, line),
@@ -237,7 +228,7 @@ impl<'d, 'a> Frame<'d, 'a> {
         ghost naming: { Naming }
         ensures gives { Gives (body_step self.now.provided.now (body_of naming here.old self.now) statement.now)
             (body_of naming here.new self.now) result }
-        ensures counted { Counted here.old here.new (length self.now.row.now) }
+        ensures counted { Counted here.old here.new self.now }
     {
         here.dots.push(here.dot)?;
         self.place_command(here, statement.line, &statement.command)
@@ -249,7 +240,7 @@ impl<'d, 'a> Frame<'d, 'a> {
         ghost naming: { Naming }
         ensures gives { Gives (run (body_step self.now.provided.now) (body_of naming here.old self.now) body.now)
             (body_of naming here.new self.now) result }
-        ensures counted { Counted here.old here.new (length self.now.row.now) }
+        ensures counted { Counted here.old here.new self.now }
     {
         for statement in body {
             self.place_statement(here, statement)?;

@@ -6,6 +6,7 @@ ghost use Rattle.std.specs.Option.{option_copied, option_and_then};
 ghost use Rattle.ldmodel.specs.Layout.{PlacedPiece, region_named};
 ghost use Rattle.ldmodel.specs.SectionEnd.{freed_from, has_file_bytes, has_flag, is_empty, is_in_file, is_within};
 ghost use Rattle.ldmodel.specs.SectionEnd.{load_region, placed_section, section_end, with_room};
+ghost use Rattle.place.specs.Counted.{Adds, starts_here};
 ghost use Rattle.place.specs.Ends.{body_alone, ended_body, load_end};
 ghost use Rattle.place.specs.Heads.{head_from, Yields};
 ghost use Rattle.place.specs.Keyed.{piece_at, section_of};
@@ -183,6 +184,7 @@ impl<'a> Here<'a> {
         ensures inputs { self.new.inputs ≡ self.old.inputs }
         ensures symbols { self.new.symbols ≡ self.old.symbols }
         ensures anew { self.new.anew ≡ self.old.anew }
+        ensures pieces { (keyed result).pieces ≡ map keyed_piece self.old.pieces.items }
     {
         let size = self.dot.saturating_sub(head.start);
         let has_file_bytes = self.has_file_bytes();
@@ -215,6 +217,7 @@ impl<'a> Here<'a> {
         ghost naming: { Naming }
         ensures anew { self.new.anew ≡ self.old.anew }
         ensures one { OnOk result (length done.new.sections ≡ length done.old.sections + 1) }
+        ensures adds { OnOk result (Adds (starts_here self.old) done.old.sections done.new.sections) }
         ensures gives { Gives (section_end line output.now (head_from head) (ended_body naming self.old done.old))
             (layout_of naming self.new done.new) result }
     {

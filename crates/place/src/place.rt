@@ -1,7 +1,8 @@
 //! The layout of a script.
 
-ghost use Rattle.std.specs.Prelude.{◌≡◌, [], map, IfErr, IfOk};
+ghost use Rattle.std.specs.Prelude.{◌≡◌, [], map, IfErr, IfOk, IfSome};
 ghost use Rattle.place.specs.Counted.{CountsPieces, entries};
+ghost use Rattle.place.specs.Kept.{IsKept};
 ghost use Rattle.place.specs.Naming.{Naming, rows_named};
 ghost use Rattle.place.specs.Outcomes.{IsGood, IsWhy, Stops};
 ghost use Rattle.place.specs.Places.{IsPlacement};
@@ -43,6 +44,17 @@ fn nowhere<'a>(alloc: Global, script: &'a Script) -> Result<Here<'a>, AllocError
     })
 }
 
+/// The starts that were kept, and the number of the row before which they are taken over.
+fn kept_starts<'k>(kept: Option<(&'k Placement, usize)>) -> (&'k [u64], usize)
+    ensures starts { IfSome kept.entry (λ k. result.0.now ≡ k.0.now.starts) }
+    ensures first { IfSome kept.entry (λ k. result.1 ≡ k.1) }
+{
+    match kept {
+        Some((placement, first)) => (placement.pieces(), first),
+        None => (&[], 0),
+    }
+}
+
 /// The layout of a script, or its first fault.
 #[tactic(auto, unfolding(ldmodel::specs::Placement::placement))]
 fn lay_out(
@@ -55,6 +67,9 @@ fn lay_out(
 ) -> Result<Placement, PlaceFault>
     ghost naming: { Naming }
     ensures counted { CountsPieces meter.old meter.new (entries 0 (map (λ v. v.items) rows.now)) }
+    ensures resumed { IfOk result (λ _. IfSome kept.entry (λ k.
+        IsKept script.now (rows_named naming (map (λ v. v.items) rows.now)) (provided_names script.now provided.now)
+        k.0.now k.1 → CountsPieces meter.old meter.new (entries k.1 (map (λ v. v.items) rows.now)))) }
     ensures placed { IfOk result (λ p.
         IsPlacement script.now (rows_named naming (map (λ v. v.items) rows.now))
         (provided_names script.now provided.now) p) }
@@ -66,10 +81,7 @@ fn lay_out(
     let sections = Sections::new(alloc, script)?;
     let regions = Regions::new(alloc, script);
     let mut done = Done { sections, regions };
-    let (starts, first): (&[u64], usize) = match kept {
-        Some((placement, first)) => (placement.pieces(), first),
-        None => (&[], 0),
-    };
+    let (starts, first) = kept_starts(kept);
     let input = Input {
         alloc,
         provided: &provided,
@@ -109,6 +121,9 @@ pub fn place(
 ) -> Result<Placement, PlaceFault>
     ghost naming: { Naming }
     ensures counted { CountsPieces meter.old meter.new (entries 0 (map (λ v. v.items) rows.now)) }
+    ensures resumed { IfOk result (λ _. IfSome kept.entry (λ k.
+        IsKept script.now (rows_named naming (map (λ v. v.items) rows.now)) (provided_names script.now provided.now)
+        k.0.now k.1 → CountsPieces meter.old meter.new (entries k.1 (map (λ v. v.items) rows.now)))) }
     ensures good { IfOk result (λ p.
         IsGood script.now (rows_named naming (map (λ v. v.items) rows.now)) (provided_names script.now provided.now) p) }
     ensures faulty { IfErr result (λ f.

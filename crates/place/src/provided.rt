@@ -34,7 +34,7 @@ impl<'a> Model for Provided<'a> {
 }
 
 /// The name that a command of these gives a value; no bytes where it gives none.
-fn name_of<'a>(commands: &[CommonAt<'a>], number: CommonIndex) -> &'a [u8]
+pub(crate) fn name_of<'a>(commands: &[CommonAt<'a>], number: CommonIndex) -> &'a [u8]
     ensures { result.now ≡ name_in (shown_commons commands.now) number.0 }
 {
     match commands.get(number.0 as usize) {

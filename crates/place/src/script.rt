@@ -1,12 +1,13 @@
 //! The statements of a script.
 
-ghost use Rattle.std.specs.Prelude.{◌≡◌, ◌≤◌, ◌+◌, [], map, slice_index_or, length, OnOk};
+ghost use Rattle.std.specs.Prelude.{◌≡◌, ◌≤◌, ◌<◌, ◌+◌, [], map, slice_index_or, length, drop, OnOk};
 ghost use Rattle.ldmodel.specs.Chain.{run};
 ghost use Rattle.ldmodel.specs.Placement.{free_dot_step, item_command_step, item_step, statement_step};
-ghost use Rattle.place.specs.Counted.{entries};
+ghost use Rattle.place.specs.Counted.{Resumes, entries};
 ghost use Rattle.place.specs.Inputs.{rows_of};
 ghost use Rattle.place.specs.Naming.{Naming};
 ghost use Rattle.place.specs.State.{layout_of, Gives};
+ghost use Rattle.place.specs.Wholes.{starts_in};
 
 use crate::provided::Provided;
 use crate::state::{Done, Here};
@@ -68,7 +69,10 @@ impl<'a> Here<'a> {
 
 impl<'i, 'a> Input<'i, 'a> {
     /// What is taken over in the next output section.
-    fn kept_at(&self, done: &Done<'a>) -> &'i [u64] {
+    fn kept_at(&self, done: &Done<'a>) -> &'i [u64]
+        ensures { length done.now.sections < self.now.first
+            → result.now ≡ drop (length (starts_in done.now.sections)) self.now.kept.now }
+    {
         if done.sections.len() >= self.first {
             return &[];
         }
@@ -92,6 +96,7 @@ impl<'i, 'a> Input<'i, 'a> {
         ensures left { OnOk result
             (here.new.anew + entries (length done.new.sections) (map (λ v. v.items) self.now.rows.now) ≤ here.old.anew
             + entries (length done.old.sections) (map (λ v. v.items) self.now.rows.now)) }
+        ensures resumed { OnOk result (Resumes self.now here.old here.new done.old.sections done.new.sections) }
         ensures gives { Gives
             (item_command_step (rows_of naming self.now) self.now.provided.now line
             (layout_of naming here.old done.old) command.now) (layout_of naming here.new done.new) result }
@@ -128,6 +133,7 @@ impl<'i, 'a> Input<'i, 'a> {
         ensures left { OnOk result
             (here.new.anew + entries (length done.new.sections) (map (λ v. v.items) self.now.rows.now) ≤ here.old.anew
             + entries (length done.old.sections) (map (λ v. v.items) self.now.rows.now)) }
+        ensures resumed { OnOk result (Resumes self.now here.old here.new done.old.sections done.new.sections) }
         ensures gives { Gives
             (item_step (rows_of naming self.now) self.now.provided.now (layout_of naming here.old done.old) item.now)
             (layout_of naming here.new done.new) result }
@@ -150,6 +156,7 @@ impl<'i, 'a> Input<'i, 'a> {
         ensures left { OnOk result
             (here.new.anew + entries (length done.new.sections) (map (λ v. v.items) self.now.rows.now) ≤ here.old.anew
             + entries (length done.old.sections) (map (λ v. v.items) self.now.rows.now)) }
+        ensures resumed { OnOk result (Resumes self.now here.old here.new done.old.sections done.new.sections) }
         ensures gives { Gives
             (run (item_step (rows_of naming self.now) self.now.provided.now) (layout_of naming here.old done.old)
             items.now) (layout_of naming here.new done.new) result }
@@ -174,6 +181,7 @@ impl<'i, 'a> Input<'i, 'a> {
         ensures left { OnOk result
             (here.new.anew + entries (length done.new.sections) (map (λ v. v.items) self.now.rows.now) ≤ here.old.anew
             + entries (length done.old.sections) (map (λ v. v.items) self.now.rows.now)) }
+        ensures resumed { OnOk result (Resumes self.now here.old here.new done.old.sections done.new.sections) }
         ensures gives { Gives
             (statement_step (rows_of naming self.now) self.now.provided.now (layout_of naming here.old done.old)
             statement.now) (layout_of naming here.new done.new) result }
@@ -200,6 +208,7 @@ impl<'i, 'a> Input<'i, 'a> {
         ensures left { OnOk result
             (here.new.anew + entries (length done.new.sections) (map (λ v. v.items) self.now.rows.now) ≤ here.old.anew
             + entries (length done.old.sections) (map (λ v. v.items) self.now.rows.now)) }
+        ensures resumed { OnOk result (Resumes self.now here.old here.new done.old.sections done.new.sections) }
         ensures gives { Gives
             (run (statement_step (rows_of naming self.now) self.now.provided.now) (layout_of naming here.old done.old)
             statements.now) (layout_of naming here.new done.new) result }

@@ -4,6 +4,7 @@ ghost use Rattle.std.specs.Prelude.{◌≡◌, ◌≤◌, ◌+◌, [], length, O
 ghost use Rattle.ldmodel.specs.Body.{body_step};
 ghost use Rattle.ldmodel.specs.Chain.{run};
 ghost use Rattle.ldmodel.specs.Placement.{opened, section_step};
+ghost use Rattle.place.specs.Counted.{Takes, missed, starts_here};
 ghost use Rattle.place.specs.Heads.{head_from};
 ghost use Rattle.place.specs.Naming.{Naming, row_named};
 ghost use Rattle.place.specs.State.{body_from, layout_of, Gives};
@@ -44,6 +45,7 @@ impl<'a> Here<'a> {
     ) -> Result<(), Stop<'a>>
         ghost naming: { Naming }
         ensures anew { self.new.anew ≤ self.old.anew + length row.now }
+        ensures taken { self.new.anew ≤ self.old.anew + missed kept.now (starts_here self.new) }
         ensures gives { Gives
             (run (body_step provided.now)
             (opened (layout_of naming self.old done.now) (row_named naming row.now) (head_from head)) output.now.body)
@@ -76,6 +78,7 @@ impl<'a> Here<'a> {
         ghost naming: { Naming }
         ensures anew { self.new.anew ≤ self.old.anew + length row.now }
         ensures one { OnOk result (length done.new.sections ≡ length done.old.sections + 1) }
+        ensures takes { OnOk result (Takes kept.now self.old self.new done.old.sections done.new.sections) }
         ensures gives { Gives
             (section_step provided.now (row_named naming row.now) (layout_of naming self.old done.old) line output.now)
             (layout_of naming self.new done.new) result }

@@ -5,6 +5,7 @@ ghost use Rattle.std.specs.Prelude.{bytes_eq, option_map};
 ghost use Rattle.std.specs.Option.{option_copied};
 ghost use Rattle.place.specs.Keyed.{KeyedSection};
 ghost use Rattle.place.specs.SectionTable.{keyed, difference_by, Ends, Fits};
+ghost use Rattle.place.specs.Wholes.{starts_in};
 ghost use Rattle.place.specs.declared.stop.Stop.TheVariants.{NoMemory};
 
 use crate::stop::Stop;
@@ -69,7 +70,7 @@ impl<'a> Model for Sections<'a> {
 
     ghost view = { λ s. map keyed s.list.items };
 
-    ghost invariant = { λ s. AreSectionsOf s.script.now (map keyed s.list.items) s.differences.items s.elsewhere };
+    ghost invariant = { λ s. AreSectionsOf s.script.now (map keyed s.list.items) s.differences.items s.elsewhere s.count };
 }
 
 /// This many zeros.
@@ -111,7 +112,9 @@ impl<'a> Sections<'a> {
     }
 
     /// How many input sections are in them.
-    pub fn count(&self) -> usize {
+    pub fn count(&self) -> usize
+        ensures { result ≡ length (starts_in self.now) }
+    {
         self.count
     }
 
@@ -167,7 +170,9 @@ impl<'a> Sections<'a> {
             return Err(Stop::NoMemory);
         }
         let difference = section.placed.start.wrapping_sub(section.placed.load);
-        let count = self.count.saturating_add(section.pieces.len());
+        let Some(count) = self.count.checked_add(section.pieces.len()) else {
+            return Err(Stop::NoMemory);
+        };
         match &section.output.region {
             None => {
                 self.list.push(section)?;

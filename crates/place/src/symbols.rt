@@ -19,6 +19,8 @@ pub(crate) struct Symbol<'a> {
     pub name: &'a [u8],
     /// Its value.
     pub value: u64,
+    /// The number of the command that gives it its value.
+    pub number: usize,
 }
 
 /// The symbols that a script has given values so far, in the order of the text. A look-up takes the time of one in the
@@ -95,7 +97,11 @@ impl<'a> Symbols<'a> {
         if number >= self.values.len() {
             return Err(Stop::NoMemory);
         }
-        self.list.push(Symbol { name, value })?;
+        self.list.push(Symbol {
+            name,
+            value,
+            number,
+        })?;
         match self.values[number] {
             None => {
                 self.values[number] = Some(value);

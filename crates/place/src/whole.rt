@@ -1,23 +1,27 @@
 //! A layout that is whole.
 
 ghost use Rattle.std.specs.Prelude.{◌≡◌, ◌++◌, map, IfOk, OnOk};
-ghost use Rattle.ldmodel.specs.Lent.{data_of, name_given_by, region_of as region_numbers, symbol_of as named_by};
+ghost use Rattle.ldtree.specs.Numbered.{shown_commons};
+ghost use Rattle.ldmodel.specs.Lent.{data_of, region_of as region_numbers, symbol_of as named_by};
 ghost use Rattle.place.specs.Keyed.{KeyedPiece};
 ghost use Rattle.place.specs.Naming.{Naming};
 ghost use Rattle.place.specs.Places.{AreOf};
+ghost use Rattle.place.specs.ProvidedTable.{name_in};
 ghost use Rattle.place.specs.RegionTable.{region_of};
 ghost use Rattle.place.specs.SectionTable.{keyed, keyed_piece};
 ghost use Rattle.place.specs.State.{layout_of};
 ghost use Rattle.place.specs.Wholes.{all_data_in, data_in, placed_in, starts_in};
 
 use crate::placement::Placement;
+use crate::provided::name_of;
 use crate::regions::Region;
 use crate::sections::{Closed, DataAt, PieceAt};
 use crate::state::{Done, Here};
-use crate::symbols::{Symbols, symbol_number};
+use crate::symbols::{Symbol, Symbols};
 use ldmodel::laid::{OutputIndex, Placed, PlacedData, PlacedRegion};
 use ldmodel::script_symbol::{CommonIndex, ScriptSymbol};
 use ldscript::script::Script;
+use ldscript::tree::CommonAt;
 use std::alloc::{AllocError, Global};
 
 /// The numbers of the output sections.
@@ -109,10 +113,11 @@ fn symbols_of(
 ) -> Result<Vec<ScriptSymbol>, AllocError>
     ensures { IfOk result (λ v. map (named_by script.now) v.items ≡ symbols.now) }
 {
+    let commands = script.common_commands(alloc)?;
     let symbols = symbols.as_slice();
     let mut list = Vec::with_capacity(alloc, symbols.len())?;
     for symbol in symbols {
-        let command = command_of(script, symbol.name)?;
+        let command = command_of(&commands, symbol)?;
         list.push(ScriptSymbol {
             command,
             value: symbol.value,
@@ -122,18 +127,19 @@ fn symbols_of(
 }
 
 /// The number of the command that gives a symbol its value.
-#[tactic(auto, using(crate::proofs::Numbers::symbol_named_by))]
-fn command_of(script: &Script, name: &[u8]) -> Result<CommonIndex, AllocError>
-    ensures { IfOk result (λ k. name_given_by script.now k.0 ≡ name.now) }
+fn command_of(commands: &[CommonAt<'_>], symbol: &Symbol<'_>) -> Result<CommonIndex, AllocError>
+    ensures { IfOk result (λ k. name_in (shown_commons commands.now) k.0 ≡ symbol.now.name.now) }
 {
-    // it does not come to an error here: the name is one that the script gives a value, and a script is too short for
-    // 2^32 commands
-    match symbol_number(script, name) {
-        Some(number) => match u32::try_from(number) {
-            Ok(number) => Ok(CommonIndex(number)),
-            Err(_) => Err(AllocError),
-        },
-        None => Err(AllocError),
+    // it does not come to an error here: the number was found under the name, and a script is too short for 2^32
+    // commands
+    let Ok(number) = u32::try_from(symbol.number) else {
+        return Err(AllocError);
+    };
+    let command = CommonIndex(number);
+    if name_of(commands, command) == symbol.name {
+        Ok(command)
+    } else {
+        Err(AllocError)
     }
 }
 

@@ -1,10 +1,11 @@
-use Rattle.std.proofs.Common.{◌≡◌, ℕ, List, map, sym, ap, ◌∙◌, inl, inr, Err, Result}
+use Rattle.std.proofs.Common.{◌≡◌, ℕ, List, map, sym, ap, ◌∙◌, inl, inr, refl, Err, Result}
 use Rattle.ldtree.specs.declared.statement.Statement.{Statement}
 use Rattle.ldmodel.specs.Chain.{run}
 use Rattle.ldmodel.specs.Fault.{Fault}
 use Rattle.ldmodel.specs.Layout.{Layout}
 use Rattle.ldmodel.specs.Placement.{placement, statement_step}
 use Rattle.place.proofs.Good.{begins, stops_at}
+use Rattle.place.proofs.Kept.{both_some, resumes_within}
 use Rattle.place.proofs.place.lay_out.Goals as goal
 use Rattle.place.specs.Naming.{rows_named}
 use Rattle.place.specs.ProvidedTable.{provided_names}
@@ -35,3 +36,34 @@ returns-clause-faulty g c =
       | inr m ↦ inr m
     ])
     c.reported.ensures.fault c.reported.ensures.memory
+
+pub returns-in-Ok-clause-resumed : goal.returns-in-Ok-clause-resumed
+returns-in-Ok-clause-resumed g c =
+    both_some c.args.kept _ _ _ c.kept_starts-first.ensures.starts c.kept_starts-first.ensures.first
+    (λ k starts number kept. inr (
+      c.place_statements-laid.new.here.anew,
+      resumes_within g.naming c.args.script.now (map (λ v. v.items) c.args.rows.now)
+          (provided_names c.args.script.now c.args.provided.now) k.0.now k.1
+          (layout_of g.naming c.place_statements-laid.new.here c.place_statements-laid.new.done) _
+          c.in_ok-here.here c.place_statements-laid.new.here c.in_ok-sections.sections
+          c.place_statements-laid.new.done.sections c.in-Ok.ensures.resumed kept
+          (sym (begins g.naming c.in_ok-here.here
+          (record { sections = c.in_ok-sections.sections; regions = c.new-regions.result })
+          (rows_named g.naming (map (λ v. v.items) c.args.rows.now))
+          (provided_names c.args.script.now c.args.provided.now) c.args.script.now
+          c.in_ok-here.ensures.dot c.in_ok-here.ensures.dots c.in_ok-here.ensures.inputs c.in_ok-here.ensures.symbols
+          c.in_ok-sections.ensures c.new-regions.ensures)
+          ∙ (ap (λ (ps : List (List ℕ)).
+          run (statement_step (rows_named g.naming (map (λ v. v.items) c.args.rows.now)) ps)
+          (layout_of g.naming c.in_ok-here.here
+          (record { sections = c.in_ok-sections.sections; regions = c.new-regions.result })) c.args.script.now)
+          (sym c.in_ok-provided.ensures)
+          ∙ (ap (λ (xs : List Statement).
+          run (statement_step (rows_named g.naming (map (λ v. v.items) c.args.rows.now)) c.in_ok-provided.provided)
+          (layout_of g.naming c.in_ok-here.here
+          (record { sections = c.in_ok-sections.sections; regions = c.new-regions.result })) xs)
+          (sym c.statements.ensures.value)
+          ∙ c.in-Ok.ensures.gives)))
+          refl starts number refl c.in_ok-here.ensures.anew c.in_ok-sections.ensures,
+      c.raise.ensures,
+    ))

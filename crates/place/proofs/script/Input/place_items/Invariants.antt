@@ -1,7 +1,7 @@
 use Rattle.std.proofs.Common.{◌≡◌, ◌+◌, ◌≤◌, drop, length, map}
 use Rattle.ldmodel.specs.Chain.{run}
 use Rattle.ldmodel.specs.Placement.{item_step}
-use Rattle.place.specs.Counted.{entries}
+use Rattle.place.specs.Counted.{Resumes, entries}
 use Rattle.place.specs.Inputs.{rows_of}
 use Rattle.place.specs.State.{layout_of}
 use Rattle.place.proofs.script.Input.place_items.Given as goal
@@ -16,4 +16,5 @@ invariant-loop-item g l = record {
       (drop l.item-index l.items);
   anew : l.here.anew + entries (length l.done.sections) (map (λ v. v.items) l.self.rows.now)
       ≤ l.fn.here.anew + entries (length l.fn.done.sections) (map (λ v. v.items) l.self.rows.now);
+  resumed : Resumes l.self l.fn.here l.here l.fn.done.sections l.done.sections;
 }

@@ -1,4 +1,4 @@
-use Rattle.std.proofs.Common.{◌≡◌, drop, length}
+use Rattle.std.proofs.Common.{◌≡◌, drop}
 use Rattle.ldmodel.specs.Body.{body_step}
 use Rattle.ldmodel.specs.Chain.{run}
 use Rattle.place.specs.Counted.{Counted}
@@ -12,5 +12,5 @@ abbrev pub invariant-loop-statement : goal.invariant-loop-statement
 invariant-loop-statement g l = record {
   gives : run (body_step l.self.provided.now) (body_of g.naming l.fn.here l.self) l.body
       ≡ run (body_step l.self.provided.now) (body_of g.naming l.here l.self) (drop l.statement-index l.body);
-  counted : Counted l.fn.here l.here (length l.self.row.now);
+  counted : Counted l.fn.here l.here l.self;
 }

@@ -1,7 +1,10 @@
 use Rattle.place.proofs.state.Frame.place_command.Given as goal
 
-abbrev pub ghost-move_dot : goal.ghost-move_dot
-ghost-move_dot g a = g.naming
+abbrev pub ghost-advance : goal.ghost-advance
+ghost-advance g a = g.naming
+
+abbrev pub ghost-set_dot : goal.ghost-set_dot
+ghost-set_dot g a = g.naming
 
 abbrev pub ghost-common : goal.ghost-common
 ghost-common g a = g.naming

@@ -14,7 +14,7 @@ invariant-loop-here g l = record {
       (row_named g.naming (drop (length l.fn.here.pieces.items) l.self.row.now))
       ≡ pieces_placed l.line l.number (body_of g.naming l.here l.self)
       (row_named g.naming (drop (length l.here.pieces.items) l.self.row.now));
-  counted : Counted l.fn.here l.here (length l.self.row.now);
+  counted : Counted l.fn.here l.here l.self;
 }
 
 abbrev pub decreases-loop-here : goal.decreases-loop-here

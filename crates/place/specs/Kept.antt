@@ -1,0 +1,13 @@
+-- An earlier layout whose starts may be taken over.
+use Rattle.std.specs.Prelude.{◌≡◌, ℕ, ◌<◌, List, [], slice_index_or}
+use Rattle.ldtree.specs.declared.statement.Statement.{Statement}
+use Rattle.ldmodel.specs.Rows.{Piece}
+use Rattle.place.specs.Places.{IsPlacement, Places}
+
+-- the places are those of an earlier layout of the script, in which the same PROVIDEs were in force, and whose rows were
+-- the same before this number
+pub record IsKept (script : List Statement) (rows : List (List Piece)) (provided : List (List ℕ)) (kept : Places)
+    (first : ℕ) : Type 0 where
+  pub earlier : List (List Piece)
+  pub placed : IsPlacement script earlier provided kept
+  pub same : (k : ℕ) → k < first → slice_index_or earlier k [] ≡ slice_index_or rows k []
