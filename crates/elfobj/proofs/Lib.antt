@@ -4,7 +4,7 @@ pub mod Passing
 pub mod Steps
 pub mod Refusals
 pub mod Limits
-pub mod NameTables
+pub mod StringTables
 pub mod Found
 pub mod SymbolTables
 pub mod RelocationTables

@@ -7,7 +7,7 @@ ghost use Rattle.elfobj.specs.SectionHeaders.{headers as headers_of};
 ghost use Rattle.elfobj.specs.Sections.{linked_as, sections_of};
 ghost use Rattle.elfobj.specs.SectionTable.{HasSectionTable};
 
-use crate::names::NameTable;
+use crate::names::StringTable;
 use crate::place::{Place, place_of};
 use crate::section::{Section, SectionIndex, SectionKind};
 use crate::section_header::SectionHeader;
@@ -26,7 +26,7 @@ pub struct Linked {
 #[tactic(auto, unfolding(crate::specs::Sections::name_table))]
 fn placed_section(
     bytes: &[u8],
-    names: &NameTable,
+    names: &StringTable,
     number: u16,
     header: &SectionHeader,
     kind: SectionKind,
@@ -61,7 +61,7 @@ impl Linked {
 pub fn linked_sections(
     alloc: Global,
     bytes: &[u8],
-    names: &NameTable,
+    names: &StringTable,
     headers: &[SectionHeader],
 ) -> Result<Linked, AllocError>
     requires table { HasSectionTable bytes.now }

@@ -22,7 +22,7 @@ pub fn is_graphic(b: u8) -> bool
 /// A string table of a file, with the length of the name that begins at each of its bytes, so that no name is looked
 /// through again for each header or symbol that has it.
 #[derive(Drop)]
-pub struct NameTable<'a> {
+pub struct StringTable<'a> {
     file: &'a [u8],
     header: SectionHeader,
     lengths: Vec<u16>,
@@ -62,7 +62,7 @@ fn name_lengths(alloc: Global, table: &[u8]) -> Result<Vec<u16>, AllocError>
     Ok(lengths)
 }
 
-impl<'a> NameTable<'a> {
+impl<'a> StringTable<'a> {
     ghost use Rattle.elfobj.specs.Names.{is_name, string_at};
     ghost use Rattle.elfobj.specs.TableOf.{table_of};
     ghost use Rattle.elfobj.specs.Places.{IsInside, bytes_at};
@@ -72,20 +72,20 @@ impl<'a> NameTable<'a> {
         alloc: Global,
         file: &'a [u8],
         header: &SectionHeader,
-    ) -> Result<NameTable<'a>, AllocError>
+    ) -> Result<StringTable<'a>, AllocError>
         requires { header.now.sh_offset + header.now.sh_size ≤ length file.now }
         ensures file { IfOk result (λ t. t.file.now ≡ file.now) }
         ensures header { IfOk result (λ t. t.header ≡ header.now) }
     {
         let lengths = name_lengths(alloc, header.file_bytes(file))?;
-        Ok(NameTable {
+        Ok(StringTable {
             file,
             header: *header,
             lengths,
         })
     }
 
-    #[tactic(auto, using(crate::proofs::NameTables::length_told))]
+    #[tactic(auto, using(crate::proofs::StringTables::length_told))]
     fn length_at(&self, at: usize) -> u16
         ensures { result ≡ first_length (drop at (table_of self.now)) }
     {
@@ -98,7 +98,7 @@ impl<'a> NameTable<'a> {
 
     /// The length of the name that begins at this offset of the table, if it ends inside the table and is within the
     /// limits: 1 to 65,535 bytes from `!` to `~`.
-    #[tactic(auto, using(crate::proofs::NameTables::told_none, crate::proofs::NameTables::told_some))]
+    #[tactic(auto, using(crate::proofs::StringTables::told_none, crate::proofs::StringTables::told_some))]
     pub fn name_length(&self, at: u32) -> Option<u16>
         ensures found { is_some result ≡ option_map_or is_name (string_at (table_of self.now) at) false }
         ensures within { IfSome result (λ n. at + n ≤ length (table_of self.now)) }
@@ -112,7 +112,7 @@ impl<'a> NameTable<'a> {
     }
 
     /// Where in the file the name lies that begins at this offset of the table.
-    pub fn name_place(&self, at: u32) -> Span
+    pub fn file_range(&self, at: u32) -> Span
         requires { option_map_or is_name (string_at (table_of self.now) at) false ≡ true }
         ensures within { IsInside (length self.now.file.now) result }
         ensures name { bytes_at self.now.file.now result ≡ unwrap_or (string_at (table_of self.now) at) [] }

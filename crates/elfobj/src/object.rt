@@ -19,7 +19,8 @@ use std::alloc::{AllocError, Global};
 use std::marker::Model;
 
 /// A relocatable ELF-64 object for x86-64, which only `Object::read` makes. It owns the bytes that it was
-/// read from, and lends names and contents of sections as slices of them.
+/// read from, and lends names and contents of sections as slices of them. What it lends as slices of a public type, its
+/// sections and symbols, stands in lists of their own, beside the places that belong to them.
 #[derive(Drop)]
 pub struct Object {
     bytes: Vec<u8>,

@@ -8,7 +8,7 @@ ghost use Rattle.elfobj.specs.Places.{IsWithin, IsFileWithin, name_in, bytes_in}
 ghost use Rattle.elfobj.specs.Sections.{contents};
 ghost use Rattle.elfobj.specs.TableOf.{table_of};
 
-use crate::names::NameTable;
+use crate::names::StringTable;
 use crate::section::SectionKind;
 use crate::section_header::SectionHeader;
 
@@ -35,7 +35,7 @@ pub struct Span {
 }
 
 /// Where the bytes of a section begin and end: nowhere for one without bytes in the file.
-fn file_range(header: &SectionHeader, kind: SectionKind, len: usize) -> (usize, usize)
+fn contents_range(header: &SectionHeader, kind: SectionKind, len: usize) -> (usize, usize)
     requires { IsFileWithin len header.now kind }
     ensures order { result.0 ≤ result.1 }
     ensures end { result.1 ≤ len }
@@ -51,7 +51,7 @@ fn file_range(header: &SectionHeader, kind: SectionKind, len: usize) -> (usize, 
 }
 
 /// The place of a section, whose name stands in this table.
-pub fn place_of(names: &NameTable, header: &SectionHeader, kind: SectionKind, len: usize) -> Place
+pub fn place_of(names: &StringTable, header: &SectionHeader, kind: SectionKind, len: usize) -> Place
     requires name { option_map_or is_name (string_at (table_of names.now) header.now.sh_name) false ≡ true }
     requires file { IsFileWithin len header.now kind }
     requires len { len ≡ length names.now.file.now }
@@ -59,8 +59,8 @@ pub fn place_of(names: &NameTable, header: &SectionHeader, kind: SectionKind, le
     ensures name { name_in names.now.file.now result ≡ unwrap_or (string_at (table_of names.now) header.now.sh_name) [] }
     ensures bytes { bytes_in names.now.file.now result ≡ contents names.now.file.now header.now kind }
 {
-    let name = names.name_place(header.sh_name);
-    let (start, end) = file_range(header, kind, len);
+    let name = names.file_range(header.sh_name);
+    let (start, end) = contents_range(header, kind, len);
     Place {
         name_start: name.start,
         name_end: name.end,

@@ -6,7 +6,7 @@ ghost use Rattle.elfobj.specs.SectionHeaders.{header_at, headers};
 ghost use Rattle.elfobj.specs.SectionTable.{HasSectionTable};
 
 use crate::elf_header::{section_count, section_table_offset};
-use crate::names::NameTable;
+use crate::names::StringTable;
 use crate::section::SectionKind;
 use elfdefs::constants::{
     MAX_SECTION_SIZE, PROFILE_FLAGS, SHDR_SIZE, SHF_ALLOC, SHT_NOBITS, SHT_NULL, SHT_REL, SHT_RELA,
@@ -89,7 +89,7 @@ impl SectionHeader {
 
     /// Whether it is allocated, and has a type that isn't linked, a flag outside the profile, or no name
     /// within the limits in the name table.
-    pub fn is_outside_profile(&self, names: &NameTable) -> bool
+    pub fn is_outside_profile(&self, names: &StringTable) -> bool
         ensures { result ≡ is_outside_profile_by (table_of names.now) self.now }
     {
         self.is_looked_at()

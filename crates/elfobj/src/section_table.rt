@@ -12,7 +12,7 @@ ghost use Rattle.elfdefs.specs.declared.refusal.ObjectRefusal.TheVariants.{NoMem
 
 use crate::elf_header::{header_refusal, name_table_number};
 use crate::linked::{Linked, linked_sections};
-use crate::names::NameTable;
+use crate::names::StringTable;
 use crate::refusal::ObjectRefusal;
 use crate::relocation_run::Relocations;
 use crate::relocation_table::read_relocations;
@@ -37,7 +37,7 @@ fn is_any_out_of_bounds(headers: &[SectionHeader], len: u64) -> bool
     headers.iter().any(|h| h.is_out_of_bounds(len))
 }
 
-fn is_any_outside_profile(headers: &[SectionHeader], names: &NameTable) -> bool
+fn is_any_outside_profile(headers: &[SectionHeader], names: &StringTable) -> bool
     ensures { result ≡ list_any (is_outside_profile_by (table_of names.now)) headers.now }
 {
     headers.iter().any(|h| h.is_outside_profile(names))
@@ -67,25 +67,25 @@ pub struct Parts {
 }
 
 /// Reads the parts of a file whose section headers have passed their tests, or tells why it is no object.
-fn read_tables(
+fn read_tables<'a>(
     alloc: Global,
-    bytes: &[u8],
-    names: &NameTable,
+    bytes: &'a [u8],
+    names: StringTable<'a>,
     headers: &[SectionHeader],
 ) -> Result<Parts, ObjectRefusal>
     requires table { HasSectionTable bytes.now }
-    requires names { IsNameTable bytes.now names.now.header }
-    requires file { names.now.file.now ≡ bytes.now }
+    requires names { IsNameTable bytes.now names.header }
+    requires file { names.file.now ≡ bytes.now }
     requires headers { headers.now ≡ headers_of bytes.now }
     requires tests { PassesTests bytes.now }
     ensures ok { IfOk result (λ p. find (holds bytes.now) (symbol_refusals ++ relocation_refusals) ≡ None) }
     ensures read { IfOk result (λ p. ArePartsOf bytes.now p.linked.sections.items p.linked.places.items p.symbols.symbols.items p.symbols.names.items p.relocations.all.items p.relocations.spans.items) }
     ensures refused { IfErr result (λ e. (e ≡ NoMemory) ⊎ (find (holds bytes.now) (symbol_refusals ++ relocation_refusals) ≡ Some e)) }
 {
-    let symbols = read_symbols(alloc, bytes, headers)?;
-    let Ok(linked) = linked_sections(alloc, bytes, names, headers) else {
+    let Ok(linked) = linked_sections(alloc, bytes, &names, headers) else {
         return Err(ObjectRefusal::NoMemory);
     };
+    let symbols = read_symbols(alloc, bytes, headers, names)?;
     let count = symbols.symbols.len();
     let relocations = read_relocations(alloc, bytes, headers, &linked.sections, count)?;
     Ok(Parts {
@@ -112,11 +112,11 @@ pub fn read_parts(alloc: Global, bytes: &[u8]) -> Result<Parts, ObjectRefusal>
     if has_wrong_bounds(bytes, &names, &headers) {
         return Err(ObjectRefusal::SectionBounds);
     }
-    let Ok(table) = NameTable::of_header(alloc, bytes, &names) else {
+    let Ok(table) = StringTable::of_header(alloc, bytes, &names) else {
         return Err(ObjectRefusal::NoMemory);
     };
     if is_any_outside_profile(&headers, &table) {
         return Err(ObjectRefusal::SectionProfile);
     }
-    read_tables(alloc, bytes, &table, &headers)
+    read_tables(alloc, bytes, table, &headers)
 }

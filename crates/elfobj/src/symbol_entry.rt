@@ -4,7 +4,7 @@
 ghost use Rattle.std.specs.Prelude.{◌≡◌, ◌≤◌, ◌+◌, length};
 ghost use Rattle.elfobj.specs.SymbolEntries.{symbol_entry_at};
 
-use crate::names::NameTable;
+use crate::names::StringTable;
 use crate::section::SectionIndex;
 use crate::symbol::{Binding, Symbol, SymbolKind, SymbolPlace};
 use elfdefs::constants::{
@@ -68,7 +68,7 @@ impl SymbolEntry {
         self.is_local() && (self.st_shndx == SHN_UNDEF || self.st_shndx == SHN_COMMON)
     }
 
-    fn is_wrong_non_local(&self, strings: &NameTable) -> bool
+    fn is_wrong_non_local(&self, strings: &StringTable) -> bool
         ensures { result ≡ is_wrong_non_local (table_of strings.now) self.now }
     {
         !self.is_local()
@@ -87,7 +87,7 @@ impl SymbolEntry {
     }
 
     /// Whether it is outside the profile, in an object of so many section headers with this string table.
-    pub fn is_wrong(&self, sections: u16, strings: &NameTable) -> bool
+    pub fn is_wrong(&self, sections: u16, strings: &StringTable) -> bool
         ensures { result ≡ is_wrong_symbol sections (table_of strings.now) self.now }
     {
         self.bind() > STB_WEAK

@@ -6,13 +6,15 @@ ghost use Rattle.elfobj.specs.Places.{AreNamed, IsInside, bytes_at};
 ghost use Rattle.elfobj.specs.Refusal.{holds, symbol_refusals};
 ghost use Rattle.elfobj.specs.SectionHeaders.{headers as headers_of};
 ghost use Rattle.elfobj.specs.SectionTable.{HasSectionTable};
-ghost use Rattle.elfobj.specs.Linkable.{PassesTests};
+ghost use Rattle.elfobj.specs.ElfHeader.{e_shstrndx};
+ghost use Rattle.elfobj.specs.Linkable.{IsNameTable, PassesTests};
 ghost use Rattle.elfobj.specs.Symbols.{entries_of, is_symbol_table, symbol_name, symbols_from, symbols_of};
 ghost use Rattle.elfobj.specs.TableOf.{table_of};
 ghost use Rattle.elfobj.specs.Tables.{has_misplaced_entry, has_wrong_header, is_local, is_string_table, is_wrong_non_local, is_wrong_symbol};
 ghost use Rattle.elfdefs.specs.declared.refusal.ObjectRefusal.TheVariants.{NoMemory};
 
-use crate::names::NameTable;
+use crate::elf_header::name_table_number;
+use crate::names::StringTable;
 use crate::place::Span;
 use crate::refusal::ObjectRefusal;
 use crate::section_header::SectionHeader;
@@ -127,14 +129,14 @@ fn past_null(entries: &[SymbolEntry]) -> &[SymbolEntry]
     &entries[1..]
 }
 
-fn is_wrong_among(entries: &[SymbolEntry], sections: u16, strings: &NameTable) -> bool
+fn is_wrong_among(entries: &[SymbolEntry], sections: u16, strings: &StringTable) -> bool
     ensures { result ≡ list_any (is_wrong_symbol sections (table_of strings.now)) entries.now }
 {
     entries.iter().any(|e| e.is_wrong(sections, strings))
 }
 
 /// Whether an entry past the null entry is outside the profile.
-fn is_any_wrong(entries: &[SymbolEntry], sections: u16, strings: &NameTable) -> bool
+fn is_any_wrong(entries: &[SymbolEntry], sections: u16, strings: &StringTable) -> bool
     requires { 0 < length entries.now }
     ensures { result ≡ list_any (is_wrong_symbol sections (table_of strings.now)) (drop 1 entries.now) }
 {
@@ -142,7 +144,7 @@ fn is_any_wrong(entries: &[SymbolEntry], sections: u16, strings: &NameTable) -> 
 }
 
 /// Where the name of an entry lies in the file.
-fn name_span(strings: &NameTable, entry: &SymbolEntry) -> Span
+fn name_span(strings: &StringTable, entry: &SymbolEntry) -> Span
     requires { is_wrong_non_local (table_of strings.now) entry.now ≡ false }
     ensures within { IsInside (length strings.now.file.now) result }
     ensures name { bytes_at strings.now.file.now result ≡ symbol_name (table_of strings.now) entry.now }
@@ -150,7 +152,7 @@ fn name_span(strings: &NameTable, entry: &SymbolEntry) -> Span
     if entry.is_local() {
         return NO_NAME;
     }
-    strings.name_place(entry.st_name)
+    strings.file_range(entry.st_name)
 }
 
 impl Symbols {
@@ -167,7 +169,7 @@ impl Symbols {
 /// The symbols of these entries, the first of which is a null entry.
 fn named_symbols(
     alloc: Global,
-    strings: &NameTable,
+    strings: &StringTable,
     entries: &[SymbolEntry],
 ) -> Result<Symbols, AllocError>
     requires some { 0 < length entries.now }
@@ -186,14 +188,41 @@ fn named_symbols(
     Ok(symbols)
 }
 
-/// Reads the symbols of a file whose section headers have passed their tests, or tells why it is no object.
-pub fn read_symbols(
+/// The string table of a symbol table, whose header has this number. It is that of the sections' names where the header is,
+/// and else the first is let go before the second is made.
+fn symbol_names<'a>(
     alloc: Global,
-    bytes: &[u8],
+    bytes: &'a [u8],
+    number: u32,
+    strings: &SectionHeader,
+    section_names: StringTable<'a>,
+) -> Result<StringTable<'a>, AllocError>
+    requires long { 64 ≤ length bytes.now }
+    requires within { strings.now.sh_offset + strings.now.sh_size ≤ length bytes.now }
+    requires file { section_names.file.now ≡ bytes.now }
+    requires same { number ≡ e_shstrndx bytes.now → section_names.header ≡ strings.now }
+    ensures file { IfOk result (λ t. t.file.now ≡ bytes.now) }
+    ensures header { IfOk result (λ t. t.header ≡ strings.now) }
+{
+    if number == u32::from(name_table_number(bytes)) {
+        return Ok(section_names);
+    }
+    drop(section_names);
+    StringTable::of_header(alloc, bytes, strings)
+}
+
+/// Reads the symbols of a file whose section headers have passed their tests, or tells why it is no object. The table of
+/// the sections' names serves for the symbols too, if it is theirs.
+pub fn read_symbols<'a>(
+    alloc: Global,
+    bytes: &'a [u8],
     headers: &[SectionHeader],
+    section_names: StringTable<'a>,
 ) -> Result<Symbols, ObjectRefusal>
     requires table { HasSectionTable bytes.now }
     requires headers { headers.now ≡ headers_of bytes.now }
+    requires names { IsNameTable bytes.now section_names.header }
+    requires file { section_names.file.now ≡ bytes.now }
     requires tests { PassesTests bytes.now }
     ensures ok { IfOk result (λ s. find (holds bytes.now) symbol_refusals ≡ None) }
     ensures symbols { IfOk result (λ s. AreNamed bytes.now (symbols_of bytes.now) s.symbols.items s.names.items) }
@@ -218,7 +247,7 @@ pub fn read_symbols(
         return Err(ObjectRefusal::SymbolTable);
     }
     let strings = headers[table.sh_link as usize];
-    let Ok(names) = NameTable::of_header(alloc, bytes, &strings) else {
+    let Ok(names) = symbol_names(alloc, bytes, table.sh_link, &strings, section_names) else {
         return Err(ObjectRefusal::NoMemory);
     };
     let count = headers.len() as u16;

@@ -1,5 +1,5 @@
 use Rattle.std.proofs.Common.{◌≡◌, ◌+◌, ◌-◌, arith, get_or, length, refl, rules, subst}
-use Rattle.elfobj.proofs.NameTables.{AreLengthsFrom, lengths_start, lengths_step}
+use Rattle.elfobj.proofs.StringTables.{AreLengthsFrom, lengths_start, lengths_step}
 use Rattle.elfobj.proofs.names.name_lengths.Goals as goal
 
 pub loop-at-init : goal.loop-at-init

@@ -1,4 +1,4 @@
-use Rattle.elfobj.proofs.NameTables.{AreLengthsFrom}
+use Rattle.elfobj.proofs.StringTables.{AreLengthsFrom}
 use Rattle.elfobj.proofs.names.name_lengths.Given as goal
 
 abbrev pub invariant-loop-at : goal.invariant-loop-at

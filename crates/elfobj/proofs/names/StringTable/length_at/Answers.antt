@@ -1,8 +1,8 @@
 use Rattle.std.proofs.Common.{sym, ◌∙◌, arith}
 use Rattle.std.proofs.lemmas.List.{get_or_past, get_or_read}
 use Rattle.elfobj.specs.TableOf.{table_of}
-use Rattle.elfobj.proofs.NameTables.{length_told}
-use Rattle.elfobj.proofs.names.NameTable.length_at.Goals as goal
+use Rattle.elfobj.proofs.StringTables.{length_told}
+use Rattle.elfobj.proofs.names.StringTable.length_at.Goals as goal
 
 pub returns-then-at-len : goal.returns-then-at-len
 returns-then-at-len c =

@@ -1,7 +1,7 @@
 use Rattle.std.proofs.Common.{Some, ap, refl, sym, ◌∙◌}
 use Rattle.elfobj.specs.TableOf.{table_of}
 use Rattle.elfobj.proofs.Cuts.{name_cut_by}
-use Rattle.elfobj.proofs.names.NameTable.name_place.Goals as goal
+use Rattle.elfobj.proofs.names.StringTable.file_range.Goals as goal
 
 pub returns-clause-name : goal.returns-clause-name
 returns-clause-name c =

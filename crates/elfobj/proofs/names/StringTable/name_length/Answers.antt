@@ -1,7 +1,7 @@
 use Rattle.std.proofs.Common.{sym, arith}
 use Rattle.elfobj.specs.TableOf.{table_of}
-use Rattle.elfobj.proofs.NameTables.{told_string, told_within}
-use Rattle.elfobj.proofs.names.NameTable.name_length.Goals as goal
+use Rattle.elfobj.proofs.StringTables.{told_string, told_within}
+use Rattle.elfobj.proofs.names.StringTable.name_length.Goals as goal
 
 pub returns-clause-within : goal.returns-clause-within
 returns-clause-within c = told_within (table_of c.args.self.now) c.args.at c.length_at-length.result (sym c.length_at-length.ensures) (omega arith)
