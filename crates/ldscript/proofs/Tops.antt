@@ -8,7 +8,7 @@ use Rattle.ldtokens.specs.declared.token.Mark.TheVariants.{OpenParenthesis, Clos
 use Rattle.ldtokens.specs.declared.token.Mode.TheVariants.{Expression}
 use Rattle.ldscript.specs.Steps.{Part, ◌▸◌, mark, token, key, name, each, statements, Semicolons, none}
 use Rattle.ldscript.specs.Grammar.{common, region, item_statement, entry, memory, sections, top_command, top_statement, script}
-use Rattle.ldscript.specs.Readings.{NoneAt, Fails, at_end}
+use Rattle.ldscript.specs.Readings.{NoneAt, Fails}
 use Rattle.ldscript.specs.declared.fault.Fault.{Fault}
 use Rattle.ldscript.specs.declared.fault.Fault.TheVariants.{NotAScript}
 use Rattle.std.proofs.lemmas.Result.{err_from_is_err_and}
@@ -94,6 +94,10 @@ top_named (top.Common (commons.Assert a)) ts r x = (codes "ASSERT", x.0, x.1)
 
 nil_cons : (x : Lexeme) (xs : List Lexeme) → [] ≡ x ∷ xs → ⊥
 nil_cons x xs e = cc
+
+-- the end of the tokens
+abbrev pub at_end : Part
+at_end ts rest = (ts ≡ []) × (rest ≡ [])
 
 pub tops_listed : Listed (λ ts. Unit {0}) at_end top_statement
 tops_listed = record {

@@ -1,5 +1,5 @@
 -- What the readers of the parts of a script answer, and the parts that one reader reads at once.
-use Rattle.std.specs.Prelude.{◌≡◌, ◌<◌, ◌≤◌, List, [], codes, length, Bool, true, false, Option, Some, None, Result, Ok, Err}
+use Rattle.std.specs.Prelude.{◌≡◌, ◌<◌, ◌≤◌, List, codes, length, Bool, true, false, Option, Some, None, Result, Ok, Err}
 use Rattle.ldtokens.specs.Tokens.{Lexeme, Discard}
 use Rattle.ldtokens.specs.declared.token.Mark.TheVariants.{OpenParenthesis, CloseParenthesis, OpenBrace, Colon, Greater, Assign}
 use Rattle.ldtokens.specs.declared.token.Mode.TheVariants.{Expression, Pattern}
@@ -70,10 +70,6 @@ opened_part a = optional alignment a ▸ mark OpenBrace
 -- [AT "(" e ")"] [ALIGN "(" e ")"] "{"
 abbrev pub head_part : SectionHead → Part
 head_part h = optional at_address h.load ▸ opened_part h.alignment
-
--- the end of the tokens
-abbrev pub at_end : Part
-at_end ts rest = (ts ≡ []) × (rest ≡ [])
 
 -- this tree stands here, and no other of which what follows stops it
 pub record TakesOnly {A : Type 0} (Stop : List Lexeme → Type 0) (p : A → Part) (ts : List Lexeme) (x : A) (rest : List Lexeme) : Type 0 where

@@ -13,6 +13,7 @@ use crate::read_section::section;
 use crate::steps::after;
 use ldtokens::cursor::Cursor;
 use ldtokens::token::{Mark, Mode, TokenKind};
+use ldtree::held::Held;
 use ldtree::input::InputStatement;
 use ldtree::sequence::Sequence;
 use ldtree::statement::{Item, ItemCommand};
@@ -73,7 +74,7 @@ fn item_command<'a>(alloc: Global, tokens: Cursor<'a>) -> Result<(ItemCommand, C
         Err(Fault::NotAScript) => {}
     }
     match section(alloc, tokens) {
-        Ok((section, rest)) => Ok((ItemCommand::Section(section), rest)),
+        Ok((section, rest)) => Ok((ItemCommand::Section(Held::new(alloc, section)?), rest)),
         Err(Fault::NoMemory) => Err(Fault::NoMemory),
         Err(Fault::NotAScript) => Err(Fault::NotAScript),
     }

@@ -2,7 +2,7 @@
 
 ghost use Rattle.std.specs.Prelude.{◌≡◌, [], IfErr, IfOk};
 ghost use Rattle.std.specs.Option.{option_copied};
-ghost use Rattle.ldscript.specs.Script.{IsScript, IsRefusal, IsSound};
+ghost use Rattle.ldscript.specs.Script.{IsScript, IsTree, IsRefusal, IsSound};
 ghost use Rattle.ldtree.specs.Given.{given_by, region_number, section_number};
 ghost use Rattle.ldtree.specs.Numbering.{common_commands, entry_of, input_statements, output_sections, regions};
 ghost use Rattle.ldtree.specs.Numbered.{shown_commons, shown_inputs, shown_regions, shown_sections};
@@ -48,6 +48,24 @@ impl Model for Script {
     ghost view = { λ s. s.statements };
 
     ghost invariant = { λ s. IsSound s.statements × IsTablesOf s.statements s.tables };
+}
+
+/// The tree of a text. Its tokens are let go before anything else takes memory.
+fn read_tree(alloc: Global, text: &[u8]) -> Result<Sequence<Statement>, ScriptRefusal>
+    ensures read { IfOk result (λ s. IsTree text.now s) }
+    ensures refused { IfErr result (λ r. IsRefusal text.now r) }
+{
+    let tokens = match tokens(alloc, text) {
+        Ok(tokens) => tokens,
+        Err(TokenRefusal::NotAToken) => return Err(ScriptRefusal::NotTokens),
+        Err(TokenRefusal::Limit) => return Err(ScriptRefusal::Limit),
+        Err(TokenRefusal::NoMemory) => return Err(ScriptRefusal::NoMemory),
+    };
+    match statements_of(alloc, Cursor::new(text, &tokens)) {
+        Ok(statements) => Ok(statements),
+        Err(Fault::NotAScript) => Err(ScriptRefusal::NotAScript),
+        Err(Fault::NoMemory) => Err(ScriptRefusal::NoMemory),
+    }
 }
 
 impl Script {
@@ -133,17 +151,7 @@ impl Script {
         ensures read { IfOk result (λ s. IsScript text.now s) }
         ensures refused { IfErr result (λ r. IsRefusal text.now r) }
     {
-        let tokens = match tokens(alloc, text) {
-            Ok(tokens) => tokens,
-            Err(TokenRefusal::NotAToken) => return Err(ScriptRefusal::NotTokens),
-            Err(TokenRefusal::Limit) => return Err(ScriptRefusal::Limit),
-            Err(TokenRefusal::NoMemory) => return Err(ScriptRefusal::NoMemory),
-        };
-        let statements = match statements_of(alloc, Cursor::new(text, &tokens)) {
-            Ok(statements) => statements,
-            Err(Fault::NotAScript) => return Err(ScriptRefusal::NotAScript),
-            Err(Fault::NoMemory) => return Err(ScriptRefusal::NoMemory),
-        };
+        let statements = read_tree(alloc, text)?;
         match has_clash(alloc, statements.as_slice()) {
             Ok(false) => {}
             Ok(true) => return Err(ScriptRefusal::Repeated),

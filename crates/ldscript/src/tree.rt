@@ -9,6 +9,7 @@ pub use ldtree::common::{Assertion, Assignment, Common, DotCommand};
 pub use ldtree::fill::Fill;
 pub use ldtree::formula::Formula;
 pub use ldtree::given::Given;
+pub use ldtree::held::Held;
 pub use ldtree::input::{Input, InputStatement, SectionWord, Sort};
 pub use ldtree::numbering::{CommonAt, InputStatementAt, OutputSectionAt};
 pub use ldtree::place::InputPlace;

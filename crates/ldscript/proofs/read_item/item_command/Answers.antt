@@ -10,8 +10,8 @@ returns-in-Ok-common c = takes_common _ _ _ (rw c.copy-2.ensures at c.in-Ok-comm
 pub returns-in-Ok-discard : goal.returns-in-Ok-discard
 returns-in-Ok-discard c = takes_discard _ _ _ (rw c.copy-3.ensures at c.in-Ok-discard.ensures)
 
-pub returns-in-Ok-section : goal.returns-in-Ok-section
-returns-in-Ok-section c = takes_section_item _ _ _ c.in-Ok-section.ensures
+pub returns-in_ok-new-in-Ok-section : goal.returns-in_ok-new-in-Ok-section
+returns-in_ok-new-in-Ok-section c = rw c.in_ok-new-in-Ok-section.ensures (takes_section_item _ _ _ c.in-Ok-section.ensures)
 
 pub returns-in-Err-NotAScript-section : goal.returns-in-Err-NotAScript-section
 returns-in-Err-NotAScript-section c =

@@ -1,6 +1,6 @@
 use Rattle.std.proofs.Common.{rules}
 use Rattle.ldscript.specs.Grammar.{top_command, top_statement}
-use Rattle.ldscript.specs.Readings.{at_end}
+use Rattle.ldscript.proofs.Tops.{at_end}
 use Rattle.ldscript.proofs.Lists.{so_far_semicolon, so_far_statement}
 use Rattle.ldscript.proofs.Tops.{fails_there, no_script, takes_statement, tops_listed, whole_script}
 use Rattle.ldscript.proofs.read_script.statements_of.Goals as goal
