@@ -29,10 +29,10 @@ fn note_expression<'a>(names: &mut Vec<&'a [u8]>, e: &'a Expr) -> Result<(), NoM
             note_expression(names, b)?;
             Ok(())
         }
-        Expr::Choice(test, a, b) => {
-            note_expression(names, test)?;
-            note_expression(names, a)?;
-            note_expression(names, b)?;
+        Expr::Choice(of) => {
+            note_expression(names, &of.test)?;
+            note_expression(names, &of.first)?;
+            note_expression(names, &of.second)?;
             Ok(())
         }
     }
@@ -126,7 +126,7 @@ fn note_item_command<'a>(
     match command {
         ItemCommand::Dot(command) => note_dot_command(names, command),
         ItemCommand::Common(command) => note_common(names, command),
-        ItemCommand::Section(section) => note_section(names, section),
+        ItemCommand::Section(section) => note_section(names, section.get()),
         ItemCommand::Discard(_) => Ok(()),
     }
 }

@@ -123,12 +123,12 @@ pub fn value<'e, S: Scope>(e: &'e Expr, scope: &S, dot: u64) -> Result<u64, Valu
                 given(apply_binary(*operator, x, y))
             }
         }
-        Expr::Choice(test, a, b) => {
-            let x = value(test, scope, dot)?;
+        Expr::Choice(of) => {
+            let x = value(&of.test, scope, dot)?;
             if x != 0 {
-                value(a, scope, dot)
+                value(&of.first, scope, dot)
             } else {
-                value(b, scope, dot)
+                value(&of.second, scope, dot)
             }
         }
         Expr::OfRegion(query, name) => value_of_region(scope, *query, name.as_bytes()),

@@ -107,7 +107,15 @@ impl<'i, 'a> Input<'i, 'a> {
             ItemCommand::Section(output) => {
                 let row = row_at(self.rows, done.sections.len());
                 let kept = self.kept_at(done);
-                here.place_section(self.alloc, done, self.provided, row, kept, line, output)
+                here.place_section(
+                    self.alloc,
+                    done,
+                    self.provided,
+                    row,
+                    kept,
+                    line,
+                    output.get(),
+                )
             }
             ItemCommand::Discard(inputs) => {
                 let Some(next) = here.inputs.checked_add(inputs.as_slice().len() as u64) else {

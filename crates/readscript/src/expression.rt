@@ -86,13 +86,13 @@ pub fn push_expression(out: &mut String, tree: &Expr) -> Result<(), AllocError> 
             push_expression(out, b)?;
             out.push_str(")")
         }
-        Expr::Choice(test, a, b) => {
+        Expr::Choice(of) => {
             out.push_str("(")?;
-            push_expression(out, test)?;
+            push_expression(out, &of.test)?;
             out.push_str("?")?;
-            push_expression(out, a)?;
+            push_expression(out, &of.first)?;
             out.push_str(":")?;
-            push_expression(out, b)?;
+            push_expression(out, &of.second)?;
             out.push_str(")")
         }
         Expr::AlignDot(a) => {

@@ -27,7 +27,7 @@ fn push_item(out: &mut String, item: &Item) -> Result<(), AllocError> {
     match &item.command {
         ItemCommand::Dot(command) => push_dot(out, command)?,
         ItemCommand::Common(command) => push_common(out, command)?,
-        ItemCommand::Section(section) => return push_section(out, section),
+        ItemCommand::Section(section) => return push_section(out, section.get()),
         ItemCommand::Discard(inputs) => return push_discard(out, inputs.as_slice()),
     }
     out.push_str("\n")
