@@ -17,7 +17,7 @@ pub const MAP_MODE: u32 = 0o644;
 /// long is seen to be, and one without an end is not read for ever.
 const MOST: usize = MAX_PAYLOAD + 1;
 
-/// The bytes of a file, in a buffer of its size.
+/// The bytes of a file, in a buffer that is one byte longer, so that the read which finds the end needs no larger one.
 ///
 /// # Errors
 ///
@@ -25,7 +25,10 @@ const MOST: usize = MAX_PAYLOAD + 1;
 pub fn read_file(rt: &HostRuntime, name: &str) -> io::Result<Vec<u8>> {
     let file = File::open(rt, name)?;
     let size = file.metadata()?.len();
-    let room = usize::try_from(size).unwrap_or(MOST).min(MOST);
+    let room = usize::try_from(size)
+        .unwrap_or(MOST)
+        .min(MOST)
+        .saturating_add(1);
     let mut bytes = Vec::with_capacity(rt.alloc(), room)?;
     file.take(MOST as u64).read_to_end(&mut bytes)?;
     Ok(bytes)
