@@ -1,7 +1,8 @@
 //! `readwords`: prints what command lines of `ldi` come to.
 //!
 //! It reads command lines from standard input, one a line. Words are separated by one space, so an empty word is
-//! between two spaces, or at the end after one. The first word is the name of the program; the empty line has no words.
+//! between two spaces, or at the end after one. In a word `\s` stands for a space. The first word is the name of the
+//! program; the empty line has no words.
 //! For each line it prints the line after `> `, and then what the words come to:
 //!
 //!     session OPTIONS
@@ -28,7 +29,7 @@ fn words_of(alloc: Global, line: &str) -> io::Result<Vec<String>> {
     let mut args = Vec::new(alloc);
     if !line.is_empty() {
         for word in line.split(' ') {
-            args.push(String::from_str(alloc, word)?)?;
+            args.push(word.replace(alloc, "\\s", " ")?)?;
         }
     }
     Ok(args)
