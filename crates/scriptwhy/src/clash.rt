@@ -65,10 +65,7 @@ pub fn first_clash(alloc: Global, notes: &[Note<'_>]) -> Result<Option<Explanati
     };
     for note in notes {
         if let Some(reason) = clash_of(&mut given, note)? {
-            return Ok(Some(Explanation {
-                line: Some(note.line),
-                reason,
-            }));
+            return Ok(Some(Explanation::on_line(note.line, reason)));
         }
     }
     Ok(None)

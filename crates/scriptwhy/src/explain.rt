@@ -33,11 +33,15 @@ fn explain_statements(
 pub fn explain(alloc: Global, text: &[u8]) -> Result<Option<Explanation>, AllocError> {
     if text.len() > MAX_TEXT {
         let reason = "the text is longer than 1,048,576 bytes";
-        return Ok(Some(Explanation { line: None, reason }));
+        return Ok(Some(Explanation::of_all(reason)));
     }
     match tokens(alloc, text) {
-        Ok(tokens) => explain_statements(alloc, &mut Walk::new(alloc, Cursor::new(text, &tokens))),
+        Ok(tokens) => {
+            let last_line = tokens.last().map_or(1, |token| token.line);
+            let mut walk = Walk::new(alloc, Cursor::new(text, &tokens), last_line);
+            explain_statements(alloc, &mut walk)
+        }
         Err(TokenRefusal::NoMemory) => Err(AllocError),
-        Err(refusal) => Ok(Some(explain_tokens(alloc, text, refusal)?)),
+        Err(refusal) => Ok(Some(explain_tokens(text, refusal))),
     }
 }

@@ -1,5 +1,6 @@
 //! Input statements.
 
+use crate::pattern::pattern_reason;
 use crate::reason::Stop;
 use crate::walk::Walk;
 use ldscript::tree::Pattern;
@@ -22,9 +23,7 @@ impl<'a> Walk<'a> {
         }
         match Pattern::read(self.alloc, word) {
             Err(_) => Err(Stop::NoMemory),
-            Ok(None) => Err(self.wrong(
-                "this word is no pattern: a `[` has no `]`, a range goes down, or a `\\` ends it",
-            )),
+            Ok(None) => Err(self.wrong(pattern_reason(word))),
             Ok(Some(_)) => {
                 self.pass_token();
                 Ok(())

@@ -5,8 +5,11 @@
 mod body;
 mod clash;
 pub mod explain;
+mod expression;
+mod front;
 mod input;
 mod lines;
+mod pattern;
 pub mod reason;
 mod section;
 mod statement;

@@ -1,114 +1,141 @@
-//! On which line a text stops having tokens. The lexer says only that it does; so beginnings of the text are tried.
+//! On which line a text stops having tokens within the limits, and why. The lexer says only that it does; so the text
+//! is cut once more, with the same rules.
 
+use crate::front::{Ahead, front};
 use crate::reason::Explanation;
-use ldtokens::lexer::tokens;
+use ldtokens::number::number_value;
 use ldtokens::refusal::TokenRefusal;
-use std::alloc::{AllocError, Global};
+use ldtokens::token::{LexState, Mark, Mode, Stretch, TokenKind};
 
-/// How many places where a comment may begin are tried.
-const MOST_COMMENTS: usize = 64;
+/// The greatest length of a name or word, in bytes.
+const MAX_WORD: usize = 255;
+/// The greatest number of `{` in a text.
+const MAX_BRACES: usize = 4096;
+/// The greatest number of signs in a run.
+const MAX_SIGNS: usize = 64;
 
-/// The refusal of the tokens of a beginning of the text, after which these bytes are put.
-fn refusal_with(
-    alloc: Global,
-    beginning: &[u8],
-    end: &[u8],
-) -> Result<Option<TokenRefusal>, AllocError> {
-    let mut text = Vec::with_capacity(alloc, beginning.len().saturating_add(end.len()))?;
-    text.extend_from_slice(beginning)?;
-    text.extend_from_slice(end)?;
-    match tokens(alloc, &text) {
-        Ok(_) => Ok(None),
-        Err(TokenRefusal::NoMemory) => Err(AllocError),
-        Err(refusal) => Ok(Some(refusal)),
+/// More braces and parentheses than a text can open. Nothing is ever cut to it: it shows that their numbers can grow.
+const MOST_OPEN: usize = 1 << 30;
+
+/// What is counted from the beginning of the text on.
+#[derive(Drop)]
+struct Counts {
+    /// The `{`.
+    braces: usize,
+    /// The signs of the run that goes on here: operators and `(`.
+    signs: usize,
+}
+
+/// Whether it is `(`, or an operator other than an assignment.
+fn is_sign(mark: Mark) -> bool {
+    !matches!(
+        mark,
+        Mark::CloseParenthesis
+            | Mark::OpenBrace
+            | Mark::CloseBrace
+            | Mark::Semicolon
+            | Mark::Colon
+            | Mark::Comma
+            | Mark::Assign
+            | Mark::AddAssign
+    )
+}
+
+/// Whether a token belongs to a run of signs: the `(` after `BYTE` and the like does.
+fn is_in_run(state: LexState, kind: TokenKind) -> bool {
+    let is_first = state.stretch == Stretch::Awaited
+        && kind == TokenKind::Punctuation(Mark::OpenParenthesis);
+    let ends = matches!(
+        kind,
+        TokenKind::Punctuation(Mark::Semicolon | Mark::OpenBrace | Mark::CloseBrace)
+    );
+    (is_first || state.mode() == Mode::Expression) && !ends
+}
+
+impl Counts {
+    /// Counts a token, and says which limit is passed with it.
+    fn passed_limit(
+        &mut self,
+        state: LexState,
+        kind: TokenKind,
+        spelled: &[u8],
+    ) -> Option<&'static str> {
+        if !is_in_run(state, kind) {
+            self.signs = 0;
+        }
+        match kind {
+            TokenKind::Number if number_value(spelled).is_none() => Some(
+                "over a limit: this number is 2^64 or more",
+            ),
+            TokenKind::Name | TokenKind::Word if spelled.len() > MAX_WORD => Some(
+                "over a limit: this name has more than 255 bytes",
+            ),
+            TokenKind::Punctuation(Mark::OpenBrace) => {
+                self.braces = self.braces.saturating_add(1);
+                (self.braces > MAX_BRACES).then_some(
+                    "over a limit: this is `{` number 4,097 of the text",
+                )
+            }
+            TokenKind::Punctuation(mark) if is_sign(mark) && is_in_run(state, kind) => {
+                self.signs = self.signs.saturating_add(1);
+                (self.signs > MAX_SIGNS).then_some(
+                    "over a limit: more than 64 operators and `(` with no `;`, `{` or `}` between them",
+                )
+            }
+            _ => None,
+        }
     }
 }
 
-/// The ends of the lines of a text, each after its line feed, and that of the last.
-fn line_ends(alloc: Global, text: &[u8]) -> Result<Vec<usize>, AllocError> {
-    let mut ends = Vec::new(alloc);
-    for (i, byte) in text.iter().enumerate() {
+/// What the mode depends on after a token.
+fn after(state: LexState, kind: TokenKind, spelled: &[u8]) -> LexState {
+    let stretch = match state.stretch {
+        Stretch::ToParenthesis(open) => Stretch::ToParenthesis(open.min(MOST_OPEN)),
+        other => other,
+    };
+    let depth = state.depth.min(MOST_OPEN);
+    LexState { depth, stretch }.after(kind, spelled)
+}
+
+/// The line after these bytes.
+fn line_after(line: u32, bytes: &[u8]) -> u32 {
+    let mut line = line;
+    for byte in bytes {
         if *byte == b'\n' {
-            ends.push(i + 1)?;
+            line = line.saturating_add(1);
         }
     }
-    ends.push(text.len())?;
-    Ok(ends)
-}
-
-/// The number of the first of the beginnings, from 0, that is refused, where a comment that is open at its end is
-/// closed.
-fn first_refused(alloc: Global, text: &[u8], ends: &[usize]) -> Result<usize, AllocError> {
-    let mut low = 0;
-    let mut high = ends.len();
-    // at most 64 halvings
-    for _ in 0..64 {
-        if low >= high {
-            break;
-        }
-        let middle = low + (high - low) / 2;
-        let Some(end) = ends.get(middle) else {
-            break;
-        };
-        let end = (*end).min(text.len());
-        if refusal_with(alloc, &text[..end], b"\n*/\n")?.is_some() {
-            high = middle;
-        } else {
-            low = middle + 1;
-        }
-    }
-    Ok(low)
-}
-
-/// The line, from 0, of the `/*` that no `*/` follows; only the last places are tried.
-fn open_comment(alloc: Global, text: &[u8], ends: &[usize]) -> Result<Option<usize>, AllocError> {
-    let mut tried = 0;
-    for line in (1..ends.len()).rev() {
-        let start = ends[line - 1].min(text.len());
-        let end = ends[line].min(text.len()).max(start);
-        let has_mark = text[start..end].windows(2).any(|w| w == b"/*".as_slice());
-        if !has_mark || tried >= MOST_COMMENTS {
-            continue;
-        }
-        tried += 1;
-        if refusal_with(alloc, &text[..start], b"\n")?.is_none() {
-            return Ok(Some(line));
-        }
-    }
-    Ok(None)
-}
-
-/// A line from 0 as one from 1.
-fn line_number(line: usize) -> Option<u32> {
-    match u32::try_from(line.saturating_add(1)) {
-        Ok(number) => Some(number),
-        Err(_) => None,
-    }
+    line
 }
 
 /// Where and why a text that has no tokens within the limits has none.
-pub fn explain_tokens(
-    alloc: Global,
-    text: &[u8],
-    refusal: TokenRefusal,
-) -> Result<Explanation, AllocError> {
-    let ends = line_ends(alloc, text)?;
-    let line = first_refused(alloc, text, &ends)?;
-    if line >= ends.len() {
-        let line = match open_comment(alloc, text, &ends)? {
-            Some(line) => line_number(line),
-            None => Some(1),
-        };
-        let reason = "a comment that begins here has no end";
-        return Ok(Explanation { line, reason });
-    }
-    let reason = match refusal {
-        TokenRefusal::Limit => {
-            "over a limit: a number of 2^64 or more, a name of over 255 bytes, 64 operators in a row, or 4,096 braces"
-        }
-        _ =>
-            "this is no token of the language: a byte that it does not have, or a text in quotes without an end",
+pub fn explain_tokens(text: &[u8], refusal: TokenRefusal) -> Explanation {
+    let mut counts = Counts {
+        braces: 0,
+        signs: 0,
     };
-    let line = line_number(line);
-    Ok(Explanation { line, reason })
+    let mut state = LexState::start();
+    let mut rest = text;
+    let mut line = 1;
+    // each token and each space has a byte at least
+    for _ in 0..=text.len() {
+        let length = match front(state.mode(), rest) {
+            Ahead::Finished => break,
+            Ahead::Nothing(reason) => return Explanation::on_line(line, reason),
+            Ahead::Space(length) => length,
+            Ahead::Token(kind, length) => {
+                let spelled = rest.get(..length).unwrap_or(rest);
+                let passed = counts.passed_limit(state, kind, spelled);
+                // a text without tokens is refused as such, whatever limit it passes before
+                if let (TokenRefusal::Limit, Some(reason)) = (refusal, passed) {
+                    return Explanation::on_line(line, reason);
+                }
+                state = after(state, kind, spelled);
+                length
+            }
+        };
+        line = line_after(line, rest.get(..length).unwrap_or(rest));
+        rest = rest.get(length..).unwrap_or(&[]);
+    }
+    Explanation::of_all("the text has no tokens within the limits")
 }

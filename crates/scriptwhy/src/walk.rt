@@ -1,13 +1,24 @@
 //! A walk over the tokens of a script, which stops where the grammar does not go on.
 
+use crate::expression::expression_stop;
 use crate::reason::{Explanation, Stop};
 use ldexpr::fault::ParseFault;
 use ldexpr::reader::expr;
 use ldscript::tree::Expr;
+use ldtokens::bytes::{is_name_byte, is_name_start};
 use ldtokens::cursor::Cursor;
 use ldtokens::token::{Mark, Mode, TokenKind};
 use ldtokens::words::{is_free_name, is_reserved};
 use std::alloc::Global;
+
+/// Whether a word in which pattern signs may stand is spelled like a name.
+fn is_spelled_as_name(word: &[u8]) -> bool {
+    match word {
+        [b'.', b'-', ..] => false,
+        [first, rest @ ..] => is_name_start(*first) && rest.iter().all(|b| is_name_byte(*b)),
+        [] => false,
+    }
+}
 
 /// What a script does with a name.
 #[derive(Clone, Copy, Debug, PartialEq, Eq)]
@@ -42,6 +53,8 @@ pub struct Walk<'a> {
     pub alloc: Global,
     /// The tokens to come.
     pub tokens: Cursor<'a>,
+    /// The line of the text's last token.
+    pub last_line: u32,
     /// What the script does with names, in the order of the text.
     pub notes: Vec<Note<'a>>,
     /// The first misplaced `.`.
@@ -49,29 +62,24 @@ pub struct Walk<'a> {
 }
 
 impl<'a> Walk<'a> {
-    /// A walk from the first of these tokens on.
-    pub fn new(alloc: Global, tokens: Cursor<'a>) -> Walk<'a> {
+    /// A walk from the first of these tokens on, the last of which is on this line.
+    pub fn new(alloc: Global, tokens: Cursor<'a>, last_line: u32) -> Walk<'a> {
         Walk {
             alloc,
             tokens,
+            last_line,
             notes: Vec::new(alloc),
             misplaced: None,
         }
     }
 
-    /// The line of the next token, if there is one.
-    pub fn line(&self) -> Option<u32> {
-        if self.tokens.is_empty() {
-            None
-        } else {
-            Some(self.tokens.line())
-        }
-    }
-
-    /// That the next token is wrong.
+    /// That the next token is wrong, or missing.
     pub fn wrong(&self, reason: &'static str) -> Stop {
-        let line = self.line();
-        Stop::Wrong(Explanation { line, reason })
+        Stop::Wrong(if self.tokens.is_empty() {
+            Explanation::at_end(self.last_line, reason)
+        } else {
+            Explanation::on_line(self.tokens.line(), reason)
+        })
     }
 
     /// Notes what is done with a name on a line.
@@ -85,8 +93,7 @@ impl<'a> Walk<'a> {
     /// Notes a misplaced `.` on a line.
     pub fn note_dot(&mut self, line: u32, reason: &'static str) {
         if self.misplaced.is_none() {
-            let line = Some(line);
-            self.misplaced = Some(Explanation { line, reason });
+            self.misplaced = Some(Explanation::on_line(line, reason));
         }
     }
 
@@ -155,6 +162,11 @@ impl<'a> Walk<'a> {
         if !is_free_name(word) {
             return Err(self.wrong("a name is expected here"));
         }
+        if mode == Mode::Pattern && !is_spelled_as_name(word) {
+            return Err(self.wrong(
+                "a symbol is expected before `=`: a letter, `_` or `.`, and then letters, digits, `_`, `.`, `$` and `-`",
+            ));
+        }
         self.pass_token();
         Ok(word)
     }
@@ -192,7 +204,7 @@ impl<'a> Walk<'a> {
             }
             Err(ParseFault::NoMemory) => Err(Stop::NoMemory),
             Err(ParseFault::NotAnExpression) => {
-                Err(self.wrong("an expression is expected here, and what stands here is none"))
+                Err(expression_stop(self.alloc, start, self.last_line))
             }
         }
     }
