@@ -5,3 +5,4 @@ pub mod LinkView
 pub mod Values
 pub mod Candidates
 pub mod Symbols
+pub mod OwnedValues
