@@ -14,11 +14,20 @@ use Rattle.ldrelocating.specs.declared.relocated.Relocated.{Relocated}
 use Rattle.ldstarts.specs.Starts.{AreStarts}
 use Rattle.ldstarts.specs.declared.starts.Starts.{Starts}
 use Rattle.ldvalues.specs.LinkView.{IsLinkView, known_link}
+use Rattle.ldvalues.specs.OwnedValues.{AreOwnedValues}
 use Rattle.ldvalues.specs.Values.{AreValues}
 use Rattle.ldvalues.specs.declared.link_view.LinkView.{LinkView}
 use Rattle.ldvalues.specs.declared.values.Values.{Values}
+use Rattle.relink.specs.declared.passes.Evaluation.{Evaluation}
 
--- all parts have their places, and all names their values
+-- all parts have their places
+pub record IsStarted (p : Project) (l : Laying) (t : Starts) : Type 0 where
+  pub layout : Layout
+  pub laying : IsLaying p layout l
+  pub starts : AreStarts p layout t
+  pub rest : link p ≡ placed p (model.layout p)
+
+-- and all names their values
 pub record IsPlaced (p : Project) (l : Laying) (t : Starts) (w : LinkView) (v : Values) : Type 0 where
   pub layout : Layout
   pub naming : NamingState
@@ -45,3 +54,14 @@ pub record IsFaultless (p : Project) (l : Laying) (t : Starts) (w : LinkView) (v
     : Type 0 where
   pub filled : IsFilled p l t w v r
   pub rest : link p ≡ good p filled.short.placed.layout
+
+-- the same of what is kept of them when the names of the objects are gone
+pub record IsEvaluated (p : Project) (l : Laying) (t : Starts) (e : Evaluation) : Type 0 where
+  pub layout : Layout
+  pub naming : NamingState
+  pub laying : IsLaying p layout l
+  pub starts : AreStarts p layout t
+  pub length : image_length p layout ≤ max_image_length
+  pub values : AreOwnedValues p layout naming e.values
+  pub fields : IsRelocated p layout naming e.fields
+  pub rest : link p ≡ good p layout

@@ -5,7 +5,7 @@ ghost use Rattle.ldmodel.specs.Link.{link};
 ghost use Rattle.relink.specs.Stops.{IsStop};
 
 use crate::output::Output;
-use crate::passes::{asserted, fits, gathered, laid, named, relocated};
+use crate::passes::{evaluated, gathered, laid, named};
 use crate::stop::Stop;
 use lddrawing::image::draw_image;
 use ldlisting::map::map_text;
@@ -13,8 +13,6 @@ use ldmodel::memory::NoMemory;
 use ldmodel::meter::Meter;
 use ldproject::view::ProjectView;
 use ldstarts::starts::Starts;
-use ldvalues::link_view::LinkView;
-use ldvalues::values::Values;
 use std::alloc::{AllocError, Global};
 use std::hash::RandomState;
 
@@ -32,13 +30,17 @@ fn passes(
     let rows = gathered(alloc, project, &naming)?;
     let laying = laid(alloc, project, &naming, &rows, meter)?;
     let starts = Starts::of(alloc, project, &rows, &laying)?;
-    let view = LinkView::new(alloc, &*project, &naming, &laying, &starts)?;
-    let values = Values::of(alloc, &*project, &naming, &laying, &view, meter)?;
-    fits(alloc, project, &laying, &starts, &view, &values)?;
-    let fields = relocated(alloc, project, &laying, &starts, &view, &values, meter)?;
-    asserted(alloc, project, &laying, &starts, &view, &values, &fields)?;
+    let ready = evaluated(alloc, project, naming, &laying, &starts, meter)?;
+    let values = ready.values.lend(alloc)?;
     let image = draw_image(
-        alloc, &*project, &rows, &laying, &starts, &values, &fields, meter,
+        alloc,
+        &*project,
+        &rows,
+        &laying,
+        &starts,
+        &values,
+        &ready.fields,
+        meter,
     )?;
     let map = map_text(alloc, project, &rows, &laying, &values)?;
     Ok(Output::good(alloc, image, map))

@@ -7,7 +7,7 @@ ghost use Rattle.ldmodel.specs.Rows as model;
 ghost use Rattle.ldmodel.specs.declared.fault.Fault.TheVariants.{Orphan};
 ghost use Rattle.ldnaming.specs.Naming.{IsNaming};
 ghost use Rattle.ldproject.specs.ByPlace.{rows_in};
-ghost use Rattle.relink.specs.Phases.{IsFaultless, IsFilled, IsPlaced, IsShort};
+ghost use Rattle.relink.specs.Phases.{IsEvaluated, IsFaultless, IsFilled, IsPlaced, IsShort, IsStarted};
 ghost use Rattle.relink.specs.Stops.{IsStop};
 
 use crate::stop::{Stop, end_if_faulty, faulty_link};
@@ -26,6 +26,7 @@ use ldrelocating::relocated::Relocated;
 use ldsegments::length::length_fault;
 use ldstarts::starts::Starts;
 use ldvalues::link_view::LinkView;
+use ldvalues::owned_values::OwnedValues;
 use ldvalues::values::Values;
 use std::alloc::Global;
 use std::hash::RandomState;
@@ -103,8 +104,17 @@ pub(crate) fn laid(
     }
 }
 
+/// What a link without faults is drawn from, beside its rows and its layout.
+#[derive(Drop)]
+pub(crate) struct Evaluation {
+    /// The values of names, and the symbols of the output.
+    pub values: OwnedValues,
+    /// The fields of relocations.
+    pub fields: Relocated,
+}
+
 /// The end of layout: the image is not too long.
-pub(crate) fn fits(
+fn fits(
     alloc: Global,
     project: &ProjectView<'_>,
     laying: &Laying,
@@ -127,7 +137,7 @@ pub(crate) fn fits(
 }
 
 /// Relocation: the fields of all relocations.
-pub(crate) fn relocated(
+fn relocated(
     alloc: Global,
     project: &ProjectView<'_>,
     laying: &Laying,
@@ -148,7 +158,7 @@ pub(crate) fn relocated(
 }
 
 /// Assertions: each holds.
-pub(crate) fn asserted(
+fn asserted(
     alloc: Global,
     project: &ProjectView<'_>,
     laying: &Laying,
@@ -166,4 +176,32 @@ pub(crate) fn asserted(
         Ok(()) => Ok(()),
         Err(stop) => Err(stop),
     }
+}
+
+/// Evaluation: what the symbols are worth, the length of the image, the fields of relocations, and the assertions. The
+/// names of the objects end here: what is drawn needs them no more, and they take much memory. `&*project` and `&*starts`
+/// lend these for the time of the locals, as the borrow checker wants it.
+pub(crate) fn evaluated(
+    alloc: Global,
+    project: &ProjectView<'_>,
+    naming: Naming,
+    laying: &Laying,
+    starts: &Starts,
+    meter: &mut Meter,
+) -> Result<Evaluation, Stop>
+    requires naming { IsNaming project.now naming }
+    requires started { IsStarted project.now laying.now starts.now }
+    ensures good { IfOk result (λ e. IsEvaluated project.now laying.now starts.now e) }
+    ensures stop { IfErr result (λ stop. IsStop (link project.now) stop) }
+{
+    let view = LinkView::new(alloc, &*project, &naming, laying, &*starts)?;
+    let values = Values::of(alloc, &*project, &naming, laying, &view, meter)?;
+    fits(alloc, project, laying, starts, &view, &values)?;
+    let fields = relocated(alloc, project, laying, starts, &view, &values, meter)?;
+    asserted(alloc, project, laying, starts, &view, &values, &fields)?;
+    let owned = OwnedValues::of(alloc, &values)?;
+    Ok(Evaluation {
+        values: owned,
+        fields,
+    })
 }
