@@ -5,7 +5,7 @@ ghost use Rattle.ldmodel.specs.Link.{link};
 ghost use Rattle.relink.specs.Stops.{IsStop};
 
 use crate::output::Output;
-use crate::passes::{evaluated, gathered, laid, named};
+use crate::passes::{Evaluation, evaluated, gathered, laid, named};
 use crate::stop::Stop;
 use lddrawing::image::draw_image;
 use ldlisting::map::map_text;
@@ -31,16 +31,14 @@ fn passes(
     let laying = laid(alloc, project, &naming, &rows, meter)?;
     let starts = Starts::of(alloc, project, &rows, &laying)?;
     let ready = evaluated(alloc, project, naming, &laying, &starts, meter)?;
-    let values = ready.values.lend(alloc)?;
+    // the borrow checker wants the two apart
+    let Evaluation {
+        values: owned,
+        fields,
+    } = ready;
+    let values = owned.lend(alloc)?;
     let image = draw_image(
-        alloc,
-        &*project,
-        &rows,
-        &laying,
-        &starts,
-        &values,
-        &ready.fields,
-        meter,
+        alloc, &*project, &rows, &laying, &starts, &values, &fields, meter,
     )?;
     let map = map_text(alloc, project, &rows, &laying, &values)?;
     Ok(Output::good(alloc, image, map))
