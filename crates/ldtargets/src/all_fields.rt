@@ -15,9 +15,10 @@ ghost use Rattle.ldtargets.specs.KnownLink.{AreNameValues, KnownLink, named_obje
 
 use crate::fields::add_fields;
 use crate::known::Known;
-use crate::site::PlacedSection;
+use crate::site::{PlacedSection, is_evaluated};
 use crate::value::SymbolValue;
 use elfobj::object::Object;
+use elfobj::relocation::Relocation;
 use elfobj::section::LinkedIndex;
 use ldfields::patch::Patch;
 use ldmodel::fault::Fault;
@@ -183,19 +184,24 @@ fn add_of_key<L: Known>(
     }
 }
 
-/// How many relocations the sections of an object have that are in the output.
+/// How many of these relocations have a field: all but `R_X86_64_NONE`.
+fn count_of_table(relocations: &[Relocation]) -> usize {
+    relocations.iter().filter(|r| is_evaluated(r.kind)).count()
+}
+
+/// How many relocations with a field the sections of an object have that are in the output.
 fn count_of_object<L: Known>(link: &L, key: ObjectKey, object: &Object) -> usize {
     let mut count: usize = 0;
     for index in 0..object.sections().len() {
         let part = Part::InTable(object.sections()[index].number);
         if link.start(SectionKey { object: key, part }).is_some() {
-            count = count.saturating_add(object.relocations(LinkedIndex(index)).len());
+            count = count.saturating_add(count_of_table(object.relocations(LinkedIndex(index))));
         }
     }
     count
 }
 
-/// How many fields there will be at most: one for each relocation of the sections in the output.
+/// How many fields there will be at most.
 fn count_fields<L: Known>(link: &L, objects: &[ObjectKey]) -> usize {
     let mut count: usize = 0;
     for key in objects {
