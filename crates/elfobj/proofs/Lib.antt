@@ -1,10 +1,7 @@
-pub mod Headers
-pub mod Cuts
 pub mod Passing
 pub mod Steps
 pub mod Refusals
 pub mod Limits
-pub mod StringTables
 pub mod Found
 pub mod SymbolTables
 pub mod RelocationTables

@@ -1,15 +1,16 @@
 -- What it means that places in a file or a list are those of names, bytes or relocations.
 use Rattle.std.specs.Prelude.{◌≡◌, ℕ, ◌+◌, ◌≤◌, List, length, map}
 use Rattle.std.specs.List.{All, slice_range}
-use Rattle.elfobj.specs.Sections.{LinkedSection, section_of}
-use Rattle.elfobj.specs.Symbols.{NamedSymbol}
+use Rattle.elffile.specs.Sections.{LinkedSection, section_of}
+use Rattle.elffile.specs.Symbols.{NamedSymbol}
 use Rattle.elfobj.specs.declared.place.Place.{Place}
-use Rattle.elfobj.specs.declared.place.Span.{Span}
+use Rattle.elffile.specs.Spans.{IsInside, bytes_at}
+use Rattle.elffile.specs.declared.span.Span.{Span}
 use Rattle.elfdefs.specs.declared.relocation.Relocation.{Relocation}
 use Rattle.elfdefs.specs.declared.section.Section.{Section}
 use Rattle.elfdefs.specs.declared.section.SectionKind.{SectionKind}
 use Rattle.elfdefs.specs.declared.section.SectionKind.TheVariants.{Nobits}
-use Rattle.elfobj.specs.declared.section_header.SectionHeader.{SectionHeader}
+use Rattle.elffile.specs.declared.section_header.SectionHeader.{SectionHeader}
 use Rattle.elfdefs.specs.declared.symbol.Symbol.{Symbol}
 
 abbrev pub name_in : List ℕ → Place → List ℕ
@@ -36,14 +37,6 @@ pub record AreRead (file : List ℕ) (linked : List LinkedSection) (read : List 
   pub names : map (name_in file) places ≡ map (λ s. s.name) linked
   pub bytes : map (bytes_in file) places ≡ map (λ s. s.bytes) linked
   pub within : All (IsWithin (length file)) places
-
--- a stretch inside n elements
-pub record IsInside (n : ℕ) (s : Span) : Type 0 where
-  pub order : s.start ≤ s.end
-  pub end : s.end ≤ n
-
-abbrev pub bytes_at : List ℕ → Span → List ℕ
-bytes_at bytes s = slice_range bytes s.start s.end
 
 abbrev pub relocations_in : List Relocation → Span → List Relocation
 relocations_in all s = slice_range all s.start s.end

@@ -8,12 +8,13 @@ ghost use Rattle.ldbase.specs.declared.meter.Count.TheVariants.{Objects};
 ghost use Rattle.elfdefs.specs.declared.refusal.ObjectRefusal.TheVariants.{NoMemory};
 
 use crate::field::put_in_order;
-use crate::place::{Place, Span};
+use crate::place::Place;
 use crate::refusal::ObjectRefusal;
 use crate::relocation::{Relocation, SymbolIndex};
 use crate::section::{LinkedIndex, Section, SectionIndex, find_number};
 use crate::section_table::{Parts, read_parts};
 use crate::symbol::Symbol;
+use elffile::span::Span;
 use ldbase::meter::{Count, Meter};
 use std::alloc::{AllocError, Global};
 use std::marker::Model;
@@ -44,12 +45,12 @@ impl Model for Object {
 }
 
 impl Object {
-    ghost use Rattle.elfobj.specs.ElfHeader.{e_shnum};
+    ghost use Rattle.elffile.specs.ElfHeader.{e_shnum};
     ghost use Rattle.elfobj.specs.Numbering.{IsNumberedAt};
     ghost use Rattle.elfobj.specs.Object.{object_of};
     ghost use Rattle.elfobj.specs.Profile.{HasRelocationsOfProfile, IsSectionBelow, IsSectionOfProfile, IsSymbolOfProfile};
-    ghost use Rattle.elfobj.specs.Refusal.{header_refusals, holds, object_refusal};
-    ghost use Rattle.elfobj.specs.Sections.{section_of};
+    ghost use Rattle.elffile.specs.Refusal.{header_refusals, holds, object_refusal};
+    ghost use Rattle.elffile.specs.Sections.{section_of};
 
     /// Reads an object, and counts it whether it is one or not. Bytes that are no object are given back,
     /// with the lowest refusal whose condition holds, or with `NoMemory` where memory runs out. What the ELF

@@ -3,14 +3,14 @@
 ghost use Rattle.std.specs.Prelude.{◌≡◌, ℕ, ◌≤◌, List, [], false, length, true, unwrap_or};
 ghost use Rattle.std.specs.List.{slice_range};
 ghost use Rattle.std.specs.Option.{option_map_or};
-ghost use Rattle.elfobj.specs.Names.{string_at, is_name};
+ghost use Rattle.elffile.specs.Names.{string_at, is_name};
 ghost use Rattle.elfobj.specs.Places.{IsWithin, IsFileWithin, name_in, bytes_in};
-ghost use Rattle.elfobj.specs.Sections.{contents};
-ghost use Rattle.elfobj.specs.TableOf.{table_of};
+ghost use Rattle.elffile.specs.Sections.{contents};
+ghost use Rattle.elffile.specs.TableOf.{table_of};
 
-use crate::names::StringTable;
 use crate::section::SectionKind;
-use crate::section_header::SectionHeader;
+use elffile::names::StringTable;
+use elffile::section_header::SectionHeader;
 
 /// Where the name and the bytes of a section begin and end, as offsets in the file.
 #[derive(Clone, Copy)]
@@ -22,15 +22,6 @@ pub struct Place {
     /// Where its bytes begin.
     pub start: usize,
     /// Where its bytes end.
-    pub end: usize,
-}
-
-/// Where a stretch of a file or of a list begins and ends.
-#[derive(Clone, Copy)]
-pub struct Span {
-    /// Where it begins.
-    pub start: usize,
-    /// Where it ends.
     pub end: usize,
 }
 

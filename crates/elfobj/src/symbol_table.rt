@@ -2,25 +2,26 @@
 
 ghost use Rattle.std.specs.Prelude.{◌≡◌, ◌≤◌, ◌+◌, ◌⊎◌, ◌<◌, ◌++◌, ◌∷◌, [], IfErr, IfOk, OnOk, None, Some, count_by, drop, false, find, length, nat_lt, position};
 ghost use Rattle.std.specs.List.{list_all, list_any};
-ghost use Rattle.elfobj.specs.Places.{AreNamed, IsInside, bytes_at};
-ghost use Rattle.elfobj.specs.Refusal.{holds, symbol_refusals};
-ghost use Rattle.elfobj.specs.SectionHeaders.{headers as headers_of};
-ghost use Rattle.elfobj.specs.SectionTable.{HasSectionTable};
-ghost use Rattle.elfobj.specs.ElfHeader.{e_shstrndx};
+ghost use Rattle.elfobj.specs.Places.{AreNamed};
+ghost use Rattle.elffile.specs.Spans.{IsInside, bytes_at};
+ghost use Rattle.elffile.specs.Refusal.{holds, symbol_refusals};
+ghost use Rattle.elffile.specs.SectionHeaders.{headers as headers_of};
+ghost use Rattle.elffile.specs.SectionTable.{HasSectionTable};
+ghost use Rattle.elffile.specs.ElfHeader.{e_shstrndx};
 ghost use Rattle.elfobj.specs.Linkable.{IsNameTable, PassesTests};
-ghost use Rattle.elfobj.specs.Symbols.{entries_of, is_symbol_table, symbol_name, symbols_from, symbols_of};
-ghost use Rattle.elfobj.specs.TableOf.{table_of};
-ghost use Rattle.elfobj.specs.Tables.{has_misplaced_entry, has_wrong_header, is_local, is_string_table, is_wrong_non_local, is_wrong_symbol};
+ghost use Rattle.elffile.specs.Symbols.{entries_of, is_symbol_table, symbol_name, symbols_from, symbols_of};
+ghost use Rattle.elffile.specs.TableOf.{table_of};
+ghost use Rattle.elffile.specs.Tables.{has_misplaced_entry, has_wrong_header, is_local, is_string_table, is_wrong_non_local, is_wrong_symbol};
 ghost use Rattle.elfdefs.specs.declared.refusal.ObjectRefusal.TheVariants.{NoMemory};
 
-use crate::elf_header::name_table_number;
-use crate::names::StringTable;
-use crate::place::Span;
 use crate::refusal::ObjectRefusal;
-use crate::section_header::SectionHeader;
 use crate::symbol::{Binding, Symbol, SymbolKind, SymbolPlace};
-use crate::symbol_entry::{SymbolEntry, read_symbol_entry};
 use elfdefs::constants::{SHT_STRTAB, SYM_SIZE};
+use elffile::elf_header::name_table_number;
+use elffile::names::StringTable;
+use elffile::section_header::SectionHeader;
+use elffile::span::Span;
+use elffile::symbol_entry::{SymbolEntry, read_symbol_entry};
 use std::alloc::{AllocError, Global};
 
 /// The symbols in table order, and where the name of each lies in the file.
