@@ -133,6 +133,7 @@ text_front text =
     let n = run_length is_text_byte (drop 1 text) in
     if slice_index text (n + 1) == 34 then Begins (Text (take n (drop 1 text))) (n + 2) else Nothing
 
+-- the mark that stands there, or else this
 abbrev pub mark_or : Front → Option MarkRow → Front
 mark_or other None = other
 mark_or other (Some r) = Begins (Punctuation r.mark) (length r.spelled)
