@@ -8,3 +8,6 @@ pub struct Span {
     /// Where it ends.
     pub end: usize,
 }
+
+/// An empty stretch.
+pub const EMPTY_SPAN: Span = Span { start: 0, end: 0 };

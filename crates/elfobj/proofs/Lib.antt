@@ -13,3 +13,4 @@ pub mod RelocationLimits
 pub mod EntryTests
 pub mod FieldMarks
 pub mod FieldsBelow
+pub mod Placed

@@ -13,7 +13,7 @@ use elffile::names::StringTable;
 use elffile::section_header::SectionHeader;
 use std::alloc::{AllocError, Global};
 
-/// The linked sections in table order, and where the name and the bytes of each lie in the file.
+/// The linked sections in table order, and where the parts of each lie.
 #[derive(Drop)]
 pub struct Linked {
     /// The sections.

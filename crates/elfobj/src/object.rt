@@ -30,7 +30,6 @@ pub struct Object {
     symbols: Vec<Symbol>,
     names: Vec<Span>,
     relocations: Vec<Relocation>,
-    spans: Vec<Span>,
 }
 
 impl Model for Object {
@@ -41,7 +40,7 @@ impl Model for Object {
 
     ghost view = { λ a. object_of a.bytes.items };
 
-    ghost invariant = { λ a. IsObject a.bytes.items a.sections.items a.places.items a.symbols.items a.names.items a.relocations.items a.spans.items };
+    ghost invariant = { λ a. IsObject a.bytes.items a.sections.items a.places.items a.symbols.items a.names.items a.relocations.items };
 }
 
 impl Object {
@@ -80,8 +79,7 @@ impl Object {
                     places: linked.places,
                     symbols: symbols.symbols,
                     names: symbols.names,
-                    relocations: relocations.all,
-                    spans: relocations.spans,
+                    relocations,
                 })
             }
             Err(refusal) => Err((bytes, refusal)),
@@ -120,7 +118,7 @@ impl Object {
         ensures { slice_get (map (λ s. s.name) self.now.sections) section.0 ≡ Some result.now }
     {
         let place = self.places[section.0];
-        &self.bytes[place.name_start..place.name_end]
+        &self.bytes[place.name.start..place.name.end]
     }
 
     /// The bytes of a section: as many as its size, but none for one that has no bytes in the file.
@@ -129,7 +127,7 @@ impl Object {
         ensures { slice_get (map (λ s. s.bytes) self.now.sections) section.0 ≡ Some result.now }
     {
         let place = self.places[section.0];
-        &self.bytes[place.start..place.end]
+        &self.bytes[place.bytes.start..place.bytes.end]
     }
 
     /// The entries of its symbol table, in the table's order; none without a symbol table. The first is a null entry, a
@@ -159,7 +157,7 @@ impl Object {
         ensures value { slice_get (map (λ s. s.relocations) self.now.sections) section.0 ≡ Some result.now }
         ensures limits { All (HasRelocationsOfProfile (length self.now.symbols)) self.now.sections }
     {
-        let span = self.spans[section.0];
+        let span = self.places[section.0].relocations;
         &self.relocations[span.start..span.end]
     }
 

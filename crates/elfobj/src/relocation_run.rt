@@ -12,7 +12,7 @@ use crate::relocation::Relocation;
 use crate::section::Section;
 use elfdefs::constants::RELA_SIZE;
 use elffile::relocation_entry::read_relocation_entry;
-use elffile::span::Span;
+use elffile::span::{EMPTY_SPAN, Span};
 use std::alloc::{AllocError, Global};
 
 /// Where the entries that change a linked section lie in the file.
@@ -149,7 +149,7 @@ fn find_spans(
     let mut spans = Vec::with_capacity(alloc, tables.len())?;
     for table in tables {
         let span = if table.count == 0 {
-            Span { start: 0, end: 0 }
+            EMPTY_SPAN
         } else {
             span_in(&runs[table.start % RELA_SIZE], table)
         };

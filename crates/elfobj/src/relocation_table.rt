@@ -244,6 +244,8 @@ pub fn read_relocations(
     let Ok(tables) = section_tables(alloc, bytes, sections, &changing) else {
         return Err(ObjectRefusal::NoMemory);
     };
+    // The tests take memory of their own.
+    drop(changing);
     let Ok(refusal) = entry_refusal(alloc, bytes, &tables, symbols) else {
         return Err(ObjectRefusal::NoMemory);
     };

@@ -11,7 +11,9 @@ ghost use Rattle.elffile.specs.TableOf.{table_of};
 ghost use Rattle.elfdefs.specs.declared.refusal.ObjectRefusal.TheVariants.{NoMemory, SectionBounds};
 
 use crate::linked::{Linked, linked_sections};
+use crate::place::place_relocations;
 use crate::refusal::ObjectRefusal;
+use crate::relocation::Relocation;
 use crate::relocation_run::Relocations;
 use crate::relocation_table::read_relocations;
 use crate::symbol_table::{Symbols, read_symbols};
@@ -62,8 +64,8 @@ pub struct Parts {
     pub linked: Linked,
     /// Its symbols.
     pub symbols: Symbols,
-    /// The relocations of its linked sections.
-    pub relocations: Relocations,
+    /// The relocations of all linked sections.
+    pub relocations: Vec<Relocation>,
 }
 
 /// Reads the parts of a file whose section headers have passed their tests, or tells why it is no object.
@@ -79,26 +81,33 @@ fn read_tables<'a>(
     requires headers { headers.now ≡ headers_of bytes.now }
     requires tests { PassesTests bytes.now }
     ensures ok { IfOk result (λ p. find (holds bytes.now) (symbol_refusals ++ relocation_refusals) ≡ None) }
-    ensures read { IfOk result (λ p. ArePartsOf bytes.now p.linked.sections.items p.linked.places.items p.symbols.symbols.items p.symbols.names.items p.relocations.all.items p.relocations.spans.items) }
+    ensures read { IfOk result (λ p. ArePartsOf bytes.now p.linked.sections.items p.linked.places.items p.symbols.symbols.items p.symbols.names.items p.relocations.items) }
     ensures refused { IfErr result (λ e. (e ≡ NoMemory) ⊎ (find (holds bytes.now) (symbol_refusals ++ relocation_refusals) ≡ Some e)) }
 {
-    let Ok(linked) = linked_sections(alloc, bytes, &names, headers) else {
+    let Ok(mut linked) = linked_sections(alloc, bytes, &names, headers) else {
         return Err(ObjectRefusal::NoMemory);
     };
     let symbols = read_symbols(alloc, bytes, headers, names)?;
     let count = symbols.symbols.len();
-    let relocations = read_relocations(alloc, bytes, headers, &linked.sections, count)?;
+    let Relocations { all, spans } = read_relocations(
+        alloc,
+        bytes,
+        headers,
+        &linked.sections,
+        count,
+    )?;
+    place_relocations(&mut linked.places, &spans);
     Ok(Parts {
         linked,
         symbols,
-        relocations,
+        relocations: all,
     })
 }
 
 /// Reads the parts of a file, or tells why it is no object.
 pub fn read_parts(alloc: Global, bytes: &[u8]) -> Result<Parts, ObjectRefusal>
     ensures ok { IfOk result (λ p. object_refusal bytes.now ≡ None) }
-    ensures read { IfOk result (λ p. ArePartsOf bytes.now p.linked.sections.items p.linked.places.items p.symbols.symbols.items p.symbols.names.items p.relocations.all.items p.relocations.spans.items) }
+    ensures read { IfOk result (λ p. ArePartsOf bytes.now p.linked.sections.items p.linked.places.items p.symbols.symbols.items p.symbols.names.items p.relocations.items) }
     ensures refused { IfErr result (λ e. (e ≡ NoMemory) ⊎ (object_refusal bytes.now ≡ Some e)) }
     ensures memory { IfErr result (λ e. e ≡ NoMemory → find (holds bytes.now) header_refusals ≡ None) }
 {

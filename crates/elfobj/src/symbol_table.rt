@@ -20,7 +20,7 @@ use elfdefs::constants::{SHT_STRTAB, SYM_SIZE};
 use elffile::elf_header::name_table_number;
 use elffile::names::StringTable;
 use elffile::section_header::SectionHeader;
-use elffile::span::Span;
+use elffile::span::{EMPTY_SPAN, Span};
 use elffile::symbol_entry::{SymbolEntry, read_symbol_entry};
 use std::alloc::{AllocError, Global};
 
@@ -41,9 +41,6 @@ const NULL_SYMBOL: Symbol = Symbol {
     value: 0,
     size: 0,
 };
-
-/// The place of an empty name.
-const NO_NAME: Span = Span { start: 0, end: 0 };
 
 /// The number of the first header of a symbol table.
 pub fn symbol_table_number(headers: &[SectionHeader]) -> Option<usize>
@@ -151,7 +148,7 @@ fn name_span(strings: &StringTable, entry: &SymbolEntry) -> Span
     ensures name { bytes_at strings.now.file.now result ≡ symbol_name (table_of strings.now) entry.now }
 {
     if entry.is_local() {
-        return NO_NAME;
+        return EMPTY_SPAN;
     }
     strings.file_range(entry.st_name)
 }
@@ -181,7 +178,7 @@ fn named_symbols(
         symbols: Vec::with_capacity(alloc, entries.len())?,
         names: Vec::with_capacity(alloc, entries.len())?,
     };
-    symbols.push(NULL_SYMBOL, NO_NAME)?;
+    symbols.push(NULL_SYMBOL, EMPTY_SPAN)?;
     let rest = &entries[1..];
     for entry in rest {
         symbols.push(entry.symbol(), name_span(strings, entry))?;
