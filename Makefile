@@ -54,5 +54,5 @@ check-link: ## links files by `ldi link`, and compares statuses, lines and files
 check-readers: ## tries `readobj FILE` and `readscript FILE` on refused files
 	tools/check-readers
 
-mutants: ## tries the wrong bodies under mutants/, of one crate with CRATE=NAME; all take hours
+mutants: ## tries the wrong bodies under mutants/, of one crate with CRATE=NAME; all take an hour or more
 	tools/mutants $(CRATE)
