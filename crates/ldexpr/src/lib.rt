@@ -3,7 +3,6 @@
 
 pub mod dot_forms;
 pub mod expression;
-pub mod fault;
 mod head;
 pub mod law;
 pub mod operator;
