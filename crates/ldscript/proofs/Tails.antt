@@ -6,7 +6,7 @@ use Rattle.ldtokens.specs.declared.token.Mark.{Mark}
 use Rattle.ldtokens.specs.declared.token.Mark.TheVariants.{Greater, Assign}
 use Rattle.ldtokens.specs.declared.token.Mode.TheVariants.{Expression}
 use Rattle.ldscript.specs.Steps.{Part, ◌▸◌, mark, key, name, optional}
-use Rattle.ldscript.specs.Fill.{fill_of}
+use Rattle.ldtree.specs.Fill.{fill_of}
 use Rattle.ldscript.specs.Grammar.{fill, in_region, at_region, filled}
 use Rattle.ldscript.specs.Readings.{NoneAt, NoneUntil, EndsSection, Maybe, TakesTail, tail_part}
 use Rattle.ldscript.specs.declared.read_section.SectionTail.{SectionTail}

@@ -6,7 +6,6 @@ ghost use Rattle.ldscript.specs.Grammar.{address as address_part, at_region, fil
 ghost use Rattle.ldscript.specs.Readings.{EndsSection, Reads, ReadsMaybe, ReadsOnly, ReadsTail, opened_part, head_part};
 ghost use Rattle.ldtree.specs.declared.section.Load.{Load};
 
-use crate::fill::fill_bytes;
 use crate::read_body::body;
 use crate::steps::{after, after_key, ended, in_parentheses, plain_name};
 use ldexpr::reader::Parsed;
@@ -134,7 +133,7 @@ fn filled<'a>(alloc: Global, tokens: Cursor<'a>) -> Parsed<'a, Option<Fill>>
     let Some((spelled, rest)) = rest.number() else {
         return Ok(None);
     };
-    let Some(bytes) = fill_bytes(alloc, spelled)? else {
+    let Some(bytes) = Fill::read(alloc, spelled)? else {
         return Ok(None);
     };
     Ok(Some((Some(bytes), rest)))
