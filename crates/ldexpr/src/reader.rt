@@ -106,11 +106,7 @@ fn unary<'a>(alloc: Global, tokens: Cursor<'a>) -> Parsed<'a, Expr>
 
 /// Operators of the level above `below` between operands, from left to right.
 #[cycle(reader)]
-fn binary<'a>(
-    alloc: Global,
-    below: u8,
-    tokens: Cursor<'a>,
-) -> Parsed<'a, Expr>
+fn binary<'a>(alloc: Global, below: u8, tokens: Cursor<'a>) -> Parsed<'a, Expr>
     requires { below < 9 }
     ensures { Reads (Within (suc below)) tokens.entry (λ x. expr_of x.0) (λ x. x.1) result }
 {
@@ -131,11 +127,7 @@ fn binary<'a>(
 
 /// An expression of operators of this level and tighter ones.
 #[cycle(reader)]
-fn operand<'a>(
-    alloc: Global,
-    level: u8,
-    tokens: Cursor<'a>,
-) -> Parsed<'a, Expr>
+fn operand<'a>(alloc: Global, level: u8, tokens: Cursor<'a>) -> Parsed<'a, Expr>
     requires { level ≤ 9 }
     ensures { Reads (Within level) tokens.entry (λ x. expr_of x.0) (λ x. x.1) result }
 {

@@ -42,11 +42,7 @@ fn dot_change<'a>(alloc: Global, tokens: Cursor<'a>) -> Parsed<'a, DotCommand>
 }
 
 /// `. = e ;` or `. += e ;`
-pub fn dot_command<'a>(
-    alloc: Global,
-    mode: Mode,
-    tokens: Cursor<'a>,
-) -> Parsed<'a, DotCommand>
+pub fn dot_command<'a>(alloc: Global, mode: Mode, tokens: Cursor<'a>) -> Parsed<'a, DotCommand>
     ensures { Reads (dot_command_part mode) tokens.entry (λ x. x.0) (λ x. x.1) result }
 {
     match after_key(mode, b".", tokens) {
@@ -56,11 +52,7 @@ pub fn dot_command<'a>(
 }
 
 /// NAME `= e ;`
-fn assign<'a>(
-    alloc: Global,
-    mode: Mode,
-    tokens: Cursor<'a>,
-) -> Parsed<'a, Assignment>
+fn assign<'a>(alloc: Global, mode: Mode, tokens: Cursor<'a>) -> Parsed<'a, Assignment>
     ensures { Reads (assign_part mode) tokens.entry (λ x. x.0) (λ x. x.1) result }
 {
     let Some((name, rest)) = front_name(mode, tokens) else {
@@ -98,11 +90,7 @@ fn provided<'a>(alloc: Global, tokens: Cursor<'a>) -> Parsed<'a, Assignment>
 }
 
 /// `PROVIDE (` NAME `= e )`
-fn provide<'a>(
-    alloc: Global,
-    mode: Mode,
-    tokens: Cursor<'a>,
-) -> Parsed<'a, Assignment>
+fn provide<'a>(alloc: Global, mode: Mode, tokens: Cursor<'a>) -> Parsed<'a, Assignment>
     ensures { Reads (provide_part mode) tokens.entry (λ x. x.0) (λ x. x.1) result }
 {
     match after_key(mode, b"PROVIDE", tokens) {
@@ -138,11 +126,7 @@ fn asserted<'a>(alloc: Global, tokens: Cursor<'a>) -> Parsed<'a, Assertion>
 }
 
 /// `ASSERT ( e ,` STRING `)`
-fn assertion<'a>(
-    alloc: Global,
-    mode: Mode,
-    tokens: Cursor<'a>,
-) -> Parsed<'a, Assertion>
+fn assertion<'a>(alloc: Global, mode: Mode, tokens: Cursor<'a>) -> Parsed<'a, Assertion>
     ensures { Reads (assertion_part mode) tokens.entry (λ x. x.0) (λ x. x.1) result }
 {
     match after_key(mode, b"ASSERT", tokens) {
@@ -153,11 +137,7 @@ fn assertion<'a>(
 
 /// NAME `= e ;`, `PROVIDE` or `ASSERT`
 #[tactic(auto, using(crate::proofs::Commons::common_none))]
-pub fn common<'a>(
-    alloc: Global,
-    mode: Mode,
-    tokens: Cursor<'a>,
-) -> Parsed<'a, Common>
+pub fn common<'a>(alloc: Global, mode: Mode, tokens: Cursor<'a>) -> Parsed<'a, Common>
     ensures { Reads (common_part mode) tokens.entry (λ x. x.0) (λ x. x.1) result }
 {
     if let Some((assignment, rest)) = assign(alloc, mode, tokens.copy())? {

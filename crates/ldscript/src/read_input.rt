@@ -51,10 +51,7 @@ fn patterns<'a>(alloc: Global, tokens: Cursor<'a>) -> Parsed<'a, Sequence<Patter
 }
 
 /// WORD {WORD} `)`
-fn some_patterns<'a>(
-    alloc: Global,
-    tokens: Cursor<'a>,
-) -> Parsed<'a, Sequence<Pattern>>
+fn some_patterns<'a>(alloc: Global, tokens: Cursor<'a>) -> Parsed<'a, Sequence<Pattern>>
     ensures { Reads (λ ps. some pattern_part ps ▸ mark Mark.CloseParenthesis) tokens.entry (λ x. x.0) (λ x. x.1) result }
 {
     let Some((patterns, rest)) = patterns(alloc, tokens)? else {
@@ -67,10 +64,7 @@ fn some_patterns<'a>(
 }
 
 /// `(` WORD {WORD} `)`
-fn excluded_files<'a>(
-    alloc: Global,
-    tokens: Cursor<'a>,
-) -> Parsed<'a, Sequence<Pattern>>
+fn excluded_files<'a>(alloc: Global, tokens: Cursor<'a>) -> Parsed<'a, Sequence<Pattern>>
     ensures { Reads excluded_files_part tokens.entry (λ x. x.0) (λ x. x.1) result }
 {
     match after(Mark::OpenParenthesis, tokens) {
@@ -107,11 +101,7 @@ fn excluding_word<'a>(alloc: Global, tokens: Cursor<'a>) -> Parsed<'a, SectionWo
 }
 
 /// A word of an input statement; not each may have `EXCLUDE_FILE` before it.
-fn word<'a>(
-    alloc: Global,
-    may_exclude: bool,
-    tokens: Cursor<'a>,
-) -> Parsed<'a, SectionWord>
+fn word<'a>(alloc: Global, may_exclude: bool, tokens: Cursor<'a>) -> Parsed<'a, SectionWord>
     ensures { Reads (word_part may_exclude) tokens.entry (λ x. x.0) (λ x. x.1) result }
 {
     if may_exclude {
@@ -248,10 +238,7 @@ pub fn input<'a>(alloc: Global, tokens: Cursor<'a>) -> Parsed<'a, Input>
 }
 
 /// {`;` | input} `}`
-pub fn inputs<'a>(
-    alloc: Global,
-    tokens: Cursor<'a>,
-) -> Parsed<'a, Sequence<InputStatement>>
+pub fn inputs<'a>(alloc: Global, tokens: Cursor<'a>) -> Parsed<'a, Sequence<InputStatement>>
     ensures { Reads (λ ss. statements input_statement ss ▸ mark Mark.CloseBrace) tokens.entry (λ x. x.0) (λ x. x.1) result }
 {
     let mut inputs = Sequence::new(alloc);

@@ -41,10 +41,7 @@ fn discard_head(tokens: Cursor<'_>) -> Option<Cursor<'_>>
 }
 
 /// `/DISCARD/ : {` {`;` | input} `}`
-fn discard<'a>(
-    alloc: Global,
-    tokens: Cursor<'a>,
-) -> Parsed<'a, Sequence<InputStatement>>
+fn discard<'a>(alloc: Global, tokens: Cursor<'a>) -> Parsed<'a, Sequence<InputStatement>>
     ensures { Reads discard_part tokens.entry (λ x. x.0) (λ x. x.1) result }
 {
     match discard_head(tokens) {

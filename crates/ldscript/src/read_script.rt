@@ -78,7 +78,10 @@ fn top_command<'a>(alloc: Global, tokens: Cursor<'a>) -> Parsed<'a, Command>
 }
 
 /// All statements of a script, or `None` where the tokens are none.
-pub fn statements_of(alloc: Global, tokens: Cursor<'_>) -> Result<Option<Sequence<Statement>>, AllocError>
+pub fn statements_of(
+    alloc: Global,
+    tokens: Cursor<'_>,
+) -> Result<Option<Sequence<Statement>>, AllocError>
     ensures { IfOk result (λ found. MatchOption found ((s : List Statement) → script s tokens.entry → ⊥) (λ s. script s tokens.entry)) }
 {
     let mut statements = Sequence::new(alloc);

@@ -105,10 +105,7 @@ fn region<'a>(alloc: Global, tokens: Cursor<'a>) -> Parsed<'a, Option<ScriptName
 }
 
 /// [`AT > NAME`]
-fn load_region<'a>(
-    alloc: Global,
-    tokens: Cursor<'a>,
-) -> Parsed<'a, Option<ScriptName>>
+fn load_region<'a>(alloc: Global, tokens: Cursor<'a>) -> Parsed<'a, Option<ScriptName>>
     ensures { ReadsMaybe (key Mode.Expression (codes "AT")) at_region tokens.entry (λ x. x.0) (λ x. x.1) result }
 {
     let Some(rest) = after_key(Mode::Expression, b"AT", tokens.copy()) else {
@@ -183,14 +180,17 @@ pub fn section<'a>(alloc: Global, tokens: Cursor<'a>) -> Parsed<'a, OutputSectio
     let Some((body, rest)) = body(alloc, rest)? else {
         return Ok(None);
     };
-    let Some((
-        SectionTail {
-            region,
-            load: at,
-            fill,
-        },
-        rest,
-    )) = tail(alloc, rest)? else {
+    let Some(
+        (
+            SectionTail {
+                region,
+                load: at,
+                fill,
+            },
+            rest,
+        ),
+    ) = tail(alloc, rest)?
+    else {
         return Ok(None);
     };
     let Some(load) = load_of(load, at) else {

@@ -105,11 +105,7 @@ pub fn name_in_parentheses<'a>(tokens: Cursor<'a>) -> Option<(&'a [u8], Cursor<'
 }
 
 /// An expression and a mark after it that can't go on one.
-pub fn ended<'a>(
-    alloc: Global,
-    tokens: Cursor<'a>,
-    mark: Mark,
-) -> Parsed<'a, Formula>
+pub fn ended<'a>(alloc: Global, tokens: Cursor<'a>, mark: Mark) -> Parsed<'a, Formula>
     requires { StopsAt Whole (Sign mark) }
     ensures { Reads (ended_part mark) tokens.entry (λ x. x.0) (λ x. x.1) result }
 {
