@@ -174,36 +174,26 @@ pub fn section<'a>(alloc: Global, tokens: Cursor<'a>) -> Parsed<'a, OutputSectio
     let Some((address, rest)) = address(alloc, rest)? else {
         return Ok(None);
     };
-    let Some((SectionHead { load, alignment }, rest)) = head(alloc, rest)? else {
+    let Some((head, rest)) = head(alloc, rest)? else {
         return Ok(None);
     };
     let Some((body, rest)) = body(alloc, rest)? else {
         return Ok(None);
     };
-    let Some(
-        (
-            SectionTail {
-                region,
-                load: at,
-                fill,
-            },
-            rest,
-        ),
-    ) = tail(alloc, rest)?
-    else {
+    let Some((tail, rest)) = tail(alloc, rest)? else {
         return Ok(None);
     };
-    let Some(load) = load_of(load, at) else {
+    let Some(load) = load_of(head.load, tail.load) else {
         return Ok(None);
     };
     let section = OutputSection {
         name: ScriptName::new(alloc, name)?,
         address,
         load,
-        alignment,
+        alignment: head.alignment,
         body,
-        region,
-        fill,
+        region: tail.region,
+        fill: tail.fill,
     };
     Ok(Some((section, rest)))
 }

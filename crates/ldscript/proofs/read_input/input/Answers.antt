@@ -15,7 +15,7 @@ returns-in_default-2 c =
 
 pub returns-in-None : goal.returns-in-None
 returns-in-None c = kept_plain_none _ _ _ (rw c.copy.ensures at c.in-Some.ensures.0) c.in-Some-after.ensures.0 (λ y ws r x z.
-    let s = plain_same y c.in_ok-input.input _ ws _ x (rw c.in-Some-2.is at c.in_ok-input.ensures.read).spells in
+    let s = plain_same y c.in-Some-2.input _ ws _ x (rw c.in-Some-2.is at c.in_ok-input.ensures.read).spells in
     c.in-None.ensures r (subst (λ l. mark CloseParenthesis l r) s.same_rest z))
 
 pub returns-in_default : goal.returns-in_default
