@@ -1,5 +1,5 @@
 -- Where there is no expression.
-use Rattle.std.proofs.Common.{◌≡◌, ℕ, suc, List, [], ◌∷◌, Result, Ok, Err, refl, subst}
+use Rattle.std.proofs.Common.{◌≡◌, ℕ, suc, List, [], ◌∷◌, Option, Some, None, Result, Ok, Err, refl, subst}
 use Rattle.ldtokens.specs.Tokens as token
 use Rattle.ldtokens.specs.Tokens.{Token, Lexeme, lexeme, spelled_token}
 use Rattle.ldtokens.specs.declared.token.Mark.{Mark}
@@ -8,15 +8,9 @@ use Rattle.ldexpr.specs.declared.operator.UnaryOperator.{UnaryOperator}
 use Rattle.ldexpr.specs.declared.operator.BinaryOperator.{BinaryOperator}
 use Rattle.ldexpr.specs.declared.expression.RegionQuery.{RegionQuery}
 use Rattle.ldexpr.specs.declared.expression.SectionQuery.{SectionQuery}
-use Rattle.ldexpr.specs.declared.fault.ParseFault.{ParseFault}
-use Rattle.ldexpr.specs.declared.fault.ParseFault.TheVariants.{NotAnExpression, NoMemory}
 use Rattle.ldexpr.specs.Expressions.{Expr}
-use Rattle.ldexpr.specs.Grammar.{AsksRegion, AsksSection, Aligns, Free, Reserved, Worded, Sign, terminal_of, Begins, BeginsUnary, BeginsBinary, BeginsNamed, Level, Primary, Arguments, Within, Whole, Spells, number, dot, name, group, of_region, of_section, align, one_argument, two_arguments, primary, unary, operators, choice, Stops, Reading, NoReading, Fails, Reads}
+use Rattle.ldexpr.specs.Grammar.{AsksRegion, AsksSection, Aligns, Free, Reserved, Worded, Sign, terminal_of, Begins, BeginsUnary, BeginsBinary, BeginsNamed, Primary, Arguments, Within, Whole, Spells, number, dot, name, group, of_region, of_section, align, one_argument, two_arguments, primary, unary, operators, choice, Stops, Reading, NoReading, Reads}
 use Rattle.ldexpr.proofs.Readings.{Lacks, begins_same, Shape, primary_shape, primary_begins_no_unary, primary_reading, align_reading, unary_same, binary_same, level_tail, tail_stops, Tail, done, longer, SoFar, operator_goes_on, whole_stops, whole_stops_before, within_stops_at, question_goes_on}
-
-pub fails_map : {l k : Level} {ts us : List Lexeme} → (NoReading l ts → NoReading k us) → (e : ParseFault) → Fails l ts e → Fails k us e
-fails_map f NotAnExpression h = f h
-fails_map f NoMemory h = tt
 
 -- PRIMARY
 pub begins_of : {t : Token} {n : ℕ} {ts rest : List Lexeme} → ts ≡ lexeme t n ∷ rest → Begins ts (terminal_of t) rest
@@ -55,9 +49,10 @@ of_section_none b n f end d s = let h = primary_shape b d in n h.0 end h.2
 pub align_none : {ts us : List Lexeme} → Begins ts (Worded Aligns) us → NoReading Arguments us → NoReading Primary ts
 align_none b n f end d s = n f end (primary_shape b d) tt
 
-pub align_reads : {X : Type 0} {ts us : List Lexeme} (expr : X → Expr) (rest : X → List Lexeme) (r : Result X ParseFault) → Begins ts (Worded Aligns) us → Reads Arguments us expr rest r → Reads Primary ts expr rest r
-align_reads expr rest (Ok x) b h = align_reading b h
-align_reads expr rest (Err e) b h = fails_map (align_none b) e h
+pub align_reads : {X E : Type 0} {ts us : List Lexeme} (expr : X → Expr) (rest : X → List Lexeme) (r : Result (Option X) E) → Begins ts (Worded Aligns) us → Reads Arguments us expr rest r → Reads Primary ts expr rest r
+align_reads expr rest (Ok (Some x)) b h = align_reading b h
+align_reads expr rest (Ok None) b h = align_none b h
+align_reads expr rest (Err e) b h = tt
 
 -- ARGUMENTS
 pub arguments_unopened : {ts : List Lexeme} → Lacks ts (Sign OpenParenthesis) → NoReading Arguments ts
@@ -107,9 +102,10 @@ pub no_primary : {ts : List Lexeme} → ((op : UnaryOperator) (us : List Lexeme)
 no_primary n p f end (primary d) s = p f end d tt
 no_primary n p f end (unary b d) s = n _ _ b
 
-pub primary_reads : {X : Type 0} {ts : List Lexeme} (expr : X → Expr) (rest : X → List Lexeme) (r : Result X ParseFault) → ((op : UnaryOperator) (us : List Lexeme) → BeginsUnary ts op us → ⊥) → Reads Primary ts expr rest r → Reads (Within 0) ts expr rest r
-primary_reads expr rest (Ok x) n h = primary_reading n h
-primary_reads expr rest (Err e) n h = fails_map (no_primary n) e h
+pub primary_reads : {X E : Type 0} {ts : List Lexeme} (expr : X → Expr) (rest : X → List Lexeme) (r : Result (Option X) E) → ((op : UnaryOperator) (us : List Lexeme) → BeginsUnary ts op us → ⊥) → Reads Primary ts expr rest r → Reads (Within 0) ts expr rest r
+primary_reads expr rest (Ok (Some x)) n h = primary_reading n h
+primary_reads expr rest (Ok None) n h = no_primary n h
+primary_reads expr rest (Err e) n h = tt
 
 -- OPERATORS BETWEEN OPERANDS
 pub level_none : {n : ℕ} {ts : List Lexeme} → NoReading (Within n) ts → NoReading (Within (suc n)) ts

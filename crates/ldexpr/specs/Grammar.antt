@@ -7,7 +7,7 @@
 --   within 0  = primary | unary operator, within 0
 --   within n  = within n-1 | within n, operator of level n, within n-1          for n from 1 to 9
 --   whole     = within 9 | within 9 "?" whole ":" whole
-use Rattle.std.specs.Prelude.{◌≡◌, ℕ, suc, ◌^◌, ◌<◌, List, [], ◌∷◌, length, Option, Some, None, if◌then◌else◌, codes, bytes_eq, Result, Ok, Err}
+use Rattle.std.specs.Prelude.{◌≡◌, ℕ, suc, ◌^◌, ◌<◌, List, [], ◌∷◌, length, Option, Some, None, if◌then◌else◌, codes, bytes_eq, IfOk, Result}
 use Rattle.ldtokens.specs.Tokens as token
 use Rattle.ldtokens.specs.Tokens.{Token, Lexeme}
 use Rattle.ldtokens.specs.Numbers.{number_value}
@@ -20,8 +20,6 @@ use Rattle.ldexpr.specs.declared.expression.RegionQuery.{RegionQuery}
 use Rattle.ldexpr.specs.declared.expression.RegionQuery.TheVariants.{Origin, Length}
 use Rattle.ldexpr.specs.declared.expression.SectionQuery.{SectionQuery}
 use Rattle.ldexpr.specs.declared.expression.SectionQuery.TheVariants.{Address, LoadAddress, Size}
-use Rattle.ldexpr.specs.declared.fault.ParseFault.{ParseFault}
-use Rattle.ldexpr.specs.declared.fault.ParseFault.TheVariants.{NotAnExpression, NoMemory}
 use Rattle.ldexpr.specs.Operators.{unary_of, binary_of, level_of}
 use Rattle.ldexpr.specs.Expressions.{Expr, Number, Dot, Name, Unary, Binary, Choice, OfRegion, OfSection, AlignDot, Align}
 
@@ -144,15 +142,14 @@ pub record Reading (l : Level) (ts : List Lexeme) (e : Expr) (rest : List Lexeme
 abbrev pub NoReading : Level → List Lexeme → Type 0
 NoReading l ts = (f : Expr) (more : List Lexeme) → Spells l f ts more → Stops l more → ⊥
 
--- why there is no tree
-abbrev pub Fails : Level → List Lexeme → ParseFault → Type 0
-Fails l ts NotAnExpression = NoReading l ts
-Fails l ts NoMemory = Unit {0}
+-- what stands at the front of the tokens, if an expression does
+abbrev pub Finds : {X : Type 0} → Level → List Lexeme → (X → Expr) → (X → List Lexeme) → Option X → Type 0
+Finds l ts expr rest (Some x) = Reading l ts (expr x) (rest x)
+Finds l ts expr rest None = NoReading l ts
 
--- what a reader of this level gives
-abbrev pub Reads : {X : Type 0} → Level → List Lexeme → (X → Expr) → (X → List Lexeme) → Result X ParseFault → Type 0
-Reads l ts expr rest (Ok x) = Reading l ts (expr x) (rest x)
-Reads l ts expr rest (Err fault) = Fails l ts fault
+-- what a reader of this level gives; out of memory says nothing of the tokens
+abbrev pub Reads : {X E : Type 0} → Level → List Lexeme → (X → Expr) → (X → List Lexeme) → Result (Option X) E → Type 0
+Reads l ts expr rest r = IfOk r (λ found. Finds l ts expr rest found)
 
 -- no tokens have two trees
 abbrev pub OneTree : List Lexeme → Type 0

@@ -1,9 +1,9 @@
 //! The expressions of a linker script: their trees, and the reader that makes one of tokens.
 #![tactic(auto)]
 
+mod display;
 pub mod dot_forms;
 pub mod expression;
-pub mod fault;
 mod head;
 pub mod law;
 pub mod operator;

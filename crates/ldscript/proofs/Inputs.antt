@@ -1,6 +1,6 @@
 -- Input statements: no tokens are two of them.
 use Rattle.std.proofs.Common.{◌≡◌, ◌∙◌, refl, sym, ap, subst, ℕ, List, [], ◌∷◌, Bool, true, false, Option, Some, None, Result, Ok, Err, ◌⊎◌, inl, inr}
-use Rattle.std.specs.Prelude.{IfOk, codes}
+use Rattle.std.specs.Prelude.{IfOk, IfSome, codes}
 use Rattle.std.proofs.lemmas.Bool.{false≢true}
 use Rattle.ldtokens.specs.Tokens.{Lexeme, Word, Punctuation}
 use Rattle.ldtokens.specs.Words.{is_free_word, is_reserved}
@@ -13,8 +13,6 @@ use Rattle.ldpattern.proofs.Reading.{one_pattern}
 use Rattle.ldscript.specs.Steps.{Part, ◌▸◌, mark, token, key, pattern, some, statements}
 use Rattle.ldscript.specs.Grammar.{sort, excluded, exclusion, one, bare, selection, plain, kept, input, input_statement}
 use Rattle.ldscript.specs.Readings.{NoneAt, Reads, excluded_files, word_part, selected}
-use Rattle.ldscript.specs.declared.fault.Fault.{Fault}
-use Rattle.ldscript.specs.declared.fault.Fault.TheVariants.{NotAScript, NoMemory}
 use Rattle.ldtree.specs.declared.input.Sort.{Sort}
 use Rattle.ldtree.specs.declared.input.Sort.TheVariants.{ByName, ByAlignment}
 use Rattle.ldtree.specs.declared.input.SectionWord.{SectionWord}
@@ -276,11 +274,11 @@ bare_one_cases : (x : List (List patterns.Part)) (p : List patterns.Part) (ts r 
 bare_one_cases x p ts r e d = subst (λ (y : List (List patterns.Part)). (excluded y ▸ pattern p) ts r) (sym e) (ts, refl, d)
 
 -- without EXCLUDE_FILE
-pub one_as_bare : {X : Type 0} (ts : List Lexeme) → ((us : List Lexeme) → key Pattern (codes "EXCLUDE_FILE") ts us → ⊥) → (tree : X → SectionWord) (rest : X → List Lexeme) (r : Result X Fault)
+pub one_as_bare : {X E : Type 0} (ts : List Lexeme) → ((us : List Lexeme) → key Pattern (codes "EXCLUDE_FILE") ts us → ⊥) → (tree : X → SectionWord) (rest : X → List Lexeme) (r : Result (Option X) E)
     → Reads bare ts tree rest r → Reads one ts tree rest r
-one_as_bare ts n tree rest (Ok x) d = record { spells = bare_one_cases (tree x).excluded (tree x).pattern ts (rest x) d.spells.0 d.spells.1; shorter = d.shorter }
-one_as_bare ts n tree rest (Err NotAScript) d = λ w more h. d w more (one_bare_cases w.excluded w.pattern ts more n h)
-one_as_bare ts n tree rest (Err NoMemory) d = tt
+one_as_bare ts n tree rest (Ok (Some x)) d = record { spells = bare_one_cases (tree x).excluded (tree x).pattern ts (rest x) d.spells.0 d.spells.1; shorter = d.shorter }
+one_as_bare ts n tree rest (Ok None) d = λ w more h. d w more (one_bare_cases w.excluded w.pattern ts more n h)
+one_as_bare ts n tree rest (Err e) d = tt
 
 -- with EXCLUDE_FILE
 pub one_excluding : (x : List (List patterns.Part)) (p : List patterns.Part) (ts us vs r : List Lexeme) → key Pattern (codes "EXCLUDE_FILE") ts us → excluded_files x us vs → pattern p vs r → (excluded x ▸ pattern p) ts r
@@ -301,10 +299,10 @@ one_pattern_none ts us vs x k e n w more d =
     n w.pattern more (subst (λ l. pattern w.pattern l more) (excluded_files_single us h.0 vs w.excluded x h.1 e).1 h.2)
 
 -- a word that may have EXCLUDE_FILE before it, and one that may not
-pub word_excluding : {X : Type 0} (e : Bool) (ts : List Lexeme) (tree : X → SectionWord) (rest : X → List Lexeme) (r : Result X Fault) → e ≡ true → Reads one ts tree rest r → Reads (word_part e) ts tree rest r
+pub word_excluding : {X E : Type 0} (e : Bool) (ts : List Lexeme) (tree : X → SectionWord) (rest : X → List Lexeme) (r : Result (Option X) E) → e ≡ true → Reads one ts tree rest r → Reads (word_part e) ts tree rest r
 word_excluding e ts tree rest r h d = subst (λ b. Reads (word_part b) ts tree rest r) (sym h) d
 
-pub word_bare : {X : Type 0} (e : Bool) (ts : List Lexeme) (tree : X → SectionWord) (rest : X → List Lexeme) (r : Result X Fault) → e ≡ false → Reads bare ts tree rest r → Reads (word_part e) ts tree rest r
+pub word_bare : {X E : Type 0} (e : Bool) (ts : List Lexeme) (tree : X → SectionWord) (rest : X → List Lexeme) (r : Result (Option X) E) → e ≡ false → Reads bare ts tree rest r → Reads (word_part e) ts tree rest r
 word_bare e ts tree rest r h d = subst (λ b. Reads (word_part b) ts tree rest r) (sym h) d
 
 -- what stands between the parentheses of an input statement
@@ -361,8 +359,8 @@ pub kept_as : (k : Bool) (i : Input) (ts r : List Lexeme) → i.keep ≡ k → k
 kept_as k i ts r e d = subst (λ b. kept b (plain i) ts r) (sym e) d
 
 -- an input statement without KEEP
-pub input_plain : {X : Type 0} (ts : List Lexeme) → ((us : List Lexeme) → key Pattern (codes "KEEP") ts us → ⊥) → (tree : X → Input) (rest : X → List Lexeme) (r : Result X Fault)
-    → Reads plain ts tree rest r → IfOk r (λ x. (tree x).keep ≡ false) → Reads input ts tree rest r
-input_plain ts k tree rest (Ok x) d e = record { spells = kept_as false (tree x) ts (rest x) e d.spells; shorter = d.shorter }
-input_plain ts k tree rest (Err NotAScript) d e = not_kept_none ts k d
-input_plain ts k tree rest (Err NoMemory) d e = tt
+pub input_plain : {X E : Type 0} (ts : List Lexeme) → ((us : List Lexeme) → key Pattern (codes "KEEP") ts us → ⊥) → (tree : X → Input) (rest : X → List Lexeme) (r : Result (Option X) E)
+    → Reads plain ts tree rest r → IfOk r (λ found. IfSome found (λ x. (tree x).keep ≡ false)) → Reads input ts tree rest r
+input_plain ts k tree rest (Ok (Some x)) d e = record { spells = kept_as false (tree x) ts (rest x) e d.spells; shorter = d.shorter }
+input_plain ts k tree rest (Ok None) d e = not_kept_none ts k d
+input_plain ts k tree rest (Err f) d e = tt

@@ -12,8 +12,6 @@ use Rattle.ldexpr.specs.Grammar.{Whole}
 use Rattle.ldscript.specs.Steps.{◌▸◌, mark, token, key, name, optional, expression, statements}
 use Rattle.ldscript.specs.Grammar.{ended, in_parentheses, dot_command, common, address, at_address, load_in_head, load_in_tail, alignment, section, body_statement, input_statement, discarded, discard, item_command, item_statement}
 use Rattle.ldscript.specs.Readings.{Takes, TakesOnly, NoneAt, NoneUntil, Reads, EndsSection, TakesTail, tail_part, opened_part, head_part, discard_head}
-use Rattle.ldscript.specs.declared.fault.Fault.{Fault}
-use Rattle.ldscript.specs.declared.fault.Fault.TheVariants.{NotAScript, NoMemory}
 use Rattle.ldtree.specs.declared.common.Common.{Common}
 use Rattle.ldtree.specs.declared.common.Common.TheVariants as commons
 use Rattle.ldtree.specs.declared.common.DotCommand.{DotCommand}
@@ -436,10 +434,10 @@ discard_none ts n y more d = n d.2.2.0 (d.0, d.1, (d.2.0, d.2.1, d.2.2.1))
 discard_head_fixed : Fixed discard_head
 discard_head_fixed = then_fixed (token Discard) (mark Colon ▸ mark OpenBrace) (token_fixed Discard) (then_fixed (mark Colon) (mark OpenBrace) (mark_fixed Colon) (mark_fixed OpenBrace))
 
-pub discard_reads : {X : Type 0} (ts us : List Lexeme) → discard_head ts us × (length us < length ts) → (tree : X → List InputStatement) (rest : X → List Lexeme) (r : Result X Fault)
+pub discard_reads : {X E : Type 0} (ts us : List Lexeme) → discard_head ts us × (length us < length ts) → (tree : X → List InputStatement) (rest : X → List Lexeme) (r : Result (Option X) E)
     → Reads (λ is. statements input_statement is ▸ mark CloseBrace) us tree rest r → Reads discard ts tree rest r
-discard_reads ts us h tree rest (Ok x) d = record { spells = (h.0.0, h.0.1, (h.0.2.0, h.0.2.1, (us, h.0.2.2, d.spells))); shorter = omega (arith, h.1, d.shorter) }
-discard_reads ts us h tree rest (Err NotAScript) d = λ y more k.
+discard_reads ts us h tree rest (Ok (Some x)) d = record { spells = (h.0.0, h.0.1, (h.0.2.0, h.0.2.1, (us, h.0.2.2, d.spells))); shorter = omega (arith, h.1, d.shorter) }
+discard_reads ts us h tree rest (Ok None) d = λ y more k.
     let e = discard_head_fixed ts k.2.2.0 us (k.0, k.1, (k.2.0, k.2.1, k.2.2.1)) h.0 in
     d y more (subst (λ l. (statements input_statement y ▸ mark CloseBrace) l more) e k.2.2.2)
-discard_reads ts us h tree rest (Err NoMemory) d = tt
+discard_reads ts us h tree rest (Err f) d = tt

@@ -1,5 +1,4 @@
 pub mod Expressions
-pub mod Fills
 pub mod Singles
 pub mod Lists
 pub mod Each

@@ -1,17 +1,14 @@
 -- What follows the `}` of an output section: parts that may stand there or not.
-use Rattle.std.proofs.Common.{◌≡◌, ◌∙◌, refl, sym, ap, subst, ℕ, List, Option, Some, None, Result, Err, length, ◌≤◌, arith}
-use Rattle.std.specs.Prelude.{codes, IsErrAnd}
-use Rattle.std.proofs.lemmas.Result.{err_from_is_err_and}
+use Rattle.std.proofs.Common.{◌≡◌, ◌∙◌, refl, sym, ap, subst, ℕ, List, Option, Some, None, length, ◌≤◌, arith}
+use Rattle.std.specs.Prelude.{codes}
 use Rattle.ldtokens.specs.Tokens.{Lexeme, Name, Number, Punctuation}
 use Rattle.ldtokens.specs.declared.token.Mark.{Mark}
 use Rattle.ldtokens.specs.declared.token.Mark.TheVariants.{Greater, Assign}
 use Rattle.ldtokens.specs.declared.token.Mode.TheVariants.{Expression}
 use Rattle.ldscript.specs.Steps.{Part, ◌▸◌, mark, key, name, optional}
-use Rattle.ldscript.specs.Fill.{fill_of}
+use Rattle.ldtree.specs.Fill.{fill_of}
 use Rattle.ldscript.specs.Grammar.{fill, in_region, at_region, filled}
-use Rattle.ldscript.specs.Readings.{NoneAt, NoneUntil, EndsSection, Maybe, FailsMaybe, FailsUntil, ReadsTail, TakesTail, tail_part}
-use Rattle.ldscript.specs.declared.fault.Fault.{Fault}
-use Rattle.ldscript.specs.declared.fault.Fault.TheVariants.{NotAScript, NoMemory}
+use Rattle.ldscript.specs.Readings.{NoneAt, NoneUntil, EndsSection, Maybe, TakesTail, tail_part}
 use Rattle.ldscript.specs.declared.read_section.SectionTail.{SectionTail}
 use Rattle.ldscript.proofs.Singles.{Single, tokens_same, mark_fixed, key_fixed, skip_single, name_single, marks_differ}
 
@@ -146,18 +143,6 @@ takes_tail ts us vs rest t r l f = record {
 
 abbrev pub NoTail : List Lexeme → Type 0
 NoTail ts = NoneUntil EndsSection tail_part ts
-
--- what `?` hands on
-pub exit_tail : {X : Type 0} (ts : List Lexeme) (tree : X → SectionTail) (rest : X → List Lexeme) (r : Result X Fault) (f : Fault)
-    → IsErrAnd r (λ e. e ≡ f) → FailsUntil EndsSection tail_part ts f → ReadsTail ts tree rest r
-exit_tail ts tree rest r f h k =
-    let p = err_from_is_err_and r h in
-    subst (λ z. ReadsTail ts tree rest z) (sym (p.1 ∙ ap Err p.2)) k
-
-pub maybe_fails : (f : Part) (p : List ℕ → Part) (ts us : List Lexeme) (fault : Fault) → ((vs : List Lexeme) → f us vs → NoneAt p us → NoTail ts) → FailsMaybe f p us fault
-    → FailsUntil EndsSection tail_part ts fault
-maybe_fails f p ts us NotAScript g h = g h.0 h.1 h.2
-maybe_fails f p ts us NoMemory g h = tt
 
 pub tail_region_stuck : (ts us : List Lexeme) → mark Greater ts us → NoneAt in_region ts → NoTail ts
 tail_region_stuck ts us h n u more d e = optional_stuck (mark Greater) in_region LoadPart region_not_skipped ts us h n u.region (u.load, u.fill) more d e

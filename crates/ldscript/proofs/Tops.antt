@@ -1,6 +1,6 @@
 -- The statements of a script, and the law that no text has two trees.
 use Rattle.std.proofs.Common.{◌≡◌, ◌∙◌, refl, sym, ap, subst, ℕ, List, [], ◌∷◌, true, false}
-use Rattle.std.specs.Prelude.{codes, bytes_eq, Result, Err, IsErrAnd, IsErrOf}
+use Rattle.std.specs.Prelude.{codes, bytes_eq}
 use Rattle.ldtokens.specs.Tokens.{Lexeme, lexeme, first_line, Name, Punctuation}
 use Rattle.ldtokens.specs.Words.{is_free_name, is_reserved}
 use Rattle.ldtokens.specs.Modes.{IsCut}
@@ -8,10 +8,7 @@ use Rattle.ldtokens.specs.declared.token.Mark.TheVariants.{OpenParenthesis, Clos
 use Rattle.ldtokens.specs.declared.token.Mode.TheVariants.{Expression}
 use Rattle.ldscript.specs.Steps.{Part, ◌▸◌, mark, token, key, name, each, statements, Semicolons, none}
 use Rattle.ldscript.specs.Grammar.{common, region, item_statement, entry, memory, sections, top_command, top_statement, script}
-use Rattle.ldscript.specs.Readings.{NoneAt, Fails}
-use Rattle.ldscript.specs.declared.fault.Fault.{Fault}
-use Rattle.ldscript.specs.declared.fault.Fault.TheVariants.{NotAScript}
-use Rattle.std.proofs.lemmas.Result.{err_from_is_err_and}
+use Rattle.ldscript.specs.Readings.{NoneAt}
 use Rattle.ldscript.specs.Script.{IsTree}
 use Rattle.ldtree.specs.declared.common.Common.{Common}
 use Rattle.ldtree.specs.declared.common.Common.TheVariants as commons
@@ -134,15 +131,6 @@ pub no_script : (ts rest : List Lexeme) (xs : List Statement) → SoFar at_end t
     → (s : List Statement) → script s ts → ⊥
 no_script ts rest xs so end semicolon stuck s d =
     so_far_stuck (λ ts. Unit {0}) at_end top_statement tops_listed ts xs rest so (λ us e. end e.0) semicolon (λ y more k st. stuck y.command more k.1) s [] ([], d, (refl, refl))
-
-errs_same : {X : Type 0} (f g : Fault) → (let e : Result X Fault = Err f in e) ≡ Err g → f ≡ g
-errs_same f g e = cc
-
-same_faults : {X : Type 0} (r : Result X Fault) (f g : Fault) → IsErrAnd r (λ e. e ≡ f) → IsErrOf r g → f ≡ g
-same_faults r f g h k = let p = err_from_is_err_and r h in let e : Err p.0 ≡ Err g = sym p.1 ∙ k in sym p.2 ∙ errs_same p.0 g e
-
-pub fails_there : {A X : Type 0} (p : A → Part) (ts : List Lexeme) (r : Result X Fault) (f : Fault) → IsErrAnd r (λ e. e ≡ f) → IsErrOf r NotAScript → Fails p ts f → NoneAt p ts
-fails_there p ts r f h k d = subst (Fails p ts) (same_faults r f NotAScript h k) d
 
 pub takes_statement : (ts xs : List Lexeme) (line : ℕ) (a : Command) → line ≡ first_line ts → top_command a ts xs → (y : Statement) (more : List Lexeme) → top_statement y ts more
     → (y ≡ record { line = line; command = a }) × (more ≡ xs)

@@ -26,7 +26,7 @@ use Rattle.ldtokens.specs.declared.token.Mode.{Mode}
 use Rattle.ldtokens.specs.declared.token.Mode.TheVariants.{Expression, Pattern}
 use Rattle.ldexpr.specs.Expressions.{Expr}
 use Rattle.ldpattern.specs.Parts as patterns
-use Rattle.ldscript.specs.Fill.{fill_of}
+use Rattle.ldtree.specs.Fill.{fill_of}
 use Rattle.ldscript.specs.Steps.{Part, ◌▸◌, ◌or◌, nothing, optional, each, some, token, mark, statements, on_line, key, name_in, name, string, expression, pattern}
 use Rattle.ldtree.specs.declared.input.Sort.{Sort}
 use Rattle.ldtree.specs.declared.input.Sort.TheVariants.{ByName, ByAlignment}

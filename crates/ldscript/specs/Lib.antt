@@ -6,6 +6,7 @@ pub use Rattle.ldexpr.specs.DotForms
 pub use Rattle.ldpattern.specs.Parts
 pub use Rattle.ldpattern.specs.Matching
 pub use Rattle.ldtree.specs.Dots
+pub use Rattle.ldtree.specs.Fill
 pub use Rattle.ldtree.specs.Given
 pub use Rattle.ldtree.specs.Mentions
 pub use Rattle.ldtree.specs.Numbered
@@ -13,7 +14,6 @@ pub use Rattle.ldtree.specs.Numbering
 pub use Rattle.ldtree.specs.Tables
 pub use Rattle.ldtree.specs.Widths
 pub mod RefusalNumber
-pub mod Fill
 pub mod Steps
 pub mod Grammar
 pub mod Readings

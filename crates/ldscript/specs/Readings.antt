@@ -1,5 +1,5 @@
 -- What the readers of the parts of a script answer, and the parts that one reader reads at once.
-use Rattle.std.specs.Prelude.{◌≡◌, ◌<◌, ◌≤◌, List, codes, length, Bool, true, false, Option, Some, None, Result, Ok, Err}
+use Rattle.std.specs.Prelude.{◌≡◌, ◌<◌, ◌≤◌, List, codes, length, Bool, true, false, Option, Some, None, IfOk, Result}
 use Rattle.ldtokens.specs.Tokens.{Lexeme, Discard}
 use Rattle.ldtokens.specs.declared.token.Mark.TheVariants.{OpenParenthesis, CloseParenthesis, OpenBrace, Colon, Greater, Assign}
 use Rattle.ldtokens.specs.declared.token.Mode.TheVariants.{Expression, Pattern}
@@ -12,8 +12,6 @@ use Rattle.ldtree.specs.declared.input.Sort.{Sort}
 use Rattle.ldscript.specs.declared.read_section.SectionHead.{SectionHead}
 use Rattle.ldscript.specs.declared.read_section.SectionTail.{SectionTail}
 use Rattle.ldtree.specs.declared.section.Width.{Width}
-use Rattle.ldscript.specs.declared.fault.Fault.{Fault}
-use Rattle.ldscript.specs.declared.fault.Fault.TheVariants.{NotAScript, NoMemory}
 
 -- this tree stands here, and takes a token or more
 pub record Takes {A : Type 0} (p : A → Part) (ts : List Lexeme) (x : A) (rest : List Lexeme) : Type 0 where
@@ -28,14 +26,9 @@ abbrev pub Finds : {A X : Type 0} → (A → Part) → List Lexeme → (X → A)
 Finds p ts tree rest (Some x) = Takes p ts (tree x) (rest x)
 Finds p ts tree rest None = NoneAt p ts
 
--- want of memory says nothing of the tokens
-abbrev pub Fails : {A : Type 0} → (A → Part) → List Lexeme → Fault → Type 0
-Fails p ts NotAScript = NoneAt p ts
-Fails p ts NoMemory = Unit {0}
-
-abbrev pub Reads : {A X : Type 0} → (A → Part) → List Lexeme → (X → A) → (X → List Lexeme) → Result X Fault → Type 0
-Reads p ts tree rest (Ok x) = Takes p ts (tree x) (rest x)
-Reads p ts tree rest (Err fault) = Fails p ts fault
+-- out of memory says nothing of the tokens
+abbrev pub Reads : {A X E : Type 0} → (A → Part) → List Lexeme → (X → A) → (X → List Lexeme) → Result (Option X) E → Type 0
+Reads p ts tree rest r = IfOk r (λ found. Finds p ts tree rest found)
 
 -- a part without a tree
 abbrev pub Follows : {X : Type 0} → Part → List Lexeme → (X → List Lexeme) → Option X → Type 0
@@ -80,13 +73,12 @@ pub record TakesOnly {A : Type 0} (Stop : List Lexeme → Type 0) (p : A → Par
 abbrev pub NoneUntil : {A : Type 0} → (List Lexeme → Type 0) → (A → Part) → List Lexeme → Type 0
 NoneUntil {A} Stop p ts = (y : A) (more : List Lexeme) → p y ts more → Stop more → ⊥
 
-abbrev pub FailsUntil : {A : Type 0} → (List Lexeme → Type 0) → (A → Part) → List Lexeme → Fault → Type 0
-FailsUntil Stop p ts NotAScript = NoneUntil Stop p ts
-FailsUntil Stop p ts NoMemory = Unit {0}
+abbrev pub FindsOnly : {A X : Type 0} → (List Lexeme → Type 0) → (A → Part) → List Lexeme → (X → A) → (X → List Lexeme) → Option X → Type 0
+FindsOnly Stop p ts tree rest (Some x) = TakesOnly Stop p ts (tree x) (rest x)
+FindsOnly Stop p ts tree rest None = NoneUntil Stop p ts
 
-abbrev pub ReadsOnly : {A X : Type 0} → (List Lexeme → Type 0) → (A → Part) → List Lexeme → (X → A) → (X → List Lexeme) → Result X Fault → Type 0
-ReadsOnly Stop p ts tree rest (Ok x) = TakesOnly Stop p ts (tree x) (rest x)
-ReadsOnly Stop p ts tree rest (Err fault) = FailsUntil Stop p ts fault
+abbrev pub ReadsOnly : {A X E : Type 0} → (List Lexeme → Type 0) → (A → Part) → List Lexeme → (X → A) → (X → List Lexeme) → Result (Option X) E → Type 0
+ReadsOnly Stop p ts tree rest r = IfOk r (λ found. FindsOnly Stop p ts tree rest found)
 
 -- what can't go on an output section
 pub record EndsSection (ts : List Lexeme) : Type 0 where
@@ -100,13 +92,15 @@ Maybe f p ts None rest = (ts ≡ rest) × ((us : List Lexeme) → f ts us → �
 Maybe f p ts (Some x) rest = p x ts rest × (length rest < length ts)
 
 -- it begins, and does not go on as it must
-abbrev pub FailsMaybe : {A : Type 0} → Part → (A → Part) → List Lexeme → Fault → Type 0
-FailsMaybe f p ts NotAScript = (us : List Lexeme) × f ts us × NoneAt p ts
-FailsMaybe f p ts NoMemory = Unit {0}
+abbrev pub Breaks : {A : Type 0} → Part → (A → Part) → List Lexeme → Type 0
+Breaks f p ts = (us : List Lexeme) × f ts us × NoneAt p ts
 
-abbrev pub ReadsMaybe : {A X : Type 0} → Part → (A → Part) → List Lexeme → (X → Option A) → (X → List Lexeme) → Result X Fault → Type 0
-ReadsMaybe f p ts tree rest (Ok x) = Maybe f p ts (tree x) (rest x)
-ReadsMaybe f p ts tree rest (Err fault) = FailsMaybe f p ts fault
+abbrev pub FindsMaybe : {A X : Type 0} → Part → (A → Part) → List Lexeme → (X → Option A) → (X → List Lexeme) → Option X → Type 0
+FindsMaybe f p ts tree rest (Some x) = Maybe f p ts (tree x) (rest x)
+FindsMaybe f p ts tree rest None = Breaks f p ts
+
+abbrev pub ReadsMaybe : {A X E : Type 0} → Part → (A → Part) → List Lexeme → (X → Option A) → (X → List Lexeme) → Result (Option X) E → Type 0
+ReadsMaybe f p ts tree rest r = IfOk r (λ found. FindsMaybe f p ts tree rest found)
 
 -- [">" NAME] [AT ">" NAME] ["=" fill]
 abbrev pub tail_part : SectionTail → Part
@@ -118,9 +112,12 @@ pub record TakesTail (ts : List Lexeme) (t : SectionTail) (rest : List Lexeme) :
   pub only : (u : SectionTail) (more : List Lexeme) → tail_part u ts more → EndsSection more → (u ≡ t) × (more ≡ rest)
   pub within : length rest ≤ length ts
 
-abbrev pub ReadsTail : {X : Type 0} → List Lexeme → (X → SectionTail) → (X → List Lexeme) → Result X Fault → Type 0
-ReadsTail ts tree rest (Ok x) = TakesTail ts (tree x) (rest x)
-ReadsTail ts tree rest (Err fault) = FailsUntil EndsSection tail_part ts fault
+abbrev pub FindsTail : {X : Type 0} → List Lexeme → (X → SectionTail) → (X → List Lexeme) → Option X → Type 0
+FindsTail ts tree rest (Some x) = TakesTail ts (tree x) (rest x)
+FindsTail ts tree rest None = NoneUntil EndsSection tail_part ts
+
+abbrev pub ReadsTail : {X E : Type 0} → List Lexeme → (X → SectionTail) → (X → List Lexeme) → Result (Option X) E → Type 0
+ReadsTail ts tree rest r = IfOk r (λ found. FindsTail ts tree rest found)
 
 -- "/DISCARD/" ":" "{"
 abbrev pub discard_head : Part

@@ -1,8 +1,6 @@
 //! The reader of linker scripts: the tree of a text, or why it has none.
 #![tactic(auto)]
 
-pub mod fault;
-mod fill;
 pub mod law;
 mod read_body;
 mod read_common;

@@ -5,10 +5,10 @@ ghost use Rattle.ldscript.specs.Steps.{◌▸◌, mark, statements};
 ghost use Rattle.ldscript.specs.Grammar.{body_command as body_command_part, body_statement};
 ghost use Rattle.ldscript.specs.Readings.{Reads, Finds, data_part, width_part};
 
-use crate::fault::Fault;
 use crate::read_common::{common, dot_command};
 use crate::read_input::input;
 use crate::steps::{after, after_key, in_parentheses};
+use ldexpr::reader::Parsed;
 use ldtokens::cursor::Cursor;
 use ldtokens::token::{Mark, Mode};
 use ldtree::formula::Formula;
@@ -34,48 +34,40 @@ fn width<'a>(tokens: Cursor<'a>) -> Option<(Width, Cursor<'a>)>
 }
 
 /// A data command and its value.
-fn data<'a>(alloc: Global, tokens: Cursor<'a>) -> Result<(Width, Formula, Cursor<'a>), Fault>
-    ensures { Reads data_part tokens.entry (λ x. (x.0, x.1)) (λ x. x.2) result }
+fn data<'a>(alloc: Global, tokens: Cursor<'a>) -> Parsed<'a, (Width, Formula)>
+    ensures { Reads data_part tokens.entry (λ x. x.0) (λ x. x.1) result }
 {
     let Some((width, rest)) = width(tokens) else {
-        return Err(Fault::NotAScript);
+        return Ok(None);
     };
-    let (value, rest) = in_parentheses(alloc, rest)?;
-    Ok((width, value, rest))
+    let Some((value, rest)) = in_parentheses(alloc, rest)? else {
+        return Ok(None);
+    };
+    Ok(Some(((width, value), rest)))
 }
 
 /// What a statement in an output section says.
 #[tactic(auto, using(crate::proofs::Bodies::body_none))]
-fn body_command<'a>(alloc: Global, tokens: Cursor<'a>) -> Result<(BodyCommand, Cursor<'a>), Fault>
+fn body_command<'a>(alloc: Global, tokens: Cursor<'a>) -> Parsed<'a, BodyCommand>
     ensures { Reads body_command_part tokens.entry (λ x. x.0) (λ x. x.1) result }
 {
-    match dot_command(alloc, Mode::Pattern, tokens.copy()) {
-        Ok((command, rest)) => return Ok((BodyCommand::Dot(command), rest)),
-        Err(Fault::NoMemory) => return Err(Fault::NoMemory),
-        Err(Fault::NotAScript) => {}
+    if let Some((command, rest)) = dot_command(alloc, Mode::Pattern, tokens.copy())? {
+        return Ok(Some((BodyCommand::Dot(command), rest)));
     }
-    match common(alloc, Mode::Pattern, tokens.copy()) {
-        Ok((command, rest)) => return Ok((BodyCommand::Common(command), rest)),
-        Err(Fault::NoMemory) => return Err(Fault::NoMemory),
-        Err(Fault::NotAScript) => {}
+    if let Some((command, rest)) = common(alloc, Mode::Pattern, tokens.copy())? {
+        return Ok(Some((BodyCommand::Common(command), rest)));
     }
-    match data(alloc, tokens.copy()) {
-        Ok((width, value, rest)) => return Ok((BodyCommand::Data(width, value), rest)),
-        Err(Fault::NoMemory) => return Err(Fault::NoMemory),
-        Err(Fault::NotAScript) => {}
+    if let Some(((width, value), rest)) = data(alloc, tokens.copy())? {
+        return Ok(Some((BodyCommand::Data(width, value), rest)));
     }
-    match input(alloc, tokens) {
-        Ok((input, rest)) => Ok((BodyCommand::Input(input), rest)),
-        Err(Fault::NoMemory) => Err(Fault::NoMemory),
-        Err(Fault::NotAScript) => Err(Fault::NotAScript),
-    }
+    let Some((input, rest)) = input(alloc, tokens)? else {
+        return Ok(None);
+    };
+    Ok(Some((BodyCommand::Input(input), rest)))
 }
 
 /// {body} `}`
-pub fn body<'a>(
-    alloc: Global,
-    tokens: Cursor<'a>,
-) -> Result<(Sequence<BodyStatement>, Cursor<'a>), Fault>
+pub fn body<'a>(alloc: Global, tokens: Cursor<'a>) -> Parsed<'a, Sequence<BodyStatement>>
     ensures { Reads (λ ss. statements body_statement ss ▸ mark Mark.CloseBrace) tokens.entry (λ x. x.0) (λ x. x.1) result }
 {
     let mut body = Sequence::new(alloc);
@@ -86,10 +78,12 @@ pub fn body<'a>(
             continue;
         }
         if let Some(behind) = after(Mark::CloseBrace, rest.copy()) {
-            return Ok((body, behind));
+            return Ok(Some((body, behind)));
         }
         let line = rest.line();
-        let (command, more) = body_command(alloc, rest)?;
+        let Some((command, more)) = body_command(alloc, rest)? else {
+            return Ok(None);
+        };
         body.push(BodyStatement { line, command })?;
         rest = more;
     }

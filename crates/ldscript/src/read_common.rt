@@ -6,8 +6,8 @@ ghost use Rattle.ldscript.specs.Steps.{◌▸◌, mark, string};
 ghost use Rattle.ldscript.specs.Grammar.{assign as assign_part, asserted as asserted_part, assertion as assertion_part, common as common_part, dot_change as dot_change_part, dot_command as dot_command_part, provide as provide_part, provided as provided_part, provided_name as provided_name_part, set_to as set_to_part};
 ghost use Rattle.ldscript.specs.Readings.{Reads, Finds};
 
-use crate::fault::Fault;
 use crate::steps::{after, after_key, ended, front_name, plain_name};
+use ldexpr::reader::Parsed;
 use ldtokens::cursor::Cursor;
 use ldtokens::name::ScriptName;
 use ldtokens::token::{Mark, Mode};
@@ -16,55 +16,53 @@ use ldtree::formula::Formula;
 use std::alloc::Global;
 
 /// `= e ;`
-fn set_to<'a>(alloc: Global, tokens: Cursor<'a>) -> Result<(Formula, Cursor<'a>), Fault>
+fn set_to<'a>(alloc: Global, tokens: Cursor<'a>) -> Parsed<'a, Formula>
     ensures { Reads set_to_part tokens.entry (λ x. x.0) (λ x. x.1) result }
 {
     match after(Mark::Assign, tokens) {
         Some(rest) => ended(alloc, rest, Mark::Semicolon),
-        None => Err(Fault::NotAScript),
+        None => Ok(None),
     }
 }
 
 /// `= e ;` or `+= e ;`
-fn dot_change<'a>(alloc: Global, tokens: Cursor<'a>) -> Result<(DotCommand, Cursor<'a>), Fault>
+fn dot_change<'a>(alloc: Global, tokens: Cursor<'a>) -> Parsed<'a, DotCommand>
     ensures { Reads dot_change_part tokens.entry (λ x. x.0) (λ x. x.1) result }
 {
     if let Some(rest) = after(Mark::AddAssign, tokens.copy()) {
-        let (value, rest) = ended(alloc, rest, Mark::Semicolon)?;
-        return Ok((DotCommand::Add(value), rest));
+        let Some((value, rest)) = ended(alloc, rest, Mark::Semicolon)? else {
+            return Ok(None);
+        };
+        return Ok(Some((DotCommand::Add(value), rest)));
     }
-    let (value, rest) = set_to(alloc, tokens)?;
-    Ok((DotCommand::Set(value), rest))
+    let Some((value, rest)) = set_to(alloc, tokens)? else {
+        return Ok(None);
+    };
+    Ok(Some((DotCommand::Set(value), rest)))
 }
 
 /// `. = e ;` or `. += e ;`
-pub fn dot_command<'a>(
-    alloc: Global,
-    mode: Mode,
-    tokens: Cursor<'a>,
-) -> Result<(DotCommand, Cursor<'a>), Fault>
+pub fn dot_command<'a>(alloc: Global, mode: Mode, tokens: Cursor<'a>) -> Parsed<'a, DotCommand>
     ensures { Reads (dot_command_part mode) tokens.entry (λ x. x.0) (λ x. x.1) result }
 {
     match after_key(mode, b".", tokens) {
         Some(rest) => dot_change(alloc, rest),
-        None => Err(Fault::NotAScript),
+        None => Ok(None),
     }
 }
 
 /// NAME `= e ;`
-fn assign<'a>(
-    alloc: Global,
-    mode: Mode,
-    tokens: Cursor<'a>,
-) -> Result<(Assignment, Cursor<'a>), Fault>
+fn assign<'a>(alloc: Global, mode: Mode, tokens: Cursor<'a>) -> Parsed<'a, Assignment>
     ensures { Reads (assign_part mode) tokens.entry (λ x. x.0) (λ x. x.1) result }
 {
     let Some((name, rest)) = front_name(mode, tokens) else {
-        return Err(Fault::NotAScript);
+        return Ok(None);
     };
-    let (value, rest) = set_to(alloc, rest)?;
+    let Some((value, rest)) = set_to(alloc, rest)? else {
+        return Ok(None);
+    };
     let name = ScriptName::new(alloc, name)?;
-    Ok((Assignment { name, value }, rest))
+    Ok(Some((Assignment { name, value }, rest)))
 }
 
 /// `(` NAME `=`
@@ -78,28 +76,26 @@ fn provided_name<'a>(tokens: Cursor<'a>) -> Option<(&'a [u8], Cursor<'a>)>
 }
 
 /// `(` NAME `= e )`
-fn provided<'a>(alloc: Global, tokens: Cursor<'a>) -> Result<(Assignment, Cursor<'a>), Fault>
+fn provided<'a>(alloc: Global, tokens: Cursor<'a>) -> Parsed<'a, Assignment>
     ensures { Reads provided_part tokens.entry (λ x. x.0) (λ x. x.1) result }
 {
     let Some((name, rest)) = provided_name(tokens) else {
-        return Err(Fault::NotAScript);
+        return Ok(None);
     };
-    let (value, rest) = ended(alloc, rest, Mark::CloseParenthesis)?;
+    let Some((value, rest)) = ended(alloc, rest, Mark::CloseParenthesis)? else {
+        return Ok(None);
+    };
     let name = ScriptName::new(alloc, name)?;
-    Ok((Assignment { name, value }, rest))
+    Ok(Some((Assignment { name, value }, rest)))
 }
 
 /// `PROVIDE (` NAME `= e )`
-fn provide<'a>(
-    alloc: Global,
-    mode: Mode,
-    tokens: Cursor<'a>,
-) -> Result<(Assignment, Cursor<'a>), Fault>
+fn provide<'a>(alloc: Global, mode: Mode, tokens: Cursor<'a>) -> Parsed<'a, Assignment>
     ensures { Reads (provide_part mode) tokens.entry (λ x. x.0) (λ x. x.1) result }
 {
     match after_key(mode, b"PROVIDE", tokens) {
         Some(rest) => provided(alloc, rest),
-        None => Err(Fault::NotAScript),
+        None => Ok(None),
     }
 }
 
@@ -113,56 +109,45 @@ fn message<'a>(tokens: Cursor<'a>) -> Option<(&'a [u8], Cursor<'a>)>
 }
 
 /// `( e ,` STRING `)`
-fn asserted<'a>(alloc: Global, tokens: Cursor<'a>) -> Result<(Assertion, Cursor<'a>), Fault>
+fn asserted<'a>(alloc: Global, tokens: Cursor<'a>) -> Parsed<'a, Assertion>
     ensures { Reads asserted_part tokens.entry (λ x. x.0) (λ x. x.1) result }
 {
     let Some(rest) = after(Mark::OpenParenthesis, tokens) else {
-        return Err(Fault::NotAScript);
+        return Ok(None);
     };
-    let (condition, rest) = ended(alloc, rest, Mark::Comma)?;
+    let Some((condition, rest)) = ended(alloc, rest, Mark::Comma)? else {
+        return Ok(None);
+    };
     let Some((message, rest)) = message(rest) else {
-        return Err(Fault::NotAScript);
+        return Ok(None);
     };
     let message = ScriptName::new(alloc, message)?;
-    Ok((Assertion { condition, message }, rest))
+    Ok(Some((Assertion { condition, message }, rest)))
 }
 
 /// `ASSERT ( e ,` STRING `)`
-fn assertion<'a>(
-    alloc: Global,
-    mode: Mode,
-    tokens: Cursor<'a>,
-) -> Result<(Assertion, Cursor<'a>), Fault>
+fn assertion<'a>(alloc: Global, mode: Mode, tokens: Cursor<'a>) -> Parsed<'a, Assertion>
     ensures { Reads (assertion_part mode) tokens.entry (λ x. x.0) (λ x. x.1) result }
 {
     match after_key(mode, b"ASSERT", tokens) {
         Some(rest) => asserted(alloc, rest),
-        None => Err(Fault::NotAScript),
+        None => Ok(None),
     }
 }
 
 /// NAME `= e ;`, `PROVIDE` or `ASSERT`
 #[tactic(auto, using(crate::proofs::Commons::common_none))]
-pub fn common<'a>(
-    alloc: Global,
-    mode: Mode,
-    tokens: Cursor<'a>,
-) -> Result<(Common, Cursor<'a>), Fault>
+pub fn common<'a>(alloc: Global, mode: Mode, tokens: Cursor<'a>) -> Parsed<'a, Common>
     ensures { Reads (common_part mode) tokens.entry (λ x. x.0) (λ x. x.1) result }
 {
-    match assign(alloc, mode, tokens.copy()) {
-        Ok((assignment, rest)) => return Ok((Common::Assign(assignment), rest)),
-        Err(Fault::NoMemory) => return Err(Fault::NoMemory),
-        Err(Fault::NotAScript) => {}
+    if let Some((assignment, rest)) = assign(alloc, mode, tokens.copy())? {
+        return Ok(Some((Common::Assign(assignment), rest)));
     }
-    match provide(alloc, mode, tokens.copy()) {
-        Ok((assignment, rest)) => return Ok((Common::Provide(assignment), rest)),
-        Err(Fault::NoMemory) => return Err(Fault::NoMemory),
-        Err(Fault::NotAScript) => {}
+    if let Some((assignment, rest)) = provide(alloc, mode, tokens.copy())? {
+        return Ok(Some((Common::Provide(assignment), rest)));
     }
-    match assertion(alloc, mode, tokens) {
-        Ok((assertion, rest)) => Ok((Common::Assert(assertion), rest)),
-        Err(Fault::NoMemory) => Err(Fault::NoMemory),
-        Err(Fault::NotAScript) => Err(Fault::NotAScript),
-    }
+    let Some((assertion, rest)) = assertion(alloc, mode, tokens)? else {
+        return Ok(None);
+    };
+    Ok(Some((Common::Assert(assertion), rest)))
 }

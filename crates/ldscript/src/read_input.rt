@@ -1,13 +1,13 @@
 //! Readers of input statements.
 
-ghost use Rattle.std.specs.Prelude.{◌≡◌, ◌<◌, ℕ, List, IfOk, IsTrue, length};
+ghost use Rattle.std.specs.Prelude.{◌≡◌, ◌<◌, ℕ, List, IfOk, IfSome, IsTrue, length};
 ghost use Rattle.ldtokens.specs.Tokens.{Lexeme};
 ghost use Rattle.ldscript.specs.Steps.{◌▸◌, each, some, mark, statements, pattern as pattern_part};
 ghost use Rattle.ldscript.specs.Grammar.{bare, one, sort as sort_part, plain as plain_part, input as input_part, input_statement};
 ghost use Rattle.ldscript.specs.Readings.{Reads, Finds, excluded_files as excluded_files_part, selected, word_part};
 
-use crate::fault::Fault;
 use crate::steps::{after, after_key};
+use ldexpr::reader::Parsed;
 use ldpattern::pattern::Pattern;
 use ldtokens::cursor::Cursor;
 use ldtokens::token::{Mark, Mode};
@@ -17,92 +17,91 @@ use ldtree::sequence::Sequence;
 use std::alloc::Global;
 
 /// A word that spells a pattern.
-fn pattern<'a>(alloc: Global, tokens: Cursor<'a>) -> Result<(Pattern, Cursor<'a>), Fault>
+fn pattern<'a>(alloc: Global, tokens: Cursor<'a>) -> Parsed<'a, Pattern>
     ensures { Reads pattern_part tokens.entry (λ x. x.0) (λ x. x.1) result }
 {
     let Some((word, rest)) = tokens.word() else {
-        return Err(Fault::NotAScript);
+        return Ok(None);
     };
     if !is_free_word(word) {
-        return Err(Fault::NotAScript);
+        return Ok(None);
     }
-    match Pattern::read(alloc, word) {
-        Ok(Some(pattern)) => Ok((pattern, rest)),
-        Ok(None) => Err(Fault::NotAScript),
-        Err(_) => Err(Fault::NoMemory),
-    }
+    let Some(pattern) = Pattern::read(alloc, word)? else {
+        return Ok(None);
+    };
+    Ok(Some((pattern, rest)))
 }
 
 /// {WORD} `)`
-fn patterns<'a>(alloc: Global, tokens: Cursor<'a>) -> Result<(Sequence<Pattern>, Cursor<'a>), Fault>
+fn patterns<'a>(alloc: Global, tokens: Cursor<'a>) -> Parsed<'a, Sequence<Pattern>>
     ensures { Reads (λ ps. each pattern_part ps ▸ mark Mark.CloseParenthesis) tokens.entry (λ x. x.0) (λ x. x.1) result }
 {
     let mut patterns = Sequence::new(alloc);
     let mut rest = tokens;
     'reading: loop {
         if let Some(behind) = after(Mark::CloseParenthesis, rest.copy()) {
-            return Ok((patterns, behind));
+            return Ok(Some((patterns, behind)));
         }
-        let (pattern, more) = pattern(alloc, rest)?;
+        let Some((pattern, more)) = pattern(alloc, rest)? else {
+            return Ok(None);
+        };
         patterns.push(pattern)?;
         rest = more;
     }
 }
 
 /// WORD {WORD} `)`
-fn some_patterns<'a>(
-    alloc: Global,
-    tokens: Cursor<'a>,
-) -> Result<(Sequence<Pattern>, Cursor<'a>), Fault>
+fn some_patterns<'a>(alloc: Global, tokens: Cursor<'a>) -> Parsed<'a, Sequence<Pattern>>
     ensures { Reads (λ ps. some pattern_part ps ▸ mark Mark.CloseParenthesis) tokens.entry (λ x. x.0) (λ x. x.1) result }
 {
-    let (patterns, rest) = patterns(alloc, tokens)?;
+    let Some((patterns, rest)) = patterns(alloc, tokens)? else {
+        return Ok(None);
+    };
     if patterns.as_slice().is_empty() {
-        return Err(Fault::NotAScript);
+        return Ok(None);
     }
-    Ok((patterns, rest))
+    Ok(Some((patterns, rest)))
 }
 
 /// `(` WORD {WORD} `)`
-fn excluded_files<'a>(
-    alloc: Global,
-    tokens: Cursor<'a>,
-) -> Result<(Sequence<Pattern>, Cursor<'a>), Fault>
+fn excluded_files<'a>(alloc: Global, tokens: Cursor<'a>) -> Parsed<'a, Sequence<Pattern>>
     ensures { Reads excluded_files_part tokens.entry (λ x. x.0) (λ x. x.1) result }
 {
     match after(Mark::OpenParenthesis, tokens) {
         Some(rest) => some_patterns(alloc, rest),
-        None => Err(Fault::NotAScript),
+        None => Ok(None),
     }
 }
 
 /// WORD
-fn bare_word<'a>(alloc: Global, tokens: Cursor<'a>) -> Result<(SectionWord, Cursor<'a>), Fault>
+fn bare_word<'a>(alloc: Global, tokens: Cursor<'a>) -> Parsed<'a, SectionWord>
     ensures { Reads bare tokens.entry (λ x. x.0) (λ x. x.1) result }
 {
-    let (pattern, rest) = pattern(alloc, tokens)?;
+    let Some((pattern, rest)) = pattern(alloc, tokens)? else {
+        return Ok(None);
+    };
     let excluded = Sequence::new(alloc);
-    Ok((SectionWord { pattern, excluded }, rest))
+    Ok(Some((SectionWord { pattern, excluded }, rest)))
 }
 
 /// [`EXCLUDE_FILE (` WORD {WORD} `)`] WORD
-fn excluding_word<'a>(alloc: Global, tokens: Cursor<'a>) -> Result<(SectionWord, Cursor<'a>), Fault>
+fn excluding_word<'a>(alloc: Global, tokens: Cursor<'a>) -> Parsed<'a, SectionWord>
     ensures { Reads one tokens.entry (λ x. x.0) (λ x. x.1) result }
 {
     let Some(rest) = after_key(Mode::Pattern, b"EXCLUDE_FILE", tokens.copy()) else {
         return bare_word(alloc, tokens);
     };
-    let (excluded, rest) = excluded_files(alloc, rest)?;
-    let (pattern, rest) = pattern(alloc, rest)?;
-    Ok((SectionWord { pattern, excluded }, rest))
+    let Some((excluded, rest)) = excluded_files(alloc, rest)? else {
+        return Ok(None);
+    };
+    let Some((pattern, rest)) = pattern(alloc, rest)? else {
+        return Ok(None);
+    };
+    Ok(Some((SectionWord { pattern, excluded }, rest)))
 }
 
 /// A word of an input statement; not each may have `EXCLUDE_FILE` before it.
-fn word<'a>(
-    alloc: Global,
-    may_exclude: bool,
-    tokens: Cursor<'a>,
-) -> Result<(SectionWord, Cursor<'a>), Fault>
+fn word<'a>(alloc: Global, may_exclude: bool, tokens: Cursor<'a>) -> Parsed<'a, SectionWord>
     ensures { Reads (word_part may_exclude) tokens.entry (λ x. x.0) (λ x. x.1) result }
 {
     if may_exclude {
@@ -117,16 +116,18 @@ fn words<'a>(
     alloc: Global,
     may_exclude: bool,
     tokens: Cursor<'a>,
-) -> Result<(Sequence<SectionWord>, Cursor<'a>), Fault>
+) -> Parsed<'a, Sequence<SectionWord>>
     ensures { Reads (λ ws. each (word_part may_exclude) ws ▸ mark Mark.CloseParenthesis) tokens.entry (λ x. x.0) (λ x. x.1) result }
 {
     let mut words = Sequence::new(alloc);
     let mut rest = tokens;
     'reading: loop {
         if let Some(behind) = after(Mark::CloseParenthesis, rest.copy()) {
-            return Ok((words, behind));
+            return Ok(Some((words, behind)));
         }
-        let (word, more) = word(alloc, may_exclude, rest)?;
+        let Some((word, more)) = word(alloc, may_exclude, rest)? else {
+            return Ok(None);
+        };
         words.push(word)?;
         rest = more;
     }
@@ -137,14 +138,16 @@ fn some_words<'a>(
     alloc: Global,
     may_exclude: bool,
     tokens: Cursor<'a>,
-) -> Result<(Sequence<SectionWord>, Cursor<'a>), Fault>
+) -> Parsed<'a, Sequence<SectionWord>>
     ensures { Reads (λ ws. some (word_part may_exclude) ws ▸ mark Mark.CloseParenthesis) tokens.entry (λ x. x.0) (λ x. x.1) result }
 {
-    let (words, rest) = words(alloc, may_exclude, tokens)?;
+    let Some((words, rest)) = words(alloc, may_exclude, tokens)? else {
+        return Ok(None);
+    };
     if words.as_slice().is_empty() {
-        return Err(Fault::NotAScript);
+        return Ok(None);
     }
-    Ok((words, rest))
+    Ok(Some((words, rest)))
 }
 
 /// `SORT`, `SORT_BY_NAME` or `SORT_BY_ALIGNMENT`
@@ -174,61 +177,68 @@ fn sort<'a>(tokens: Cursor<'a>) -> Option<(Sort, Cursor<'a>)>
 fn selection<'a>(
     alloc: Global,
     tokens: Cursor<'a>,
-) -> Result<(Option<Sort>, Sequence<SectionWord>, Cursor<'a>), Fault>
-    ensures { Reads selected tokens.entry (λ x. (x.0, x.1)) (λ x. x.2) result }
+) -> Parsed<'a, (Option<Sort>, Sequence<SectionWord>)>
+    ensures { Reads selected tokens.entry (λ x. x.0) (λ x. x.1) result }
 {
     let Some((sort, rest)) = sort(tokens.copy()) else {
-        let (sections, rest) = some_words(alloc, true, tokens)?;
-        return Ok((None, sections, rest));
+        let Some((sections, rest)) = some_words(alloc, true, tokens)? else {
+            return Ok(None);
+        };
+        return Ok(Some(((None, sections), rest)));
     };
-    let (sections, rest) = some_words(alloc, false, rest)?;
+    let Some((sections, rest)) = some_words(alloc, false, rest)? else {
+        return Ok(None);
+    };
     match after(Mark::CloseParenthesis, rest) {
-        Some(rest) => Ok((Some(sort), sections, rest)),
-        None => Err(Fault::NotAScript),
+        Some(rest) => Ok(Some(((Some(sort), sections), rest))),
+        None => Ok(None),
     }
 }
 
 /// An input statement, and whether it stands under `KEEP`.
-fn plain<'a>(alloc: Global, keep: bool, tokens: Cursor<'a>) -> Result<(Input, Cursor<'a>), Fault>
+fn plain<'a>(alloc: Global, keep: bool, tokens: Cursor<'a>) -> Parsed<'a, Input>
     ensures read { Reads plain_part tokens.entry (λ x. x.0) (λ x. x.1) result }
-    ensures keep { IfOk result (λ x. x.0.keep ≡ keep) }
+    ensures keep { IfOk result (λ found. IfSome found (λ x. x.0.keep ≡ keep)) }
 {
-    let (file, rest) = pattern(alloc, tokens)?;
-    let Some(rest) = after(Mark::OpenParenthesis, rest) else {
-        return Err(Fault::NotAScript);
+    let Some((file, rest)) = pattern(alloc, tokens)? else {
+        return Ok(None);
     };
-    let (sort, sections, rest) = selection(alloc, rest)?;
+    let Some(rest) = after(Mark::OpenParenthesis, rest) else {
+        return Ok(None);
+    };
+    let Some(((sort, sections), rest)) = selection(alloc, rest)? else {
+        return Ok(None);
+    };
     let input = Input {
         keep,
         file,
         sort,
         sections,
     };
-    Ok((input, rest))
+    Ok(Some((input, rest)))
 }
 
 /// An input statement.
-pub fn input<'a>(alloc: Global, tokens: Cursor<'a>) -> Result<(Input, Cursor<'a>), Fault>
+pub fn input<'a>(alloc: Global, tokens: Cursor<'a>) -> Parsed<'a, Input>
     ensures { Reads input_part tokens.entry (λ x. x.0) (λ x. x.1) result }
 {
     let Some(rest) = after_key(Mode::Pattern, b"KEEP", tokens.copy()) else {
         return plain(alloc, false, tokens);
     };
     let Some(rest) = after(Mark::OpenParenthesis, rest) else {
-        return Err(Fault::NotAScript);
+        return Ok(None);
     };
-    let (input, rest) = plain(alloc, true, rest)?;
+    let Some((input, rest)) = plain(alloc, true, rest)? else {
+        return Ok(None);
+    };
     match after(Mark::CloseParenthesis, rest) {
-        Some(rest) => Ok((input, rest)),
-        None => Err(Fault::NotAScript),
+        Some(rest) => Ok(Some((input, rest))),
+        None => Ok(None),
     }
 }
 
 /// {`;` | input} `}`
-pub fn inputs<'a>(
-    alloc: Global,
-    tokens: Cursor<'a>,
-) -> Result<(Sequence<InputStatement>, Cursor<'a>), Fault>
+pub fn inputs<'a>(alloc: Global, tokens: Cursor<'a>) -> Parsed<'a, Sequence<InputStatement>>
     ensures { Reads (λ ss. statements input_statement ss ▸ mark Mark.CloseBrace) tokens.entry (λ x. x.0) (λ x. x.1) result }
 {
     let mut inputs = Sequence::new(alloc);
@@ -239,10 +249,12 @@ pub fn inputs<'a>(
             continue;
         }
         if let Some(behind) = after(Mark::CloseBrace, rest.copy()) {
-            return Ok((inputs, behind));
+            return Ok(Some((inputs, behind)));
         }
         let line = rest.line();
-        let (input, more) = input(alloc, rest)?;
+        let Some((input, more)) = input(alloc, rest)? else {
+            return Ok(None);
+        };
         inputs.push(InputStatement { line, input })?;
         rest = more;
     }

@@ -6,11 +6,11 @@ ghost use Rattle.ldtokens.specs.Tokens.{Discard};
 ghost use Rattle.ldscript.specs.Grammar.{discard as discard_part, item_command as item_command_part, item_statement};
 ghost use Rattle.ldscript.specs.Readings.{EndsSection, Follows, Reads, ReadsOnly, discard_head as discard_head_part};
 
-use crate::fault::Fault;
 use crate::read_common::{common, dot_command};
 use crate::read_input::inputs;
 use crate::read_section::section;
 use crate::steps::after;
+use ldexpr::reader::Parsed;
 use ldtokens::cursor::Cursor;
 use ldtokens::token::{Mark, Mode, TokenKind};
 use ldtree::held::Held;
@@ -41,47 +41,37 @@ fn discard_head(tokens: Cursor<'_>) -> Option<Cursor<'_>>
 }
 
 /// `/DISCARD/ : {` {`;` | input} `}`
-fn discard<'a>(
-    alloc: Global,
-    tokens: Cursor<'a>,
-) -> Result<(Sequence<InputStatement>, Cursor<'a>), Fault>
+fn discard<'a>(alloc: Global, tokens: Cursor<'a>) -> Parsed<'a, Sequence<InputStatement>>
     ensures { Reads discard_part tokens.entry (λ x. x.0) (λ x. x.1) result }
 {
     match discard_head(tokens) {
         Some(rest) => inputs(alloc, rest),
-        None => Err(Fault::NotAScript),
+        None => Ok(None),
     }
 }
 
 /// What a statement of `SECTIONS` says.
 #[tactic(auto, using(crate::proofs::Items::item_none))]
-fn item_command<'a>(alloc: Global, tokens: Cursor<'a>) -> Result<(ItemCommand, Cursor<'a>), Fault>
+fn item_command<'a>(alloc: Global, tokens: Cursor<'a>) -> Parsed<'a, ItemCommand>
     ensures { ReadsOnly EndsSection item_command_part tokens.entry (λ x. x.0) (λ x. x.1) result }
 {
-    match dot_command(alloc, Mode::Expression, tokens.copy()) {
-        Ok((command, rest)) => return Ok((ItemCommand::Dot(command), rest)),
-        Err(Fault::NoMemory) => return Err(Fault::NoMemory),
-        Err(Fault::NotAScript) => {}
+    if let Some((command, rest)) = dot_command(alloc, Mode::Expression, tokens.copy())? {
+        return Ok(Some((ItemCommand::Dot(command), rest)));
     }
-    match common(alloc, Mode::Expression, tokens.copy()) {
-        Ok((command, rest)) => return Ok((ItemCommand::Common(command), rest)),
-        Err(Fault::NoMemory) => return Err(Fault::NoMemory),
-        Err(Fault::NotAScript) => {}
+    if let Some((command, rest)) = common(alloc, Mode::Expression, tokens.copy())? {
+        return Ok(Some((ItemCommand::Common(command), rest)));
     }
-    match discard(alloc, tokens.copy()) {
-        Ok((inputs, rest)) => return Ok((ItemCommand::Discard(inputs), rest)),
-        Err(Fault::NoMemory) => return Err(Fault::NoMemory),
-        Err(Fault::NotAScript) => {}
+    if let Some((inputs, rest)) = discard(alloc, tokens.copy())? {
+        return Ok(Some((ItemCommand::Discard(inputs), rest)));
     }
-    match section(alloc, tokens) {
-        Ok((section, rest)) => Ok((ItemCommand::Section(Held::new(alloc, section)?), rest)),
-        Err(Fault::NoMemory) => Err(Fault::NoMemory),
-        Err(Fault::NotAScript) => Err(Fault::NotAScript),
-    }
+    let Some((section, rest)) = section(alloc, tokens)? else {
+        return Ok(None);
+    };
+    Ok(Some((ItemCommand::Section(Held::new(alloc, section)?), rest)))
 }
 
 /// {item} `}`
-pub fn items<'a>(alloc: Global, tokens: Cursor<'a>) -> Result<(Sequence<Item>, Cursor<'a>), Fault>
+pub fn items<'a>(alloc: Global, tokens: Cursor<'a>) -> Parsed<'a, Sequence<Item>>
     ensures { Reads (λ ss. statements item_statement ss ▸ mark Mark.CloseBrace) tokens.entry (λ x. x.0) (λ x. x.1) result }
 {
     let mut items = Sequence::new(alloc);
@@ -92,10 +82,12 @@ pub fn items<'a>(alloc: Global, tokens: Cursor<'a>) -> Result<(Sequence<Item>, C
             continue;
         }
         if let Some(behind) = after(Mark::CloseBrace, rest.copy()) {
-            return Ok((items, behind));
+            return Ok(Some((items, behind)));
         }
         let line = rest.line();
-        let (command, more) = item_command(alloc, rest)?;
+        let Some((command, more)) = item_command(alloc, rest)? else {
+            return Ok(None);
+        };
         items.push(Item { line, command })?;
         rest = more;
     }

@@ -6,10 +6,8 @@ ghost use Rattle.ldscript.specs.Grammar.{region as region_part, region_head as r
 ghost use Rattle.ldscript.specs.Readings.{Reads, ReadsOnly, Finds, Follows};
 ghost use Rattle.ldexpr.specs.Grammar.{Stops, Whole};
 
-use crate::fault::Fault;
 use crate::steps::{after, after_key, ended, plain_name};
-use ldexpr::fault::ParseFault;
-use ldexpr::reader::expr;
+use ldexpr::reader::{Parsed, expr};
 use ldtokens::cursor::Cursor;
 use ldtokens::name::ScriptName;
 use ldtokens::token::{Mark, Mode};
@@ -38,52 +36,54 @@ fn region_middle(tokens: Cursor<'_>) -> Option<Cursor<'_>>
 }
 
 /// An expression.
-fn formula<'a>(alloc: Global, tokens: Cursor<'a>) -> Result<(Formula, Cursor<'a>), Fault>
+fn formula<'a>(alloc: Global, tokens: Cursor<'a>) -> Parsed<'a, Formula>
     ensures { ReadsOnly (Stops Whole) expression tokens.entry (λ x. x.0) (λ x. x.1) result }
 {
-    match expr(alloc, tokens) {
-        Ok((expr, rest)) => Ok((Formula::new(expr), rest)),
-        Err(ParseFault::NotAnExpression) => Err(Fault::NotAScript),
-        Err(ParseFault::NoMemory) => Err(Fault::NoMemory),
-    }
+    let Some((expr, rest)) = expr(alloc, tokens)? else {
+        return Ok(None);
+    };
+    Ok(Some((Formula::new(expr), rest)))
 }
 
 /// A memory region.
-fn region<'a>(alloc: Global, tokens: Cursor<'a>) -> Result<(Region, Cursor<'a>), Fault>
+fn region<'a>(alloc: Global, tokens: Cursor<'a>) -> Parsed<'a, Region>
     ensures { ReadsOnly (Stops Whole) region_part tokens.entry (λ x. x.0) (λ x. x.1) result }
 {
     let line = tokens.line();
     let Some((name, rest)) = region_head(tokens) else {
-        return Err(Fault::NotAScript);
+        return Ok(None);
     };
-    let (origin, rest) = ended(alloc, rest, Mark::Comma)?;
+    let Some((origin, rest)) = ended(alloc, rest, Mark::Comma)? else {
+        return Ok(None);
+    };
     let Some(rest) = region_middle(rest) else {
-        return Err(Fault::NotAScript);
+        return Ok(None);
     };
-    let (extent, rest) = formula(alloc, rest)?;
+    let Some((extent, rest)) = formula(alloc, rest)? else {
+        return Ok(None);
+    };
     let region = Region {
         line,
         name: ScriptName::new(alloc, name)?,
         origin,
         extent,
     };
-    Ok((region, rest))
+    Ok(Some((region, rest)))
 }
 
 /// {region} `}`
-pub fn regions<'a>(
-    alloc: Global,
-    tokens: Cursor<'a>,
-) -> Result<(Sequence<Region>, Cursor<'a>), Fault>
+pub fn regions<'a>(alloc: Global, tokens: Cursor<'a>) -> Parsed<'a, Sequence<Region>>
     ensures { Reads (λ rs. each region_part rs ▸ mark Mark.CloseBrace) tokens.entry (λ x. x.0) (λ x. x.1) result }
 {
     let mut regions = Sequence::new(alloc);
     let mut rest = tokens;
     'reading: loop {
         if let Some(behind) = after(Mark::CloseBrace, rest.copy()) {
-            return Ok((regions, behind));
+            return Ok(Some((regions, behind)));
         }
-        let (region, more) = region(alloc, rest)?;
+        let Some((region, more)) = region(alloc, rest)? else {
+            return Ok(None);
+        };
         regions.push(region)?;
         rest = more;
     }

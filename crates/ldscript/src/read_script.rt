@@ -1,93 +1,88 @@
 //! Readers of the statements of a script.
 
-ghost use Rattle.std.specs.Prelude.{◌≡◌, ◌<◌, ℕ, List, IsTrue, IfOk, IsErrOf, length};
+ghost use Rattle.std.specs.Prelude.{◌≡◌, ◌<◌, ℕ, List, IsTrue, IfOk, MatchOption, length};
 ghost use Rattle.ldscript.specs.Steps.{◌▸◌, mark};
 ghost use Rattle.ldscript.specs.Grammar.{entry as entry_part, memory as memory_part, sections as sections_part, top_command as top_command_part, script};
 ghost use Rattle.ldscript.specs.Readings.{Reads, Finds};
 ghost use Rattle.ldtree.specs.declared.statement.Statement.{Statement};
 
-use crate::fault::Fault;
 use crate::read_common::common;
 use crate::read_item::items;
 use crate::read_region::regions;
 use crate::steps::{after, after_key, name_in_parentheses};
+use ldexpr::reader::Parsed;
 use ldtokens::cursor::Cursor;
 use ldtokens::name::ScriptName;
 use ldtokens::token::{Mark, Mode};
 use ldtree::sequence::Sequence;
 use ldtree::statement::{Command, Item, Region, Statement};
-use std::alloc::Global;
+use std::alloc::{AllocError, Global};
 
 /// `ENTRY ( NAME )`
-fn entry<'a>(alloc: Global, tokens: Cursor<'a>) -> Result<(ScriptName, Cursor<'a>), Fault>
+fn entry<'a>(alloc: Global, tokens: Cursor<'a>) -> Parsed<'a, ScriptName>
     ensures { Reads entry_part tokens.entry (λ x. x.0) (λ x. x.1) result }
 {
     let Some(rest) = after_key(Mode::Expression, b"ENTRY", tokens) else {
-        return Err(Fault::NotAScript);
+        return Ok(None);
     };
     let Some((name, rest)) = name_in_parentheses(rest) else {
-        return Err(Fault::NotAScript);
+        return Ok(None);
     };
-    Ok((ScriptName::new(alloc, name)?, rest))
+    Ok(Some((ScriptName::new(alloc, name)?, rest)))
 }
 
 /// `MEMORY {` {region} `}`
-fn memory<'a>(alloc: Global, tokens: Cursor<'a>) -> Result<(Sequence<Region>, Cursor<'a>), Fault>
+fn memory<'a>(alloc: Global, tokens: Cursor<'a>) -> Parsed<'a, Sequence<Region>>
     ensures { Reads memory_part tokens.entry (λ x. x.0) (λ x. x.1) result }
 {
     let Some(rest) = after_key(Mode::Expression, b"MEMORY", tokens) else {
-        return Err(Fault::NotAScript);
+        return Ok(None);
     };
     match after(Mark::OpenBrace, rest) {
         Some(rest) => regions(alloc, rest),
-        None => Err(Fault::NotAScript),
+        None => Ok(None),
     }
 }
 
 /// `SECTIONS {` {item} `}`
-fn sections<'a>(alloc: Global, tokens: Cursor<'a>) -> Result<(Sequence<Item>, Cursor<'a>), Fault>
+fn sections<'a>(alloc: Global, tokens: Cursor<'a>) -> Parsed<'a, Sequence<Item>>
     ensures { Reads sections_part tokens.entry (λ x. x.0) (λ x. x.1) result }
 {
     let Some(rest) = after_key(Mode::Expression, b"SECTIONS", tokens) else {
-        return Err(Fault::NotAScript);
+        return Ok(None);
     };
     match after(Mark::OpenBrace, rest) {
         Some(rest) => items(alloc, rest),
-        None => Err(Fault::NotAScript),
+        None => Ok(None),
     }
 }
 
 /// What a statement of a script says.
 #[tactic(auto, using(crate::proofs::Tops::top_none))]
-fn top_command<'a>(alloc: Global, tokens: Cursor<'a>) -> Result<(Command, Cursor<'a>), Fault>
+fn top_command<'a>(alloc: Global, tokens: Cursor<'a>) -> Parsed<'a, Command>
     ensures { Reads top_command_part tokens.entry (λ x. x.0) (λ x. x.1) result }
 {
-    match sections(alloc, tokens.copy()) {
-        Ok((items, rest)) => return Ok((Command::Sections(items), rest)),
-        Err(Fault::NoMemory) => return Err(Fault::NoMemory),
-        Err(Fault::NotAScript) => {}
+    if let Some((items, rest)) = sections(alloc, tokens.copy())? {
+        return Ok(Some((Command::Sections(items), rest)));
     }
-    match memory(alloc, tokens.copy()) {
-        Ok((regions, rest)) => return Ok((Command::Memory(regions), rest)),
-        Err(Fault::NoMemory) => return Err(Fault::NoMemory),
-        Err(Fault::NotAScript) => {}
+    if let Some((regions, rest)) = memory(alloc, tokens.copy())? {
+        return Ok(Some((Command::Memory(regions), rest)));
     }
-    match entry(alloc, tokens.copy()) {
-        Ok((name, rest)) => return Ok((Command::Entry(name), rest)),
-        Err(Fault::NoMemory) => return Err(Fault::NoMemory),
-        Err(Fault::NotAScript) => {}
+    if let Some((name, rest)) = entry(alloc, tokens.copy())? {
+        return Ok(Some((Command::Entry(name), rest)));
     }
-    match common(alloc, Mode::Expression, tokens) {
-        Ok((command, rest)) => Ok((Command::Common(command), rest)),
-        Err(Fault::NoMemory) => Err(Fault::NoMemory),
-        Err(Fault::NotAScript) => Err(Fault::NotAScript),
-    }
+    let Some((command, rest)) = common(alloc, Mode::Expression, tokens)? else {
+        return Ok(None);
+    };
+    Ok(Some((Command::Common(command), rest)))
 }
 
-/// All statements of a script.
-pub fn statements_of(alloc: Global, tokens: Cursor<'_>) -> Result<Sequence<Statement>, Fault>
-    ensures read { IfOk result (λ s. script s tokens.entry) }
-    ensures none { IsErrOf result Fault.NotAScript → (s : List Statement) → script s tokens.entry → ⊥ }
+/// All statements of a script, or `None` where the tokens are none.
+pub fn statements_of(
+    alloc: Global,
+    tokens: Cursor<'_>,
+) -> Result<Option<Sequence<Statement>>, AllocError>
+    ensures { IfOk result (λ found. MatchOption found ((s : List Statement) → script s tokens.entry → ⊥) (λ s. script s tokens.entry)) }
 {
     let mut statements = Sequence::new(alloc);
     let mut rest = tokens;
@@ -97,10 +92,12 @@ pub fn statements_of(alloc: Global, tokens: Cursor<'_>) -> Result<Sequence<State
             continue;
         }
         if rest.is_empty() {
-            return Ok(statements);
+            return Ok(Some(statements));
         }
         let line = rest.line();
-        let (command, more) = top_command(alloc, rest)?;
+        let Some((command, more)) = top_command(alloc, rest)? else {
+            return Ok(None);
+        };
         statements.push(Statement { line, command })?;
         rest = more;
     }

@@ -6,10 +6,9 @@ ghost use Rattle.ldscript.specs.Grammar.{address as address_part, at_region, fil
 ghost use Rattle.ldscript.specs.Readings.{EndsSection, Reads, ReadsMaybe, ReadsOnly, ReadsTail, opened_part, head_part};
 ghost use Rattle.ldtree.specs.declared.section.Load.{Load};
 
-use crate::fault::Fault;
-use crate::fill::fill_bytes;
 use crate::read_body::body;
 use crate::steps::{after, after_key, ended, in_parentheses, plain_name};
+use ldexpr::reader::Parsed;
 use ldtokens::cursor::Cursor;
 use ldtokens::name::ScriptName;
 use ldtokens::token::{Mark, Mode};
@@ -19,30 +18,34 @@ use ldtree::section::{Load, OutputSection};
 use std::alloc::Global;
 
 /// [e] `:`
-fn address<'a>(alloc: Global, tokens: Cursor<'a>) -> Result<(Option<Formula>, Cursor<'a>), Fault>
+fn address<'a>(alloc: Global, tokens: Cursor<'a>) -> Parsed<'a, Option<Formula>>
     ensures { Reads address_part tokens.entry (λ x. x.0) (λ x. x.1) result }
 {
     if let Some(rest) = after(Mark::Colon, tokens.copy()) {
-        return Ok((None, rest));
+        return Ok(Some((None, rest)));
     }
-    let (address, rest) = ended(alloc, tokens, Mark::Colon)?;
-    Ok((Some(address), rest))
+    let Some((address, rest)) = ended(alloc, tokens, Mark::Colon)? else {
+        return Ok(None);
+    };
+    Ok(Some((Some(address), rest)))
 }
 
 /// [`ALIGN ( e )`] `{`
-fn alignment<'a>(alloc: Global, tokens: Cursor<'a>) -> Result<(Option<Formula>, Cursor<'a>), Fault>
+fn alignment<'a>(alloc: Global, tokens: Cursor<'a>) -> Parsed<'a, Option<Formula>>
     ensures { Reads opened_part tokens.entry (λ x. x.0) (λ x. x.1) result }
 {
     if let Some(rest) = after(Mark::OpenBrace, tokens.copy()) {
-        return Ok((None, rest));
+        return Ok(Some((None, rest)));
     }
     let Some(rest) = after_key(Mode::Expression, b"ALIGN", tokens) else {
-        return Err(Fault::NotAScript);
+        return Ok(None);
     };
-    let (alignment, rest) = in_parentheses(alloc, rest)?;
+    let Some((alignment, rest)) = in_parentheses(alloc, rest)? else {
+        return Ok(None);
+    };
     match after(Mark::OpenBrace, rest) {
-        Some(rest) => Ok((Some(alignment), rest)),
-        None => Err(Fault::NotAScript),
+        Some(rest) => Ok(Some((Some(alignment), rest))),
+        None => Ok(None),
     }
 }
 
@@ -54,24 +57,30 @@ struct SectionHead {
 }
 
 /// [`AT ( e )`] [`ALIGN ( e )`] `{`
-fn head<'a>(alloc: Global, tokens: Cursor<'a>) -> Result<(SectionHead, Cursor<'a>), Fault>
+fn head<'a>(alloc: Global, tokens: Cursor<'a>) -> Parsed<'a, SectionHead>
     ensures { Reads head_part tokens.entry (λ x. x.0) (λ x. x.1) result }
 {
     let Some(rest) = after_key(Mode::Expression, b"AT", tokens.copy()) else {
-        let (alignment, rest) = alignment(alloc, tokens)?;
+        let Some((alignment, rest)) = alignment(alloc, tokens)? else {
+            return Ok(None);
+        };
         let head = SectionHead {
             load: None,
             alignment,
         };
-        return Ok((head, rest));
+        return Ok(Some((head, rest)));
     };
-    let (load, rest) = in_parentheses(alloc, rest)?;
-    let (alignment, rest) = alignment(alloc, rest)?;
+    let Some((load, rest)) = in_parentheses(alloc, rest)? else {
+        return Ok(None);
+    };
+    let Some((alignment, rest)) = alignment(alloc, rest)? else {
+        return Ok(None);
+    };
     let head = SectionHead {
         load: Some(load),
         alignment,
     };
-    Ok((head, rest))
+    Ok(Some((head, rest)))
 }
 
 /// What the tail of an output section gives.
@@ -83,62 +92,64 @@ struct SectionTail {
 }
 
 /// [`> NAME`]
-fn region<'a>(alloc: Global, tokens: Cursor<'a>) -> Result<(Option<ScriptName>, Cursor<'a>), Fault>
+fn region<'a>(alloc: Global, tokens: Cursor<'a>) -> Parsed<'a, Option<ScriptName>>
     ensures { ReadsMaybe (mark Mark.Greater) in_region tokens.entry (λ x. x.0) (λ x. x.1) result }
 {
     let Some(rest) = after(Mark::Greater, tokens.copy()) else {
-        return Ok((None, tokens));
+        return Ok(Some((None, tokens)));
     };
     let Some((name, rest)) = plain_name(rest) else {
-        return Err(Fault::NotAScript);
+        return Ok(None);
     };
-    Ok((Some(ScriptName::new(alloc, name)?), rest))
+    Ok(Some((Some(ScriptName::new(alloc, name)?), rest)))
 }
 
 /// [`AT > NAME`]
-fn load_region<'a>(
-    alloc: Global,
-    tokens: Cursor<'a>,
-) -> Result<(Option<ScriptName>, Cursor<'a>), Fault>
+fn load_region<'a>(alloc: Global, tokens: Cursor<'a>) -> Parsed<'a, Option<ScriptName>>
     ensures { ReadsMaybe (key Mode.Expression (codes "AT")) at_region tokens.entry (λ x. x.0) (λ x. x.1) result }
 {
     let Some(rest) = after_key(Mode::Expression, b"AT", tokens.copy()) else {
-        return Ok((None, tokens));
+        return Ok(Some((None, tokens)));
     };
     let Some(rest) = after(Mark::Greater, rest) else {
-        return Err(Fault::NotAScript);
+        return Ok(None);
     };
     let Some((name, rest)) = plain_name(rest) else {
-        return Err(Fault::NotAScript);
+        return Ok(None);
     };
-    Ok((Some(ScriptName::new(alloc, name)?), rest))
+    Ok(Some((Some(ScriptName::new(alloc, name)?), rest)))
 }
 
 /// [`= fill`]
-fn filled<'a>(alloc: Global, tokens: Cursor<'a>) -> Result<(Option<Fill>, Cursor<'a>), Fault>
+fn filled<'a>(alloc: Global, tokens: Cursor<'a>) -> Parsed<'a, Option<Fill>>
     ensures { ReadsMaybe (mark Mark.Assign) filled_part tokens.entry (λ x. x.0) (λ x. x.1) result }
 {
     let Some(rest) = after(Mark::Assign, tokens.copy()) else {
-        return Ok((None, tokens));
+        return Ok(Some((None, tokens)));
     };
     let Some((spelled, rest)) = rest.number() else {
-        return Err(Fault::NotAScript);
+        return Ok(None);
     };
-    match fill_bytes(alloc, spelled) {
-        Ok(Some(bytes)) => Ok((Some(bytes), rest)),
-        Ok(None) => Err(Fault::NotAScript),
-        Err(_) => Err(Fault::NoMemory),
-    }
+    let Some(bytes) = Fill::read(alloc, spelled)? else {
+        return Ok(None);
+    };
+    Ok(Some((Some(bytes), rest)))
 }
 
 /// [`> NAME`] [`AT > NAME`] [`= fill`]
-fn tail<'a>(alloc: Global, tokens: Cursor<'a>) -> Result<(SectionTail, Cursor<'a>), Fault>
+fn tail<'a>(alloc: Global, tokens: Cursor<'a>) -> Parsed<'a, SectionTail>
     ensures { ReadsTail tokens.entry (λ x. x.0) (λ x. x.1) result }
 {
-    let (region, rest) = region(alloc, tokens)?;
-    let (load, rest) = load_region(alloc, rest)?;
-    let (fill, rest) = filled(alloc, rest)?;
-    Ok((SectionTail { region, load, fill }, rest))
+    let Some((region, rest)) = region(alloc, tokens)? else {
+        return Ok(None);
+    };
+    let Some((load, rest)) = load_region(alloc, rest)? else {
+        return Ok(None);
+    };
+    let Some((fill, rest)) = filled(alloc, rest)? else {
+        return Ok(None);
+    };
+    Ok(Some((SectionTail { region, load, fill }, rest)))
 }
 
 /// The load address of an output section, unless its head and its tail both give one.
@@ -154,34 +165,35 @@ fn load_of(head: Option<Formula>, tail: Option<ScriptName>) -> Option<Load>
 }
 
 /// An output section.
-pub fn section<'a>(alloc: Global, tokens: Cursor<'a>) -> Result<(OutputSection, Cursor<'a>), Fault>
+pub fn section<'a>(alloc: Global, tokens: Cursor<'a>) -> Parsed<'a, OutputSection>
     ensures { ReadsOnly EndsSection section_part tokens.entry (λ x. x.0) (λ x. x.1) result }
 {
     let Some((name, rest)) = plain_name(tokens) else {
-        return Err(Fault::NotAScript);
+        return Ok(None);
     };
-    let (address, rest) = address(alloc, rest)?;
-    let (SectionHead { load, alignment }, rest) = head(alloc, rest)?;
-    let (body, rest) = body(alloc, rest)?;
-    let (
-        SectionTail {
-            region,
-            load: at,
-            fill,
-        },
-        rest,
-    ) = tail(alloc, rest)?;
-    let Some(load) = load_of(load, at) else {
-        return Err(Fault::NotAScript);
+    let Some((address, rest)) = address(alloc, rest)? else {
+        return Ok(None);
+    };
+    let Some((head, rest)) = head(alloc, rest)? else {
+        return Ok(None);
+    };
+    let Some((body, rest)) = body(alloc, rest)? else {
+        return Ok(None);
+    };
+    let Some((tail, rest)) = tail(alloc, rest)? else {
+        return Ok(None);
+    };
+    let Some(load) = load_of(head.load, tail.load) else {
+        return Ok(None);
     };
     let section = OutputSection {
         name: ScriptName::new(alloc, name)?,
         address,
         load,
-        alignment,
+        alignment: head.alignment,
         body,
-        region,
-        fill,
+        region: tail.region,
+        fill: tail.fill,
     };
-    Ok((section, rest))
+    Ok(Some((section, rest)))
 }

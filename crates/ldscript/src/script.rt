@@ -7,7 +7,6 @@ ghost use Rattle.ldtree.specs.Given.{given_by, region_number, section_number};
 ghost use Rattle.ldtree.specs.Numbering.{common_commands, entry_of, input_statements, output_sections, regions};
 ghost use Rattle.ldtree.specs.Numbered.{shown_commons, shown_inputs, shown_regions, shown_sections};
 
-use crate::fault::Fault;
 use crate::read_script::statements_of;
 use crate::refusal::ScriptRefusal;
 use ldtokens::cursor::Cursor;
@@ -62,9 +61,9 @@ fn read_tree(alloc: Global, text: &[u8]) -> Result<Sequence<Statement>, ScriptRe
         Err(TokenRefusal::NoMemory) => return Err(ScriptRefusal::NoMemory),
     };
     match statements_of(alloc, Cursor::new(text, &tokens)) {
-        Ok(statements) => Ok(statements),
-        Err(Fault::NotAScript) => Err(ScriptRefusal::NotAScript),
-        Err(Fault::NoMemory) => Err(ScriptRefusal::NoMemory),
+        Ok(Some(statements)) => Ok(statements),
+        Ok(None) => Err(ScriptRefusal::NotAScript),
+        Err(_) => Err(ScriptRefusal::NoMemory),
     }
 }
 

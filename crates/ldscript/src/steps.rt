@@ -9,9 +9,7 @@ ghost use Rattle.ldscript.specs.Steps.{◌▸◌, key, mark as mark_part, token,
 ghost use Rattle.ldscript.specs.Grammar.{ended as ended_part, in_parentheses as parenthesized};
 ghost use Rattle.ldscript.specs.Readings.{Reads, Finds, Follows};
 
-use crate::fault::Fault;
-use ldexpr::fault::ParseFault;
-use ldexpr::reader::expr;
+use ldexpr::reader::{Parsed, expr};
 use ldtokens::bytes::{byte_at, is_name_byte, is_name_start};
 use ldtokens::cursor::Cursor;
 use ldtokens::token::{Mark, Mode};
@@ -107,30 +105,25 @@ pub fn name_in_parentheses<'a>(tokens: Cursor<'a>) -> Option<(&'a [u8], Cursor<'
 }
 
 /// An expression and a mark after it that can't go on one.
-pub fn ended<'a>(
-    alloc: Global,
-    tokens: Cursor<'a>,
-    mark: Mark,
-) -> Result<(Formula, Cursor<'a>), Fault>
+pub fn ended<'a>(alloc: Global, tokens: Cursor<'a>, mark: Mark) -> Parsed<'a, Formula>
     requires { StopsAt Whole (Sign mark) }
     ensures { Reads (ended_part mark) tokens.entry (λ x. x.0) (λ x. x.1) result }
 {
-    match expr(alloc, tokens) {
-        Ok((expr, rest)) => match after(mark, rest) {
-            Some(rest) => Ok((Formula::new(expr), rest)),
-            None => Err(Fault::NotAScript),
-        },
-        Err(ParseFault::NotAnExpression) => Err(Fault::NotAScript),
-        Err(ParseFault::NoMemory) => Err(Fault::NoMemory),
+    let Some((expr, rest)) = expr(alloc, tokens)? else {
+        return Ok(None);
+    };
+    match after(mark, rest) {
+        Some(rest) => Ok(Some((Formula::new(expr), rest))),
+        None => Ok(None),
     }
 }
 
 /// `( e )`
-pub fn in_parentheses<'a>(alloc: Global, tokens: Cursor<'a>) -> Result<(Formula, Cursor<'a>), Fault>
+pub fn in_parentheses<'a>(alloc: Global, tokens: Cursor<'a>) -> Parsed<'a, Formula>
     ensures { Reads parenthesized tokens.entry (λ x. x.0) (λ x. x.1) result }
 {
     match after(Mark::OpenParenthesis, tokens) {
         Some(rest) => ended(alloc, rest, Mark::CloseParenthesis),
-        None => Err(Fault::NotAScript),
+        None => Ok(None),
     }
 }

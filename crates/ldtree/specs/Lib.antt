@@ -1,4 +1,5 @@
 pub mod FormulaCode
+pub mod Fill
 pub mod Mentions
 pub mod Dots
 pub mod Widths

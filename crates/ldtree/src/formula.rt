@@ -4,6 +4,7 @@ ghost use Rattle.std.specs.Prelude.{◌≡◌};
 ghost use Rattle.ldexpr.specs.Expressions.{expr_of};
 
 use ldexpr::expression::Expr;
+use std::fmt;
 use std::marker::Model;
 
 /// An expression of a statement. Contracts see what it says, not where its parts lie in memory.
@@ -38,5 +39,11 @@ impl Formula {
         ensures { expr_of result.now ≡ self.now }
     {
         &self.expr
+    }
+}
+
+impl fmt::Display for Formula {
+    fn fmt<W: fmt::Write>(&self, f: &mut fmt::Formatter<W>) -> fmt::Result {
+        write!(f, "{}", self.expr)
     }
 }

@@ -1,13 +1,13 @@
 //! Statements that stand in several places: assignments, `PROVIDE`, `ASSERT`.
 
-use crate::expression::push_formula;
 use crate::text::push_bytes;
 use ldscript::tree::{Assignment, Common, DotCommand};
 use std::alloc::AllocError;
+use std::fmt::Write;
 
 fn push_assignment(out: &mut String, assignment: &Assignment) -> Result<(), AllocError> {
     push_bytes(out, assignment.name.as_bytes())?;
-    push_formula(out, " = ", &assignment.value)
+    write!(out, " = {}", assignment.value)
 }
 
 /// `NAME = e`, `PROVIDE` or `ASSERT`.
@@ -19,8 +19,7 @@ pub fn push_common(out: &mut String, command: &Common) -> Result<(), AllocError>
             push_assignment(out, assignment)
         }
         Common::Assert(assertion) => {
-            push_formula(out, "assert ", &assertion.condition)?;
-            out.push_str(" \"")?;
+            write!(out, "assert {} \"", assertion.condition)?;
             push_bytes(out, assertion.message.as_bytes())?;
             out.push_str("\"")
         }
@@ -30,7 +29,7 @@ pub fn push_common(out: &mut String, command: &Common) -> Result<(), AllocError>
 /// `. = e` or `. += e`.
 pub fn push_dot(out: &mut String, command: &DotCommand) -> Result<(), AllocError> {
     match command {
-        DotCommand::Set(value) => push_formula(out, ". = ", value),
-        DotCommand::Add(value) => push_formula(out, ". += ", value),
+        DotCommand::Set(value) => write!(out, ". = {value}"),
+        DotCommand::Add(value) => write!(out, ". += {value}"),
     }
 }

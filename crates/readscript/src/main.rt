@@ -59,7 +59,6 @@
 #![tactic(auto)]
 
 mod common;
-mod expression;
 mod file;
 mod frame;
 mod input;

@@ -1,7 +1,6 @@
 //! Output sections.
 
 use crate::common::{push_common, push_dot};
-use crate::expression::push_formula;
 use crate::input::push_input;
 use crate::text::push_bytes;
 use ldscript::tree::{BodyCommand, BodyStatement, Load, OutputSection, Width};
@@ -10,10 +9,10 @@ use std::fmt::Write;
 
 fn width_word(width: Width) -> &'static str {
     match width {
-        Width::Byte => "byte ",
-        Width::Short => "short ",
-        Width::Long => "long ",
-        Width::Quad => "quad ",
+        Width::Byte => "byte",
+        Width::Short => "short",
+        Width::Long => "long",
+        Width::Quad => "quad",
     }
 }
 
@@ -23,7 +22,7 @@ fn push_body(out: &mut String, statement: &BodyStatement) -> Result<(), AllocErr
     match &statement.command {
         BodyCommand::Dot(command) => push_dot(out, command)?,
         BodyCommand::Common(command) => push_common(out, command)?,
-        BodyCommand::Data(width, value) => push_formula(out, width_word(*width), value)?,
+        BodyCommand::Data(width, value) => write!(out, "{} {value}", width_word(*width))?,
         BodyCommand::Input(input) => push_input(out, input)?,
     }
     out.push_str("\n")
@@ -32,7 +31,7 @@ fn push_body(out: &mut String, statement: &BodyStatement) -> Result<(), AllocErr
 fn push_load(out: &mut String, load: &Load) -> Result<(), AllocError> {
     match load {
         Load::Unstated => Ok(()),
-        Load::At(address) => push_formula(out, " at ", address),
+        Load::At(address) => write!(out, " at {address}"),
         Load::InRegion(region) => {
             out.push_str(" at> ")?;
             push_bytes(out, region.as_bytes())
@@ -53,11 +52,11 @@ fn push_head(out: &mut String, section: &OutputSection) -> Result<(), AllocError
     out.push_str("section ")?;
     push_bytes(out, section.name.as_bytes())?;
     if let Some(address) = &section.address {
-        push_formula(out, " address ", address)?;
+        write!(out, " address {address}")?;
     }
     push_load(out, &section.load)?;
     if let Some(alignment) = &section.alignment {
-        push_formula(out, " align ", alignment)?;
+        write!(out, " align {alignment}")?;
     }
     if let Some(region) = &section.region {
         out.push_str(" > ")?;

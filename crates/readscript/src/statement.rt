@@ -1,7 +1,6 @@
 //! Statements of a script.
 
 use crate::common::{push_common, push_dot};
-use crate::expression::push_formula;
 use crate::input::push_input;
 use crate::section::push_section;
 use crate::text::push_bytes;
@@ -37,9 +36,7 @@ fn push_region(out: &mut String, region: &Region) -> Result<(), AllocError> {
     let line = region.line;
     write!(out, "{line}   region ")?;
     push_bytes(out, region.name.as_bytes())?;
-    push_formula(out, " origin ", &region.origin)?;
-    push_formula(out, " length ", &region.extent)?;
-    out.push_str("\n")
+    writeln!(out, " origin {} length {}", region.origin, region.extent)
 }
 
 /// `MEMORY`, a line for each region.

@@ -2,7 +2,6 @@
 
 use crate::expression::expression_stop;
 use crate::reason::{Explanation, Stop};
-use ldexpr::fault::ParseFault;
 use ldexpr::reader::expr;
 use ldscript::tree::Expr;
 use ldtokens::bytes::{is_name_byte, is_name_start};
@@ -196,16 +195,14 @@ impl<'a> Walk<'a> {
     pub fn pass_expression(&mut self) -> Result<Expr, Stop> {
         let start = self.tokens.copy();
         match expr(self.alloc, self.tokens.copy()) {
-            Ok((value, rest)) => {
+            Ok(Some((value, rest))) => {
                 let count = start.len().saturating_sub(rest.len());
                 self.tokens = rest;
                 self.note_regions(start, count)?;
                 Ok(value)
             }
-            Err(ParseFault::NoMemory) => Err(Stop::NoMemory),
-            Err(ParseFault::NotAnExpression) => {
-                Err(expression_stop(self.alloc, start, self.last_line))
-            }
+            Ok(None) => Err(expression_stop(self.alloc, start, self.last_line)),
+            Err(_) => Err(Stop::NoMemory),
         }
     }
 

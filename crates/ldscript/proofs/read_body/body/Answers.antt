@@ -4,7 +4,6 @@ use Rattle.ldscript.specs.Steps.{◌▸◌, mark, statements}
 use Rattle.ldscript.specs.Grammar.{body_command, body_statement}
 use Rattle.ldscript.proofs.Lists.{so_far_closed, so_far_semicolon, so_far_statement, so_far_stuck}
 use Rattle.ldscript.proofs.Bodies.{body_listed, body_statement_single}
-use Rattle.ldscript.proofs.Reading.{exit, fails_as}
 use Rattle.ldscript.proofs.read_body.body.Goals as goal
 
 pub reading-preserved-in-Some : goal.reading-preserved-in-Some
@@ -13,12 +12,12 @@ reading-preserved-in-Some c = let m = rw c.copy.ensures at c.in-Some.ensures in 
 pub returns-in-Some-after : goal.returns-in-Some-after
 returns-in-Some-after c = let m = rw c.copy-in-reading.ensures at c.in-Some-after.ensures in so_far_closed (mark CloseBrace) body_statement _ _ _ _ c.reading.invariant m.0 m.1
 
-pub returns-in_err-command : goal.returns-in_err-command
-returns-in_err-command c = exit (λ ss. statements body_statement ss ▸ mark CloseBrace) _ (λ x. x.0) (λ x. x.1) _ _ c.from_residual.ensures.1
-    (fails_as body_command (λ ss. statements body_statement ss ▸ mark CloseBrace) _ _ c.in_err-command.field-0.0
-    (λ n. so_far_stuck (λ ts. Unit {0}) (mark CloseBrace) body_statement body_listed _ _ _ c.reading.invariant (rw c.copy-in-reading.ensures at c.in_default-after.ensures) (rw c.copy.ensures at c.in_default.ensures)
-    (λ y more d st. n y.command more d.1)) c.in_err-command.ensures)
+pub returns-in_default-2 : goal.returns-in_default-2
+returns-in_default-2 c =
+    let n = (rw c.in_default-2.is at c.in_ok-command.ensures) in
+    so_far_stuck (λ ts. Unit {0}) (mark CloseBrace) body_statement body_listed _ _ _ c.reading.invariant (rw c.copy-in-reading.ensures at c.in_default-after.ensures) (rw c.copy.ensures at c.in_default.ensures)
+    (λ y more d st. n y.command more d.1)
 
 pub reading-preserved : goal.reading-preserved
-reading-preserved c = rw c.in_ok-push.ensures (so_far_statement (λ ts. Unit {0}) (mark CloseBrace) body_statement body_listed _ _ _ _ _ c.reading.invariant (search rules, c.in_ok-command.ensures.spells)
-    (λ y more d st. body_statement_single _ _ _ _ _ d (search rules, c.in_ok-command.ensures.spells)) c.in_ok-command.ensures.shorter)
+reading-preserved c = rw c.in_ok-push.ensures (so_far_statement (λ ts. Unit {0}) (mark CloseBrace) body_statement body_listed _ _ _ _ _ c.reading.invariant (search rules, (rw c.in-Some-2.is at c.in_ok-command.ensures).spells)
+    (λ y more d st. body_statement_single _ _ _ _ _ d (search rules, (rw c.in-Some-2.is at c.in_ok-command.ensures).spells)) (rw c.in-Some-2.is at c.in_ok-command.ensures).shorter)

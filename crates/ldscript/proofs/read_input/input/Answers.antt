@@ -3,20 +3,19 @@ use Rattle.std.proofs.Common.{subst, arith, true}
 use Rattle.ldscript.specs.Steps.{mark}
 use Rattle.ldscript.specs.Grammar.{plain, input}
 use Rattle.ldscript.proofs.Inputs.{input_plain, kept_as, kept_open_none, kept_plain_none, plain_same}
-use Rattle.ldscript.proofs.Reading.{exit, fails_as}
 use Rattle.ldscript.proofs.read_input.input.Goals as goal
 
 pub returns-in_default-after : goal.returns-in_default-after
 returns-in_default-after c = kept_open_none _ _ (rw c.copy.ensures at c.in-Some.ensures.0) c.in_default-after.ensures
 
-pub returns-in_err-input : goal.returns-in_err-input
-returns-in_err-input c = exit input _ (λ x. x.0) (λ x. x.1) _ _ c.from_residual.ensures.1
-    (fails_as plain input _ _ c.in_err-input.field-0.0
-    (λ n. kept_plain_none _ _ _ (rw c.copy.ensures at c.in-Some.ensures.0) c.in-Some-after.ensures.0 (λ y ws r x z. n y ws x)) c.in_err-input.ensures.read)
+pub returns-in_default-2 : goal.returns-in_default-2
+returns-in_default-2 c =
+    let n = (rw c.in_default-2.is at c.in_ok-input.ensures.read) in
+    kept_plain_none _ _ _ (rw c.copy.ensures at c.in-Some.ensures.0) c.in-Some-after.ensures.0 (λ y ws r x z. n y ws x)
 
 pub returns-in-None : goal.returns-in-None
 returns-in-None c = kept_plain_none _ _ _ (rw c.copy.ensures at c.in-Some.ensures.0) c.in-Some-after.ensures.0 (λ y ws r x z.
-    let s = plain_same y c.in_ok-input.input _ ws _ x c.in_ok-input.ensures.read.spells in
+    let s = plain_same y c.in-Some-2.input _ ws _ x (rw c.in-Some-2.is at c.in_ok-input.ensures.read).spells in
     c.in-None.ensures r (subst (λ l. mark CloseParenthesis l r) s.same_rest z))
 
 pub returns-in_default : goal.returns-in_default
@@ -26,6 +25,6 @@ pub returns-in-Some-after-2 : goal.returns-in-Some-after-2
 returns-in-Some-after-2 c =
     let h = rw c.copy.ensures at c.in-Some.ensures in
     record {
-      spells = kept_as true _ _ _ c.in_ok-input.ensures.keep (_, h.0, (_, c.in-Some-after.ensures.0, (_, c.in_ok-input.ensures.read.spells, c.in-Some-after-2.ensures.0)));
-      shorter = omega (arith, h.1, c.in-Some-after.ensures.1, c.in_ok-input.ensures.read.shorter, c.in-Some-after-2.ensures.1);
+      spells = kept_as true _ _ _ (rw c.in-Some-2.is at c.in_ok-input.ensures.keep) (_, h.0, (_, c.in-Some-after.ensures.0, (_, (rw c.in-Some-2.is at c.in_ok-input.ensures.read).spells, c.in-Some-after-2.ensures.0)));
+      shorter = omega (arith, h.1, c.in-Some-after.ensures.1, (rw c.in-Some-2.is at c.in_ok-input.ensures.read).shorter, c.in-Some-after-2.ensures.1);
     }

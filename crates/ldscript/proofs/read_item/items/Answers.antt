@@ -5,7 +5,6 @@ use Rattle.ldscript.specs.Grammar.{item_command, item_statement}
 use Rattle.ldscript.specs.Readings.{EndsSection}
 use Rattle.ldscript.proofs.Lists.{so_far_closed, so_far_semicolon, so_far_statement, so_far_stuck}
 use Rattle.ldscript.proofs.Items.{items_listed, item_statement_only}
-use Rattle.ldscript.proofs.Reading.{exit, fails_of_until}
 use Rattle.ldscript.proofs.read_item.items.Goals as goal
 
 pub reading-preserved-in-Some : goal.reading-preserved-in-Some
@@ -14,12 +13,12 @@ reading-preserved-in-Some c = let m = rw c.copy.ensures at c.in-Some.ensures in 
 pub returns-in-Some-after : goal.returns-in-Some-after
 returns-in-Some-after c = let m = rw c.copy-in-reading.ensures at c.in-Some-after.ensures in so_far_closed (mark CloseBrace) item_statement _ _ _ _ c.reading.invariant m.0 m.1
 
-pub returns-in_err-command : goal.returns-in_err-command
-returns-in_err-command c = exit (λ ss. statements item_statement ss ▸ mark CloseBrace) _ (λ x. x.0) (λ x. x.1) _ _ c.from_residual.ensures.1
-    (fails_of_until EndsSection item_command (λ ss. statements item_statement ss ▸ mark CloseBrace) _ _ c.in_err-command.field-0.0
-    (λ n. so_far_stuck EndsSection (mark CloseBrace) item_statement items_listed _ _ _ c.reading.invariant (rw c.copy-in-reading.ensures at c.in_default-after.ensures) (rw c.copy.ensures at c.in_default.ensures)
-    (λ y more d st. n y.command more d.1 st)) c.in_err-command.ensures)
+pub returns-in_default-2 : goal.returns-in_default-2
+returns-in_default-2 c =
+    let n = (rw c.in_default-2.is at c.in_ok-command.ensures) in
+    so_far_stuck EndsSection (mark CloseBrace) item_statement items_listed _ _ _ c.reading.invariant (rw c.copy-in-reading.ensures at c.in_default-after.ensures) (rw c.copy.ensures at c.in_default.ensures)
+    (λ y more d st. n y.command more d.1 st)
 
 pub reading-preserved : goal.reading-preserved
-reading-preserved c = rw c.in_ok-push.ensures (so_far_statement EndsSection (mark CloseBrace) item_statement items_listed _ _ _ _ _ c.reading.invariant (search rules, c.in_ok-command.ensures.spells)
-    (item_statement_only _ _ _ _ (search rules) c.in_ok-command.ensures.only) c.in_ok-command.ensures.shorter)
+reading-preserved c = rw c.in_ok-push.ensures (so_far_statement EndsSection (mark CloseBrace) item_statement items_listed _ _ _ _ _ c.reading.invariant (search rules, (rw c.in-Some-2.is at c.in_ok-command.ensures).spells)
+    (item_statement_only _ _ _ _ (search rules) (rw c.in-Some-2.is at c.in_ok-command.ensures).only) (rw c.in-Some-2.is at c.in_ok-command.ensures).shorter)

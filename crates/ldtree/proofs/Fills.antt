@@ -1,6 +1,6 @@
 -- Pairs of hex digits.
 use Rattle.std.proofs.Common.{◌≡◌, ◌∙◌, ap, ℕ, zero, suc, ◌+◌, ◌≤◌, ◌-◌, ◌++◌, ◌∷◌, [], List, Some, None, sym, subst, arith}
-use Rattle.ldscript.specs.Fill.{hex_bytes, hex_pair, with_pair}
+use Rattle.ldtree.specs.Fill.{hex_bytes, hex_pair, with_pair}
 use Rattle.std.specs.Prelude.{slice_index, ◌*◌}
 
 -- where a pair is none, no more pairs make it good

@@ -1,6 +1,6 @@
 use Rattle.std.proofs.Common.{◌∙◌, ap, ◌+◌, [], ◌∷◌, sym, rules, length-append}
-use Rattle.ldscript.proofs.Fills.{pair_none, pair_some}
-use Rattle.ldscript.proofs.fill.hex_bytes.Goals as goal
+use Rattle.ldtree.proofs.Fills.{pair_none, pair_some}
+use Rattle.ldtree.proofs.fill.hex_bytes.Goals as goal
 
 pub returns-in-None : goal.returns-in-None
 returns-in-None c =
