@@ -1,5 +1,3 @@
-use Rattle.ldscript.specs.Grammar.{in_parentheses}
-use Rattle.ldscript.specs.Readings.{data_part}
 use Rattle.ldscript.proofs.Bodies.{data_none}
 use Rattle.ldscript.proofs.read_body.data.Goals as goal
 

@@ -1,5 +1,3 @@
-use Rattle.ldtokens.specs.declared.token.Mark.TheVariants.{Comma}
-use Rattle.ldscript.specs.Grammar.{ended, asserted}
 use Rattle.ldscript.proofs.Commons.{condition_none, message_none}
 use Rattle.ldscript.proofs.read_common.asserted.Goals as goal
 

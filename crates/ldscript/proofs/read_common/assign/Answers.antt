@@ -1,4 +1,3 @@
-use Rattle.ldscript.specs.Grammar.{set_to, assign}
 use Rattle.ldscript.proofs.Commons.{assign_none}
 use Rattle.ldscript.proofs.read_common.assign.Goals as goal
 

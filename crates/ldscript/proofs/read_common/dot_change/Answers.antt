@@ -1,5 +1,3 @@
-use Rattle.ldtokens.specs.declared.token.Mark.TheVariants.{Semicolon}
-use Rattle.ldscript.specs.Grammar.{ended, set_to, dot_change}
 use Rattle.ldscript.proofs.Commons.{add_none, set_none}
 use Rattle.ldscript.proofs.read_common.dot_change.Goals as goal
 

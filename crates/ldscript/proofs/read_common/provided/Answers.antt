@@ -1,5 +1,3 @@
-use Rattle.ldtokens.specs.declared.token.Mark.TheVariants.{CloseParenthesis}
-use Rattle.ldscript.specs.Grammar.{ended, provided}
 use Rattle.ldscript.proofs.Commons.{provided_none}
 use Rattle.ldscript.proofs.read_common.provided.Goals as goal
 

@@ -1,5 +1,3 @@
-use Rattle.ldscript.specs.Steps.{pattern}
-use Rattle.ldscript.specs.Grammar.{bare}
 use Rattle.ldscript.proofs.Inputs.{bare_none}
 use Rattle.ldscript.proofs.read_input.bare_word.Goals as goal
 

@@ -1,6 +1,3 @@
-use Rattle.ldscript.specs.Steps.{pattern}
-use Rattle.ldscript.specs.Grammar.{plain}
-use Rattle.ldscript.specs.Readings.{selected}
 use Rattle.ldscript.proofs.Inputs.{plain_file_none, plain_open_none, plain_selected_none}
 use Rattle.ldscript.proofs.read_input.plain.Goals as goal
 

@@ -1,7 +1,6 @@
 use Rattle.ldtokens.specs.declared.token.Mark.TheVariants.{CloseParenthesis}
-use Rattle.std.proofs.Common.{false, subst, true, arith}
-use Rattle.ldscript.specs.Steps.{◌▸◌, mark, some}
-use Rattle.ldscript.specs.Readings.{selected, word_part}
+use Rattle.std.proofs.Common.{false, subst, arith}
+use Rattle.ldscript.specs.Steps.{mark}
 use Rattle.ldscript.proofs.Inputs.{selected_unsorted, selected_sorted, closed_words_single}
 use Rattle.ldscript.proofs.read_input.selection.Goals as goal
 

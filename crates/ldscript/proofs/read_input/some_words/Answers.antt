@@ -1,5 +1,5 @@
 use Rattle.ldtokens.specs.declared.token.Mark.TheVariants.{CloseParenthesis}
-use Rattle.ldscript.specs.Steps.{◌▸◌, each, some, mark}
+use Rattle.ldscript.specs.Steps.{mark}
 use Rattle.ldscript.specs.Readings.{word_part}
 use Rattle.ldscript.proofs.Each.{some_none}
 use Rattle.ldscript.proofs.read_input.some_words.Goals as goal

@@ -1,5 +1,5 @@
 use Rattle.ldtokens.specs.declared.token.Mark.TheVariants.{CloseParenthesis}
-use Rattle.ldscript.specs.Steps.{◌▸◌, each, mark}
+use Rattle.ldscript.specs.Steps.{mark}
 use Rattle.ldscript.specs.Readings.{word_part}
 use Rattle.ldscript.proofs.Each.{each_so_far_closed, each_so_far_member, each_so_far_stuck}
 use Rattle.ldscript.proofs.Inputs.{word_single, words_listed}

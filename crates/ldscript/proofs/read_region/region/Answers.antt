@@ -1,8 +1,4 @@
 use Rattle.std.proofs.Common.{◌∙◌, sym, arith}
-use Rattle.ldtokens.specs.declared.token.Mark.TheVariants.{Comma}
-use Rattle.ldexpr.specs.Grammar.{Stops, Whole}
-use Rattle.ldscript.specs.Steps.{expression}
-use Rattle.ldscript.specs.Grammar.{ended, region}
 use Rattle.ldscript.proofs.Regions.{region_name, region_only, region_origin, region_extent}
 use Rattle.ldscript.proofs.read_region.region.Goals as goal
 

@@ -1,5 +1,3 @@
-use Rattle.ldtokens.specs.declared.token.Mark.TheVariants.{Colon}
-use Rattle.ldscript.specs.Grammar.{ended, address}
 use Rattle.ldscript.proofs.Items.{address_none}
 use Rattle.ldscript.proofs.read_section.address.Goals as goal
 

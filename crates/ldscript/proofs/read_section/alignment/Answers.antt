@@ -1,5 +1,4 @@
-use Rattle.ldscript.specs.Grammar.{in_parentheses}
-use Rattle.ldscript.specs.Readings.{opened_part}
+use Rattle.std.proofs.Common.{arith}
 use Rattle.ldscript.proofs.Items.{opened_none, no_alignment, alignment_stuck, alignment_open}
 use Rattle.ldscript.proofs.read_section.alignment.Goals as goal
 
@@ -13,3 +12,9 @@ returns-in_default-2 c =
 
 pub returns-in-None : goal.returns-in-None
 returns-in-None c = opened_none _ (rw c.copy.ensures at c.in_default.ensures) (alignment_open _ _ _ _ c.in-Some-after_key.ensures.0 (rw c.in-Some-2.is at c.in_ok-alignment.ensures).spells c.in-None.ensures)
+
+pub returns-in-Some-after : goal.returns-in-Some-after
+returns-in-Some-after c =
+    let k = c.in-Some-after_key.ensures in
+    let e = rw c.in-Some-2.is at c.in_ok-alignment.ensures in
+    record { spells = (_, (_, k.0, e.spells), c.in-Some-after.ensures.0); shorter = omega (arith, k.1, e.shorter, c.in-Some-after.ensures.1) }

@@ -1,5 +1,3 @@
-use Rattle.ldscript.specs.Grammar.{in_parentheses}
-use Rattle.ldscript.specs.Readings.{opened_part, head_part}
 use Rattle.ldscript.proofs.Items.{head_no_at, head_at_stuck, head_opened_none}
 use Rattle.ldscript.proofs.read_section.head.Goals as goal
 
