@@ -74,8 +74,8 @@ in_bodies (s ∷ ss) = both (in_body_one s.line s.command) (in_bodies ss)
 
 in_output : (s : OutputSection) → Among (commons_in s.body) (in_section s)
 in_output s =
-    passed (past (in_optional s.address) (past (in_load_head s.load) (past (in_optional s.alignment)
-    (wider (in_region_name s.region ++ in_load_tail s.load) (in_bodies s.body)))))
+    passed (wider (in_load_tail s.load) (wider (in_region_name s.region)
+    (past (in_optional s.address ++ in_load_head s.load ++ in_optional s.alignment) (in_bodies s.body))))
 
 in_item : (line : ℕ) (c : ItemCommand) → Among (item_commons line c) (in_item_command c)
 in_item line (item.Common c) = in_one line c
