@@ -332,7 +332,7 @@ def symbol(name, info, number, value, size):
 
 
 def tail_rows():
-    """The four images whose tails the rules state, from the end of their segments to their ends."""
+    """Images whose tails the rules state, from the end of their segments to their ends."""
     yield Row("the tail of the empty project", [
         (IMAGE, whole(64, bytes(24) + b"\0" + b"\0.symtab\0.strtab\0.shstrtab\0" + bytes(4) + bytes(64)
                       + header(1, 2, 0, 0, 64, 24, 2, 1, 8, 24) + header(9, 3, 0, 0, 88, 1, 0, 0, 1, 0)
@@ -359,6 +359,14 @@ def tail_rows():
         (script(three), accepted), (add("a.o", 0, weak), accepted), (add("b.o", 1, weak), accepted),
         (add("c.o", 2, call), linked(0, 4520)), (IMAGE, whole(4096, weak_image(0x401000, "F3"))),
         (move("b.o", 0), linked(0, 4520)), (IMAGE, whole(4096, weak_image(0x401004, "F7")))])
+    program = build([Sec(".text", b"\x90\x90\xC3", alignment=16)], [Sym("_start", 1, 0, 3, kind=elf.STT_FUNC)])
+    yield Row("the headers and the tail of one section and one symbol", [
+        (script("ENTRY(_start) " + start), linked(1)), (add("a.o", 0, program), linked(0, 0x1068 + 320)),
+        (IMAGE, at({24: word(0x401000) + word(64) + word(0x1068), 56: "01 00", 120: "00" * (4096 - 120)})),
+        (IMAGE, whole(0x1003, bytes(5) + bytes(24) + symbol(1, 0x12, 1, 0x401000, 3) + b"\0_start\0"
+                      + b"\0.text\0.symtab\0.strtab\0.shstrtab\0" + bytes(7) + bytes(64)
+                      + header(1, 1, 6, 0x401000, 0x1000, 3, 0, 0, 16, 0) + header(7, 2, 0, 0, 0x1008, 48, 3, 1, 8, 24)
+                      + header(15, 3, 0, 0, 0x1038, 8, 0, 0, 1, 0) + header(23, 3, 0, 0, 0x1040, 33, 0, 0, 1, 0)))])
 
 
 def weak_image(value, field):

@@ -1,5 +1,5 @@
 """Cases for `trynames`. What is wanted is the decision of the calculator (tools/calculator/names.py): the plain filter of
-all entries, made anew each time over the objects that are entered then."""
+all entries, made anew each time over the objects that are entered then; of one object it stands with the case."""
 from types import SimpleNamespace
 
 from calculator import elf, objects, scripts
@@ -82,6 +82,11 @@ class Trial:
         names = sorted(decisions.declarations, key=lambda name: name.encode("latin-1"))
         self.want("".join(f"{name} {self.spelled(decisions.of(name))}; " for name in names) + f"decided {len(names)}")
 
+    def stated(self, command, answer):
+        """A command whose answer stands with the case."""
+        self.stream.line(command)
+        self.want(answer)
+
     def entry(self, declaration):
         return f"{self.entered[declaration.object]} {declaration.symbol.number}"
 
@@ -138,6 +143,15 @@ def table_on_names(trial):
         trial.decide("w")
         trial.text("PROVIDE(w = 1);")
         trial.decide("w")
+
+
+def one_object(trial):
+    """One that defines `main` and refers to `w`."""
+    trial.case("a definition and a reference")
+    trial.data(7, build([Sec(".text", b"\xc3")], [Sym("main", 1), Sym("w")]))
+    trial.enter(7, 0)
+    trial.stated("names", "main strong 7 1; w undefined; decided 2")
+    trial.stated("decide main", "main strong 7 1; decided 1")
 
 
 def worked_rows(trial):
@@ -260,6 +274,7 @@ def lists(trial):
 def fill(stream):
     trial = Trial(stream)
     table_on_names(trial)
+    one_object(trial)
     worked_rows(trial)
     same_name_often(trial)
     lists(trial)

@@ -1,7 +1,7 @@
 """Cases for `trytargets`: the values, fields and faults of every worked row that has a placement, with the placement's
-addresses and the names' decisions handed in; a piece with a thousand fields in no order; each fault in each form; values
-at the ends of their ranges; and an index that takes sites and lets them go. What is wanted comes from the calculator,
-and for the index from a list."""
+addresses and the names' decisions handed in; a piece with a thousand fields in no order; each fault in each form; and an
+index that takes sites and lets them go. What is wanted comes from the calculator, and for the index from a list. Fields
+at both ends of their ranges and past them, two objects, three sites and a canvas have what is wanted beside them."""
 import random
 
 from calculator import answers, edits, elf, gathering, layout, names, relocation, targets
@@ -12,6 +12,43 @@ from cases_text import CASES, Known, key_of
 
 LONGEST_CASE = 6_000
 SCRIPT = b"SECTIONS { . = 0x400000; .text : { *(.text) } .data : { *(.data) } gave = 0x1234; }\n"
+
+
+def past(value):
+    """A value that is out of range."""
+    return relocation.Overflow(value)
+
+
+# The psABI's table: a type with S, A and P, and its field as a number, or the value that is out of range.
+FIELDS = [
+    # 8 bytes take any value
+    (relocation.R_64, 0x401000, -1, 0, 0x400fff), (relocation.R_64, 0x401000, -1, 77, 0x400fff),
+    (relocation.R_64, 0, -2 ** 63, 0, 0x8000000000000000), (relocation.R_64, 2 ** 64 - 1, 1, 0, 0),
+    (relocation.R_PC64, 0, 0, 1, 2 ** 64 - 1), (relocation.R_PC64, 5, -4, 1, 0),
+    # from the place, in 4 bytes with a sign
+    (relocation.R_PC32, 0x7fffffff, 0, 0, 0x7fffffff), (relocation.R_PC32, 0x80000000, 0, 0, past(0x80000000)),
+    (relocation.R_PC32, 0, 0, 0x80000000, 0x80000000), (relocation.R_PC32, 0, 0, 0x80000001, past(0xffffffff7fffffff)),
+    (relocation.R_PC32, 0x401010, -4, 0x401001, 0x0b), (relocation.R_PC32, 2 ** 64 - 1, 0, 1, 0xfffffffe),
+    (relocation.R_PC32, 1, 0, 2 ** 64 - 1, 2),
+    (relocation.R_PLT32, 0x7fffffff, 0, 0, 0x7fffffff), (relocation.R_PLT32, 0x80000000, 0, 0, past(0x80000000)),
+    (relocation.R_PLT32, 0, 0, 0x80000000, 0x80000000), (relocation.R_PLT32, 0, 0, 0x80000001, past(0xffffffff7fffffff)),
+    (relocation.R_PLT32, 0x401010, -4, 0x401001, 0x0b),
+    # 4 bytes without a sign, and with one
+    (relocation.R_32, 0xffffffff, 0, 0, 0xffffffff), (relocation.R_32, 0xffffffff, 1, 0, past(0x100000000)),
+    (relocation.R_32, 0, -1, 0, past(2 ** 64 - 1)), (relocation.R_32, 0x80000000, 0, 9, 0x80000000),
+    (relocation.R_32S, 0x80000000, 0, 9, past(0x80000000)), (relocation.R_32S, 0x7fffffff, 0, 9, 0x7fffffff),
+    (relocation.R_32S, 0, -0x80000000, 0, 0x80000000), (relocation.R_32S, 0, -0x80000001, 0, past(0xffffffff7fffffff)),
+    # 2 bytes and 1 byte hold unsigned and signed numbers, from the place signed ones alone
+    (relocation.R_16, 0xffff, 0, 0, 0xffff), (relocation.R_16, 0x10000, 0, 0, past(0x10000)),
+    (relocation.R_16, 0, -0x8000, 0, 0x8000), (relocation.R_16, 0, -0x8001, 0, past(0xffffffffffff7fff)),
+    (relocation.R_PC16, 0x7fff, 0, 0, 0x7fff), (relocation.R_PC16, 0x8000, 0, 0, past(0x8000)),
+    (relocation.R_PC16, 0, 0, 0x8000, 0x8000), (relocation.R_PC16, 0, 0, 0x8001, past(0xffffffffffff7fff)),
+    (relocation.R_PC16, 0x10000, 0, 1, past(0xffff)),
+    (relocation.R_8, 255, 0, 0, 255), (relocation.R_8, 256, 0, 0, past(256)), (relocation.R_8, 0, -128, 0, 0x80),
+    (relocation.R_8, 0, -129, 0, past(0xffffffffffffff7f)),
+    (relocation.R_PC8, 127, 0, 0, 127), (relocation.R_PC8, 128, 0, 0, past(128)), (relocation.R_PC8, 0, 0, 128, 0x80),
+    (relocation.R_PC8, 0, 0, 129, past(0xffffffffffffff7f)), (relocation.R_PC8, 256, 0, 1, past(255)),
+    (relocation.R_PC8, 1, -1, 1, 0xff)]
 
 
 def output_of(project):
@@ -170,6 +207,57 @@ def index(found):
                     found.want("site {} {} {}".format(*site))
 
 
+def single_fields(found):
+    """Single fields at both ends of their ranges and past them."""
+    found.begin("fields at the ends of their ranges")
+    for kind, s, a, p, wanted in FIELDS:
+        found.stream.line("field", kind, s, a % 2 ** 64, p)
+        if isinstance(wanted, relocation.Overflow):
+            found.want(f"out of range {wanted.value:016x}")
+        else:
+            found.want(wanted.to_bytes(relocation.WIDTHS[kind], "little").hex())
+
+
+def two_objects(found):
+    """A local symbol and an undefined one, each object alone and both; a key of no object has no fields."""
+    found.begin("a local symbol and an undefined one")
+    text = [Sec(".text", bytes(16), CODE)]
+    local = build(text, [Sym("here", 1, 4, binding=elf.STB_LOCAL)], [Rel(1, 8, 1, "here")])
+    for key, content in enumerate((local, build(text, [Sym("none")], [Rel(1, 8, 1, "none")]))):
+        found.stream.object(f"{key}.o", content)
+        found.stream.line("start", key, "section", 1, 0x1000)
+    for line in ("name gave script 7", "name none undefined", "values", "fields 0", "fields 1", "fields", "fields 9"):
+        found.stream.line(*line.split())
+    for line in ("gave 0000000000000007", "none undefined", "section 0 1", "8 0410000000000000", "evaluated 1",
+                 "section 1 1", "F12 1 1 0", "evaluated 1", "section 0 1", "8 0410000000000000", "section 1 1",
+                 "F12 1 1 0", "evaluated 2", "evaluated 0"):
+        found.want(line)
+
+
+def three_sites(found):
+    """Two sites of one object that come at once, and one of another, which stays."""
+    found.begin("sites that come at once")
+    for line in ("site 5 0 1 0 1 2", "site 5 3 1 0", "sites 5", "drop 0", "sites 5"):
+        found.stream.line(*line.split())
+    for line in ("site 0 1 0", "site 0 1 2", "site 3 1 0", "site 3 1 0"):
+        found.want(line)
+
+
+def canvas(found):
+    """A canvas that grows, shrinks and grows again: what was beyond its end is zero."""
+    found.begin("a canvas that shrinks")
+    found.stream.line("canvas", 8, 8)
+    found.stream.line("write", 1, payload=bytes([1, 2, 3, 4]))
+    for line in ("canvas 3 8", "canvas 8 1000", "bytes"):
+        found.stream.line(*line.split())
+    found.want("0001020000000000")
+    found.want("written 4")
+    found.stream.line("write", 3, payload=bytes([0xbb, 6, 7, 0xaa]))
+    found.stream.line("bytes")
+    found.want("000102bb0607aa00")
+    found.want("written 8")
+
+
 def cases(stream):
     found = Cases(stream)
     for row in all_rows():
@@ -177,6 +265,10 @@ def cases(stream):
     found.project("a thousand fields in no order", thousand())
     found.project("each fault in each form", forms())
     index(found)
+    single_fields(found)
+    two_objects(found)
+    three_sites(found)
+    canvas(found)
     found.stream.line("sites")
     found.want("bad command: sites")
     stream.wanted = bytes(found.wanted)

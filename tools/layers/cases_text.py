@@ -239,6 +239,18 @@ def fault_cases(found):
                b"F12 a.o .text 0000000000000000 \nF15 0 \n")
 
 
+def empty_cases(found):
+    """Faults that name nothing, and a symbol of the script, in the empty project."""
+    found.begin("fault lines of the empty project", Known(edits.Options()))
+    for line in ("fault 5 7", "fault 13 entry"):
+        found.stream.line(*line.split())
+    found.want("faults", b"F5 7\nF13 entry\n")
+    found.begin("a map of the empty project", Known(edits.Options()))
+    for line in ("entry 0x0123456789abcdef", "given end 0xabc script"):
+        found.stream.line(*line.split())
+    found.want("map", b"entry 0123456789abcdef\nsymbol 0000000000000abc end script\n")
+
+
 def map_cases(found):
     """Orders of names, names in both lists, values that are not in the output, and names that stand for nothing."""
     found.begin("names of both lists", of_two())
@@ -267,6 +279,7 @@ def cases(stream):
     for row in all_rows():
         found.row(row)
     fault_cases(found)
+    empty_cases(found)
     map_cases(found)
     found.stream.line("fault", 99)
     found.wanted += b"bad command: fault 99\n"

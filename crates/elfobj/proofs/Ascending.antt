@@ -11,16 +11,16 @@ use Rattle.std.proofs.lemmas.List.{append-nil, map-append}
 use Rattle.std.proofs.lemmas.List.Elements.{All-map}
 use Rattle.std.proofs.lemmas.List.Quantifiers.{all_pairs_push}
 use Rattle.std.proofs.lemmas.List.Sorted.{IsNonDecreasingBy-from_default}
-use Rattle.elfobj.specs.ElfHeader.{e_shnum}
-use Rattle.elfobj.specs.LinkedKinds.{linked_kind}
+use Rattle.elffile.specs.ElfHeader.{e_shnum}
+use Rattle.elffile.specs.LinkedKinds.{linked_kind}
 use Rattle.elfobj.specs.Numbering.{IsNumberedAt}
-use Rattle.elfobj.specs.SectionHeaders.{header}
-use Rattle.elfobj.specs.Sections.{linked_section, section_of, sections_below, sections_of}
+use Rattle.elffile.specs.SectionHeaders.{header}
+use Rattle.elffile.specs.Sections.{linked_section, section_of, sections_below, sections_of}
 use Rattle.elfdefs.specs.declared.section.Section.{Section}
 use Rattle.elfdefs.specs.declared.section.SectionIndex.{SectionIndex}
 use Rattle.elfdefs.specs.declared.section.SectionKind.{SectionKind}
 use Rattle.elfdefs.specs.declared.section.SectionKind.TheVariants.{Progbits}
-use Rattle.elfobj.specs.declared.section_header.SectionHeader.{SectionHeader}
+use Rattle.elffile.specs.declared.section_header.SectionHeader.{SectionHeader}
 use Rattle.elfobj.proofs.RelocationReads.{all_below}
 
 abbrev pub IsBefore : Section → Section → Type 0

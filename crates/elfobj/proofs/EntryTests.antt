@@ -7,12 +7,12 @@ use Rattle.std.proofs.lemmas.Bool.{cases_lt, le-ltb, ltb-false, or_from, or_part
 use Rattle.std.proofs.lemmas.List.{get_or-set_other, get_or-set_same, get_or_default, length-set, take_all}
 use Rattle.std.proofs.lemmas.List.Folds.{list_any-append}
 use Rattle.elfobj.specs.EntryTests.{HavePassed, PassesIn, ends_in, field_ends}
-use Rattle.elfobj.specs.RelocationEntries.{relocation_entry_at, relocation_entries_below}
-use Rattle.elfobj.specs.Relocations.{field_end, relocation_of}
+use Rattle.elffile.specs.RelocationEntries.{relocation_entry_at, relocation_entries_below}
+use Rattle.elffile.specs.Relocations.{field_end, relocation_of}
 use Rattle.elfobj.specs.Runs.{IsTableOf, has_refused_entry, is_refused_for}
-use Rattle.elfobj.specs.Tables.{is_outside}
+use Rattle.elffile.specs.Tables.{is_outside}
 use Rattle.elfdefs.specs.declared.relocation.Relocation.{Relocation}
-use Rattle.elfobj.specs.declared.relocation_entry.RelocationEntry.{RelocationEntry}
+use Rattle.elffile.specs.declared.relocation_entry.RelocationEntry.{RelocationEntry}
 use Rattle.elfobj.specs.declared.relocation_fault.EntryFault.{EntryFault}
 use Rattle.elfobj.specs.declared.relocation_fault.EntryFault.TheVariants.{Any, Symbol, Kind, Bounds}
 use Rattle.elfobj.specs.declared.relocation_run.SectionTable.{SectionTable}

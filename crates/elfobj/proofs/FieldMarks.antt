@@ -8,8 +8,8 @@ use Rattle.std.proofs.lemmas.List.Folds.{list_any_none}
 use Rattle.elfobj.specs.FieldMarks.{IsTaken, IsWindow}
 use Rattle.elfobj.specs.Places.{relocations_in}
 use Rattle.elfobj.specs.Profile.{AreApart}
-use Rattle.elfobj.specs.Relocations.{field_end, meets, share_bytes}
-use Rattle.elfobj.specs.declared.place.Span.{Span}
+use Rattle.elffile.specs.Relocations.{field_end, meets, share_bytes}
+use Rattle.elffile.specs.declared.span.Span.{Span}
 use Rattle.elfdefs.specs.declared.relocation.Relocation.{Relocation}
 use Rattle.elfdefs.specs.declared.relocation.RelocationKind.TheVariants as kind
 use Rattle.elfobj.proofs.RelocationLimits.{all_apart}

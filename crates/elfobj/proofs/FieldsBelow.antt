@@ -9,12 +9,12 @@ use Rattle.std.proofs.lemmas.List.Folds.{list_any_at}
 use Rattle.std.proofs.lemmas.List.Sorted.{All-permutation, IsPermutation-map, list_any-IsPermutation}
 use Rattle.elfobj.specs.FieldMarks.{AreBelow}
 use Rattle.elfobj.specs.Places.{AreRelocated, relocations_in}
-use Rattle.elfobj.specs.Refusal.{entry_refusals, holds}
-use Rattle.elfobj.specs.RelocationEntries.{relocation_entries_below}
-use Rattle.elfobj.specs.Relocations.{field_end, relocation_of, relocations_at, share_bytes}
+use Rattle.elffile.specs.Refusal.{entry_refusals, holds}
+use Rattle.elffile.specs.RelocationEntries.{relocation_entries_below}
+use Rattle.elffile.specs.Relocations.{field_end, relocation_of, relocations_at, share_bytes}
 use Rattle.elfobj.specs.Runs.{AreTablesOf, IsTableOf}
-use Rattle.elfobj.specs.Tables.{has_field_outside, has_wrong_bounds, is_outside, linked_sections}
-use Rattle.elfobj.specs.declared.place.Span.{Span}
+use Rattle.elffile.specs.Tables.{has_field_outside, has_wrong_bounds, is_outside, linked_sections}
+use Rattle.elffile.specs.declared.span.Span.{Span}
 use Rattle.elfobj.specs.declared.relocation_run.SectionTable.{SectionTable}
 use Rattle.elfdefs.specs.declared.refusal.ObjectRefusal.TheVariants.{FieldBounds, RelocationSection, RelocationType}
 use Rattle.elfdefs.specs.declared.relocation.Relocation.{Relocation}

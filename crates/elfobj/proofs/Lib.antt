@@ -1,10 +1,7 @@
-pub mod Headers
-pub mod Cuts
 pub mod Passing
 pub mod Steps
 pub mod Refusals
 pub mod Limits
-pub mod StringTables
 pub mod Found
 pub mod SymbolTables
 pub mod RelocationTables
@@ -16,3 +13,4 @@ pub mod RelocationLimits
 pub mod EntryTests
 pub mod FieldMarks
 pub mod FieldsBelow
+pub mod Placed

@@ -8,20 +8,20 @@ use Rattle.std.proofs.lemmas.Bool.{false≢true, or_parts, and_cases, ltb-false,
 use Rattle.std.proofs.lemmas.List.{length-take, length-drop}
 use Rattle.std.proofs.lemmas.List.Elements.{All-nil, All-cons, All-append}
 use Rattle.std.proofs.lemmas.Nat.{le_or_l}
-use Rattle.elfobj.specs.ElfHeader.{e_shnum}
+use Rattle.elffile.specs.ElfHeader.{e_shnum}
 use Rattle.elfobj.specs.Linkable.{IsLinkable, PassesTests}
-use Rattle.elfobj.specs.Names.{is_name}
+use Rattle.elffile.specs.Names.{is_name}
 use Rattle.elfobj.specs.Places.{IsFileWithin}
 use Rattle.elfobj.specs.Profile.{IsSectionOfProfile, size_in_file}
-use Rattle.elfobj.specs.Refusal.{holds, is_looked_at, is_out_of_bounds, is_outside_profile, object_refusal}
-use Rattle.elfobj.specs.SectionHeaders.{header}
-use Rattle.elfobj.specs.LinkedKinds.{is_alloc, linked_kind}
-use Rattle.elfobj.specs.Sections.{linked_as, linked_section, sections_below, sections_of, name_of, contents}
+use Rattle.elffile.specs.Refusal.{holds, is_looked_at, is_out_of_bounds, is_outside_profile, object_refusal}
+use Rattle.elffile.specs.SectionHeaders.{header}
+use Rattle.elffile.specs.LinkedKinds.{is_alloc, linked_kind}
+use Rattle.elffile.specs.Sections.{linked_as, linked_section, sections_below, sections_of, name_of, contents}
 use Rattle.elfdefs.specs.declared.refusal.ObjectRefusal.{ObjectRefusal}
 use Rattle.elfdefs.specs.declared.refusal.ObjectRefusal.TheVariants.{Short, NotElf, Machine, SectionTable, SectionCount, SectionBounds, SectionProfile, SymbolTable, Symbol, RelocationSection, RelocationType, FieldBounds, FieldOverlap}
 use Rattle.elfdefs.specs.declared.section.SectionKind.{SectionKind}
 use Rattle.elfdefs.specs.declared.section.SectionKind.TheVariants.{Progbits, Nobits, Note, InitArray, FiniArray, PreinitArray, Unwind}
-use Rattle.elfobj.specs.declared.section_header.SectionHeader.{SectionHeader}
+use Rattle.elffile.specs.declared.section_header.SectionHeader.{SectionHeader}
 use Rattle.elfobj.proofs.Passing.{none_at}
 use Rattle.elfobj.proofs.Steps.{linkable, linked_parts, kind_not_null}
 

@@ -7,28 +7,28 @@ use Rattle.std.proofs.lemmas.List.Elements.{All-append, All-cons, All-get_or, Al
 use Rattle.std.specs.List.Sorted.{IsPermutation}
 use Rattle.std.proofs.lemmas.List.Folds.{find-append, list_any-append, list_any_none}
 use Rattle.std.proofs.lemmas.List.Sorted.{All-permutation, IsPermutation-map, list_any-IsPermutation}
-use Rattle.elfobj.specs.ElfHeader.{e_shnum}
-use Rattle.elfobj.specs.LinkedKinds.{linked_kind}
+use Rattle.elffile.specs.ElfHeader.{e_shnum}
+use Rattle.elffile.specs.LinkedKinds.{linked_kind}
 use Rattle.elfobj.specs.Linkable.{PassesTests}
 use Rattle.elfobj.specs.Places.{AreRelocated, relocations_in}
-use Rattle.elfobj.specs.Refusal.{entry_refusals, holds, is_out_of_bounds, relocation_refusals}
-use Rattle.elfobj.specs.RelocationEntries.{relocation_entry_at, relocation_entries_below}
-use Rattle.elfobj.specs.Relocations.{changes, entries_in, relocation_entries, relocation_of, relocation_section, relocations_at, share_bytes}
+use Rattle.elffile.specs.Refusal.{entry_refusals, holds, is_out_of_bounds, relocation_refusals}
+use Rattle.elffile.specs.RelocationEntries.{relocation_entry_at, relocation_entries_below}
+use Rattle.elffile.specs.Relocations.{changes, entries_in, relocation_entries, relocation_of, relocation_section, relocations_at, share_bytes}
 use Rattle.elfobj.specs.Runs.{AreTablesOf, IsTableOf, has_refused_entry, is_refused_for, table_entries}
-use Rattle.elfobj.specs.SectionHeaders.{header, headers}
-use Rattle.elfobj.specs.Sections.{LinkedSection, linked_section, section_of, sections_below, sections_of}
-use Rattle.elfobj.specs.Symbols.{symbols_of}
-use Rattle.elfobj.specs.Tables.{has_field_outside, has_overlap, has_shared_bytes, has_strange_symbol, has_strange_type, has_wrong_bounds, has_wrong_relocation_section, has_wrong_type, is_outside, is_wrong_below, linked_sections}
-use Rattle.elfobj.specs.declared.place.Span.{Span}
+use Rattle.elffile.specs.SectionHeaders.{header, headers}
+use Rattle.elffile.specs.Sections.{LinkedSection, linked_section, section_of, sections_below, sections_of}
+use Rattle.elffile.specs.Symbols.{symbols_of}
+use Rattle.elffile.specs.Tables.{has_field_outside, has_overlap, has_shared_bytes, has_strange_symbol, has_strange_type, has_wrong_bounds, has_wrong_relocation_section, has_wrong_type, is_outside, is_wrong_below, linked_sections}
+use Rattle.elffile.specs.declared.span.Span.{Span}
 use Rattle.elfdefs.specs.declared.refusal.ObjectRefusal.{ObjectRefusal}
 use Rattle.elfdefs.specs.declared.refusal.ObjectRefusal.TheVariants.{FieldOverlap, FieldBounds, NoMemory, RelocationSection, RelocationType}
 use Rattle.elfdefs.specs.declared.relocation.Relocation.{Relocation}
-use Rattle.elfobj.specs.declared.relocation_entry.RelocationEntry.{RelocationEntry}
+use Rattle.elffile.specs.declared.relocation_entry.RelocationEntry.{RelocationEntry}
 use Rattle.elfobj.specs.declared.relocation_fault.EntryFault.TheVariants.{Any, Symbol, Kind, Bounds}
 use Rattle.elfobj.specs.declared.relocation_run.SectionTable.{SectionTable}
 use Rattle.elfdefs.specs.declared.section.Section.{Section}
 use Rattle.elfdefs.specs.declared.section.SectionKind.{SectionKind}
-use Rattle.elfobj.specs.declared.section_header.SectionHeader.{SectionHeader}
+use Rattle.elffile.specs.declared.section_header.SectionHeader.{SectionHeader}
 use Rattle.elfobj.proofs.Found.{found_is, found_not, relocations_in_file}
 
 -- numbers of linked sections are numbers of headers

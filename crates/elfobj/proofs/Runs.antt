@@ -5,17 +5,18 @@ use Rattle.std.proofs.Math.Seq.{drop-append-add}
 use Rattle.std.proofs.lemmas.Bool.{cases_lt}
 use Rattle.std.proofs.lemmas.List.{append-nil, append_assoc, drop-append-le, get_or_append_left, get_or_push, length-append, length-drop, length-map, map-append, take-append-le, take_all, take_more, map_push}
 use Rattle.std.proofs.lemmas.List.Elements.{All-head, All-more, All-push, All-tail, All-weaker}
-use Rattle.elfobj.specs.Places.{AreRelocated, IsInside, relocations_in}
-use Rattle.elfobj.specs.RelocationEntries.{relocation_entry_at, relocation_entries_below}
-use Rattle.elfobj.specs.Relocations.{relocation_of, relocations_at}
+use Rattle.elfobj.specs.Places.{AreRelocated, relocations_in}
+use Rattle.elffile.specs.Spans.{IsInside}
+use Rattle.elffile.specs.RelocationEntries.{relocation_entry_at, relocation_entries_below}
+use Rattle.elffile.specs.Relocations.{relocation_of, relocations_at}
 use Rattle.elfobj.specs.Runs.{AreRuns, IsCovered, IsRun, IsTableOf, table_entries}
-use Rattle.elfobj.specs.declared.place.Span.{Span}
+use Rattle.elffile.specs.declared.span.Span.{Span}
 use Rattle.elfdefs.specs.declared.relocation.Relocation.{Relocation}
 use Rattle.elfobj.specs.declared.relocation_run.Run.{Run}
 use Rattle.elfobj.specs.declared.relocation_run.SectionTable.{SectionTable}
 use Rattle.elfdefs.specs.declared.section.Section.{Section}
 use Rattle.elfdefs.specs.declared.section.SectionKind.TheVariants.{Progbits}
-use Rattle.elfobj.proofs.Cuts.{cut_cut}
+use Rattle.elffile.proofs.Cuts.{cut_cut}
 
 -- entries one after another
 entries_length : (bytes : List ℕ) (start n : ℕ) → length (relocation_entries_below bytes start n) ≡ n

@@ -1,6 +1,6 @@
 -- What the tests of entries keep: which entries have passed, for a section and for all that are no smaller.
 use Rattle.std.specs.Prelude.{◌≡◌, ℕ, ◌+◌, ◌*◌, ◌%◌, ◌<◌, ◌≤◌, List, false, get_or, length}
-use Rattle.elfobj.specs.RelocationEntries.{relocation_entry_at}
+use Rattle.elffile.specs.RelocationEntries.{relocation_entry_at}
 use Rattle.elfobj.specs.Runs.{has_refused_entry, is_refused_for}
 use Rattle.elfobj.specs.declared.relocation_fault.EntryFault.{EntryFault}
 use Rattle.elfobj.specs.declared.relocation_run.SectionTable.{SectionTable}

@@ -1,6 +1,6 @@
 -- The fields of a stretch of relocations as marks on the bytes of a section.
 use Rattle.std.specs.Prelude.{◌≡◌, ℕ, ◌<◌, ◌≤◌, List, Bool, false, true, get_or, length}
-use Rattle.elfobj.specs.Relocations.{field_end, meets}
+use Rattle.elffile.specs.Relocations.{field_end, meets}
 use Rattle.elfdefs.specs.declared.relocation.Relocation.{Relocation}
 
 -- byte b lies in the field of relocation number p of a list

@@ -1,20 +1,20 @@
 -- What the tests of the section headers leave known of them.
 use Rattle.std.specs.Prelude.{◌≡◌, ℕ, ◌+◌, ◌≤◌, List, length, map, None, true, false}
 use Rattle.std.specs.Option.{option_map_or}
-use Rattle.elfobj.specs.ElfHeader.{e_shstrndx}
-use Rattle.elfobj.specs.Names.{is_name}
-use Rattle.elfobj.specs.Places.{AreRead, AreNamed, AreRelocated, IsFileWithin, name_in, bytes_in, IsWithin}
-use Rattle.elfobj.specs.Refusal.{object_refusal, holds}
-use Rattle.elfobj.specs.SectionHeaders.{header}
-use Rattle.elfobj.specs.Sections.{sections_of, LinkedSection, section_of, name_of}
-use Rattle.elfobj.specs.Symbols.{symbols_of}
+use Rattle.elffile.specs.ElfHeader.{e_shstrndx}
+use Rattle.elffile.specs.Names.{is_name}
+use Rattle.elfobj.specs.Places.{AreRead, AreNamed, ArePlaced, IsFileWithin, name_in, bytes_in, IsWithin}
+use Rattle.elffile.specs.Refusal.{object_refusal, holds}
+use Rattle.elffile.specs.SectionHeaders.{header}
+use Rattle.elffile.specs.Sections.{sections_of, LinkedSection, section_of, name_of}
+use Rattle.elffile.specs.Symbols.{symbols_of}
 use Rattle.elfobj.specs.declared.place.Place.{Place}
-use Rattle.elfobj.specs.declared.place.Span.{Span}
+use Rattle.elffile.specs.declared.span.Span.{Span}
 use Rattle.elfdefs.specs.declared.relocation.Relocation.{Relocation}
 use Rattle.elfdefs.specs.declared.refusal.ObjectRefusal.TheVariants.{SectionBounds, SectionProfile}
 use Rattle.elfdefs.specs.declared.section.Section.{Section}
 use Rattle.elfdefs.specs.declared.section.SectionKind.{SectionKind}
-use Rattle.elfobj.specs.declared.section_header.SectionHeader.{SectionHeader}
+use Rattle.elffile.specs.declared.section_header.SectionHeader.{SectionHeader}
 use Rattle.elfdefs.specs.declared.symbol.Symbol.{Symbol}
 
 -- no test of the section headers alone refuses
@@ -40,12 +40,12 @@ pub record IsPlaced (file : List ℕ) (linked : LinkedSection) (read : Section) 
   pub within : IsWithin (length file) place
 
 -- the parts of an object, as lists of what callers see and places in its bytes
-pub record ArePartsOf (file : List ℕ) (sections : List Section) (places : List Place) (symbols : List Symbol) (names : List Span) (relocations : List Relocation) (spans : List Span) : Type 0 where
+pub record ArePartsOf (file : List ℕ) (sections : List Section) (places : List Place) (symbols : List Symbol) (names : List Span) (relocations : List Relocation) : Type 0 where
   pub sections_read : AreRead file (sections_of file) sections places
   pub symbols_read : AreNamed file (symbols_of file) symbols names
-  pub relocations_read : AreRelocated (map (λ s. s.relocations) (sections_of file)) relocations spans
+  pub relocations_read : ArePlaced (map (λ s. s.relocations) (sections_of file)) relocations places
 
 -- what an object keeps: bytes that no test refuses, and what was read of them
-pub record IsObject (file : List ℕ) (sections : List Section) (places : List Place) (symbols : List Symbol) (names : List Span) (relocations : List Relocation) (spans : List Span) : Type 0 where
+pub record IsObject (file : List ℕ) (sections : List Section) (places : List Place) (symbols : List Symbol) (names : List Span) (relocations : List Relocation) : Type 0 where
   pub refusal : object_refusal file ≡ None
-  pub read : ArePartsOf file sections places symbols names relocations spans
+  pub read : ArePartsOf file sections places symbols names relocations

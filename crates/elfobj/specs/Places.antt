@@ -1,29 +1,28 @@
 -- What it means that places in a file or a list are those of names, bytes or relocations.
 use Rattle.std.specs.Prelude.{◌≡◌, ℕ, ◌+◌, ◌≤◌, List, length, map}
 use Rattle.std.specs.List.{All, slice_range}
-use Rattle.elfobj.specs.Sections.{LinkedSection, section_of}
-use Rattle.elfobj.specs.Symbols.{NamedSymbol}
+use Rattle.elffile.specs.Sections.{LinkedSection, section_of}
+use Rattle.elffile.specs.Symbols.{NamedSymbol}
 use Rattle.elfobj.specs.declared.place.Place.{Place}
-use Rattle.elfobj.specs.declared.place.Span.{Span}
+use Rattle.elffile.specs.Spans.{IsInside, bytes_at}
+use Rattle.elffile.specs.declared.span.Span.{Span}
 use Rattle.elfdefs.specs.declared.relocation.Relocation.{Relocation}
 use Rattle.elfdefs.specs.declared.section.Section.{Section}
 use Rattle.elfdefs.specs.declared.section.SectionKind.{SectionKind}
 use Rattle.elfdefs.specs.declared.section.SectionKind.TheVariants.{Nobits}
-use Rattle.elfobj.specs.declared.section_header.SectionHeader.{SectionHeader}
+use Rattle.elffile.specs.declared.section_header.SectionHeader.{SectionHeader}
 use Rattle.elfdefs.specs.declared.symbol.Symbol.{Symbol}
 
 abbrev pub name_in : List ℕ → Place → List ℕ
-name_in bytes p = slice_range bytes p.name_start p.name_end
+name_in bytes p = bytes_at bytes p.name
 
 abbrev pub bytes_in : List ℕ → Place → List ℕ
-bytes_in bytes p = slice_range bytes p.start p.end
+bytes_in bytes p = bytes_at bytes p.bytes
 
--- a place inside n bytes
+-- a name and bytes inside n bytes
 pub record IsWithin (n : ℕ) (p : Place) : Type 0 where
-  pub name_order : p.name_start ≤ p.name_end
-  pub name_end : p.name_end ≤ n
-  pub order : p.start ≤ p.end
-  pub end : p.end ≤ n
+  pub name : IsInside n p.name
+  pub bytes : IsInside n p.bytes
 
 -- what a header of this kind names lies inside n bytes
 abbrev pub IsFileWithin : ℕ → SectionHeader → SectionKind → Type 0
@@ -37,14 +36,7 @@ pub record AreRead (file : List ℕ) (linked : List LinkedSection) (read : List 
   pub bytes : map (bytes_in file) places ≡ map (λ s. s.bytes) linked
   pub within : All (IsWithin (length file)) places
 
--- a stretch inside n elements
-pub record IsInside (n : ℕ) (s : Span) : Type 0 where
-  pub order : s.start ≤ s.end
-  pub end : s.end ≤ n
-
-abbrev pub bytes_at : List ℕ → Span → List ℕ
-bytes_at bytes s = slice_range bytes s.start s.end
-
+-- part of a list of relocations
 abbrev pub relocations_in : List Relocation → Span → List Relocation
 relocations_in all s = slice_range all s.start s.end
 
@@ -54,7 +46,12 @@ pub record AreNamed (file : List ℕ) (named : List NamedSymbol) (read : List Sy
   pub names : map (bytes_at file) places ≡ map (λ s. s.name) named
   pub within : All (IsInside (length file)) places
 
--- each place cuts the relocations of its section out of all of them; how they stand among all is not said
-pub record AreRelocated (lists_of : List (List Relocation)) (all : List Relocation) (places : List Span) : Type 0 where
-  pub lists : map (relocations_in all) places ≡ lists_of
-  pub within : All (IsInside (length all)) places
+-- each stretch cuts the relocations of its section out of all of them; how they stand among all is not said
+pub record AreRelocated (lists_of : List (List Relocation)) (all : List Relocation) (spans : List Span) : Type 0 where
+  pub lists : map (relocations_in all) spans ≡ lists_of
+  pub within : All (IsInside (length all)) spans
+
+-- the stretches in these places do
+pub record ArePlaced (lists_of : List (List Relocation)) (all : List Relocation) (places : List Place) : Type 0 where
+  pub lists : map (λ p. relocations_in all p.relocations) places ≡ lists_of
+  pub within : All (λ p. IsInside (length all) p.relocations) places

@@ -3,10 +3,10 @@ use Rattle.std.specs.Prelude.{◌≡◌, ℕ, ◌^◌, ◌<◌, ◌≤◌, ◌�
 use Rattle.std.specs.List.{All, AllPairs}
 use Rattle.std.specs.Int.{is_power_of_two}
 use Rattle.std.specs.Int.Bits.{bit_or}
-use Rattle.elfobj.specs.Names.{is_name}
-use Rattle.elfobj.specs.Relocations.{field_end, meets}
-use Rattle.elfobj.specs.Sections.{LinkedSection}
-use Rattle.elfobj.specs.Symbols.{NamedSymbol}
+use Rattle.elffile.specs.Names.{is_name}
+use Rattle.elffile.specs.Relocations.{field_end, meets}
+use Rattle.elffile.specs.Sections.{LinkedSection}
+use Rattle.elffile.specs.Symbols.{NamedSymbol}
 use Rattle.elfdefs.specs.declared.constants.TheConstants.{PROFILE_FLAGS, SHF_ALLOC}
 use Rattle.elfdefs.specs.declared.relocation.Relocation.{Relocation}
 use Rattle.elfdefs.specs.declared.section.SectionKind.{SectionKind}

@@ -2,11 +2,11 @@
 -- the 24 bytes of the file from 24 * k + c on, so that tables of one class that overlap in the file have entries in common.
 use Rattle.std.specs.Prelude.{◌≡◌, ℕ, ◌+◌, ◌*◌, ◌/◌, ◌%◌, ◌<◌, ◌≤◌, List, Bool, ◌||◌, get_or, length, map}
 use Rattle.std.specs.List.{All, list_any, slice_range}
-use Rattle.elfobj.specs.RelocationEntries.{relocation_entries_below}
-use Rattle.elfobj.specs.Relocations.{relocation_entries, relocation_of}
-use Rattle.elfobj.specs.Tables.{is_outside, is_strange_type, names_no_symbol}
+use Rattle.elffile.specs.RelocationEntries.{relocation_entries_below}
+use Rattle.elffile.specs.Relocations.{relocation_entries, relocation_of}
+use Rattle.elffile.specs.Tables.{is_outside, is_strange_type, names_no_symbol}
 use Rattle.elfdefs.specs.declared.relocation.Relocation.{Relocation}
-use Rattle.elfobj.specs.declared.relocation_entry.RelocationEntry.{RelocationEntry}
+use Rattle.elffile.specs.declared.relocation_entry.RelocationEntry.{RelocationEntry}
 use Rattle.elfobj.specs.declared.relocation_fault.EntryFault.{EntryFault}
 use Rattle.elfobj.specs.declared.relocation_fault.EntryFault.TheVariants.{Any, Symbol, Kind, Bounds}
 use Rattle.elfobj.specs.declared.relocation_run.Run.{Run}

@@ -2,7 +2,7 @@
 
 ghost use Rattle.std.specs.Prelude.{◌≡◌, OnOk, true};
 ghost use Rattle.std.specs.List.Sorted.{IsNonDecreasingBy, IsPermutation};
-ghost use Rattle.elfobj.specs.Tables.{is_outside};
+ghost use Rattle.elffile.specs.Tables.{is_outside};
 
 use crate::relocation::Relocation;
 use crate::section::SectionKind;

@@ -6,11 +6,12 @@ ghost use Rattle.std.specs.Prelude.{◌≡◌, ℕ, ◌≤◌, ◌<◌, ◌+◌,
 ghost use Rattle.std.specs.List.{All, list_any, slice_range};
 ghost use Rattle.std.specs.List.Sorted.{IsNonDecreasingBy};
 ghost use Rattle.elfobj.specs.FieldMarks.{AreBelow, IsWindow};
-ghost use Rattle.elfobj.specs.Places.{IsInside, relocations_in};
-ghost use Rattle.elfobj.specs.Relocations.{field_end, share_bytes};
+ghost use Rattle.elfobj.specs.Places.{relocations_in};
+ghost use Rattle.elffile.specs.Spans.{IsInside};
+ghost use Rattle.elffile.specs.Relocations.{field_end, share_bytes};
 
-use crate::place::Span;
 use crate::relocation::Relocation;
+use elffile::span::Span;
 use std::alloc::{AllocError, Global};
 
 /// Whether a byte of a field has a mark.

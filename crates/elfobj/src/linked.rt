@@ -3,17 +3,17 @@
 ghost use Rattle.std.specs.Prelude.{◌≡◌, [], ◌∷◌, ◌++◌, IfOk, OnOk};
 ghost use Rattle.elfobj.specs.Linkable.{IsLinkable, IsNameTable, IsPlaced, PassesTests};
 ghost use Rattle.elfobj.specs.Places.{AreRead};
-ghost use Rattle.elfobj.specs.SectionHeaders.{headers as headers_of};
-ghost use Rattle.elfobj.specs.Sections.{linked_as, sections_of};
-ghost use Rattle.elfobj.specs.SectionTable.{HasSectionTable};
+ghost use Rattle.elffile.specs.SectionHeaders.{headers as headers_of};
+ghost use Rattle.elffile.specs.Sections.{linked_as, sections_of};
+ghost use Rattle.elffile.specs.SectionTable.{HasSectionTable};
 
-use crate::names::StringTable;
 use crate::place::{Place, place_of};
 use crate::section::{Section, SectionIndex, SectionKind};
-use crate::section_header::SectionHeader;
+use elffile::names::StringTable;
+use elffile::section_header::SectionHeader;
 use std::alloc::{AllocError, Global};
 
-/// The linked sections in table order, and where the name and the bytes of each lie in the file.
+/// The linked sections in table order, and where the parts of each lie.
 #[derive(Drop)]
 pub struct Linked {
     /// The sections.
@@ -23,7 +23,7 @@ pub struct Linked {
 }
 
 /// The section of a header of this number and kind, and its place.
-#[tactic(auto, unfolding(crate::specs::Sections::name_table))]
+#[tactic(auto, unfolding(elffile::specs::Sections::name_table))]
 fn placed_section(
     bytes: &[u8],
     names: &StringTable,

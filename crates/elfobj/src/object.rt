@@ -8,12 +8,13 @@ ghost use Rattle.ldbase.specs.declared.meter.Count.TheVariants.{Objects};
 ghost use Rattle.elfdefs.specs.declared.refusal.ObjectRefusal.TheVariants.{NoMemory};
 
 use crate::field::put_in_order;
-use crate::place::{Place, Span};
+use crate::place::Place;
 use crate::refusal::ObjectRefusal;
 use crate::relocation::{Relocation, SymbolIndex};
 use crate::section::{LinkedIndex, Section, SectionIndex, find_number};
 use crate::section_table::{Parts, read_parts};
 use crate::symbol::Symbol;
+use elffile::span::Span;
 use ldbase::meter::{Count, Meter};
 use std::alloc::{AllocError, Global};
 use std::marker::Model;
@@ -29,7 +30,6 @@ pub struct Object {
     symbols: Vec<Symbol>,
     names: Vec<Span>,
     relocations: Vec<Relocation>,
-    spans: Vec<Span>,
 }
 
 impl Model for Object {
@@ -40,16 +40,16 @@ impl Model for Object {
 
     ghost view = { λ a. object_of a.bytes.items };
 
-    ghost invariant = { λ a. IsObject a.bytes.items a.sections.items a.places.items a.symbols.items a.names.items a.relocations.items a.spans.items };
+    ghost invariant = { λ a. IsObject a.bytes.items a.sections.items a.places.items a.symbols.items a.names.items a.relocations.items };
 }
 
 impl Object {
-    ghost use Rattle.elfobj.specs.ElfHeader.{e_shnum};
+    ghost use Rattle.elffile.specs.ElfHeader.{e_shnum};
     ghost use Rattle.elfobj.specs.Numbering.{IsNumberedAt};
     ghost use Rattle.elfobj.specs.Object.{object_of};
     ghost use Rattle.elfobj.specs.Profile.{HasRelocationsOfProfile, IsSectionBelow, IsSectionOfProfile, IsSymbolOfProfile};
-    ghost use Rattle.elfobj.specs.Refusal.{header_refusals, holds, object_refusal};
-    ghost use Rattle.elfobj.specs.Sections.{section_of};
+    ghost use Rattle.elffile.specs.Refusal.{header_refusals, holds, object_refusal};
+    ghost use Rattle.elffile.specs.Sections.{section_of};
 
     /// Reads an object, and counts it whether it is one or not. Bytes that are no object are given back,
     /// with the lowest refusal whose condition holds, or with `NoMemory` where memory runs out. What the ELF
@@ -79,8 +79,7 @@ impl Object {
                     places: linked.places,
                     symbols: symbols.symbols,
                     names: symbols.names,
-                    relocations: relocations.all,
-                    spans: relocations.spans,
+                    relocations,
                 })
             }
             Err(refusal) => Err((bytes, refusal)),
@@ -119,7 +118,7 @@ impl Object {
         ensures { slice_get (map (λ s. s.name) self.now.sections) section.0 ≡ Some result.now }
     {
         let place = self.places[section.0];
-        &self.bytes[place.name_start..place.name_end]
+        &self.bytes[place.name.start..place.name.end]
     }
 
     /// The bytes of a section: as many as its size, but none for one that has no bytes in the file.
@@ -128,7 +127,7 @@ impl Object {
         ensures { slice_get (map (λ s. s.bytes) self.now.sections) section.0 ≡ Some result.now }
     {
         let place = self.places[section.0];
-        &self.bytes[place.start..place.end]
+        &self.bytes[place.bytes.start..place.bytes.end]
     }
 
     /// The entries of its symbol table, in the table's order; none without a symbol table. The first is a null entry, a
@@ -158,7 +157,7 @@ impl Object {
         ensures value { slice_get (map (λ s. s.relocations) self.now.sections) section.0 ≡ Some result.now }
         ensures limits { All (HasRelocationsOfProfile (length self.now.symbols)) self.now.sections }
     {
-        let span = self.spans[section.0];
+        let span = self.places[section.0].relocations;
         &self.relocations[span.start..span.end]
     }
 

@@ -1,56 +1,45 @@
-//! Where the name and the bytes of a linked section lie in the file.
+//! Where the parts of a linked section lie: its name, its bytes and its relocations.
 
-ghost use Rattle.std.specs.Prelude.{◌≡◌, ℕ, ◌≤◌, List, [], false, length, true, unwrap_or};
-ghost use Rattle.std.specs.List.{slice_range};
+ghost use Rattle.std.specs.Prelude.{◌≡◌, ℕ, List, [], false, length, map, true, unwrap_or};
 ghost use Rattle.std.specs.Option.{option_map_or};
-ghost use Rattle.elfobj.specs.Names.{string_at, is_name};
+ghost use Rattle.elffile.specs.Names.{string_at, is_name};
+ghost use Rattle.elffile.specs.Sections.{contents};
+ghost use Rattle.elffile.specs.Spans.{IsInside, bytes_at};
+ghost use Rattle.elffile.specs.TableOf.{table_of};
 ghost use Rattle.elfobj.specs.Places.{IsWithin, IsFileWithin, name_in, bytes_in};
-ghost use Rattle.elfobj.specs.Sections.{contents};
-ghost use Rattle.elfobj.specs.TableOf.{table_of};
 
-use crate::names::StringTable;
 use crate::section::SectionKind;
-use crate::section_header::SectionHeader;
+use elffile::names::StringTable;
+use elffile::section_header::SectionHeader;
+use elffile::span::{EMPTY_SPAN, Span};
 
-/// Where the name and the bytes of a section begin and end, as offsets in the file.
+/// Where the parts of a section lie.
 #[derive(Clone, Copy)]
 pub struct Place {
-    /// Where its name begins.
-    pub name_start: usize,
-    /// Where its name ends, without the zero byte.
-    pub name_end: usize,
-    /// Where its bytes begin.
-    pub start: usize,
-    /// Where its bytes end.
-    pub end: usize,
+    /// Its name in the file, without the zero byte.
+    pub name: Span,
+    /// Its bytes in the file.
+    pub bytes: Span,
+    /// Its relocations among all of the object.
+    pub relocations: Span,
 }
 
-/// Where a stretch of a file or of a list begins and ends.
-#[derive(Clone, Copy)]
-pub struct Span {
-    /// Where it begins.
-    pub start: usize,
-    /// Where it ends.
-    pub end: usize,
-}
-
-/// Where the bytes of a section begin and end: nowhere for one without bytes in the file.
-fn contents_range(header: &SectionHeader, kind: SectionKind, len: usize) -> (usize, usize)
+/// Where the bytes of a section lie in a file of `len` bytes: nowhere for one without bytes in the file.
+fn contents_range(header: &SectionHeader, kind: SectionKind, len: usize) -> Span
     requires { IsFileWithin len header.now kind }
-    ensures order { result.0 ≤ result.1 }
-    ensures end { result.1 ≤ len }
-    ensures bytes { (bytes : List ℕ) → slice_range bytes result.0 result.1 ≡ contents bytes header.now kind }
+    ensures within { IsInside len result }
+    ensures bytes { (bytes : List ℕ) → bytes_at bytes result ≡ contents bytes header.now kind }
 {
     match kind {
-        SectionKind::Nobits => (0, 0),
-        _ => (
-            header.sh_offset as usize,
-            (header.sh_offset + header.sh_size) as usize,
-        ),
+        SectionKind::Nobits => EMPTY_SPAN,
+        _ => Span {
+            start: header.sh_offset as usize,
+            end: (header.sh_offset + header.sh_size) as usize,
+        },
     }
 }
 
-/// The place of a section, whose name stands in this table.
+/// The place of a section, whose name stands in this table, before its relocations are read.
 pub fn place_of(names: &StringTable, header: &SectionHeader, kind: SectionKind, len: usize) -> Place
     requires name { option_map_or is_name (string_at (table_of names.now) header.now.sh_name) false ≡ true }
     requires file { IsFileWithin len header.now kind }
@@ -59,12 +48,21 @@ pub fn place_of(names: &StringTable, header: &SectionHeader, kind: SectionKind, 
     ensures name { name_in names.now.file.now result ≡ unwrap_or (string_at (table_of names.now) header.now.sh_name) [] }
     ensures bytes { bytes_in names.now.file.now result ≡ contents names.now.file.now header.now kind }
 {
-    let name = names.file_range(header.sh_name);
-    let (start, end) = contents_range(header, kind, len);
     Place {
-        name_start: name.start,
-        name_end: name.end,
-        start,
-        end,
+        name: names.file_range(header.sh_name),
+        bytes: contents_range(header, kind, len),
+        relocations: EMPTY_SPAN,
+    }
+}
+
+/// Gives each place the stretch of its relocations.
+pub fn place_relocations(places: &mut [Place], spans: &[Span])
+    requires { length spans.now ≡ length places.old }
+    ensures relocations { map (λ p. p.relocations) places.new ≡ spans.now }
+    ensures names { map (λ p. p.name) places.new ≡ map (λ p. p.name) places.old }
+    ensures bytes { map (λ p. p.bytes) places.new ≡ map (λ p. p.bytes) places.old }
+{
+    for (at, place) in places.iter_mut().enumerate() {
+        place.relocations = spans[at];
     }
 }

@@ -8,10 +8,10 @@ ghost use Rattle.elfobj.specs.Runs.{IsCovered, IsTableOf, has_refused_entry, is_
 
 use crate::entry_test::{is_table_refused, none_passed};
 use crate::field::is_outside;
-use crate::relocation_entry::RelocationEntry;
 use crate::relocation_run::{SectionTable, class_range};
 use crate::section::{Section, SectionKind};
 use elfdefs::constants::RELA_SIZE;
+use elffile::relocation_entry::RelocationEntry;
 use std::alloc::{AllocError, Global};
 
 /// A way in which an entry is outside the profile, in the order of the refusals' numbers.

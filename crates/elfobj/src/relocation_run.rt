@@ -4,15 +4,15 @@
 ghost use Rattle.std.specs.Prelude.{◌≡◌, ◌≤◌, ◌<◌, ◌+◌, ◌*◌, ◌/◌, ◌^◌, ◌++◌, IfOk, OnOk, length, map};
 ghost use Rattle.std.specs.List.{All};
 ghost use Rattle.elfobj.specs.Places.{AreRelocated};
-ghost use Rattle.elfobj.specs.RelocationEntries.{relocation_entries_below};
-ghost use Rattle.elfobj.specs.Relocations.{relocation_of, relocations_at};
+ghost use Rattle.elffile.specs.RelocationEntries.{relocation_entries_below};
+ghost use Rattle.elffile.specs.Relocations.{relocation_of, relocations_at};
 ghost use Rattle.elfobj.specs.Runs.{AreRuns, IsCovered, IsTableOf, table_entries};
 
-use crate::place::Span;
 use crate::relocation::Relocation;
-use crate::relocation_entry::read_relocation_entry;
 use crate::section::Section;
 use elfdefs::constants::RELA_SIZE;
+use elffile::relocation_entry::read_relocation_entry;
+use elffile::span::{EMPTY_SPAN, Span};
 use std::alloc::{AllocError, Global};
 
 /// Where the entries that change a linked section lie in the file.
@@ -149,7 +149,7 @@ fn find_spans(
     let mut spans = Vec::with_capacity(alloc, tables.len())?;
     for table in tables {
         let span = if table.count == 0 {
-            Span { start: 0, end: 0 }
+            EMPTY_SPAN
         } else {
             span_in(&runs[table.start % RELA_SIZE], table)
         };

@@ -3,30 +3,31 @@
 ghost use Rattle.std.specs.Prelude.{◌≡◌, ℕ, ◌≤◌, ◌<◌, ◌+◌, ◌*◌, ◌⊎◌, IfErr, IfOk, IfSome, List, None, Some, false, true, find, length, map, replicate};
 ghost use Rattle.std.specs.List.{All, list_any};
 ghost use Rattle.std.specs.List.Sorted.{IsNonDecreasingBy, IsPermutation};
-ghost use Rattle.elfobj.specs.ElfHeader.{e_shnum};
+ghost use Rattle.elffile.specs.ElfHeader.{e_shnum};
 ghost use Rattle.elfobj.specs.FieldMarks.{AreBelow};
 ghost use Rattle.elfobj.specs.Linkable.{PassesTests};
-ghost use Rattle.elfobj.specs.Places.{AreRelocated, IsInside, relocations_in};
+ghost use Rattle.elfobj.specs.Places.{AreRelocated, relocations_in};
+ghost use Rattle.elffile.specs.Spans.{IsInside};
 ghost use Rattle.elfobj.specs.Reading.{AreTables, entered, is_wrong_after};
-ghost use Rattle.elfobj.specs.Refusal.{entry_refusals, holds, relocation_refusals};
-ghost use Rattle.elfobj.specs.Relocations.{entries_in, relocation_section, relocations_at, share_bytes};
+ghost use Rattle.elffile.specs.Refusal.{entry_refusals, holds, relocation_refusals};
+ghost use Rattle.elffile.specs.Relocations.{entries_in, relocation_section, relocations_at, share_bytes};
 ghost use Rattle.elfobj.specs.Runs.{AreTablesOf, table_entries};
-ghost use Rattle.elfobj.specs.SectionHeaders.{headers as headers_of};
-ghost use Rattle.elfobj.specs.SectionTable.{HasSectionTable};
-ghost use Rattle.elfobj.specs.Sections.{sections_of};
-ghost use Rattle.elfobj.specs.Symbols.{symbols_of};
-ghost use Rattle.elfobj.specs.Tables.{is_linked, is_wrong_below, is_wrong_table, linked_sections};
+ghost use Rattle.elffile.specs.SectionHeaders.{headers as headers_of};
+ghost use Rattle.elffile.specs.SectionTable.{HasSectionTable};
+ghost use Rattle.elffile.specs.Sections.{sections_of};
+ghost use Rattle.elffile.specs.Symbols.{symbols_of};
+ghost use Rattle.elffile.specs.Tables.{is_linked, is_wrong_below, is_wrong_table, linked_sections};
 ghost use Rattle.elfdefs.specs.declared.refusal.ObjectRefusal.TheVariants.{NoMemory, RelocationSection};
 
 use crate::field_marks::is_any_shared;
-use crate::place::Span;
 use crate::refusal::ObjectRefusal;
 use crate::relocation_fault::{EntryFault, is_any_refused, smallest_first};
 use crate::relocation_run::{Relocations, SectionTable, read_tables};
 use crate::section::Section;
-use crate::section_header::SectionHeader;
 use crate::symbol_table::symbol_table_number;
 use elfdefs::constants::{RELA_SIZE, SHT_REL};
+use elffile::section_header::SectionHeader;
+use elffile::span::Span;
 use std::alloc::{AllocError, Global};
 
 fn is_linked(headers: &[SectionHeader], number: usize) -> bool
@@ -243,6 +244,8 @@ pub fn read_relocations(
     let Ok(tables) = section_tables(alloc, bytes, sections, &changing) else {
         return Err(ObjectRefusal::NoMemory);
     };
+    // The tests take memory of their own.
+    drop(changing);
     let Ok(refusal) = entry_refusal(alloc, bytes, &tables, symbols) else {
         return Err(ObjectRefusal::NoMemory);
     };

@@ -3,26 +3,28 @@
 ghost use Rattle.std.specs.Prelude.{◌≡◌, ◌⊎◌, ◌++◌, IfErr, IfNone, IfOk, IfSome, None, Some, false, find};
 ghost use Rattle.std.specs.List.{list_any};
 ghost use Rattle.elfobj.specs.Linkable.{ArePartsOf, IsNameTable, PassesTests};
-ghost use Rattle.elfobj.specs.ElfHeader.{e_shstrndx};
-ghost use Rattle.elfobj.specs.Refusal.{holds, is_out_of_bounds, is_outside_profile_by, header_refusals, object_refusal, relocation_refusals, symbol_refusals};
-ghost use Rattle.elfobj.specs.SectionHeaders.{header, headers as headers_of};
-ghost use Rattle.elfobj.specs.SectionTable.{HasSectionTable};
-ghost use Rattle.elfobj.specs.TableOf.{table_of};
+ghost use Rattle.elffile.specs.ElfHeader.{e_shstrndx};
+ghost use Rattle.elffile.specs.Refusal.{holds, is_out_of_bounds, is_outside_profile_by, header_refusals, object_refusal, relocation_refusals, symbol_refusals};
+ghost use Rattle.elffile.specs.SectionHeaders.{header, headers as headers_of};
+ghost use Rattle.elffile.specs.SectionTable.{HasSectionTable};
+ghost use Rattle.elffile.specs.TableOf.{table_of};
 ghost use Rattle.elfdefs.specs.declared.refusal.ObjectRefusal.TheVariants.{NoMemory, SectionBounds};
 
-use crate::elf_header::{header_refusal, name_table_number};
 use crate::linked::{Linked, linked_sections};
-use crate::names::StringTable;
+use crate::place::place_relocations;
 use crate::refusal::ObjectRefusal;
+use crate::relocation::Relocation;
 use crate::relocation_run::Relocations;
 use crate::relocation_table::read_relocations;
-use crate::section_header::{SectionHeader, read_headers};
 use crate::symbol_table::{Symbols, read_symbols};
 use elfdefs::constants::SHT_STRTAB;
+use elffile::elf_header::{header_refusal, name_table_number};
+use elffile::names::StringTable;
+use elffile::section_header::{SectionHeader, read_headers};
 use std::alloc::Global;
 
 /// The header of the table that the sections' names stand in.
-#[tactic(auto, using(crate::proofs::Headers::count_of, crate::proofs::Headers::header_of))]
+#[tactic(auto, using(elffile::proofs::Headers::count_of, elffile::proofs::Headers::header_of))]
 fn name_table_header(bytes: &[u8], headers: &[SectionHeader]) -> SectionHeader
     requires table { HasSectionTable bytes.now }
     requires headers { headers.now ≡ headers_of bytes.now }
@@ -44,7 +46,7 @@ fn is_any_outside_profile(headers: &[SectionHeader], names: &StringTable) -> boo
 }
 
 /// Whether the table of names is no string table, or a section is out of bounds.
-#[tactic(auto, using(crate::proofs::Passing::names_within), unfolding(crate::specs::Refusal::holds))]
+#[tactic(auto, using(crate::proofs::Passing::names_within), unfolding(elffile::specs::Refusal::holds))]
 fn has_wrong_bounds(bytes: &[u8], names: &SectionHeader, headers: &[SectionHeader]) -> bool
     requires table { HasSectionTable bytes.now }
     requires names { names.now ≡ header bytes.now (e_shstrndx bytes.now) }
@@ -62,8 +64,8 @@ pub struct Parts {
     pub linked: Linked,
     /// Its symbols.
     pub symbols: Symbols,
-    /// The relocations of its linked sections.
-    pub relocations: Relocations,
+    /// The relocations of all linked sections.
+    pub relocations: Vec<Relocation>,
 }
 
 /// Reads the parts of a file whose section headers have passed their tests, or tells why it is no object.
@@ -79,26 +81,33 @@ fn read_tables<'a>(
     requires headers { headers.now ≡ headers_of bytes.now }
     requires tests { PassesTests bytes.now }
     ensures ok { IfOk result (λ p. find (holds bytes.now) (symbol_refusals ++ relocation_refusals) ≡ None) }
-    ensures read { IfOk result (λ p. ArePartsOf bytes.now p.linked.sections.items p.linked.places.items p.symbols.symbols.items p.symbols.names.items p.relocations.all.items p.relocations.spans.items) }
+    ensures read { IfOk result (λ p. ArePartsOf bytes.now p.linked.sections.items p.linked.places.items p.symbols.symbols.items p.symbols.names.items p.relocations.items) }
     ensures refused { IfErr result (λ e. (e ≡ NoMemory) ⊎ (find (holds bytes.now) (symbol_refusals ++ relocation_refusals) ≡ Some e)) }
 {
-    let Ok(linked) = linked_sections(alloc, bytes, &names, headers) else {
+    let Ok(mut linked) = linked_sections(alloc, bytes, &names, headers) else {
         return Err(ObjectRefusal::NoMemory);
     };
     let symbols = read_symbols(alloc, bytes, headers, names)?;
     let count = symbols.symbols.len();
-    let relocations = read_relocations(alloc, bytes, headers, &linked.sections, count)?;
+    let Relocations { all, spans } = read_relocations(
+        alloc,
+        bytes,
+        headers,
+        &linked.sections,
+        count,
+    )?;
+    place_relocations(&mut linked.places, &spans);
     Ok(Parts {
         linked,
         symbols,
-        relocations,
+        relocations: all,
     })
 }
 
 /// Reads the parts of a file, or tells why it is no object.
 pub fn read_parts(alloc: Global, bytes: &[u8]) -> Result<Parts, ObjectRefusal>
     ensures ok { IfOk result (λ p. object_refusal bytes.now ≡ None) }
-    ensures read { IfOk result (λ p. ArePartsOf bytes.now p.linked.sections.items p.linked.places.items p.symbols.symbols.items p.symbols.names.items p.relocations.all.items p.relocations.spans.items) }
+    ensures read { IfOk result (λ p. ArePartsOf bytes.now p.linked.sections.items p.linked.places.items p.symbols.symbols.items p.symbols.names.items p.relocations.items) }
     ensures refused { IfErr result (λ e. (e ≡ NoMemory) ⊎ (object_refusal bytes.now ≡ Some e)) }
     ensures memory { IfErr result (λ e. e ≡ NoMemory → find (holds bytes.now) header_refusals ≡ None) }
 {

@@ -2,25 +2,26 @@
 
 ghost use Rattle.std.specs.Prelude.{◌≡◌, ◌≤◌, ◌+◌, ◌⊎◌, ◌<◌, ◌++◌, ◌∷◌, [], IfErr, IfOk, OnOk, None, Some, count_by, drop, false, find, length, nat_lt, position};
 ghost use Rattle.std.specs.List.{list_all, list_any};
-ghost use Rattle.elfobj.specs.Places.{AreNamed, IsInside, bytes_at};
-ghost use Rattle.elfobj.specs.Refusal.{holds, symbol_refusals};
-ghost use Rattle.elfobj.specs.SectionHeaders.{headers as headers_of};
-ghost use Rattle.elfobj.specs.SectionTable.{HasSectionTable};
-ghost use Rattle.elfobj.specs.ElfHeader.{e_shstrndx};
+ghost use Rattle.elfobj.specs.Places.{AreNamed};
+ghost use Rattle.elffile.specs.Spans.{IsInside, bytes_at};
+ghost use Rattle.elffile.specs.Refusal.{holds, symbol_refusals};
+ghost use Rattle.elffile.specs.SectionHeaders.{headers as headers_of};
+ghost use Rattle.elffile.specs.SectionTable.{HasSectionTable};
+ghost use Rattle.elffile.specs.ElfHeader.{e_shstrndx};
 ghost use Rattle.elfobj.specs.Linkable.{IsNameTable, PassesTests};
-ghost use Rattle.elfobj.specs.Symbols.{entries_of, is_symbol_table, symbol_name, symbols_from, symbols_of};
-ghost use Rattle.elfobj.specs.TableOf.{table_of};
-ghost use Rattle.elfobj.specs.Tables.{has_misplaced_entry, has_wrong_header, is_local, is_string_table, is_wrong_non_local, is_wrong_symbol};
+ghost use Rattle.elffile.specs.Symbols.{entries_of, is_symbol_table, symbol_name, symbols_from, symbols_of};
+ghost use Rattle.elffile.specs.TableOf.{table_of};
+ghost use Rattle.elffile.specs.Tables.{has_misplaced_entry, has_wrong_header, is_local, is_string_table, is_wrong_non_local, is_wrong_symbol};
 ghost use Rattle.elfdefs.specs.declared.refusal.ObjectRefusal.TheVariants.{NoMemory};
 
-use crate::elf_header::name_table_number;
-use crate::names::StringTable;
-use crate::place::Span;
 use crate::refusal::ObjectRefusal;
-use crate::section_header::SectionHeader;
 use crate::symbol::{Binding, Symbol, SymbolKind, SymbolPlace};
-use crate::symbol_entry::{SymbolEntry, read_symbol_entry};
 use elfdefs::constants::{SHT_STRTAB, SYM_SIZE};
+use elffile::elf_header::name_table_number;
+use elffile::names::StringTable;
+use elffile::section_header::SectionHeader;
+use elffile::span::{EMPTY_SPAN, Span};
+use elffile::symbol_entry::{SymbolEntry, read_symbol_entry};
 use std::alloc::{AllocError, Global};
 
 /// The symbols in table order, and where the name of each lies in the file.
@@ -40,9 +41,6 @@ const NULL_SYMBOL: Symbol = Symbol {
     value: 0,
     size: 0,
 };
-
-/// The place of an empty name.
-const NO_NAME: Span = Span { start: 0, end: 0 };
 
 /// The number of the first header of a symbol table.
 pub fn symbol_table_number(headers: &[SectionHeader]) -> Option<usize>
@@ -150,7 +148,7 @@ fn name_span(strings: &StringTable, entry: &SymbolEntry) -> Span
     ensures name { bytes_at strings.now.file.now result ≡ symbol_name (table_of strings.now) entry.now }
 {
     if entry.is_local() {
-        return NO_NAME;
+        return EMPTY_SPAN;
     }
     strings.file_range(entry.st_name)
 }
@@ -180,7 +178,7 @@ fn named_symbols(
         symbols: Vec::with_capacity(alloc, entries.len())?,
         names: Vec::with_capacity(alloc, entries.len())?,
     };
-    symbols.push(NULL_SYMBOL, NO_NAME)?;
+    symbols.push(NULL_SYMBOL, EMPTY_SPAN)?;
     let rest = &entries[1..];
     for entry in rest {
         symbols.push(entry.symbol(), name_span(strings, entry))?;

@@ -10,15 +10,15 @@ use elfdefs::constants::{
     STT_COMMON, STT_FILE, STT_SECTION, SYM_SIZE,
 };
 use elfdefs::numbers::{read_u16, read_u32};
-use elfobj::elf_header::{name_table_number, section_count, section_table_offset};
+use elffile::elf_header::{name_table_number, section_count, section_table_offset};
+use elffile::names::is_graphic;
+use elffile::relocation_entry::{RelocationEntry, read_relocation_entry};
+use elffile::section_header::{NULL_HEADER, SectionHeader, read_header};
+use elffile::symbol_entry::{SymbolEntry, read_symbol_entry};
 use elfobj::field::{is_outside, put_in_order};
-use elfobj::names::is_graphic;
 use elfobj::refusal::ObjectRefusal;
 use elfobj::relocation::Relocation;
-use elfobj::relocation_entry::{RelocationEntry, read_relocation_entry};
 use elfobj::section::{Section, SectionIndex, SectionKind};
-use elfobj::section_header::{NULL_HEADER, SectionHeader, read_header};
-use elfobj::symbol_entry::{SymbolEntry, read_symbol_entry};
 use std::alloc::{AllocError, Global};
 use std::fmt;
 

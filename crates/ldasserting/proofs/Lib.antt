@@ -4,3 +4,4 @@ pub mod Members
 pub mod Declared
 pub mod Looking
 pub mod Failing
+pub mod Searching

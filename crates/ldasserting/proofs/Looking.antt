@@ -23,7 +23,8 @@ use Rattle.ldoverlap.specs.Meetings.{AreOutputs}
 use Rattle.ldvalue.specs.Scopes as code
 use Rattle.ldvalues.specs.Values.{shown_symbol}
 use Rattle.ldvalues.specs.declared.values.OutputSymbol.{OutputSymbol}
-use Rattle.ldasserting.specs.FinalScope.{found_symbol, meaning_of, number_of, numbered}
+use Rattle.ldasserting.specs.FinalScope.{meaning_of, number_of, numbered}
+use Rattle.ldasserting.specs.Symbols.{found_symbol}
 use Rattle.ldasserting.specs.declared.final_scope.FinalScope.{FinalScope}
 use Rattle.ldasserting.proofs.Declared.{no_value, same_name}
 use Rattle.ldasserting.proofs.Members.{In, Name, sorted_in}
@@ -245,11 +246,11 @@ same_scope : (m n : Scope) → ((z : Name) → m.symbol z ≡ n.symbol z) → ((
 same_scope m n a b c = λ i. record { symbol = λ z. a z i; section = λ z. b z i; region = λ z. c z i }
 
 pub scope_is : (p : Project) (s : Layout) (f : FinalScope) → f.script.now ≡ p.script → IsLaid p.script s f.laid
-    → map shown_symbol f.symbols.now ≡ output_symbols p s → AreOutputs p s.sections
+    → map shown_symbol f.symbols.list.now ≡ output_symbols p s → AreOutputs p s.sections
     → map (λ (m : MemoryRegion). m.name) s.regions ≡ map (λ (r : Region). r.name) (regions p.script)
     → meaning_of f ≡ final_scope p s
 scope_is p s f script laid symbols outputs memory =
-    same_scope (meaning_of f) (final_scope p s) (λ z. symbol_found p s f.symbols.now z symbols)
+    same_scope (meaning_of f) (final_scope p s) (λ z. symbol_found p s f.symbols.list.now z symbols)
     (λ z.
     ap (λ (qs : List Placed). option_map code.section_numbers (numbered qs
     (section_from 0 (output_sections f.script.now) z))) laid.sections

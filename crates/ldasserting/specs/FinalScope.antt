@@ -1,5 +1,5 @@
 -- What the conditions of ASSERTs may name, as the code finds it, and the faults of those that do not hold.
-use Rattle.std.specs.Prelude.{ℕ, Bool, List, [], ◌∷◌, Option, bytes_eq, filter, find, if◌then◌else◌, map, not, slice_get}
+use Rattle.std.specs.Prelude.{ℕ, Bool, List, [], ◌∷◌, Option, filter, if◌then◌else◌, map, not, slice_get}
 use Rattle.std.specs.Option.{option_and_then, option_map}
 use Rattle.ldexpr.specs.Expressions.{Expr}
 use Rattle.ldtree.specs.Given.{region_number, section_number}
@@ -12,13 +12,10 @@ use Rattle.ldmodel.specs.declared.fault.Fault.TheVariants as variant
 use Rattle.ldtargets.specs.Values.{value_of}
 use Rattle.ldvalue.specs.Scopes.{region_numbers, section_numbers}
 use Rattle.ldvalues.specs.declared.values.OutputSymbol.{OutputSymbol}
+use Rattle.ldasserting.specs.Symbols.{found_symbol}
 use Rattle.ldasserting.specs.declared.final_scope.FinalScope.{FinalScope}
 
--- the symbol of a name
-abbrev pub found_symbol : List OutputSymbol → List ℕ → Option OutputSymbol
-found_symbol symbols name = find (λ (x : OutputSymbol). bytes_eq x.name.now name) symbols
-
--- its value
+-- the value of a symbol that was found
 abbrev pub number_of : Option OutputSymbol → Option ℕ
 number_of found = option_and_then (λ (x : OutputSymbol). number_if_any (value_of x.value)) found
 
@@ -28,7 +25,7 @@ numbered xs k = option_and_then (λ (i : ℕ). slice_get xs i) k
 
 abbrev pub meaning_of : FinalScope → Scope
 meaning_of f = record {
-  symbol = λ name. number_of (found_symbol f.symbols.now name);
+  symbol = λ name. number_of (found_symbol f.symbols.list.now name);
   section = λ name. option_map section_numbers (numbered f.laid.sections.now (section_number f.script.now name));
   region = λ name. option_map region_numbers (numbered f.laid.regions.now (region_number f.script.now name));
 }

@@ -11,6 +11,7 @@ ghost use Rattle.ldvalue.specs.Outcomes.{outcome_of};
 ghost use Rattle.ldvalues.specs.Values.{AreValues};
 
 use crate::final_scope::FinalScope;
+use crate::symbols_by_name::SymbolsByName;
 use ldlaying::laying::Laying;
 use ldmodel::fault::{AssertionIndex, Fault};
 use ldmodel::memory::NoMemory;
@@ -80,7 +81,7 @@ pub fn assertion_faults(
     let scope = FinalScope {
         script,
         laid: laying.placement.laid(),
-        symbols: &values.symbols,
+        symbols: SymbolsByName::of(&values.symbols),
     };
     let mut faults = Vec::new(alloc);
     for (number, at) in assertions.iter().enumerate() {

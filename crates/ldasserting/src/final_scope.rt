@@ -1,15 +1,14 @@
 //! What the conditions of ASSERTs may name.
 
-ghost use Rattle.std.specs.Prelude.{◌≡◌, option_copied};
-ghost use Rattle.ldasserting.specs.FinalScope as definition;
+ghost use Rattle.std.specs.Prelude.{◌≡◌};
 ghost use Rattle.ldmodel.specs.Assertions.{number_if_any};
 ghost use Rattle.ldtargets.specs.Values.{value_of};
 
+use crate::symbols_by_name::SymbolsByName;
 use ldmodel::laid::{Laid, Placed, PlacedRegion};
 use ldscript::script::Script;
 use ldtargets::value::SymbolValue;
 use ldvalue::scope::Scope;
-use ldvalues::values::OutputSymbol;
 
 /// What stands in the output at the end of a link: its symbols, output sections and memory regions.
 #[derive(Clone, Copy)]
@@ -19,7 +18,7 @@ pub struct FinalScope<'a, 'b> {
     /// Where its output sections and memory regions are.
     pub laid: Laid<'a>,
     /// The symbols of the output.
-    pub symbols: &'a [OutputSymbol<'b>],
+    pub symbols: SymbolsByName<'a, 'b>,
 }
 
 /// The number of a value, if it has one.
@@ -32,13 +31,6 @@ fn number_of(value: SymbolValue) -> Option<u64>
     }
 }
 
-/// The symbol of a name.
-fn find_symbol<'s, 'b>(symbols: &'s [OutputSymbol<'b>], name: &[u8]) -> Option<&'s OutputSymbol<'b>>
-    ensures { option_copied result ≡ definition.found_symbol symbols.now name.now }
-{
-    symbols.iter().find(|symbol| symbol.name == name)
-}
-
 impl<'a, 'b> Scope for FinalScope<'a, 'b> {
     ghost use Rattle.std.specs.Prelude.{⊤};
     ghost use Rattle.ldasserting.specs.FinalScope.{meaning_of};
@@ -48,7 +40,7 @@ impl<'a, 'b> Scope for FinalScope<'a, 'b> {
     ghost meaning = { λ f. meaning_of f };
 
     fn symbol(&self, name: &[u8]) -> Option<u64> {
-        match find_symbol(self.symbols, name) {
+        match self.symbols.find(name) {
             Some(symbol) => number_of(symbol.value),
             None => None,
         }

@@ -3,3 +3,4 @@
 
 pub mod asserting;
 mod final_scope;
+mod symbols_by_name;

@@ -5,5 +5,3 @@ pub mod canvas;
 pub mod field;
 pub mod patch;
 pub mod run;
-#[cfg(test)]
-mod tests;

@@ -9,5 +9,3 @@ pub mod law;
 pub mod plan;
 pub mod section;
 pub mod stretch;
-#[cfg(test)]
-mod tests;

@@ -8,5 +8,3 @@ pub mod sections;
 pub mod strings;
 pub mod symbols;
 pub mod tail;
-#[cfg(test)]
-mod tests;

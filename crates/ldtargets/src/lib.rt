@@ -9,6 +9,4 @@ pub mod known;
 pub mod site;
 pub mod symbol;
 pub mod target;
-#[cfg(test)]
-mod tests;
 pub mod value;

@@ -13,5 +13,3 @@ pub mod members;
 mod named;
 pub mod script_names;
 pub mod symbols;
-#[cfg(test)]
-mod tests;

@@ -1,4 +1,5 @@
 pub mod Cut
 pub mod Digits
+pub mod Longest
 pub mod Runs
 pub mod Spellings

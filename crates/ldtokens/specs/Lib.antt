@@ -1,4 +1,5 @@
 pub mod Bytes
+pub mod Marks
 pub mod Tokens
 pub mod Modes
 pub mod Numbers

@@ -1,9 +1,10 @@
 -- The tokens of a script, and how a text is cut into them: from left to right, each as long as possible.
 -- White space and comments part tokens. A comment begins only where a token could begin, goes before any token
 -- there, and runs from `/*` to the next `*/` behind it.
-use Rattle.std.specs.Prelude.{ℕ, ◌+◌, List, [], ◌∷◌, take, drop, slice_index, Option, Some, None, Bool, not, ◌&&◌, ◌||◌, ◌==◌, if◌then◌else◌, codes, bytes_eq, slice_range, ◌<◌, ◌≤◌}
+use Rattle.std.specs.Prelude.{ℕ, ◌+◌, List, [], ◌∷◌, take, drop, length, slice_index, Option, Some, None, Bool, not, ◌&&◌, ◌||◌, ◌==◌, if◌then◌else◌, codes, bytes_eq, slice_range, ◌<◌, ◌≤◌}
 use Rattle.std.specs.Option.{option_map}
 use Rattle.ldtokens.specs.Bytes.{is_space, is_name_start, is_name_byte, is_decimal_digit, is_octal_digit, is_hex_digit, is_word_byte, is_graphic, is_text_byte, run_length}
+use Rattle.ldtokens.specs.Marks.{MarkRow, longest_mark}
 use Rattle.ldtokens.specs.declared.token.Mode.{Mode}
 use Rattle.ldtokens.specs.declared.token.Mode.TheVariants.{Expression, Pattern}
 use Rattle.ldtokens.specs.declared.token.Mark.{Mark}
@@ -13,7 +14,6 @@ use Rattle.ldtokens.specs.declared.token.CodeToken.{CodeToken}
 use Rattle.ldtokens.specs.declared.front.Piece.{Piece}
 use Rattle.ldtokens.specs.declared.front.Ahead.{Ahead}
 use Rattle.ldtokens.specs.declared.front.Ahead.TheVariants.{Finished, Space, Found, Unknown}
-use Rattle.ldtokens.specs.declared.token.Mark.TheVariants.{OpenParenthesis, CloseParenthesis, OpenBrace, CloseBrace, Semicolon, Colon, Comma, Assign, AddAssign, Not, Minus, Complement, Star, Slash, Percent, Plus, ShiftLeft, ShiftRight, Less, LessOrEqual, Greater, GreaterOrEqual, Equal, NotEqual, And, AndAnd, Or, OrOr, Question}
 
 -- a token with its bytes; a text without its quotes
 pub data Token : Type 0 where
@@ -133,50 +133,13 @@ text_front text =
     let n = run_length is_text_byte (drop 1 text) in
     if slice_index text (n + 1) == 34 then Begins (Text (take n (drop 1 text))) (n + 2) else Nothing
 
--- a mark by its first byte and the one after it (0 at the end of the text), the longer one first
-unfoldable pub mark_of : ℕ → ℕ → Option Mark
-mark_of b c =
-    if b == 40 then Some OpenParenthesis
-    else (if b == 41 then Some CloseParenthesis
-    else (if b == 123 then Some OpenBrace
-    else (if b == 125 then Some CloseBrace
-    else (if b == 59 then Some Semicolon
-    else (if b == 58 then Some Colon
-    else (if b == 44 then Some Comma
-    else (if b == 61 then Some (if c == 61 then Equal else Assign)
-    else (if b == 43 then Some (if c == 61 then AddAssign else Plus)
-    else (if b == 33 then Some (if c == 61 then NotEqual else Not)
-    else (if b == 45 then Some Minus
-    else (if b == 126 then Some Complement
-    else (if b == 42 then Some Star
-    else (if b == 47 then Some Slash
-    else (if b == 37 then Some Percent
-    else (if b == 60 then Some (if c == 60 then ShiftLeft else (if c == 61 then LessOrEqual else Less))
-    else (if b == 62 then Some (if c == 62 then ShiftRight else (if c == 61 then GreaterOrEqual else Greater))
-    else (if b == 38 then Some (if c == 38 then AndAnd else And)
-    else (if b == 124 then Some (if c == 124 then OrOr else Or)
-    else (if b == 63 then Some Question
-    else None)))))))))))))))))))
-
--- the marks of two bytes
-abbrev pub mark_length : Mark → ℕ
-mark_length AddAssign = 2
-mark_length ShiftLeft = 2
-mark_length ShiftRight = 2
-mark_length LessOrEqual = 2
-mark_length GreaterOrEqual = 2
-mark_length Equal = 2
-mark_length NotEqual = 2
-mark_length AndAnd = 2
-mark_length OrOr = 2
-mark_length _ = 1
-
-abbrev pub marked : Option Mark → Front
-marked None = Nothing
-marked (Some m) = Begins (Punctuation m) (mark_length m)
+-- the mark that stands there, or else this
+abbrev pub mark_or : Front → Option MarkRow → Front
+mark_or other None = other
+mark_or other (Some r) = Begins (Punctuation r.mark) (length r.spelled)
 
 unfoldable pub mark_front : List ℕ → Front
-mark_front text = marked (mark_of (slice_index text 0) (slice_index text 1))
+mark_front text = mark_or Nothing (longest_mark Expression text)
 
 abbrev pub discard : List ℕ
 discard = codes "/DISCARD/"
@@ -202,24 +165,9 @@ word_length (b ∷ c ∷ cs) =
 unfoldable pub word_front : List ℕ → Front
 word_front text = let n = word_length text in if n == 0 then Nothing else Begins (Word (take n text)) n
 
--- pattern mode: the marks ( ) { } ; = += and words
-unfoldable pub pattern_mark : ℕ → ℕ → Option Mark
-pattern_mark b c =
-    if b == 40 then Some OpenParenthesis
-    else (if b == 41 then Some CloseParenthesis
-    else (if b == 123 then Some OpenBrace
-    else (if b == 125 then Some CloseBrace
-    else (if b == 59 then Some Semicolon
-    else (if b == 61 then Some Assign
-    else (if (b == 43) && (c == 61) then Some AddAssign
-    else None))))))
-
-abbrev pub mark_or_word : Option Mark → List ℕ → Front
-mark_or_word None text = word_front text
-mark_or_word (Some m) text = Begins (Punctuation m) (mark_length m)
-
+-- pattern mode: its marks, and words
 unfoldable pub pattern_front : List ℕ → Front
-pattern_front text = mark_or_word (pattern_mark (slice_index text 0) (slice_index text 1)) text
+pattern_front text = mark_or (word_front text) (longest_mark Pattern text)
 
 abbrev pub token_front : Mode → List ℕ → Front
 token_front Expression text = expression_front text

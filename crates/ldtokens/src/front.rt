@@ -8,7 +8,7 @@ use super::bytes::{
     byte_at, is_decimal_digit, is_graphic, is_hex_digit, is_name_byte, is_name_start,
     is_octal_digit, is_space, is_text_byte, is_word_byte,
 };
-use super::marks::{mark_length, mark_of, pattern_mark};
+use super::marks::longest_mark;
 use super::token::{Mode, TokenKind};
 
 /// The name of what is left out, a token by itself.
@@ -223,8 +223,8 @@ fn mark_front(text: &[u8]) -> Ahead
     ensures value { front_of text.now result ≡ mark_front text.now }
     ensures advance { IsAdvance (length text.now) result }
 {
-    match mark_of(byte_at(text, 0), byte_at(text, 1)) {
-        Some(mark) => whole(TokenKind::Punctuation(mark), mark_length(mark)),
+    match longest_mark(Mode::Expression, text) {
+        Some(ahead) => whole(TokenKind::Punctuation(ahead.mark), ahead.length),
         None => Ahead::Unknown,
     }
 }
@@ -299,8 +299,8 @@ fn pattern_front(text: &[u8]) -> Ahead
     ensures value { front_of text.now result ≡ pattern_front text.now }
     ensures advance { IsAdvance (length text.now) result }
 {
-    match pattern_mark(byte_at(text, 0), byte_at(text, 1)) {
-        Some(mark) => whole(TokenKind::Punctuation(mark), mark_length(mark)),
+    match longest_mark(Mode::Pattern, text) {
+        Some(ahead) => whole(TokenKind::Punctuation(ahead.mark), ahead.length),
         None => word_front(text),
     }
 }

@@ -1,17 +1,47 @@
-//! The marks of the script language.
+//! The marks of the script language, as the table of the definition has them.
 
-ghost use Rattle.std.specs.Prelude.{◌≡◌, ◌<◌, ◌≤◌, IfSome};
-ghost use Rattle.ldtokens.specs.Tokens.{mark_of, mark_length, pattern_mark};
+ghost use Rattle.std.specs.Prelude.{◌≡◌, ◌<◌, ◌≤◌, ◌∷◌, [], length, take, IfSome};
+ghost use Rattle.std.specs.Option.{option_map};
+ghost use Rattle.ldtokens.specs.Marks.{row, spelled_row, is_mark_in, longest_mark};
 
-use super::token::Mark;
+use super::bytes::byte_at;
+use super::token::{Mark, Mode};
 
-/// The mark that a byte begins outside patterns, by the byte after it.
-#[tactic(auto, unfolding(crate::specs::Tokens::mark_of))]
-pub fn mark_of(first: u8, second: u8) -> Option<Mark>
-    ensures value { result ≡ mark_of first second }
-    ensures doubled { IfSome result (λ m. 1 < mark_length m → 0 < second) }
+/// A mark at the front of a text.
+#[derive(Clone, Copy, Debug, PartialEq, Eq)]
+pub struct MarkAhead {
+    /// Which it is.
+    pub mark: Mark,
+    /// How many bytes it takes.
+    pub length: usize,
+}
+
+/// The mark that is spelled by these two bytes.
+#[tactic(auto, unfolding(crate::specs::Marks::spelled_row))]
+fn mark_of_two(first: u8, second: u8) -> Option<Mark>
+    ensures value { spelled_row (first ∷ second ∷ []) ≡ option_map (row (first ∷ second ∷ [])) result }
+    ensures within { IfSome result (λ m. 0 < second) }
 {
-    match first {
+    match (first, second) {
+        (b'+', b'=') => Some(Mark::AddAssign),
+        (b'<', b'<') => Some(Mark::ShiftLeft),
+        (b'>', b'>') => Some(Mark::ShiftRight),
+        (b'<', b'=') => Some(Mark::LessOrEqual),
+        (b'>', b'=') => Some(Mark::GreaterOrEqual),
+        (b'=', b'=') => Some(Mark::Equal),
+        (b'!', b'=') => Some(Mark::NotEqual),
+        (b'&', b'&') => Some(Mark::AndAnd),
+        (b'|', b'|') => Some(Mark::OrOr),
+        _ => None,
+    }
+}
+
+/// The mark that is spelled by this byte.
+#[tactic(auto, unfolding(crate::specs::Marks::spelled_row))]
+fn mark_of_one(byte: u8) -> Option<Mark>
+    ensures { spelled_row (byte ∷ []) ≡ option_map (row (byte ∷ [])) result }
+{
+    match byte {
         b'(' => Some(Mark::OpenParenthesis),
         b')' => Some(Mark::CloseParenthesis),
         b'{' => Some(Mark::OpenBrace),
@@ -19,65 +49,57 @@ pub fn mark_of(first: u8, second: u8) -> Option<Mark>
         b';' => Some(Mark::Semicolon),
         b':' => Some(Mark::Colon),
         b',' => Some(Mark::Comma),
-        b'=' if second == b'=' => Some(Mark::Equal),
         b'=' => Some(Mark::Assign),
-        b'+' if second == b'=' => Some(Mark::AddAssign),
-        b'+' => Some(Mark::Plus),
-        b'!' if second == b'=' => Some(Mark::NotEqual),
         b'!' => Some(Mark::Not),
         b'-' => Some(Mark::Minus),
         b'~' => Some(Mark::Complement),
         b'*' => Some(Mark::Star),
         b'/' => Some(Mark::Slash),
         b'%' => Some(Mark::Percent),
-        b'<' if second == b'<' => Some(Mark::ShiftLeft),
-        b'<' if second == b'=' => Some(Mark::LessOrEqual),
+        b'+' => Some(Mark::Plus),
         b'<' => Some(Mark::Less),
-        b'>' if second == b'>' => Some(Mark::ShiftRight),
-        b'>' if second == b'=' => Some(Mark::GreaterOrEqual),
         b'>' => Some(Mark::Greater),
-        b'&' if second == b'&' => Some(Mark::AndAnd),
         b'&' => Some(Mark::And),
-        b'|' if second == b'|' => Some(Mark::OrOr),
         b'|' => Some(Mark::Or),
         b'?' => Some(Mark::Question),
         _ => None,
     }
 }
 
-/// How many bytes a mark takes.
-pub fn mark_length(mark: Mark) -> usize
-    ensures value { result ≡ mark_length mark }
-    ensures short { (0 < result) × (result ≤ 2) }
+/// Whether it is a mark in this mode.
+fn is_mark_in(mode: Mode, mark: Mark) -> bool
+    ensures { result ≡ is_mark_in mode mark }
 {
-    match mark {
-        Mark::AddAssign
-        | Mark::ShiftLeft
-        | Mark::ShiftRight
-        | Mark::LessOrEqual
-        | Mark::GreaterOrEqual
-        | Mark::Equal
-        | Mark::NotEqual
-        | Mark::AndAnd
-        | Mark::OrOr => 2,
-        _ => 1,
+    match mode {
+        Mode::Expression => true,
+        Mode::Pattern => matches!(
+            mark,
+            Mark::OpenParenthesis
+                | Mark::CloseParenthesis
+                | Mark::OpenBrace
+                | Mark::CloseBrace
+                | Mark::Semicolon
+                | Mark::Assign
+                | Mark::AddAssign
+        ),
     }
 }
 
-/// The mark that a byte begins in patterns, by the byte after it.
-#[tactic(auto, unfolding(crate::specs::Tokens::pattern_mark))]
-pub fn pattern_mark(first: u8, second: u8) -> Option<Mark>
-    ensures value { result ≡ pattern_mark first second }
-    ensures doubled { IfSome result (λ m. 1 < mark_length m → 0 < second) }
+/// The longest mark of a mode that stands at the front of a text.
+#[tactic(auto, using(crate::proofs::Longest::longest_by_bytes))]
+pub fn longest_mark(mode: Mode, text: &[u8]) -> Option<MarkAhead>
+    requires { 0 < length text.now }
+    ensures value { longest_mark mode text.now ≡ option_map (λ m. row (take m.length text.now) m.mark) result }
+    ensures within { IfSome result (λ m. (0 < m.length) × (m.length ≤ length text.now)) }
 {
-    match (first, second) {
-        (b'(', _) => Some(Mark::OpenParenthesis),
-        (b')', _) => Some(Mark::CloseParenthesis),
-        (b'{', _) => Some(Mark::OpenBrace),
-        (b'}', _) => Some(Mark::CloseBrace),
-        (b';', _) => Some(Mark::Semicolon),
-        (b'=', _) => Some(Mark::Assign),
-        (b'+', b'=') => Some(Mark::AddAssign),
+    let first = byte_at(text, 0);
+    if let Some(mark) = mark_of_two(first, byte_at(text, 1)) {
+        if is_mark_in(mode, mark) {
+            return Some(MarkAhead { mark, length: 2 });
+        }
+    }
+    match mark_of_one(first) {
+        Some(mark) if is_mark_in(mode, mark) => Some(MarkAhead { mark, length: 1 }),
         _ => None,
     }
 }

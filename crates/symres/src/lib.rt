@@ -9,5 +9,3 @@ mod places;
 mod rows;
 mod symbol;
 mod tally;
-#[cfg(test)]
-mod tests;

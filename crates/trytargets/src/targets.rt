@@ -1,6 +1,7 @@
 //! The commands of the layer.
 
 use crate::by_hand::{ByHand, Named, Start};
+use crate::sheet::{Sheet, print_field};
 use elfobj::relocation::SymbolIndex;
 use elfobj::section::SectionIndex;
 use ldmodel::fault::{Fault, SiteKey};
@@ -31,6 +32,7 @@ pub struct Targets {
     starts: Vec<Start>,
     names: Vec<Named>,
     index: Index,
+    sheet: Sheet,
 }
 
 /// `KEY section NUMBER` or `KEY common SYMBOL`
@@ -86,25 +88,26 @@ fn read_case(words: &mut Words<'_>) -> Option<(Case, Option<u64>)> {
     }
 }
 
-/// `TARGET KEY SECTION ENTRY`
-fn read_site(words: &mut Words<'_>) -> Option<(ObjectKey, TargetSite)> {
+/// `TARGET KEY`
+fn read_target(words: &mut Words<'_>) -> Option<(TargetIndex, ObjectKey)> {
     let target = words.size()?;
     let object = words.size()?;
-    let section = words.short()?;
-    let entry = words.short()?;
     if target >= MOST_TARGETS || object >= MOST_KEYS {
         return None;
     }
+    Some((TargetIndex(target), ObjectKey(object)))
+}
+
+/// `SECTION ENTRY`
+fn read_site(words: &mut Words<'_>, target: TargetIndex) -> Option<TargetSite> {
+    let section = words.short()?;
+    let entry = words.short()?;
     let section = SectionIndex(u16::try_from(section).ok()?);
-    let target = TargetIndex(target);
-    Some((
-        ObjectKey(object),
-        TargetSite {
-            target,
-            section,
-            entry,
-        },
-    ))
+    Some(TargetSite {
+        target,
+        section,
+        entry,
+    })
 }
 
 /// The key, section and entry of a site.
@@ -152,13 +155,30 @@ fn print_fields<W: Write>(
     Ok(to)
 }
 
-/// All fields, section by section, and all faults.
-fn print_all<W: Write>(out: &mut W, state: &State, fields: &Fields) -> io::Result<()> {
+/// The keys of all objects.
+fn all_keys(alloc: Global, state: &State) -> Result<Vec<ObjectKey>, AllocError> {
+    let mut keys = Vec::with_capacity(alloc, state.objects.len())?;
+    for kept in &state.objects {
+        keys.push(kept.key)?;
+    }
+    Ok(keys)
+}
+
+/// The fields of these objects, section by section, and all faults.
+fn print_all<W: Write>(
+    out: &mut W,
+    state: &State,
+    keys: &[ObjectKey],
+    fields: &Fields,
+) -> io::Result<()> {
     let mut place = 0;
     let mut from = 0;
-    for kept in &state.objects {
+    for key in keys {
+        let Some(kept) = state.object(*key) else {
+            continue;
+        };
         for section in kept.object.sections() {
-            writeln!(out, "section {} {}", kept.key.0, section.number.0)?;
+            writeln!(out, "section {} {}", key.0, section.number.0)?;
             from = print_fields(out, fields, place, from)?;
             place = place.saturating_add(1);
         }
@@ -176,6 +196,7 @@ impl Targets {
             starts: Vec::new(alloc),
             names: Vec::new(alloc),
             index: Index::new(alloc),
+            sheet: Sheet::new(alloc),
         }
     }
 
@@ -224,28 +245,40 @@ impl Targets {
         Ok(())
     }
 
-    /// All fields, and their faults.
+    /// The fields of objects, and their faults.
     fn evaluate(
         &self,
         alloc: Global,
         state: &State,
+        keys: &[ObjectKey],
         meter: &mut Meter,
     ) -> Result<Fields, AllocError> {
         let link = self.by_hand(state);
         let values = name_values(alloc, &link)?;
-        let mut keys = Vec::with_capacity(alloc, state.objects.len())?;
-        for kept in &state.objects {
-            keys.push(kept.key)?;
-        }
-        all_fields(alloc, &link, &values, &keys, meter)
+        all_fields(alloc, &link, &values, keys, meter)
     }
 
-    /// `fields`
-    fn print_fields<W: Write>(&self, alloc: Global, state: &State, out: &mut W) -> io::Result<()> {
+    /// `fields [KEY]`
+    fn print_fields<W: Write>(
+        &self,
+        alloc: Global,
+        state: &State,
+        words: &mut Words<'_>,
+        out: &mut W,
+    ) -> io::Result<bool> {
+        let mut keys = all_keys(alloc, state)?;
+        if !words.is_empty() {
+            let Some(key) = words.size() else {
+                return Ok(false);
+            };
+            keys.clear();
+            keys.push(ObjectKey(key))?;
+        }
         let mut meter = Meter::new();
-        let fields = self.evaluate(alloc, state, &mut meter)?;
-        print_all(out, state, &fields)?;
-        writeln!(out, "evaluated {}", meter.fields())
+        let fields = self.evaluate(alloc, state, &keys, &mut meter)?;
+        print_all(out, state, &keys, &fields)?;
+        writeln!(out, "evaluated {}", meter.fields())?;
+        Ok(true)
     }
 
     /// `repeat COUNT`
@@ -259,22 +292,37 @@ impl Targets {
         let Some(count) = words.number() else {
             return Ok(false);
         };
+        let keys = all_keys(alloc, state)?;
         let mut number = 0;
         for _ in 0..count {
             let mut meter = Meter::new();
-            number = self.evaluate(alloc, state, &mut meter)?.patches.len();
+            number = self
+                .evaluate(alloc, state, &keys, &mut meter)?
+                .patches
+                .len();
         }
         writeln!(out, "{number}")?;
         Ok(true)
     }
 
-    /// `site TARGET KEY SECTION ENTRY`
-    fn add_site(&mut self, words: &mut Words<'_>) -> Result<bool, AllocError> {
-        let Some((object, site)) = read_site(words) else {
+    /// `site TARGET KEY SECTION ENTRY ..`
+    fn add_sites(&mut self, alloc: Global, words: &mut Words<'_>) -> Result<bool, AllocError> {
+        let Some((target, object)) = read_target(words) else {
             return Ok(false);
         };
-        self.index.reserve(object, &[site])?;
-        self.index.add_reserved(object, &[site]);
+        let mut sites = Vec::new(alloc);
+        // a site takes a byte at least
+        for _ in 0..=words.rest.len() {
+            if words.is_empty() {
+                break;
+            }
+            let Some(site) = read_site(words, target) else {
+                return Ok(false);
+            };
+            sites.push(site)?;
+        }
+        self.index.reserve(object, &sites)?;
+        self.index.add_reserved(object, &sites);
         Ok(true)
     }
 
@@ -306,6 +354,31 @@ impl Targets {
         }
         Ok(true)
     }
+
+    /// A command that only changes what is kept.
+    fn add(
+        &mut self,
+        alloc: Global,
+        word: &[u8],
+        words: &mut Words<'_>,
+        payload: &[u8],
+    ) -> Result<bool, AllocError> {
+        if word == b"start".as_slice() {
+            self.add_start(words)
+        } else if word == b"name".as_slice() {
+            self.add_name(alloc, words)
+        } else if word == b"site".as_slice() {
+            self.add_sites(alloc, words)
+        } else if word == b"drop".as_slice() {
+            Ok(self.drop_object(words))
+        } else if word == b"canvas".as_slice() {
+            self.sheet.resize(words)
+        } else if word == b"write".as_slice() {
+            Ok(self.sheet.write(words, payload))
+        } else {
+            Ok(false)
+        }
+    }
 }
 
 impl Layer for Targets {
@@ -323,26 +396,22 @@ impl Layer for Targets {
         out: &mut W,
     ) -> io::Result<bool> {
         let mut words = command.words;
-        if word == b"start".as_slice() {
-            Ok(self.add_start(&mut words)?)
-        } else if word == b"name".as_slice() {
-            Ok(self.add_name(alloc, &mut words)?)
-        } else if word == b"values".as_slice() {
+        if word == b"values".as_slice() {
             self.print_values(alloc, state, out)?;
             Ok(true)
         } else if word == b"fields".as_slice() {
-            self.print_fields(alloc, state, out)?;
-            Ok(true)
-        } else if word == b"site".as_slice() {
-            Ok(self.add_site(&mut words)?)
-        } else if word == b"drop".as_slice() {
-            Ok(self.drop_object(&mut words))
+            self.print_fields(alloc, state, &mut words, out)
         } else if word == b"sites".as_slice() {
             self.print_sites(alloc, &mut words, out)
         } else if word == b"repeat".as_slice() {
             self.repeat(alloc, state, &mut words, out)
+        } else if word == b"field".as_slice() {
+            print_field(&mut words, out)
+        } else if word == b"bytes".as_slice() {
+            self.sheet.print(out)?;
+            Ok(true)
         } else {
-            Ok(false)
+            Ok(self.add(alloc, word, &mut words, command.payload)?)
         }
     }
 }

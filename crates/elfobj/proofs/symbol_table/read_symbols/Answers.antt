@@ -1,7 +1,7 @@
 use Rattle.std.proofs.Common.{◌<◌, ap, sym, ◌∙◌, arith, rules, inr, true, false, Some, None, get_or, length, refl}
-use Rattle.elfobj.specs.SectionHeaders.{header, null_header}
-use Rattle.elfobj.specs.TableOf.{table_of}
-use Rattle.elfobj.proofs.Headers.{count_of, header_of}
+use Rattle.elffile.specs.SectionHeaders.{header, null_header}
+use Rattle.elffile.specs.TableOf.{table_of}
+use Rattle.elffile.proofs.Headers.{count_of, header_of}
 use Rattle.elfobj.proofs.SymbolTables.{count_told, entry_told, named_all, named_none, named_same, names_told, no_table, right_header, right_table, several_told, string_table_below, string_table_type, strings_in_file, symbol_refused, symbols_pass, table_in_file, table_refused, table_same, table_told, wrong_by_entries, wrong_by_header, wrong_several, wrong_symbol, wrong_table}
 use Rattle.elfobj.proofs.symbol_table.read_symbols.Goals as goal
 

@@ -15,7 +15,7 @@ use Rattle.ldasserting.proofs.asserting.assertion_faults.Goals as goal
 pub loop-number-preserved : goal.loop-number-preserved
 loop-number-preserved c =
     let scope : FinalScope =
-    record { script = c.script-script.result; laid = c.laid.result; symbols = c.deref-2.result } in
+    record { script = c.script-script.result; laid = c.laid.result; symbols = c.of.result } in
     one_more c.args.project.now (meaning_of scope) c.deref-at-items.result.now c.loop-number.number c.at-item.result
     c.loop-number.faults.items c.add_unless_holds.new.faults.items
     (ap shown_assertions c.deref-at-items.ensures.value
@@ -28,7 +28,7 @@ pub returns : goal.returns
 returns c =
     λ s a laying values.
     let scope : FinalScope =
-    record { script = c.script-script.result; laid = c.laid.result; symbols = c.deref-2.result } in
+    record { script = c.script-script.result; laid = c.laid.result; symbols = c.of.result } in
     all_done c.args.project.now s (meaning_of scope) c.deref-at-items.result.now c.loop-number.number
     c.loop-number.faults.items
     (ap shown_assertions c.deref-at-items.ensures.value
@@ -38,7 +38,7 @@ returns c =
     (omega (arith, c.loop-number-test.false))
     (scope_is c.args.project.now s scope c.script-script.ensures
     (c.laid.ensures.laid c.args.project.now.script s laying.places)
-    (ap (map shown_symbol) c.deref-2.ensures.value ∙ values.symbols)
+    (ap (map shown_symbol) (c.of.ensures ∙ c.deref-2.ensures.value) ∙ values.symbols)
     (c.outputs_are_of_script.ensures c.args.project.now (rows c.args.project.now) (provided c.args.project.now) s
     laying.placed)
     (regions_are c.args.project.now.script (rows c.args.project.now) (provided c.args.project.now) s laying.placed))

@@ -1,0 +1,15 @@
+pub mod ElfHeader
+pub mod SectionTable
+pub mod SectionHeaders
+pub mod TableOf
+pub mod LinkedKinds
+pub mod Spans
+pub mod Names
+pub mod NameLengths
+pub mod SymbolEntries
+pub mod Symbols
+pub mod RelocationEntries
+pub mod Relocations
+pub mod Sections
+pub mod Tables
+pub mod Refusal

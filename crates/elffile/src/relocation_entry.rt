@@ -1,0 +1,75 @@
+//! Entries of a relocation section as they stand in the file (gABI, `Elf64_Rela`: 24 bytes each).
+
+ghost use Rattle.std.specs.Prelude.{◌≡◌, ◌≤◌, ◌+◌, length};
+ghost use Rattle.elffile.specs.RelocationEntries.{relocation_entry_at};
+
+use elfdefs::numbers::{read_i64, read_u64};
+use elfdefs::relocation::{Relocation, RelocationKind, SymbolIndex};
+
+/// An entry.
+#[derive(Clone, Copy)]
+pub struct RelocationEntry {
+    /// Where its field begins in the section that it changes.
+    pub r_offset: u64,
+    /// Its symbol and its type.
+    pub r_info: u64,
+    /// Its addend.
+    pub r_addend: i64,
+}
+
+impl RelocationEntry {
+    ghost use Rattle.elffile.specs.RelocationEntries.{r_sym, r_type};
+    ghost use Rattle.elffile.specs.Relocations.{relocation_of};
+    ghost use Rattle.elffile.specs.Tables.{names_no_symbol, is_strange_type};
+
+    fn symbol(&self) -> u32
+        ensures { result ≡ r_sym self.now }
+    {
+        (self.r_info >> 32) as u32
+    }
+
+    fn type_number(&self) -> u32
+        ensures { result ≡ r_type self.now }
+    {
+        (self.r_info & 0xffff_ffff) as u32
+    }
+
+    /// Whether its symbol is not one of so many.
+    pub fn names_no_symbol(&self, symbols: usize) -> bool
+        ensures { result ≡ names_no_symbol symbols self.now }
+    {
+        symbols <= self.symbol() as usize
+    }
+
+    /// Whether its type is outside the profile.
+    pub fn is_strange_type(&self) -> bool
+        ensures { result ≡ is_strange_type self.now }
+    {
+        RelocationKind::of_type(self.type_number()).is_none()
+    }
+
+    /// The relocation as callers see it; of a type outside the profile it is `None`.
+    #[tactic(auto, unfolding(crate::specs::Relocations::relocation_of))]
+    pub fn relocation(&self) -> Relocation
+        ensures { result ≡ relocation_of self.now }
+    {
+        Relocation {
+            offset: self.r_offset,
+            symbol: SymbolIndex(self.symbol()),
+            kind: RelocationKind::of_type(self.type_number()).unwrap_or(RelocationKind::None),
+            addend: self.r_addend,
+        }
+    }
+}
+
+/// The entry in the 24 bytes from `at` on.
+pub fn read_relocation_entry(bytes: &[u8], at: usize) -> RelocationEntry
+    requires { at + 24 ≤ length bytes.now }
+    ensures { result ≡ relocation_entry_at bytes.now at }
+{
+    RelocationEntry {
+        r_offset: read_u64(bytes, at),
+        r_info: read_u64(bytes, at + 8),
+        r_addend: read_i64(bytes, at + 16),
+    }
+}

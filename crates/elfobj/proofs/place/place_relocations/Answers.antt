@@ -1,0 +1,24 @@
+use Rattle.std.proofs.Common.{◌≡◌, ◌<◌, ap, arith, length, refl, sym, ◌∙◌}
+use Rattle.std.proofs.lemmas.List.{length-map}
+use Rattle.elffile.specs.declared.span.Span.{Span}
+use Rattle.elfobj.specs.declared.place.Place.{Place}
+use Rattle.elfobj.proofs.Placed.{part_kept, part_more}
+use Rattle.elfobj.proofs.place.place_relocations.Goals as goal
+
+abbrev no_span : Span
+no_span = record { start = 0; end = 0 }
+
+abbrev no_place : Place
+no_place = record { name = no_span; bytes = no_span; relocations = no_span }
+
+pub loop-at-preserved : goal.loop-at-preserved
+loop-at-preserved c =
+    let long : length c.loop-at.places ≡ length c.args.places.now =
+    sym (length-map c.loop-at.places (λ (p : Place). p.name)) ∙ ap length c.loop-at.invariant.names ∙ length-map c.args.places.now (λ (p : Place). p.name) in
+    let l : c.loop-at.at < length c.loop-at.places = omega (arith, long, c.loop-at-test.true) in
+    let m : c.loop-at.at < length c.args.spans.now = omega (arith, l, long, c.requires) in
+    record {
+      relocations = part_more (λ (p : Place). p.relocations) c.loop-at.places c.args.spans.now c.loop-at.at _ no_span l m refl c.loop-at.invariant.relocations;
+      names = part_kept (λ (p : Place). p.name) c.loop-at.places c.loop-at.at no_place _ l refl ∙ c.loop-at.invariant.names;
+      bytes = part_kept (λ (p : Place). p.bytes) c.loop-at.places c.loop-at.at no_place _ l refl ∙ c.loop-at.invariant.bytes;
+    }
