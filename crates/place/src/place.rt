@@ -20,20 +20,19 @@ use crate::whole::whole;
 use ldmodel::meter::{Count, Meter};
 use ldmodel::rows::Piece;
 use ldmodel::script_symbol::CommonIndex;
-use ldnumbers::commands::Commands;
 use ldoverlap::overlaps::overlaps;
 use ldscript::script::Script;
 use std::alloc::{AllocError, Global};
 
 /// Nothing is placed yet, and `.` is 0.
-fn nowhere<'a>(alloc: Global, commands: &'a Commands<'a>) -> Result<Here<'a>, AllocError>
+fn nowhere<'a>(alloc: Global, script: &'a Script) -> Result<Here<'a>, AllocError>
     ensures dot { IfOk result (λ h. h.dot ≡ 0) }
     ensures dots { IfOk result (λ h. h.dots.items ≡ []) }
     ensures inputs { IfOk result (λ h. h.inputs ≡ 0) }
     ensures anew { IfOk result (λ h. h.anew ≡ 0) }
     ensures symbols { IfOk result (λ h. h.symbols ≡ []) }
 {
-    let symbols = Symbols::new(alloc, commands)?;
+    let symbols = Symbols::new(alloc, script)?;
     Ok(Here {
         dot: 0,
         dots: Vec::new(alloc),
@@ -77,9 +76,8 @@ fn lay_out(
     ensures faulty { IfErr result (λ f.
         Stops script.now (rows_named naming (map (λ v. v.items) rows.now)) (provided_names script.now provided.now) f) }
 {
-    let commands = Commands::new(alloc, script)?;
-    let provided = Provided::new(alloc, &commands, provided)?;
-    let mut here = nowhere(alloc, &commands)?;
+    let provided = Provided::new(alloc, script, provided)?;
+    let mut here = nowhere(alloc, script)?;
     let sections = Sections::new(alloc, script)?;
     let regions = Regions::new(alloc, script);
     let mut done = Done { sections, regions };
@@ -94,7 +92,7 @@ fn lay_out(
     let laid = input.place_statements(&mut here, &mut done, script.statements());
     meter.raise(Count::Pieces, here.anew);
     match laid {
-        Ok(()) => Ok(whole(alloc, &commands, here, &done)?),
+        Ok(()) => Ok(whole(alloc, script, here, &done)?),
         Err(stop) => Err(reported(alloc, script, stop)),
     }
 }

@@ -8,6 +8,7 @@ ghost use Rattle.place.specs.ProvidedTable.{name_in, provided_names, Marks};
 
 use ldmodel::script_symbol::CommonIndex;
 use ldnumbers::commands::Commands;
+use ldscript::script::Script;
 use ldscript::tree::{Common, CommonAt};
 use std::alloc::{AllocError, Global};
 use std::marker::Model;
@@ -15,7 +16,7 @@ use std::marker::Model;
 /// The PROVIDEs of a script that are in force.
 #[derive(Drop)]
 pub(crate) struct Provided<'a> {
-    commands: &'a Commands<'a>,
+    commands: Commands<'a>,
     numbers: &'a [CommonIndex],
     in_force: Vec<bool>,
 }
@@ -27,9 +28,9 @@ impl<'a> Model for Provided<'a> {
 
     ghost use Rattle.place.specs.ProvidedTable.{provided_names, AreInForce};
 
-    ghost view = { λ p. provided_names p.commands.now p.numbers.now };
+    ghost view = { λ p. provided_names p.commands p.numbers.now };
 
-    ghost invariant = { λ p. AreInForce p.commands.now p.in_force.items (provided_names p.commands.now p.numbers.now) };
+    ghost invariant = { λ p. AreInForce p.commands p.in_force.items (provided_names p.commands p.numbers.now) };
 }
 
 /// The name that a command of these gives a value; no bytes where it gives none.
@@ -60,16 +61,17 @@ impl<'a> Provided<'a> {
     /// Those of these numbers.
     pub fn new(
         alloc: Global,
-        commands: &'a Commands<'a>,
+        script: &'a Script,
         numbers: &'a [CommonIndex],
     ) -> Result<Provided<'a>, AllocError>
-        ensures { IfOk result (λ p. p ≡ provided_names commands.now numbers.now) }
+        ensures { IfOk result (λ p. p ≡ provided_names script.now numbers.now) }
     {
+        let commands = Commands::new(alloc, script)?;
         let list = commands.as_slice();
         let mut in_force = vec![in alloc; false; list.len()]?;
         for number in numbers {
             let name = name_of(list, *number);
-            mark(commands, &mut in_force, name);
+            mark(&commands, &mut in_force, name);
         }
         Ok(Provided {
             commands,

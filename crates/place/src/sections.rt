@@ -85,7 +85,6 @@ fn zeros(alloc: Global, count: usize) -> Result<Vec<u64>, AllocError>
 }
 
 /// The number of the output section of a name, of which the guess is looked at first.
-#[tactic(auto, using(crate::proofs::FoundSections::guessed_right))]
 fn number_of(script: &Script, list: &[Closed<'_>], guesses: &Guesses, name: &[u8]) -> Option<usize>
     requires { AreInOrder (section_number script.now) (section_names (map keyed list.now)) }
     ensures { result ≡ section_number script.now name.now }

@@ -7,6 +7,7 @@ ghost use Rattle.place.specs.declared.stop.Stop.TheVariants.{NoMemory};
 
 use crate::stop::Stop;
 use ldnumbers::commands::Commands;
+use ldscript::script::Script;
 use std::alloc::{AllocError, Global};
 use std::marker::Model;
 
@@ -25,7 +26,7 @@ pub(crate) struct Symbol<'a> {
 /// the script's commands.
 #[derive(Drop)]
 pub(crate) struct Symbols<'a> {
-    commands: &'a Commands<'a>,
+    commands: Commands<'a>,
     list: Vec<Symbol<'a>>,
     values: Vec<Option<u64>>,
 }
@@ -40,14 +41,15 @@ impl<'a> Model for Symbols<'a> {
 
     ghost view = { λ s. map symbol_of s.list.items };
 
-    ghost invariant = { λ s. AreValuesOf s.commands.now s.values.items (map symbol_of s.list.items) };
+    ghost invariant = { λ s. AreValuesOf s.commands s.values.items (map symbol_of s.list.items) };
 }
 
 impl<'a> Symbols<'a> {
-    /// No symbol of the script that has these commands, and room in the table for all.
-    pub fn new(alloc: Global, commands: &'a Commands<'a>) -> Result<Symbols<'a>, AllocError>
+    /// No symbol of this script, and room in the table for all.
+    pub fn new(alloc: Global, script: &'a Script) -> Result<Symbols<'a>, AllocError>
         ensures { IfOk result (λ s. s ≡ []) }
     {
+        let commands = Commands::new(alloc, script)?;
         let values = vec![in alloc; None; commands.as_slice().len()]?;
         Ok(Symbols {
             commands,

@@ -20,7 +20,7 @@ use crate::state::{Done, Here};
 use crate::symbols::{Symbol, Symbols};
 use ldmodel::laid::{OutputIndex, Placed, PlacedData, PlacedRegion};
 use ldmodel::script_symbol::{CommonIndex, ScriptSymbol};
-use ldnumbers::commands::Commands;
+use ldscript::script::Script;
 use ldscript::tree::CommonAt;
 use std::alloc::{AllocError, Global};
 
@@ -108,16 +108,16 @@ fn regions_of(alloc: Global, regions: &[Region<'_>]) -> Result<Vec<PlacedRegion>
 /// The symbols, under the numbers of the commands that give them values.
 fn symbols_of(
     alloc: Global,
-    commands: &Commands<'_>,
+    script: &Script,
     symbols: &Symbols<'_>,
 ) -> Result<Vec<ScriptSymbol>, AllocError>
-    ensures { IfOk result (λ v. map (named_by commands.now) v.items ≡ symbols.now) }
+    ensures { IfOk result (λ v. map (named_by script.now) v.items ≡ symbols.now) }
 {
-    let commands = commands.as_slice();
+    let commands = script.common_commands(alloc)?;
     let symbols = symbols.as_slice();
     let mut list = Vec::with_capacity(alloc, symbols.len())?;
     for symbol in symbols {
-        let command = command_of(commands, symbol)?;
+        let command = command_of(&commands, symbol)?;
         list.push(ScriptSymbol {
             command,
             value: symbol.value,
@@ -147,18 +147,18 @@ fn command_of(commands: &[CommonAt<'_>], symbol: &Symbol<'_>) -> Result<CommonIn
 #[tactic(auto, using(crate::proofs::Wholes::placed_whole, crate::proofs::Wholes::starts_whole, crate::proofs::Wholes::data_whole))]
 pub(crate) fn whole(
     alloc: Global,
-    commands: &Commands<'_>,
+    script: &Script,
     here: Here<'_>,
     done: &Done<'_>,
 ) -> Result<Placement, AllocError>
     ghost naming: { Naming }
-    ensures { IfOk result (λ p. AreOf commands.now (layout_of naming here.entry done.now) p) }
+    ensures { IfOk result (λ p. AreOf script.now (layout_of naming here.entry done.now) p) }
 {
     let sections = done.sections.as_slice();
     let placed = numbers_of(alloc, sections)?;
     let starts = starts_of(alloc, done.sections.count(), sections)?;
     let data_commands = data_commands_of(alloc, sections)?;
-    let symbols = symbols_of(alloc, commands, &here.symbols)?;
+    let symbols = symbols_of(alloc, script, &here.symbols)?;
     let regions = regions_of(alloc, done.regions.as_slice())?;
     Ok(Placement {
         sections: placed,

@@ -26,8 +26,7 @@ returns-clause-faulty g c =
           run (statement_step (rows_named g.naming (map (λ v. v.items) c.args.rows.now)) ps)
           (layout_of g.naming c.in_ok-here.here
           (record { sections = c.in_ok-sections.sections; regions = c.new-regions.result })) c.args.script.now)
-          (sym (c.in_ok-provided.ensures
-          ∙ ap (λ s. provided_names s c.args.provided.now) c.in_ok-commands.ensures))
+          (sym c.in_ok-provided.ensures)
           ∙ (ap (λ (xs : List Statement).
           run (statement_step (rows_named g.naming (map (λ v. v.items) c.args.rows.now)) c.in_ok-provided.provided)
           (layout_of g.naming c.in_ok-here.here
@@ -58,8 +57,7 @@ returns-in-Ok-clause-resumed g c =
           run (statement_step (rows_named g.naming (map (λ v. v.items) c.args.rows.now)) ps)
           (layout_of g.naming c.in_ok-here.here
           (record { sections = c.in_ok-sections.sections; regions = c.new-regions.result })) c.args.script.now)
-          (sym (c.in_ok-provided.ensures
-          ∙ ap (λ s. provided_names s c.args.provided.now) c.in_ok-commands.ensures))
+          (sym c.in_ok-provided.ensures)
           ∙ (ap (λ (xs : List Statement).
           run (statement_step (rows_named g.naming (map (λ v. v.items) c.args.rows.now)) c.in_ok-provided.provided)
           (layout_of g.naming c.in_ok-here.here

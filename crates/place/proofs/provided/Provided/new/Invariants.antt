@@ -3,4 +3,4 @@ use Rattle.place.proofs.provided.Provided.new.Given as goal
 use Rattle.place.specs.ProvidedTable.{AreInForce, provided_names}
 
 abbrev pub invariant-loop-number : goal.invariant-loop-number
-invariant-loop-number l = AreInForce l.commands l.in_force.items (provided_names l.commands (take l.number-index l.numbers))
+invariant-loop-number l = AreInForce l.script l.in_force.items (provided_names l.script (take l.number-index l.numbers))
