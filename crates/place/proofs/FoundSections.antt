@@ -65,6 +65,27 @@ module _ (script : List Statement) (xs : List Closed) (name : List ℕ) (differe
   section_unknown n = under
       ∙ ap (option_map (λ (x : KeyedSection). x.placed)) (ap (option_and_then (λ j. slice_get (map keyed xs) j)) n)
 
+-- an output section that has the name is the one of its number
+pub guessed_right : (number : List ℕ → Option ℕ) (xs : List Closed) (k : ℕ) (r : Closed) (name : List ℕ)
+    → AreInOrder number (section_names (map keyed xs)) → slice_get xs k ≡ Some r → r.output.now.name ≡ name
+    → number name ≡ Some k
+guessed_right number xs k r name o e same = go xs k e (o k (omega (arith, names_long, inside xs k e)))
+  where
+    names_long : length (section_names (map keyed xs)) ≡ length xs
+    names_long = length-map (map keyed xs) (λ (x : KeyedSection). x.name) ∙ length-map xs keyed
+
+    inside : (ys : List Closed) (j : ℕ) → slice_get ys j ≡ Some r → j < length ys
+    inside [] j h = absurd (let no : ⊥ = cc in no)
+    inside (y ∷ ys) zero h = omega arith
+    inside (y ∷ ys) (suc j) h = let l = inside ys j h in omega (arith, l)
+
+    go : (ys : List Closed) (j : ℕ) → slice_get ys j ≡ Some r
+        → number (get_or (section_names (map keyed ys)) j []) ≡ Some k → number name ≡ Some k
+    go [] j h n = absurd (let no : ⊥ = cc in no)
+    go (y ∷ ys) zero h n = let here : y ≡ r = cc in
+        ap number (sym (ap (λ (x : Closed). x.output.now.name) here ∙ same)) ∙ n
+    go (y ∷ ys) (suc j) h n = go ys j h n
+
 pub no_sections : (script : List Statement) (xs : List Closed) (ds : List ℕ) (n : ℕ) → xs ≡ [] → ds ≡ replicate n 0
     → AreSectionsOf script (map keyed xs) ds 0 0
 unfolding difference_by difference_in

@@ -12,7 +12,7 @@ use Rattle.ldtree.specs.declared.given.Given.{Given}
 use Rattle.ldtree.specs.declared.given.Given.TheVariants.{Assigned, Provided}
 use Rattle.ldtree.specs.declared.statement.Region.{Region}
 use Rattle.ldtree.specs.declared.statement.Statement.{Statement}
-use Rattle.ldmodel.specs.Lent.{given_name, name_given_by}
+use Rattle.ldmodel.specs.Lent.{given_name}
 use Rattle.place.proofs.Lists.{same_name}
 use Rattle.place.specs.Tables.{number_of, symbol_number}
 
@@ -143,14 +143,7 @@ regions_told script =
           (region_at 0 (regions script) b k g);
     }
 
--- the command of a number gives the symbol its value
-pub symbol_named_by : (script : List Statement) (name : List ℕ) (k : ℕ) → symbol_number script name ≡ Some k
-    → name_given_by script k ≡ name
-symbol_named_by script name k e =
-    let f = symbol_at script name k e in
-    let same : k ≡ f.more = omega (arith, f.here) in
-    ap (λ j. option_map_or name_of_command (slice_get (common_commands script) j) []) same ∙ f.named
-
+-- the output section, or the region, of a number has the name
 pub section_named_by : (script : List Statement) (name : List ℕ) (k : ℕ) → section_number script name ≡ Some k
     → option_map_or (λ (s : OutputSectionAt). s.section.name) (slice_get (output_sections script) k) [] ≡ name
 section_named_by script name k e =

@@ -3,14 +3,17 @@
 ghost use Rattle.std.specs.Prelude.{◌≡◌, [], ◌∷◌, ◌++◌, length, map, replicate, IfOk, OnOk, IfErr, IfSome, find};
 ghost use Rattle.std.specs.Prelude.{bytes_eq, option_map};
 ghost use Rattle.std.specs.Option.{option_copied};
+ghost use Rattle.ldtree.specs.Given.{section_number};
 ghost use Rattle.place.specs.Keyed.{KeyedSection};
-ghost use Rattle.place.specs.SectionTable.{keyed, difference_by, Ends, Fits};
+ghost use Rattle.place.specs.SectionTable.{keyed, difference_by, section_names, Ends, Fits};
+ghost use Rattle.place.specs.Tables.{AreInOrder};
 ghost use Rattle.place.specs.Wholes.{starts_in};
 ghost use Rattle.place.specs.declared.stop.Stop.TheVariants.{NoMemory};
 
 use crate::stop::Stop;
 use ldmodel::laid::Placed;
 use ldmodel::rows::Piece;
+use ldnumbers::guesses::Guesses;
 use ldscript::script::Script;
 use ldscript::tree::{OutputSection, Width};
 use std::alloc::{AllocError, Global};
@@ -58,6 +61,7 @@ pub(crate) struct Sections<'a> {
     count: usize,
     differences: Vec<u64>,
     elsewhere: u64,
+    guesses: Guesses,
 }
 
 impl<'a> Model for Sections<'a> {
@@ -80,6 +84,21 @@ fn zeros(alloc: Global, count: usize) -> Result<Vec<u64>, AllocError>
     vec![in alloc; 0; count]
 }
 
+/// The number of the output section of a name, of which the guess is looked at first.
+fn number_of(script: &Script, list: &[Closed<'_>], guesses: &Guesses, name: &[u8]) -> Option<usize>
+    requires { AreInOrder (section_number script.now) (section_names (map keyed list.now)) }
+    ensures { result ≡ section_number script.now name.now }
+{
+    if let Some(number) = guesses.number(name) {
+        if let Some(guessed) = list.get(number) {
+            if guessed.output.name.as_bytes() == name {
+                return Some(number);
+            }
+        }
+    }
+    script.section_number(name)
+}
+
 impl<'a> Sections<'a> {
     /// No output section of this script.
     pub fn new(alloc: Global, script: &'a Script) -> Result<Sections<'a>, AllocError>
@@ -87,12 +106,15 @@ impl<'a> Sections<'a> {
     {
         let regions = script.regions(alloc)?;
         let differences = zeros(alloc, regions.len())?;
+        let outputs = script.output_sections(alloc)?;
+        let guesses = Guesses::new(alloc, outputs.len())?;
         Ok(Sections {
             script,
             list: Vec::new(alloc),
             count: 0,
             differences,
             elsewhere: 0,
+            guesses,
         })
     }
 
@@ -123,7 +145,7 @@ impl<'a> Sections<'a> {
         ensures { result ≡ option_map (λ (x : KeyedSection).
             x.placed) (find (λ (x : KeyedSection). bytes_eq x.name name.now) self.now) }
     {
-        match self.script.section_number(name) {
+        match number_of(self.script, &self.list, &self.guesses, name) {
             Some(number) => {
                 if number < self.list.len() {
                     Some(self.list[number].placed)
@@ -169,6 +191,7 @@ impl<'a> Sections<'a> {
         if place != self.list.len() {
             return Err(Stop::NoMemory);
         }
+        self.guesses.put(section.output.name.as_bytes(), place);
         let difference = section.placed.start.wrapping_sub(section.placed.load);
         let Some(count) = self.count.checked_add(section.pieces.len()) else {
             return Err(Stop::NoMemory);

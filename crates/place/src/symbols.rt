@@ -3,12 +3,11 @@
 ghost use Rattle.std.specs.Prelude.{◌≡◌, [], ◌∷◌, ◌++◌, map, IfOk, OnOk, IfErr, find, bytes_eq, option_map};
 ghost use Rattle.ldmodel.specs.Layout.{ScriptSymbol};
 ghost use Rattle.place.specs.SymbolTable.{symbol_of};
-ghost use Rattle.place.specs.Tables.{symbol_number};
 ghost use Rattle.place.specs.declared.stop.Stop.TheVariants.{NoMemory};
 
 use crate::stop::Stop;
+use ldnumbers::commands::Commands;
 use ldscript::script::Script;
-use ldscript::tree::Given;
 use std::alloc::{AllocError, Global};
 use std::marker::Model;
 
@@ -23,11 +22,11 @@ pub(crate) struct Symbol<'a> {
     pub number: usize,
 }
 
-/// The symbols that a script has given values so far, in the order of the text. A look-up takes the time of one in the
-/// script's table of names.
+/// The symbols that a script has given values so far, in the order of the text. A look-up takes the time of one among
+/// the script's commands.
 #[derive(Drop)]
 pub(crate) struct Symbols<'a> {
-    script: &'a Script,
+    commands: Commands<'a>,
     list: Vec<Symbol<'a>>,
     values: Vec<Option<u64>>,
 }
@@ -42,17 +41,7 @@ impl<'a> Model for Symbols<'a> {
 
     ghost view = { λ s. map symbol_of s.list.items };
 
-    ghost invariant = { λ s. AreValuesOf s.script.now s.values.items (map symbol_of s.list.items) };
-}
-
-/// The number of the command that gives a symbol its value.
-pub(crate) fn symbol_number(script: &Script, name: &[u8]) -> Option<usize>
-    ensures { result ≡ symbol_number script.now name.now }
-{
-    match script.given(name) {
-        Some(Given::Assigned(number)) | Some(Given::Provided(number)) => Some(number),
-        None => None,
-    }
+    ghost invariant = { λ s. AreValuesOf s.commands s.values.items (map symbol_of s.list.items) };
 }
 
 impl<'a> Symbols<'a> {
@@ -60,10 +49,10 @@ impl<'a> Symbols<'a> {
     pub fn new(alloc: Global, script: &'a Script) -> Result<Symbols<'a>, AllocError>
         ensures { IfOk result (λ s. s ≡ []) }
     {
-        let commands = script.common_commands(alloc)?;
-        let values = vec![in alloc; None; commands.len()]?;
+        let commands = Commands::new(alloc, script)?;
+        let values = vec![in alloc; None; commands.as_slice().len()]?;
         Ok(Symbols {
-            script,
+            commands,
             list: Vec::new(alloc),
             values,
         })
@@ -81,7 +70,7 @@ impl<'a> Symbols<'a> {
         ensures { result ≡ option_map (λ (x : ScriptSymbol).
             x.value) (find (λ (x : ScriptSymbol). bytes_eq x.name name.now) self.now) }
     {
-        let number = symbol_number(self.script, name)?;
+        let number = self.commands.number(name)?;
         *self.values.get(number)?
     }
 
@@ -90,7 +79,7 @@ impl<'a> Symbols<'a> {
         ensures given { OnOk result (self.new ≡ self.old ++ record { name = name.now; value = value } ∷ []) }
         ensures refused { IfErr result (λ f. f ≡ NoMemory) }
     {
-        let Some(number) = symbol_number(self.script, name) else {
+        let Some(number) = self.commands.number(name) else {
             // it does not come to this: the name is one that the script gives a value, and it has a place in the table
             return Err(Stop::NoMemory);
         };

@@ -10,7 +10,7 @@ invariant_of-self-in-None c =
     let none : get_or c.self.inside.values.items c.in-Some.number None ≡ None =
     at_place c.self.inside.values.items c.in-Some.number c.index.result.now None None c.index.ensures c.in-None.is l in
     rw (c.in_ok-push.ensures.items, map-append symbol_of c.self.inside.list.items)
-    (values_more c.self.inside.script.now c.self.inside.values.items (map symbol_of c.self.inside.list.items)
+    (values_more c.self.inside.commands c.self.inside.values.items (map symbol_of c.self.inside.list.items)
     (record { name = c.args.name.now; value = c.args.value }) c.in-Some.number (sym c.in-Some.ensures)
     c.self.invariant l none)
 
@@ -21,6 +21,6 @@ invariant_of-self-in-Some-index c =
     at_place c.self.inside.values.items c.in-Some.number c.index.result.now (Some c.in-Some-index.field-0) None
     c.index.ensures c.in-Some-index.is l in
     rw (c.in_ok-push.ensures.items, map-append symbol_of c.self.inside.list.items)
-    (values_same c.self.inside.script.now c.self.inside.values.items (map symbol_of c.self.inside.list.items)
+    (values_same c.self.inside.commands c.self.inside.values.items (map symbol_of c.self.inside.list.items)
     (record { name = c.args.name.now; value = c.args.value }) c.in-Some.number (sym c.in-Some.ensures)
     c.self.invariant c.in-Some-index.field-0 some)

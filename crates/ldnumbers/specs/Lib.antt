@@ -1,0 +1,2 @@
+-- The numbers of the commands that give symbols values.
+pub mod Numbers

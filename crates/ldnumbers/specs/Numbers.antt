@@ -1,0 +1,35 @@
+-- The number of the command that gives a symbol its value.
+use Rattle.std.specs.Prelude.{◌≡◌, ℕ, List, Bool, false, Option, slice_get, bytes_eq}
+use Rattle.std.specs.Option.{option_map, option_map_or}
+use Rattle.ldscript.specs.Script.{IsSound}
+use Rattle.ldtree.specs.Given.{given_by}
+use Rattle.ldtree.specs.Numbering.{CommonAt, common_commands}
+use Rattle.ldtree.specs.declared.common.Common.{Common}
+use Rattle.ldtree.specs.declared.common.Common.TheVariants as common
+use Rattle.ldtree.specs.declared.given.Given.{Given}
+use Rattle.ldtree.specs.declared.given.Given.TheVariants.{Assigned, Provided}
+use Rattle.ldtree.specs.declared.statement.Statement.{Statement}
+
+-- the number of a command among the common commands
+abbrev pub number_of : Given → ℕ
+number_of (Assigned k) = k
+number_of (Provided k) = k
+
+-- the number of the command that gives a symbol its value
+abbrev pub symbol_number : List Statement → List ℕ → Option ℕ
+symbol_number script name = option_map number_of (given_by script name)
+
+-- the command gives the symbol of a name its value
+abbrev pub gives : Common → List ℕ → Bool
+gives (common.Assign a) name = bytes_eq name a.name
+gives (common.Provide a) name = bytes_eq name a.name
+gives (common.Assert a) name = false
+
+-- the one of a number does
+abbrev pub gives_at : List CommonAt → ℕ → List ℕ → Bool
+gives_at commands number name = option_map_or (λ (c : CommonAt). gives c.command name) (slice_get commands number) false
+
+-- these are all the common commands of a script in which nothing is given twice
+pub record AreCommandsOf (script : List Statement) (commands : List CommonAt) : Type 0 where
+  pub sound : IsSound script
+  pub all : commands ≡ common_commands script
