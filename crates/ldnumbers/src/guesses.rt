@@ -39,7 +39,7 @@ impl Guesses {
         Ok(Guesses { slots })
     }
 
-    /// The slot that is tried so many slots after the first.
+    /// The slot that is tried this number of slots after the first.
     fn slot(&self, hash: u64, step: u64) -> usize {
         (hash.wrapping_add(step) as usize) & self.slots.len().saturating_sub(1)
     }

@@ -72,7 +72,7 @@ abbrev pub row_in : Mode → Option MarkRow → Option MarkRow
 row_in mode None = None
 row_in mode (Some r) = cond (is_mark_in mode r.mark) (Some r) None
 
--- the longest mark of a mode, of at most so many bytes, that stands at the front of a text
+-- the longest mark of a mode, of at most this number of bytes, that stands at the front of a text
 abbrev pub longest_within : ℕ → Mode → List ℕ → Option MarkRow
 longest_within zero mode text = None
 longest_within (suc n) mode text = option_or (row_in mode (spelled_row (take (suc n) text))) (longest_within n mode text)
