@@ -109,4 +109,15 @@ impl<'a> Commands<'a> {
             None => None,
         }
     }
+
+    /// The same, where this number is looked at first: for who goes through the commands in order, and knows the next.
+    #[tactic(auto, using(crate::proofs::Once::found_by_name))]
+    pub fn number_or(&self, next: usize, name: &[u8]) -> Option<usize>
+        ensures { result ≡ symbol_number self.now name.now }
+    {
+        if gives(&self.list, next, name) {
+            return Some(next);
+        }
+        self.number(name)
+    }
 }

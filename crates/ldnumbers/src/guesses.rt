@@ -5,11 +5,38 @@ use std::alloc::{AllocError, Global};
 /// How many slots may have the guess at a name, from one that its hash gives on.
 const TRIES: u64 = 4;
 
-/// A number, under bits of the hash of a name that do not choose the slot.
+/// A number plus one, under the upper half of a name's hash, in one word; 0 is no guess. So the slots are made by clearing
+/// memory once, and a look at one is one load.
 #[derive(Clone, Copy)]
-struct Guess {
-    tag: u32,
-    number: usize,
+struct Slot(u64);
+
+impl Slot {
+    /// Without a guess.
+    const FREE: Slot = Slot(0);
+
+    /// With a guess; `None` for a number that it has no room for.
+    fn new(hash: u64, number: usize) -> Option<Slot> {
+        let rank = u32::try_from(number).ok()?.checked_add(1)?;
+        Some(Slot(tag_of(hash) << 32 | u64::from(rank)))
+    }
+
+    fn is_free(self) -> bool {
+        self.0 == 0
+    }
+
+    /// The number, where this is a guess at a name of this hash.
+    fn number(self, hash: u64) -> Option<usize> {
+        if self.0 >> 32 != tag_of(hash) {
+            return None;
+        }
+        let rank = (self.0 & u64::from(u32::MAX)) as usize;
+        rank.checked_sub(1)
+    }
+}
+
+/// The bits of a hash that do not choose the slot.
+fn tag_of(hash: u64) -> u64 {
+    hash >> 32
 }
 
 /// Guesses at the numbers of names: at most one at a name, and it may be the number of another name. Who asks compares
@@ -17,7 +44,7 @@ struct Guess {
 /// with others costs no more than that look-up, whoever has picked the names.
 #[derive(Drop)]
 pub struct Guesses {
-    slots: Vec<Option<Guess>>,
+    slots: Vec<Slot>,
 }
 
 /// A hash of a name: that of Fowler, Noll and Vo.
@@ -35,7 +62,7 @@ impl Guesses {
         let Some(wanted) = count.saturating_mul(2).checked_next_power_of_two() else {
             return Err(AllocError);
         };
-        let slots = vec![in alloc; None; wanted]?;
+        let slots = vec![in alloc; Slot::FREE; wanted]?;
         Ok(Guesses { slots })
     }
 
@@ -47,14 +74,14 @@ impl Guesses {
     /// Notes the number of a name, where a slot is free for it.
     pub fn put(&mut self, name: &[u8], number: usize) {
         let hash = hash_of(name);
+        let Some(guess) = Slot::new(hash, number) else {
+            return;
+        };
         for step in 0..TRIES {
-            let slot = self.slot(hash, step);
-            if let Some(place) = self.slots.get_mut(slot) {
-                if place.is_none() {
-                    *place = Some(Guess {
-                        tag: (hash >> 32) as u32,
-                        number,
-                    });
+            let place = self.slot(hash, step);
+            if let Some(slot) = self.slots.get_mut(place) {
+                if slot.is_free() {
+                    *slot = guess;
                     return;
                 }
             }
@@ -65,13 +92,12 @@ impl Guesses {
     pub fn number(&self, name: &[u8]) -> Option<usize> {
         let hash = hash_of(name);
         for step in 0..TRIES {
-            match self.slots.get(self.slot(hash, step)) {
-                Some(Some(guess)) => {
-                    if guess.tag == (hash >> 32) as u32 {
-                        return Some(guess.number);
-                    }
-                }
-                Some(None) | None => return None,
+            let slot = *self.slots.get(self.slot(hash, step))?;
+            if slot.is_free() {
+                return None;
+            }
+            if let Some(number) = slot.number(hash) {
+                return Some(number);
             }
         }
         None

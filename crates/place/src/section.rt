@@ -1,6 +1,6 @@
 //! An output section.
 
-ghost use Rattle.std.specs.Prelude.{◌≡◌, ◌≤◌, ◌+◌, [], length, OnOk};
+ghost use Rattle.std.specs.Prelude.{◌≡◌, ◌≤◌, ◌+◌, [], length, OnOk, IfErr};
 ghost use Rattle.ldmodel.specs.Body.{body_step};
 ghost use Rattle.ldmodel.specs.Chain.{run};
 ghost use Rattle.ldmodel.specs.Placement.{opened, section_step};
@@ -8,6 +8,7 @@ ghost use Rattle.place.specs.Counted.{Takes, missed, starts_here};
 ghost use Rattle.place.specs.Heads.{head_from};
 ghost use Rattle.place.specs.Naming.{Naming, row_named};
 ghost use Rattle.place.specs.State.{body_from, layout_of, Gives};
+ghost use Rattle.place.specs.declared.stop.Stop.TheVariants.{NoMemory};
 
 use crate::head::Head;
 use crate::provided::Provided;
@@ -18,24 +19,28 @@ use ldscript::tree::OutputSection;
 use std::alloc::Global;
 
 impl<'a> Here<'a> {
-    /// A section begins to be placed.
-    fn open(&mut self, start: u64)
-        ensures dot { self.new.dot ≡ start }
-        ensures dots { self.new.dots.items ≡ self.old.dots.items }
-        ensures inputs { self.new.inputs ≡ self.old.inputs }
-        ensures symbols { self.new.symbols ≡ self.old.symbols }
-        ensures pieces { self.new.pieces.items ≡ [] }
+    /// A section begins to be placed, of which this many input sections are expected. It is an error where memory ran
+    /// out.
+    fn open(&mut self, alloc: Global, start: u64, count: usize) -> Result<(), Stop<'a>>
+        ensures dot { OnOk result (self.new.dot ≡ start) }
+        ensures dots { OnOk result (self.new.dots.items ≡ self.old.dots.items) }
+        ensures inputs { OnOk result (self.new.inputs ≡ self.old.inputs) }
+        ensures symbols { OnOk result (self.new.symbols ≡ self.old.symbols) }
+        ensures pieces { OnOk result (self.new.pieces.items ≡ []) }
         ensures anew { self.new.anew ≡ self.old.anew }
-        ensures data_commands { self.new.data_commands.items ≡ [] }
+        ensures data_commands { OnOk result (self.new.data_commands.items ≡ []) }
+        ensures refused { IfErr result (λ f. f ≡ NoMemory) }
     {
+        self.pieces = Vec::with_capacity(alloc, count)?;
         self.dot = start;
-        self.pieces.clear();
         self.data_commands.clear();
+        Ok(())
     }
 
     /// The body of a section with this head.
     fn body(
         &mut self,
+        alloc: Global,
         done: &Done<'a>,
         provided: &Provided<'a>,
         row: &'a [Piece],
@@ -58,7 +63,7 @@ impl<'a> Here<'a> {
             start: head.start,
             kept,
         };
-        self.open(head.start);
+        self.open(alloc, head.start, row.len())?;
         frame.place_body(self, output.body.as_slice())?;
         Ok(())
     }
@@ -84,7 +89,7 @@ impl<'a> Here<'a> {
             (layout_of naming self.new done.new) result }
     {
         let head = self.head(done, row, line, output)?;
-        self.body(done, provided, row, kept, head, output)?;
+        self.body(alloc, done, provided, row, kept, head, output)?;
         self.end(alloc, done, line, output, head)?;
         Ok(())
     }

@@ -1,6 +1,6 @@
 //! The output sections that are in their places.
 
-ghost use Rattle.std.specs.Prelude.{◌≡◌, [], ◌∷◌, ◌++◌, length, map, replicate, IfOk, OnOk, IfErr, IfSome, find};
+ghost use Rattle.std.specs.Prelude.{◌≡◌, [], ◌∷◌, ◌++◌, length, map, IfOk, OnOk, IfErr, IfSome, find};
 ghost use Rattle.std.specs.Prelude.{bytes_eq, option_map};
 ghost use Rattle.std.specs.Option.{option_copied};
 ghost use Rattle.ldtree.specs.Given.{section_number};
@@ -77,13 +77,6 @@ impl<'a> Model for Sections<'a> {
     ghost invariant = { λ s. AreSectionsOf s.script.now (map keyed s.list.items) s.differences.items s.elsewhere s.count };
 }
 
-/// This many zeros.
-fn zeros(alloc: Global, count: usize) -> Result<Vec<u64>, AllocError>
-    ensures { IfOk result (λ v. v.items ≡ replicate count 0) }
-{
-    vec![in alloc; 0; count]
-}
-
 /// The number of the output section of a name, of which the guess is looked at first.
 fn number_of(script: &Script, list: &[Closed<'_>], guesses: &Guesses, name: &[u8]) -> Option<usize>
     requires { AreInOrder (section_number script.now) (section_names (map keyed list.now)) }
@@ -105,7 +98,7 @@ impl<'a> Sections<'a> {
         ensures { IfOk result (λ s. s ≡ []) }
     {
         let regions = script.regions(alloc)?;
-        let differences = zeros(alloc, regions.len())?;
+        let differences = vec![in alloc; 0; regions.len()]?;
         let outputs = script.output_sections(alloc)?;
         let guesses = Guesses::new(alloc, outputs.len())?;
         Ok(Sections {

@@ -74,12 +74,20 @@ impl<'a> Symbols<'a> {
         *self.values.get(number)?
     }
 
+    /// The number of the command after the one that gave a symbol its value last.
+    fn next(&self) -> usize {
+        match self.list.last() {
+            Some(symbol) => symbol.number.saturating_add(1),
+            None => 0,
+        }
+    }
+
     /// Gives a symbol a value. It is an error where memory ran out.
     pub fn assign(&mut self, name: &'a [u8], value: u64) -> Result<(), Stop<'a>>
         ensures given { OnOk result (self.new ≡ self.old ++ record { name = name.now; value = value } ∷ []) }
         ensures refused { IfErr result (λ f. f ≡ NoMemory) }
     {
-        let Some(number) = self.commands.number(name) else {
+        let Some(number) = self.commands.number_or(self.next(), name) else {
             // it does not come to this: the name is one that the script gives a value, and it has a place in the table
             return Err(Stop::NoMemory);
         };
