@@ -22,8 +22,8 @@
 //!     set +LEN                sets the script
 //!     drop                    stages the edits that follow, without making them; `make` ends that
 //!
-//! Each prints `refused N M`, or the keys and names of the next project, and how many statements its script has; and, by
-//! the crate `ldnaming`, how many names its objects declare, how many PROVIDEs are in force, and how many names were
+//! Each prints `refused N M`, or the keys and names of the next project, and how many statements its script has; and,
+//! by the crate `ldnaming`, how many names its objects declare, how many PROVIDEs are in force, and how many names were
 //! decided for both.
 //!
 //! `layer targets` is for the crate `ldtargets` (values of names, fields, the index of sites), and of `ldfields` below
