@@ -1,4 +1,4 @@
-"""Cases for `trygather`: objects, scripts and options; what is wanted is worked out by the calculator."""
+"""Cases for the layer `gather`: objects, scripts and options; what is wanted is worked out by the calculator."""
 import random
 from dataclasses import dataclass, field
 

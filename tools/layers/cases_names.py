@@ -1,5 +1,6 @@
-"""Cases for `trynames`. What is wanted is the decision of the calculator (tools/calculator/names.py): the plain filter of
-all entries, made anew each time over the objects that are entered then; of one object it stands with the case."""
+"""Cases for the layer `names`. What is wanted is the decision of the calculator (tools/calculator/names.py): the plain
+filter of all entries, made anew each time over the objects that are entered then; of one object it stands with the
+case."""
 from types import SimpleNamespace
 
 from calculator import elf, objects, scripts

@@ -1,4 +1,4 @@
-"""Cases for `tryplace`: layouts and their faults, against the calculator's.
+"""Cases for the layer `place`: layouts and their faults, against the calculator's.
 
 Where a number or a line stands beside a script here, it was worked out by hand, and the calculator is compared with it.
 """

@@ -1,5 +1,5 @@
-"""Cases for `trysegments`: which sections share a segment, where segments stand, padding past 2^64, the length of the
-image, and sections that meet.
+"""Cases for the layer `segments`: which sections share a segment, where segments stand, padding past 2^64, the length
+of the image, and sections that meet.
 
 What is wanted comes from the calculator; numbers that stand here were worked out by hand.
 """

@@ -1,7 +1,8 @@
-"""Cases for `trytargets`: the values, fields and faults of every worked row that has a placement, with the placement's
-addresses and the names' decisions handed in; a piece with a thousand fields in no order; each fault in each form; and an
-index that takes sites and lets them go. What is wanted comes from the calculator, and for the index from a list. Fields
-at both ends of their ranges and past them, two objects, three sites and a canvas have what is wanted beside them."""
+"""Cases for the layer `targets`: the values, fields and faults of every worked row that has a placement, with the
+placement's addresses and the names' decisions handed in; a piece with a thousand fields in no order; each fault in each
+form; and an index that takes sites and lets them go. What is wanted comes from the calculator, and for the index from a
+list. Fields at both ends of their ranges and past them, two objects, three sites and a canvas have what is wanted
+beside them."""
 import random
 
 from calculator import answers, edits, elf, gathering, layout, names, relocation, targets

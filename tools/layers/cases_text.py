@@ -1,6 +1,6 @@
-"""Cases for `trytext`: every map and every list of fault lines of the worked rows, taken back to numbers and keys; each
-of the fifteen faults in each form; and maps that no small project has. What is wanted are the calculator's texts, and
-for the others the lines that stand here."""
+"""Cases for the layer `text`: every map and every list of fault lines of the worked rows, taken back to numbers and
+keys; each of the fifteen faults in each form; and maps that no small project has. What is wanted are the calculator's
+texts, and for the others the lines that stand here."""
 from calculator import answers, edits, elf, gathering, layout, link, names, targets, tree
 from calculator.build import CODE, DATA, Rel, Sec, Sym, build
 from calculator.names import Case

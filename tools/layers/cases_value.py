@@ -1,4 +1,4 @@
-"""Cases for `tryvalue`: each operator at its edges, what is evaluated at all, names in and out of scope.
+"""Cases for the layer `value`: each operator at its edges, what is evaluated at all, names in and out of scope.
 
 What is wanted comes from the calculator; where a value stands beside an expression here, it was worked out by hand, and
 the calculator is compared with it.

@@ -1,4 +1,4 @@
-"""A stream of commands for a program that tries one layer (crates/trystream says what it reads)."""
+"""A stream of commands for a program that tries layers (crates/trystream says what it reads)."""
 
 
 def data_of(text):
@@ -21,6 +21,10 @@ class Stream:
         if payload is not None:
             self.data += data_of(payload)
             self.data += b"\n"  # an empty line is passed over
+
+    def layer(self, name):
+        """Says which layer of the program the commands that follow are for."""
+        self.line("layer", name)
 
     def case(self, title):
         """Forgets everything."""

@@ -1,2 +1,0 @@
--- What the kept objects are to the layer.
-pub mod Kept
