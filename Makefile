@@ -30,8 +30,9 @@ check: ## proves every crate, over what earlier runs have proved
 test: ## the merge gate: every proof from nothing, the edits that must fail, the tests and the stored runs
 	rt ci
 
-fmt: ## lays out the files of every crate, and prints those that changed
+fmt: ## lays out the files of every crate, and prints those that changed, and what crates.txt names without need
 	@tools/fmt
+	@tools/unnamed
 
 examples: ## builds the examples with gcc and ldi, checks them by readelf, runs linux, boots kernel if QEMU is there
 	@tools/examples
