@@ -5,8 +5,8 @@ use std::alloc::{AllocError, Global};
 /// How many slots may have the guess at a name, from one that its hash gives on.
 const TRIES: u64 = 4;
 
-/// A number plus one, under the upper half of a name's hash, in one word; 0 is no guess. So the slots are made by clearing
-/// memory once, and a look at one is one load.
+/// A number plus one, under the upper half of a name's hash, in one word; 0 is no guess. So the slots are made by
+/// clearing memory once, and a look at one is one load.
 #[derive(Clone, Copy)]
 struct Slot(u64);
 
