@@ -156,17 +156,17 @@ resumed_by all first rows a b before after x kept added taken lends row =
 
 pub section_resumes : (i : Input) (old new : Here) (before after : List KeyedSection) (kept : List ℕ)
     → Takes kept old new before after
-    → (length before < i.first → kept ≡ drop (length (starts_in before)) i.kept.now)
+    → (length before < i.kept.first → kept ≡ drop (length (starts_in before)) i.kept.starts.now)
     → new.anew ≤ old.anew + length (get_or (map (λ v. v.items) i.rows.now) (length before) [])
     → Resumes i old new before after
 unfolding missed_in left_after
 section_resumes i old new before after kept t lends row =
-    resumed_by i.kept.now i.first (map (λ v. v.items) i.rows.now) old.anew new.anew before after t.section kept t.added
+    resumed_by i.kept.starts.now i.kept.first (map (λ v. v.items) i.rows.now) old.anew new.anew before after t.section kept t.added
     t.taken lends row
 
 pub section_on_ok : {T : Type 0} (r : Result T Stop) (i : Input) (old new : Here) (before after : List KeyedSection)
     (kept : List ℕ) (row : List Piece) → OnOk r (Takes kept old new before after)
-    → (length before < i.first → kept ≡ drop (length (starts_in before)) i.kept.now) → new.anew ≤ old.anew + length row
+    → (length before < i.kept.first → kept ≡ drop (length (starts_in before)) i.kept.starts.now) → new.anew ≤ old.anew + length row
     → row ≡ get_or (map (λ v. v.items) i.rows.now) (length before) [] → OnOk r (Resumes i old new before after)
 section_on_ok (Ok u) i old new before after kept row t lends few same =
     section_resumes i old new before after kept t lends

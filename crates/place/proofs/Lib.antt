@@ -16,4 +16,6 @@ pub mod Reporting
 pub mod Good
 pub mod Multiples
 pub mod Counting
-pub mod Kept
+pub mod Leading
+pub mod Alike
+pub mod Comes

@@ -53,11 +53,11 @@ entries (suc k) (row ∷ rows) = entries k rows
 
 -- the input sections whose starts are not the kept ones, in the output sections for which starts were kept
 unfoldable pub missed_in : Input → List KeyedSection → ℕ
-missed_in i sections = missed i.kept.now (starts_in (take i.first sections))
+missed_in i sections = missed i.kept.starts.now (starts_in (take i.kept.first sections))
 
 -- the entries of the rows for which no starts were kept, from the next output section on
 unfoldable pub left_after : Input → List KeyedSection → ℕ
-left_after i sections = entries (max i.first (length sections)) (map (λ v. v.items) i.rows.now)
+left_after i sections = entries (max i.kept.first (length sections)) (map (λ v. v.items) i.rows.now)
 
 -- at most those of the first kind and those of the second are placed anew
 abbrev pub Resumes : Input → Here → Here → List KeyedSection → List KeyedSection → Type 0

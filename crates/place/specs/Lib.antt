@@ -15,3 +15,5 @@ pub mod Ends
 pub mod SectionTable
 pub mod Counted
 pub mod Kept
+pub mod Leads
+pub mod Coming

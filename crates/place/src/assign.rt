@@ -2,39 +2,53 @@
 
 ghost use Rattle.std.specs.Prelude.{◌≡◌};
 ghost use Rattle.ldmodel.specs.Assigning.{assigned, common_step};
+ghost use Rattle.place.specs.Leads.{Knows};
 ghost use Rattle.place.specs.Naming.{Naming};
 ghost use Rattle.place.specs.State.{layout_of, Gives};
 
 use crate::provided::Provided;
 use crate::state::{Done, Here};
 use crate::stop::Stop;
+use ldmodel::script_symbol::ScriptSymbol;
 use ldscript::tree::{Assignment, Common};
 
 impl<'a> Here<'a> {
-    /// `NAME = e`.
-    fn assign(&mut self, done: &Done<'a>, line: u32, a: &'a Assignment) -> Result<(), Stop<'a>>
+    /// `NAME = e`, with the value that was kept of it, if any.
+    fn assign(
+        &mut self,
+        done: &Done<'a>,
+        kept: &[ScriptSymbol],
+        line: u32,
+        a: &'a Assignment,
+    ) -> Result<(), Stop<'a>>
         ghost naming: { Naming }
+        requires { Knows kept.now (assigned (layout_of naming self.now done.now) line a.now) }
         ensures gives { Gives (assigned (layout_of naming self.old done.now) line a.now)
             (layout_of naming self.new done.now) result }
         ensures pieces { self.new.pieces.items ≡ self.old.pieces.items }
         ensures data_commands { self.new.data_commands.items ≡ self.old.data_commands.items }
         ensures anew { self.new.anew ≡ self.old.anew }
     {
-        let value = self.formula(done, line, &a.value)?;
+        let value = match kept.get(self.symbols.as_slice().len()) {
+            Some(symbol) => symbol.value,
+            None => self.formula(done, line, &a.value)?,
+        };
         self.symbols.assign(a.name.as_bytes(), value)?;
         Ok(())
     }
 
-    /// An assignment of a symbol, a PROVIDE or an ASSERT.
+    /// An assignment of a symbol, a PROVIDE or an ASSERT; the symbols that were kept have their values.
     #[tactic(auto, unfolding(ldmodel::specs::Assigning::common_step))]
     pub fn common(
         &mut self,
         done: &Done<'a>,
         provided: &Provided<'a>,
+        kept: &[ScriptSymbol],
         line: u32,
         command: &'a Common,
     ) -> Result<(), Stop<'a>>
         ghost naming: { Naming }
+        requires { Knows kept.now (common_step provided.now (layout_of naming self.now done.now) line command.now) }
         ensures gives { Gives (common_step provided.now (layout_of naming self.old done.now) line command.now)
             (layout_of naming self.new done.now) result }
         ensures pieces { self.new.pieces.items ≡ self.old.pieces.items }
@@ -42,9 +56,9 @@ impl<'a> Here<'a> {
         ensures anew { self.new.anew ≡ self.old.anew }
     {
         match command {
-            Common::Assign(a) => self.assign(done, line, a),
+            Common::Assign(a) => self.assign(done, kept, line, a),
             Common::Provide(a) => match provided.is_in_force(a.name.as_bytes()) {
-                Some(true) => self.assign(done, line, a),
+                Some(true) => self.assign(done, kept, line, a),
                 Some(false) => Ok(()),
                 // it does not come to this: the name is one that the script gives a value
                 None => Err(Stop::NoMemory),

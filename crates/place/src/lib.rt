@@ -6,6 +6,7 @@ mod body;
 mod end;
 pub mod fault;
 mod head;
+mod kept;
 mod memory;
 pub mod place;
 pub mod placement;

@@ -9,6 +9,7 @@ ghost use Rattle.place.specs.Places.{IsPlacement};
 ghost use Rattle.place.specs.ProvidedTable.{provided_names};
 
 use crate::fault::{PlaceFault, reported};
+use crate::kept::Kept;
 use crate::placement::Placement;
 use crate::provided::Provided;
 use crate::regions::Regions;
@@ -44,17 +45,6 @@ fn nowhere<'a>(alloc: Global, script: &'a Script) -> Result<Here<'a>, AllocError
     })
 }
 
-/// The starts that were kept, and the number of the row before which they are taken over.
-fn kept_starts<'k>(kept: Option<(&'k Placement, usize)>) -> (&'k [u64], usize)
-    ensures starts { IfSome kept.entry (λ k. result.0.now ≡ k.0.now.starts) }
-    ensures first { IfSome kept.entry (λ k. result.1 ≡ k.1) }
-{
-    match kept {
-        Some((placement, first)) => (placement.pieces(), first),
-        None => (&[], 0),
-    }
-}
-
 /// The layout of a script, or its first fault.
 #[tactic(auto, unfolding(ldmodel::specs::Placement::placement))]
 fn lay_out(
@@ -66,6 +56,9 @@ fn lay_out(
     meter: &mut Meter,
 ) -> Result<Placement, PlaceFault>
     ghost naming: { Naming }
+    requires kept { IfSome kept (λ k.
+        IsKept script.now (rows_named naming (map (λ v. v.items) rows.now)) (provided_names script.now provided.now)
+        k.0.now k.1) }
     ensures counted { CountsPieces meter.old meter.new (entries 0 (map (λ v. v.items) rows.now)) }
     ensures resumed { IfOk result (λ _. IfSome kept.entry (λ k.
         IsKept script.now (rows_named naming (map (λ v. v.items) rows.now)) (provided_names script.now provided.now)
@@ -81,13 +74,12 @@ fn lay_out(
     let sections = Sections::new(alloc, script)?;
     let regions = Regions::new(alloc, script);
     let mut done = Done { sections, regions };
-    let (starts, first) = kept_starts(kept);
+    let taken = Kept::new(kept);
     let input = Input {
         alloc,
         provided: &provided,
         rows,
-        kept: starts,
-        first,
+        kept: taken,
     };
     let laid = input.place_statements(&mut here, &mut done, script.statements());
     meter.raise(Count::Pieces, here.anew);
@@ -120,6 +112,9 @@ pub fn place(
     meter: &mut Meter,
 ) -> Result<Placement, PlaceFault>
     ghost naming: { Naming }
+    requires kept { IfSome kept (λ k.
+        IsKept script.now (rows_named naming (map (λ v. v.items) rows.now)) (provided_names script.now provided.now)
+        k.0.now k.1) }
     ensures counted { CountsPieces meter.old meter.new (entries 0 (map (λ v. v.items) rows.now)) }
     ensures resumed { IfOk result (λ _. IfSome kept.entry (λ k.
         IsKept script.now (rows_named naming (map (λ v. v.items) rows.now)) (provided_names script.now provided.now)

@@ -4,15 +4,18 @@ ghost use Rattle.std.specs.Prelude.{◌≡◌, ◌≤◌, ◌<◌, ◌+◌, [], 
 ghost use Rattle.ldmodel.specs.Chain.{run};
 ghost use Rattle.ldmodel.specs.Placement.{free_dot_step, item_command_step, item_step, statement_step};
 ghost use Rattle.place.specs.Counted.{Resumes, entries};
+ghost use Rattle.place.specs.Coming.{Coming};
 ghost use Rattle.place.specs.Inputs.{rows_of};
 ghost use Rattle.place.specs.Naming.{Naming};
 ghost use Rattle.place.specs.State.{layout_of, Gives};
 ghost use Rattle.place.specs.Wholes.{starts_in};
 
+use crate::kept::Kept;
 use crate::provided::Provided;
 use crate::state::{Done, Here};
 use crate::stop::Stop;
 use ldmodel::rows::Piece;
+use ldmodel::script_symbol::ScriptSymbol;
 use ldscript::tree::{Command, DotCommand, Item, ItemCommand, Statement};
 use std::alloc::Global;
 
@@ -25,10 +28,8 @@ pub(crate) struct Input<'i, 'a> {
     pub provided: &'i Provided<'a>,
     /// The rows of the output sections.
     pub rows: &'a [Vec<Piece>],
-    /// Where the entries of all rows started in an earlier layout.
-    pub kept: &'i [u64],
-    /// The number of the output section before which these are taken over.
-    pub first: usize,
+    /// What is kept of an earlier layout.
+    pub kept: Kept<'i>,
 }
 
 fn row_at(rows: &[Vec<Piece>], section: usize) -> &[Piece]
@@ -68,15 +69,28 @@ impl<'a> Here<'a> {
 }
 
 impl<'i, 'a> Input<'i, 'a> {
-    /// What is taken over in the next output section.
-    fn kept_at(&self, done: &Done<'a>) -> &'i [u64]
-        ensures { length done.now.sections < self.now.first
-            → result.now ≡ drop (length (starts_in done.now.sections)) self.now.kept.now }
+    /// The symbols that are taken over where the layout has come to, with those before.
+    fn symbols_at(&self, done: &Done<'a>) -> &'i [ScriptSymbol]
+        ensures taken { length done.now.sections < self.now.kept.first → result.now ≡ self.now.kept.symbols.now }
+        ensures past { self.now.kept.first ≤ length done.now.sections → result.now ≡ [] }
     {
-        if done.sections.len() >= self.first {
+        if done.sections.len() < self.kept.first {
+            self.kept.symbols
+        } else {
+            &[]
+        }
+    }
+
+    /// The starts that are taken over in the next output section.
+    fn starts_at(&self, done: &Done<'a>) -> &'i [u64]
+        ensures taken { length done.now.sections < self.now.kept.first
+            → result.now ≡ drop (length (starts_in done.now.sections)) self.now.kept.starts.now }
+        ensures past { self.now.kept.first ≤ length done.now.sections → result.now ≡ [] }
+    {
+        if done.sections.len() >= self.kept.first {
             return &[];
         }
-        match self.kept.get(done.sections.count()..) {
+        match self.kept.starts.get(done.sections.count()..) {
             Some(kept) => kept,
             None => &[],
         }
@@ -91,6 +105,8 @@ impl<'i, 'a> Input<'i, 'a> {
         command: &'a ItemCommand,
     ) -> Result<(), Stop<'a>>
         ghost naming: { Naming }
+        requires { Coming naming self.now (layout_of naming here.now done.now) (λ rows.
+            item_command_step rows self.now.provided.now line (layout_of naming here.now done.now) command.now) }
         ensures anew { here.new.anew ≤ here.old.anew + entries (length done.old.sections)
             (map (λ v. v.items) self.now.rows.now) }
         ensures left { OnOk result
@@ -103,10 +119,13 @@ impl<'i, 'a> Input<'i, 'a> {
     {
         match command {
             ItemCommand::Dot(command) => here.move_freely(done, line, command),
-            ItemCommand::Common(command) => here.common(done, self.provided, line, command),
+            ItemCommand::Common(command) => {
+                let kept = self.symbols_at(done);
+                here.common(done, self.provided, kept, line, command)
+            },
             ItemCommand::Section(output) => {
                 let row = row_at(self.rows, done.sections.len());
-                let kept = self.kept_at(done);
+                let kept = self.starts_at(done);
                 here.place_section(
                     self.alloc,
                     done,
@@ -136,6 +155,8 @@ impl<'i, 'a> Input<'i, 'a> {
         item: &'a Item,
     ) -> Result<(), Stop<'a>>
         ghost naming: { Naming }
+        requires { Coming naming self.now (layout_of naming here.now done.now) (λ rows.
+            item_step rows self.now.provided.now (layout_of naming here.now done.now) item.now) }
         ensures anew { here.new.anew ≤ here.old.anew + entries (length done.old.sections)
             (map (λ v. v.items) self.now.rows.now) }
         ensures left { OnOk result
@@ -159,6 +180,8 @@ impl<'i, 'a> Input<'i, 'a> {
         items: &'a [Item],
     ) -> Result<(), Stop<'a>>
         ghost naming: { Naming }
+        requires { Coming naming self.now (layout_of naming here.now done.now) (λ rows.
+            run (item_step rows self.now.provided.now) (layout_of naming here.now done.now) items.now) }
         ensures anew { here.new.anew ≤ here.old.anew + entries (length done.old.sections)
             (map (λ v. v.items) self.now.rows.now) }
         ensures left { OnOk result
@@ -184,6 +207,8 @@ impl<'i, 'a> Input<'i, 'a> {
         statement: &'a Statement,
     ) -> Result<(), Stop<'a>>
         ghost naming: { Naming }
+        requires { Coming naming self.now (layout_of naming here.now done.now) (λ rows.
+            statement_step rows self.now.provided.now (layout_of naming here.now done.now) statement.now) }
         ensures anew { here.new.anew ≤ here.old.anew + entries (length done.old.sections)
             (map (λ v. v.items) self.now.rows.now) }
         ensures left { OnOk result
@@ -198,7 +223,10 @@ impl<'i, 'a> Input<'i, 'a> {
             Command::Entry(_) => Ok(()),
             Command::Memory(regions) => here.declare_all(done, regions.as_slice()),
             Command::Sections(items) => self.place_items(here, done, items.as_slice()),
-            Command::Common(command) => here.common(done, self.provided, statement.line, command),
+            Command::Common(command) => {
+                let kept = self.symbols_at(done);
+                here.common(done, self.provided, kept, statement.line, command)
+            },
         }
     }
 
@@ -211,6 +239,8 @@ impl<'i, 'a> Input<'i, 'a> {
         statements: &'a [Statement],
     ) -> Result<(), Stop<'a>>
         ghost naming: { Naming }
+        requires { Coming naming self.now (layout_of naming here.now done.now) (λ rows.
+            run (statement_step rows self.now.provided.now) (layout_of naming here.now done.now) statements.now) }
         ensures anew { here.new.anew ≤ here.old.anew + entries (length done.old.sections)
             (map (λ v. v.items) self.now.rows.now) }
         ensures left { OnOk result

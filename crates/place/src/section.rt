@@ -6,6 +6,7 @@ ghost use Rattle.ldmodel.specs.Chain.{run};
 ghost use Rattle.ldmodel.specs.Placement.{opened, section_step};
 ghost use Rattle.place.specs.Counted.{Takes, missed, starts_here};
 ghost use Rattle.place.specs.Heads.{head_from};
+ghost use Rattle.place.specs.Leads.{Goes, GoesOn};
 ghost use Rattle.place.specs.Naming.{Naming, row_named};
 ghost use Rattle.place.specs.State.{body_from, layout_of, Gives};
 ghost use Rattle.place.specs.declared.stop.Stop.TheVariants.{NoMemory};
@@ -49,6 +50,9 @@ impl<'a> Here<'a> {
         output: &'a OutputSection,
     ) -> Result<(), Stop<'a>>
         ghost naming: { Naming }
+        requires { Goes kept.now
+            (run (body_step provided.now)
+            (opened (layout_of naming self.now done.now) (row_named naming row.now) (head_from head)) output.now.body) }
         ensures anew { self.new.anew ≤ self.old.anew + length row.now }
         ensures taken { self.new.anew ≤ self.old.anew + missed kept.now (starts_here self.new) }
         ensures gives { Gives
@@ -81,6 +85,8 @@ impl<'a> Here<'a> {
         output: &'a OutputSection,
     ) -> Result<(), Stop<'a>>
         ghost naming: { Naming }
+        requires { GoesOn kept.now (layout_of naming self.now done.now).sections
+            (section_step provided.now (row_named naming row.now) (layout_of naming self.now done.now) line output.now) }
         ensures anew { self.new.anew ≤ self.old.anew + length row.now }
         ensures one { OnOk result (length done.new.sections ≡ length done.old.sections + 1) }
         ensures takes { OnOk result (Takes kept.now self.old self.new done.old.sections done.new.sections) }

@@ -1,15 +1,18 @@
-use Rattle.std.proofs.Common.{◌≡◌, ℕ, List, map, sym, ap, ◌∙◌, inl, inr, refl, Err, Result}
+use Rattle.std.proofs.Common.{◌≡◌, ℕ, List, map, sym, ap, ◌∙◌, inl, inr, refl, subst, Err, Result}
 use Rattle.ldtree.specs.declared.statement.Statement.{Statement}
 use Rattle.ldmodel.specs.Chain.{run}
 use Rattle.ldmodel.specs.Fault.{Fault}
 use Rattle.ldmodel.specs.Layout.{Layout}
 use Rattle.ldmodel.specs.Placement.{placement, statement_step}
 use Rattle.place.proofs.Good.{begins, stops_at}
-use Rattle.place.proofs.Kept.{both_some, resumes_within}
+use Rattle.place.proofs.Alike.{for_some, resumes_within}
+use Rattle.place.proofs.Comes.{by_option, nothing_comes, script_comes}
 use Rattle.place.proofs.place.lay_out.Goals as goal
+use Rattle.place.specs.Kept.{IsKept}
 use Rattle.place.specs.Naming.{rows_named}
 use Rattle.place.specs.ProvidedTable.{provided_names}
 use Rattle.place.specs.State.{layout_of}
+use Rattle.place.specs.declared.state.Done.{Done}
 
 pub returns-clause-faulty : goal.returns-clause-faulty
 returns-clause-faulty g c =
@@ -39,8 +42,8 @@ returns-clause-faulty g c =
 
 pub returns-in-Ok-clause-resumed : goal.returns-in-Ok-clause-resumed
 returns-in-Ok-clause-resumed g c =
-    both_some c.args.kept _ _ _ c.kept_starts-first.ensures.starts c.kept_starts-first.ensures.first
-    (λ k starts number kept. inr (
+    for_some c.args.kept _ _ c.new-taken.ensures.some
+    (λ k keeps kept. inr (
       c.place_statements-laid.new.here.anew,
       resumes_within g.naming c.args.script.now (map (λ v. v.items) c.args.rows.now)
           (provided_names c.args.script.now c.args.provided.now) k.0.now k.1
@@ -64,6 +67,21 @@ returns-in-Ok-clause-resumed g c =
           (record { sections = c.in_ok-sections.sections; regions = c.new-regions.result })) xs)
           (sym c.statements.ensures.value)
           ∙ c.in-Ok.ensures.gives)))
-          refl starts number refl c.in_ok-here.ensures.anew c.in_ok-sections.ensures,
+          refl keeps.starts keeps.first_is refl c.in_ok-here.ensures.anew c.in_ok-sections.ensures,
       c.raise.ensures,
     ))
+
+pub place_statements-laid-requires : goal.place_statements-laid-requires
+place_statements-laid-requires g c =
+    let d : Done = record { sections = c.in_ok-sections.sections; regions = c.new-regions.result } in
+    by_option c.args.kept _ _ _ _ c.requires c.new-taken.ensures.some c.new-taken.ensures.none
+    (λ k kept keeps.
+    script_comes g.naming _ c.args.script.now _ (layout_of g.naming c.in_ok-here.here d)
+    c.in_ok-provided.provided k.0.now k.1 c.statements.ensures.value
+    (subst (λ ps. IsKept c.args.script.now (rows_named g.naming (map (λ v. v.items) c.args.rows.now)) ps k.0.now k.1)
+    (sym c.in_ok-provided.ensures) kept)
+    keeps
+    (λ rows. begins g.naming c.in_ok-here.here d rows c.in_ok-provided.provided c.args.script.now
+    c.in_ok-here.ensures.dot c.in_ok-here.ensures.dots c.in_ok-here.ensures.inputs c.in_ok-here.ensures.symbols
+    c.in_ok-sections.ensures c.new-regions.ensures))
+    (λ none. nothing_comes g.naming _ (layout_of g.naming c.in_ok-here.here d) _ none)

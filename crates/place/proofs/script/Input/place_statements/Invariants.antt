@@ -1,6 +1,7 @@
 use Rattle.std.proofs.Common.{◌≡◌, ◌+◌, ◌≤◌, drop, length, map}
 use Rattle.ldmodel.specs.Chain.{run}
 use Rattle.ldmodel.specs.Placement.{statement_step}
+use Rattle.place.specs.Coming.{Coming}
 use Rattle.place.specs.Counted.{Resumes, entries}
 use Rattle.place.specs.Inputs.{rows_of}
 use Rattle.place.specs.State.{layout_of}
@@ -17,5 +18,7 @@ invariant-loop-statement g l = record {
       (drop l.statement-index l.statements);
   anew : l.here.anew + entries (length l.done.sections) (map (λ v. v.items) l.self.rows.now)
       ≤ l.fn.here.anew + entries (length l.fn.done.sections) (map (λ v. v.items) l.self.rows.now);
+  coming : Coming g.naming l.self (layout_of g.naming l.here l.done) (λ rows.
+      run (statement_step rows l.self.provided.now) (layout_of g.naming l.here l.done) (drop l.statement-index l.statements));
   resumed : Resumes l.self l.fn.here l.here l.fn.done.sections l.done.sections;
 }

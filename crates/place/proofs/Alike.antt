@@ -44,16 +44,16 @@ pub record More (s t : Layout) : Type 0 where
   pub more : List PlacedSection
   pub sections : t.sections ≡ s.sections ++ more
 
-no_more : (s t : Layout) → t.sections ≡ s.sections → More s t
+pub no_more : (s t : Layout) → t.sections ≡ s.sections → More s t
 no_more s t e = record { more = []; sections = e ∙ sym (append-nil s.sections) }
 
-more_on : (s t u : Layout) → More s t → More t u → More s u
+pub more_on : (s t u : Layout) → More s t → More t u → More s u
 more_on s t u a b = record {
   more = a.more ++ b.more;
   sections = b.sections ∙ (ap (λ l. l ++ b.more) a.sections ∙ append_assoc s.sections a.more b.more);
 }
 
-same_sections : (s t : Layout) → ◌≡◌ {A = Result Layout Fault} (Ok s) (Ok t) → t.sections ≡ s.sections
+pub same_sections : (s t : Layout) → ◌≡◌ {A = Result Layout Fault} (Ok s) (Ok t) → t.sections ≡ s.sections
 same_sections s t e = ap (λ (u : Layout). u.sections) (sym (given_is s t e))
 
 section_more : (provided : List (List ℕ)) (row : List Piece) (s : Layout) (line : ℕ) (o : OutputSection) (t : Layout)
@@ -70,7 +70,7 @@ section_more provided row s line o t e =
           ∙ ap (λ l. l ++ placed_section o h.value b.value ∷ []) g.sections;
     }
 
-item_more : (rows : List (List Piece)) (provided : List (List ℕ)) (line : ℕ) (s : Layout) (c : ItemCommand) (t : Layout)
+pub item_more : (rows : List (List Piece)) (provided : List (List ℕ)) (line : ℕ) (s : Layout) (c : ItemCommand) (t : Layout)
     → item_command_step rows provided line s c ≡ Ok t → More s t
 unfolding item_command_step
 item_more rows provided line s (item.Dot c) t e = no_more s t (free_dot_keeps s line c t e)
@@ -124,7 +124,7 @@ alike_noted first s t alike = elim alike [
 
 module _ (earlier rows : List (List Piece)) (provided : List (List ℕ)) (first : ℕ)
     (same : (k : ℕ) → k < first → get_or earlier k [] ≡ get_or rows k []) where
-  step_same : (line : ℕ) (s : Layout) (c : ItemCommand) → length s.sections < first
+  pub step_same : (line : ℕ) (s : Layout) (c : ItemCommand) → length s.sections < first
       → item_command_step earlier provided line s c ≡ item_command_step rows provided line s c
   unfolding item_command_step
   step_same line s (item.Dot c) l = refl
@@ -230,21 +230,20 @@ pub resumes_within : (n : Naming) (script : List Statement) (rows : List (List c
     (p : Places) (first : ℕ) (t : Layout) (i : Input) (old new : Here) (before after : List KeyedSection)
     → Resumes i old new before after → IsKept script (rows_named n rows) provided p first
     → placement script (rows_named n rows) provided ≡ Ok t → t.sections ≡ map (section_of n) after
-    → i.kept.now ≡ p.starts → i.first ≡ first → map (λ v. v.items) i.rows.now ≡ rows → old.anew ≡ 0 → before ≡ []
+    → i.kept.starts.now ≡ p.starts → i.kept.first ≡ first → map (λ v. v.items) i.rows.now ≡ rows → old.anew ≡ 0 → before ≡ []
     → new.anew ≤ entries first rows
 unfolding missed_in left_after
 resumes_within n script rows provided p first t i old new before after r k e s starts number same zero none =
     let m = none_missed n script (rows_named n rows) provided p first t after k e s in
-    let a : missed i.kept.now (starts_in (take i.first after)) ≡ 0 =
-    ap (λ l. missed l (starts_in (take i.first after))) starts
+    let a : missed i.kept.starts.now (starts_in (take i.kept.first after)) ≡ 0 =
+    ap (λ l. missed l (starts_in (take i.kept.first after))) starts
     ∙ (ap (λ j. missed p.starts (starts_in (take j after))) number ∙ m) in
-    let b : entries (max i.first (length before)) (map (λ v. v.items) i.rows.now) ≡ entries first rows =
-    ap (λ l. entries (max i.first (length before)) l) same
+    let b : entries (max i.kept.first (length before)) (map (λ v. v.items) i.rows.now) ≡ entries first rows =
+    ap (λ l. entries (max i.kept.first (length before)) l) same
     ∙ ap (λ j. entries j rows) (let z : length before ≡ 0 = ap length none in
-    let w : max i.first (length before) ≡ first = omega (arith, z, number) in w) in
+    let w : max i.kept.first (length before) ≡ first = omega (arith, z, number) in w) in
     omega (arith, r, a, b, zero)
 
-pub both_some : {K : Type 0} (o : Option K) (A B C : K → Type 0) → IfSome o A → IfSome o B
-    → ((k : K) → A k → B k → C k) → IfSome o C
-both_some (Some k) A B C a b go = go k a b
-both_some None A B C a b go = tt
+pub for_some : {K : Type 0} (o : Option K) (A C : K → Type 0) → IfSome o A → ((k : K) → A k → C k) → IfSome o C
+for_some (Some k) A C a go = go k a
+for_some None A C a go = tt

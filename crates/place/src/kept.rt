@@ -1,0 +1,44 @@
+//! What is kept of an earlier layout.
+
+ghost use Rattle.std.specs.Prelude.{◌≡◌, IfSome, IfNone};
+ghost use Rattle.place.specs.Leads.{Keeps};
+
+use crate::placement::Placement;
+use ldmodel::laid::Placed;
+use ldmodel::script_symbol::ScriptSymbol;
+
+/// What is kept of an earlier layout, and how far it holds.
+#[derive(Clone, Copy)]
+pub(crate) struct Kept<'k> {
+    /// The output sections.
+    pub sections: &'k [Placed],
+    /// Where the entries of all rows start.
+    pub starts: &'k [u64],
+    /// The symbols.
+    pub symbols: &'k [ScriptSymbol],
+    /// The number of the output section before which it is taken over.
+    pub first: usize,
+}
+
+impl<'k> Kept<'k> {
+    /// All of an earlier placement, before the row of this number; or nothing.
+    pub fn new(kept: Option<(&'k Placement, usize)>) -> Kept<'k>
+        ensures some { IfSome kept.entry (λ k. Keeps k.0.now k.1 result) }
+        ensures none { IfNone kept.entry (result.first ≡ 0) }
+    {
+        match kept {
+            Some((placement, first)) => Kept {
+                sections: placement.sections(),
+                starts: placement.pieces(),
+                symbols: placement.symbols(),
+                first,
+            },
+            None => Kept {
+                sections: &[],
+                starts: &[],
+                symbols: &[],
+                first: 0,
+            },
+        }
+    }
+}
