@@ -52,6 +52,16 @@ fn gives(commands: &[CommonAt<'_>], number: usize, name: &[u8]) -> bool
     }
 }
 
+/// The number of the command that gives a symbol its value, by the script's table: for who asks seldom.
+pub fn number_in(script: &Script, name: &[u8]) -> Option<usize>
+    ensures { result ≡ symbol_number script.now name.now }
+{
+    match script.given(name) {
+        Some(Given::Assigned(number)) | Some(Given::Provided(number)) => Some(number),
+        None => None,
+    }
+}
+
 /// The name that a command gives a value, if it gives one.
 fn symbol_of(command: &Common) -> Option<&[u8]> {
     match command {
@@ -104,10 +114,7 @@ impl<'a> Commands<'a> {
                 return Some(number);
             }
         }
-        match self.script.given(name) {
-            Some(Given::Assigned(number)) | Some(Given::Provided(number)) => Some(number),
-            None => None,
-        }
+        number_in(self.script, name)
     }
 
     /// The same, where this number is looked at first: for who goes through the commands in order, and knows the next.

@@ -71,7 +71,7 @@ fn lay_out(
 {
     let provided = Provided::new(alloc, script, provided)?;
     let mut here = nowhere(alloc, script)?;
-    let sections = Sections::new(alloc, script)?;
+    let sections = Sections::new(alloc, script, rows.len())?;
     let regions = Regions::new(alloc, script);
     let mut done = Done { sections, regions };
     let taken = Kept::new(kept);
@@ -92,10 +92,11 @@ fn lay_out(
 /// Lays a script out: one pass over its statements, in which the rows' entries take their places.
 ///
 /// `rows` has one row for each output section, in the order of the script, `provided` the PROVIDEs that are in force.
-/// With `kept`, an earlier placement of the script and the number of the first row that differs from the earlier one,
-/// the starts of pieces before that row are taken over, each after a look that it is right, and all statements are
-/// evaluated anew; so the layout is the same with any `kept`. The meter counts the pieces whose starts were not taken
-/// over.
+/// With `kept`, an earlier placement of the script, in which the same PROVIDEs were in force, and the number of the first
+/// row that differs from the earlier ones, what stands before that row is taken over: where its pieces start, and the
+/// values that the statements of SECTIONS and of the top level give symbols. Heads of output sections, their other
+/// statements and the ends of memory regions are evaluated anew. So the layout is the same with and without `kept`. The
+/// meter counts the pieces that were placed anew.
 ///
 /// What the pieces' objects and sections are called does not matter: the contract holds with any names.
 ///

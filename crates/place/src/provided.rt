@@ -7,7 +7,7 @@ ghost use Rattle.ldtree.specs.Numbered.{shown_commons};
 ghost use Rattle.place.specs.ProvidedTable.{name_in, provided_names, Marks};
 
 use ldmodel::script_symbol::CommonIndex;
-use ldnumbers::commands::Commands;
+use ldnumbers::commands::number_in;
 use ldscript::script::Script;
 use ldscript::tree::{Common, CommonAt};
 use std::alloc::{AllocError, Global};
@@ -16,7 +16,7 @@ use std::marker::Model;
 /// The PROVIDEs of a script that are in force.
 #[derive(Drop)]
 pub(crate) struct Provided<'a> {
-    commands: Commands<'a>,
+    script: &'a Script,
     numbers: &'a [CommonIndex],
     in_force: Vec<bool>,
 }
@@ -28,9 +28,9 @@ impl<'a> Model for Provided<'a> {
 
     ghost use Rattle.place.specs.ProvidedTable.{provided_names, AreInForce};
 
-    ghost view = { λ p. provided_names p.commands p.numbers.now };
+    ghost view = { λ p. provided_names p.script.now p.numbers.now };
 
-    ghost invariant = { λ p. AreInForce p.commands p.in_force.items (provided_names p.commands p.numbers.now) };
+    ghost invariant = { λ p. AreInForce p.script.now p.in_force.items (provided_names p.script.now p.numbers.now) };
 }
 
 /// The name that a command of these gives a value; no bytes where it gives none.
@@ -47,10 +47,10 @@ pub(crate) fn name_of<'a>(commands: &[CommonAt<'a>], number: CommonIndex) -> &'a
 }
 
 /// Notes that the PROVIDE of a name is in force.
-fn mark(commands: &Commands<'_>, in_force: &mut Vec<bool>, name: &[u8])
-    ensures { Marks commands.now in_force.old.items in_force.new.items name.now }
+fn mark(script: &Script, in_force: &mut Vec<bool>, name: &[u8])
+    ensures { Marks script.now in_force.old.items in_force.new.items name.now }
 {
-    if let Some(place) = commands.number(name) {
+    if let Some(place) = number_in(script, name) {
         if place < in_force.len() {
             in_force[place] = true;
         }
@@ -66,15 +66,21 @@ impl<'a> Provided<'a> {
     ) -> Result<Provided<'a>, AllocError>
         ensures { IfOk result (λ p. p ≡ provided_names script.now numbers.now) }
     {
-        let commands = Commands::new(alloc, script)?;
-        let list = commands.as_slice();
+        if numbers.is_empty() {
+            return Ok(Provided {
+                script,
+                numbers,
+                in_force: Vec::new(alloc),
+            });
+        }
+        let list = script.common_commands(alloc)?;
         let mut in_force = vec![in alloc; false; list.len()]?;
         for number in numbers {
-            let name = name_of(list, *number);
-            mark(&commands, &mut in_force, name);
+            let name = name_of(&list, *number);
+            mark(script, &mut in_force, name);
         }
         Ok(Provided {
-            commands,
+            script,
             numbers,
             in_force,
         })
@@ -84,7 +90,10 @@ impl<'a> Provided<'a> {
     pub fn is_in_force(&self, name: &[u8]) -> Option<bool>
         ensures { IfSome result (λ b. b ≡ list_any (bytes_eq name.now) self.now) }
     {
-        let number = self.commands.number(name)?;
+        if self.numbers.is_empty() {
+            return Some(false);
+        }
+        let number = number_in(self.script, name)?;
         Some(*self.in_force.get(number)?)
     }
 }

@@ -93,14 +93,17 @@ fn number_of(script: &Script, list: &[Closed<'_>], guesses: &Guesses, name: &[u8
 }
 
 impl<'a> Sections<'a> {
-    /// No output section of this script.
-    pub fn new(alloc: Global, script: &'a Script) -> Result<Sections<'a>, AllocError>
+    /// No output section of this script, which has about this many.
+    pub fn new(
+        alloc: Global,
+        script: &'a Script,
+        count: usize,
+    ) -> Result<Sections<'a>, AllocError>
         ensures { IfOk result (λ s. s ≡ []) }
     {
         let regions = script.regions(alloc)?;
         let differences = vec![in alloc; 0; regions.len()]?;
-        let outputs = script.output_sections(alloc)?;
-        let guesses = Guesses::new(alloc, outputs.len())?;
+        let guesses = Guesses::new(alloc, count)?;
         Ok(Sections {
             script,
             list: Vec::new(alloc),

@@ -1,5 +1,11 @@
 //! The commands of the layer `place`.
 
+ghost use Rattle.std.specs.Prelude.{◌≡◌, ◌<◌, [], map, slice_index_or, IfOk, IfSome};
+ghost use Rattle.place.specs.Kept.{IsKept};
+ghost use Rattle.place.specs.Naming.{rows_named};
+ghost use Rattle.place.specs.ProvidedTable.{provided_names};
+ghost use Rattle.trylayout.specs.Unnamed.{SameBefore, unnamed};
+
 use elfobj::section::{SectionIndex, SectionKind};
 use ldmodel::fault::Fault;
 use ldmodel::laid::Laid;
@@ -12,7 +18,8 @@ use ldscript::tree::Width;
 use place::fault::PlaceFault;
 use place::place::place;
 use place::placement::Placement;
-use std::alloc::Global;
+use ldscript::script::Script;
+use std::alloc::{AllocError, Global};
 use std::io;
 use std::io::Write;
 use trystream::command::Command;
@@ -23,12 +30,56 @@ use trystream::words::Words;
 /// The most output sections that `piece` may name.
 const MAX_SECTIONS: usize = 0x1_0000;
 
+/// A row once more.
+fn copy_of(alloc: Global, row: &[Piece]) -> Result<Vec<Piece>, AllocError>
+    ensures { IfOk result (λ v. v.items ≡ row.now) }
+{
+    let mut copy = Vec::with_capacity(alloc, row.len())?;
+    for piece in row {
+        copy.push(*piece)?;
+    }
+    Ok(copy)
+}
+
+/// The row of this number: of the first rows before the number `first`, else of the second.
+fn row_from<'r>(
+    first: usize,
+    before: &'r [Vec<Piece>],
+    after: &'r [Vec<Piece>],
+    number: usize,
+) -> &'r [Piece]
+    ensures { number < first → result.now ≡ slice_index_or (map (λ v. v.items) before.now) number [] }
+{
+    let rows = if number < first { before } else { after };
+    match rows.get(number) {
+        Some(row) => row,
+        None => &[],
+    }
+}
+
+/// As many rows as the first ones: these before the number `first`, and then the second ones.
+fn joined(
+    alloc: Global,
+    first: usize,
+    before: &[Vec<Piece>],
+    after: &[Vec<Piece>],
+) -> Result<Vec<Vec<Piece>>, AllocError>
+    ensures { IfOk result (λ v. SameBefore (map (λ w. w.items) v.items) (map (λ w. w.items) before.now) first) }
+{
+    let mut list = Vec::new(alloc);
+    for number in 0..before.len() {
+        let row = copy_of(alloc, row_from(first, before, after, number))?;
+        list.push(row)?;
+    }
+    Ok(list)
+}
+
 /// What the layer keeps between commands.
 #[derive(Drop)]
 pub struct Rows {
     rows: Vec<Vec<Piece>>,
     provided: Vec<CommonIndex>,
-    last: Option<Placement>,
+    last: Vec<Vec<Piece>>,
 }
 
 impl Rows {
@@ -37,7 +88,7 @@ impl Rows {
         Rows {
             rows: Vec::new(alloc),
             provided: Vec::new(alloc),
-            last: None,
+            last: Vec::new(alloc),
         }
     }
 
@@ -81,7 +132,24 @@ impl Rows {
         Ok(true)
     }
 
-    /// `place`, or `kept FIRST` with the last good placement
+    /// The placement of the present rows before this number, and of the rows that were laid out last from it on.
+    fn earlier(&self, alloc: Global, script: &Script, first: Option<usize>) -> Option<(Placement, usize)>
+        ensures { IfSome result (λ k.
+            IsKept script.now (rows_named unnamed (map (λ v. v.items) self.now.rows.items))
+            (provided_names script.now self.now.provided.items) k.0 k.1) }
+    {
+        let first = first?;
+        let Ok(rows) = joined(alloc, first, &self.rows, &self.last) else {
+            return None;
+        };
+        let mut meter = Meter::new();
+        match place(alloc, script, &rows, &self.provided, None, &mut meter) {
+            Ok(placement) => Some((placement, first)),
+            Err(_) => None,
+        }
+    }
+
+    /// `place`, or `kept FIRST` with the placement of the last good rows
     fn lay_out<W: Write>(
         &mut self,
         alloc: Global,
@@ -90,15 +158,16 @@ impl Rows {
         out: &mut W,
     ) -> io::Result<()> {
         let mut meter = Meter::new();
-        let kept = match (&self.last, first) {
-            (Some(last), Some(first)) => Some((last, first)),
-            _ => None,
-        };
         let script = &state.script;
+        let earlier = self.earlier(alloc, script, first);
+        let kept = match &earlier {
+            Some((placement, first)) => Some((placement, *first)),
+            None => None,
+        };
         match place(alloc, script, &self.rows, &self.provided, kept, &mut meter) {
             Ok(placement) => {
                 print_laid(placement.laid(), out)?;
-                self.last = Some(placement);
+                self.last = joined(alloc, 0, &self.rows, &self.rows)?;
             }
             Err(PlaceFault::First(fault)) => print_fault(fault, out)?,
             Err(PlaceFault::Meeting(faults)) => {
@@ -111,7 +180,7 @@ impl Rows {
         writeln!(out, "{} placed", meter.pieces())
     }
 
-    /// `repeat TIMES`, or `again TIMES FIRST` with the last good placement
+    /// `repeat TIMES`, or `again TIMES FIRST` with the placement of the last good rows
     fn repeat<W: Write>(
         &self,
         alloc: Global,
@@ -122,11 +191,12 @@ impl Rows {
         let Some(times) = words.short() else {
             return Ok(false);
         };
-        let kept = match (&self.last, words.size()) {
-            (Some(last), Some(first)) => Some((last, first)),
-            _ => None,
-        };
         let script = &state.script;
+        let earlier = self.earlier(alloc, script, words.size());
+        let kept = match &earlier {
+            Some((placement, first)) => Some((placement, *first)),
+            None => None,
+        };
         let mut meter = Meter::new();
         for _ in 0..times {
             let _done = place(alloc, script, &self.rows, &self.provided, kept, &mut meter);
@@ -195,7 +265,7 @@ impl Layer for Rows {
     fn forget(&mut self, alloc: Global) -> io::Result<()> {
         self.rows = Vec::new(alloc);
         self.provided = Vec::new(alloc);
-        self.last = None;
+        self.last = Vec::new(alloc);
         Ok(())
     }
 

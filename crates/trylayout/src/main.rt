@@ -28,10 +28,11 @@
 //!     provided NUMBER                                      this PROVIDE is in force, by its number among the commands
 //!     place                                                the layout, or its faults
 //!     rows                                                 forgets all rows
-//!     kept FIRST                                           the same as `place`, with the last good placement kept
-//!                                                          before the row of this number
+//!     kept FIRST                                           the same as `place`, with the placement of the last good
+//!                                                          rows kept, if the rows before this number are the same
 //!     repeat TIMES                                         lays out that often, and prints how many pieces were placed
-//!     again TIMES FIRST                                    the same with the last good placement kept
+//!     again TIMES FIRST                                    the same with the placement of the last good rows kept,
+//!                                                          which is made once more
 //!
 //! `layer segments` is for the crates `ldsegments` (segments, the length of the image) and `ldoverlap` (output sections
 //! that meet):

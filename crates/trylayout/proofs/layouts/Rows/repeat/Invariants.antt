@@ -1,5 +1,5 @@
-use Rattle.std.proofs.Common.{[]}
 use Rattle.trylayout.proofs.layouts.Rows.repeat.Given as goal
+use Rattle.trylayout.specs.Unnamed.{unnamed}
 
 abbrev pub ghost-place : goal.ghost-place
-ghost-place g a = record { object = λ _. []; section = λ _. [] }
+ghost-place g a = unnamed
