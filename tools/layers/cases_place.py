@@ -49,10 +49,9 @@ class Wanted:
     def __init__(self, stream):
         self.stream, self.lines = stream, []
 
-    def lay_out(self, title, text, pieces=(), provided=(), by_hand=None, first=None, anew=None):
-        """A case: pieces are (output section, input statement, kind, flags, size, alignment). With `first` the last
-        placement is kept before that row; without a title the case goes on with other rows. `anew` says how many pieces
-        are placed anew, where the rows before that row differ after all."""
+    def lay_out(self, title, text, pieces=(), provided=(), by_hand=None, first=None):
+        """A case: pieces are (output section, input statement, kind, flags, size, alignment). With `first` an earlier
+        placement is kept before that row; without a title the case goes on with other rows."""
         if title is not None:
             self.stream.case(title)
             self.lines += ["", "case " + title]
@@ -79,8 +78,7 @@ class Wanted:
             placed = len(pieces) if faults[0].startswith(("F9", "F10")) else 0
             self.lines += [self.fault(script, outputs, fault) for fault in faults] + [f"{placed} placed"]
         else:
-            if anew is None:
-                anew = sum(first is None or section >= first for section, *_ in pieces)
+            anew = sum(first is None or section >= first for section, *_ in pieces)
             self.lines += self.printed(script, commands, placement) + [f"{anew} placed"]
 
     @staticmethod
@@ -197,10 +195,6 @@ RESUMED = [
         ([(0, 0, BYTES, CODE, 9, 1), (1, 1, BYTES, DATA, 8, 4), (2, 2, NONE, DATA, 16, 8)], [0x8000, 0x20000, 0x20008], None),
         ([(0, 0, BYTES, CODE, 10, 1), (1, 1, BYTES, DATA, 8, 4), (2, 2, NONE, DATA, 16, 8)], [0x8000, 0x20000, 0x20008], 0),
         ([(0, 0, BYTES, CODE, 10, 1), (1, 1, BYTES, DATA, 9, 4), (2, 2, NONE, DATA, 16, 8)], [0x8000, 0x20000, 0x20010], 1),
-    ]),
-    ("rows that differ before the number are laid out from nothing", "SECTIONS { .a : { *(.a) } }", [
-        ([(0, 0, BYTES, CODE, 4, 1), (0, 0, BYTES, CODE, 4, 1)], [0], None),
-        ([(0, 0, BYTES, CODE, 5, 1), (0, 0, BYTES, CODE, 4, 1)], [0], 1, 2),
     ]),
     ("symbols of resumed layouts", "s = 3; SECTIONS { a = 16; . = a; .a : { *(.a) b = 7; } c = SIZEOF(.a) + b; PROVIDE(d = c);"
      " .b : { *(.b) } e = ADDR(.b) + c; .c : { *(.c) } f = e; }", [

@@ -3,7 +3,13 @@ use Rattle.std.proofs.Common.{◌≡◌, ℕ, suc, ◌+◌, ◌<◌, ◌≤◌, 
 use Rattle.std.proofs.Common.{⊎_elim, arith, length-append}
 use Rattle.std.proofs.lemmas.Bool.{cases_lt}
 use Rattle.ldmodel.specs.declared.rows.Piece.{Piece}
-use Rattle.trylayout.specs.Unnamed.{SameBefore, SameTo}
+use Rattle.std.proofs.Math.ListN.{get_or-map}
+use Rattle.ldtree.specs.declared.statement.Statement.{Statement}
+use Rattle.place.specs.Kept.{IsKept}
+use Rattle.place.specs.Naming.{row_named, rows_named}
+use Rattle.place.specs.Outcomes.{IsGood}
+use Rattle.place.specs.Places.{Places}
+use Rattle.trylayout.specs.Unnamed.{SameBefore, SameTo, unnamed}
 
 at_end : (xs : List (List Piece)) (row : List Piece) → get_or (xs ++ row ∷ []) (length xs) [] ≡ row
 at_end [] row = refl
@@ -40,3 +46,15 @@ same_all xs rows first s long j m = ⊎_elim
     (λ (h : j < length xs). s j h m)
     (λ (h : length xs ≤ j). outside xs j h ∙ sym (outside rows j (omega (arith, h, long))))
     (cases_lt j (length xs))
+
+-- a good placement of rows that are the same before a number is one that may be kept
+pub kept_good : (script : List Statement) (earlier present now lent : List (List Piece)) (numbers : List (List ℕ))
+    (p : Places) (first : ℕ) → lent ≡ earlier → now ≡ present → SameBefore earlier now first
+    → IsGood script (rows_named unnamed lent) numbers p → IsKept script (rows_named unnamed present) numbers p first
+kept_good script earlier present now lent numbers p first a b same good = record {
+  earlier = rows_named unnamed lent;
+  placed = record { layout = good.layout; placed = good.placed; places = good.places };
+  same = λ k l. get_or-map (row_named unnamed) lent k []
+      ∙ (ap (row_named unnamed) (ap (λ xs. get_or xs k []) a ∙ (same k l ∙ ap (λ xs. get_or xs k []) b))
+      ∙ sym (get_or-map (row_named unnamed) present k []));
+}

@@ -149,7 +149,7 @@ impl Rows {
         }
     }
 
-    /// `place`, or `kept FIRST` with the placement of the last good rows
+    /// `place`, or `kept FIRST` with an earlier placement
     fn lay_out<W: Write>(
         &mut self,
         alloc: Global,
@@ -180,7 +180,7 @@ impl Rows {
         writeln!(out, "{} placed", meter.pieces())
     }
 
-    /// `repeat TIMES`, or `again TIMES FIRST` with the placement of the last good rows
+    /// `repeat TIMES`, or `again TIMES FIRST` with an earlier placement
     fn repeat<W: Write>(
         &self,
         alloc: Global,

@@ -28,11 +28,11 @@
 //!     provided NUMBER                                      this PROVIDE is in force, by its number among the commands
 //!     place                                                the layout, or its faults
 //!     rows                                                 forgets all rows
-//!     kept FIRST                                           the same as `place`, with the placement of the last good
-//!                                                          rows kept, if the rows before this number are the same
+//!     kept FIRST                                           the same as `place`, with an earlier placement kept: of the
+//!                                                          same rows before this number, and from it on of those that
+//!                                                          were last laid out
 //!     repeat TIMES                                         lays out that often, and prints how many pieces were placed
-//!     again TIMES FIRST                                    the same with the placement of the last good rows kept,
-//!                                                          which is made once more
+//!     again TIMES FIRST                                    the same with such a placement kept, which is made once
 //!
 //! `layer segments` is for the crates `ldsegments` (segments, the length of the image) and `ldoverlap` (output sections
 //! that meet):
