@@ -1,7 +1,7 @@
 -- Two layouts of a script whose rows are the same before a number have the same output sections before it.
-use Rattle.std.proofs.Common.{◌≡◌, ℕ, ◌+◌, ◌≤◌, ◌<◌, max, List, [], ◌∷◌, ◌++◌, length, get_or, map, take, drop}
+use Rattle.std.proofs.Common.{◌≡◌, ℕ, ◌≤◌, ◌<◌, max, List, [], ◌∷◌, ◌++◌, length, get_or, map, take, drop}
 use Rattle.std.proofs.Common.{Option, Some, None, IfSome}
-use Rattle.std.proofs.Common.{Result, Ok, Err, ◌⊎◌, inl, inr, ⊎_elim, refl, sym, ap, subst, ◌∙◌, append_assoc, arith}
+use Rattle.std.proofs.Common.{Result, Ok, ◌⊎◌, inl, inr, ⊎_elim, refl, sym, ap, subst, ◌∙◌, append_assoc, arith}
 use Rattle.std.specs.Prelude.{flat_map}
 use Rattle.std.proofs.lemmas.Bool.{cases_lt}
 use Rattle.std.proofs.lemmas.Grind.{flat_map-append}
@@ -19,14 +19,14 @@ use Rattle.ldmodel.specs.Chain.{run}
 use Rattle.ldmodel.specs.Fault.{Fault}
 use Rattle.ldmodel.specs.Layout.{Layout, PlacedSection, nothing_placed, noted}
 use Rattle.ldmodel.specs.Lent.{starts_of}
-use Rattle.ldmodel.specs.Placement.{command_step, free_dot_step, item_command_step, item_step, next_row, opened}
+use Rattle.ldmodel.specs.Placement.{command_step, item_command_step, item_step, next_row, opened}
 use Rattle.ldmodel.specs.Placement.{placement, region_step, section_step, statement_step}
 use Rattle.ldmodel.specs.Rows.{Piece}
 use Rattle.ldmodel.specs.declared.rows.Piece as code
 use Rattle.ldmodel.specs.SectionEnd.{placed_section, section_end}
-use Rattle.ldmodel.specs.SectionHead.{Head, head_of}
+use Rattle.ldmodel.specs.SectionHead.{head_of}
 use Rattle.place.proofs.Counting.{missed_self}
-use Rattle.place.proofs.Ending.{Chained, chained}
+use Rattle.place.proofs.Ending.{chained}
 use Rattle.place.proofs.Grows.{body_grows, common_keeps, given_is}
 use Rattle.place.proofs.Outputs.{end_adds, free_dot_keeps, regions_keep}
 use Rattle.place.proofs.Wholes.{starts_whole}

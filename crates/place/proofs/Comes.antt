@@ -1,6 +1,6 @@
 -- What is to come of a layout, from one statement to the next.
 use Rattle.std.proofs.Common.{◌≡◌, ℕ, ◌+◌, ◌≤◌, ◌<◌, List, [], ◌∷◌, ◌++◌, length, get_or, map, drop}
-use Rattle.std.proofs.Common.{Result, Ok, Err, ◌⊎◌, inl, inr, ⊎_elim, refl, sym, ap, subst, ◌∙◌, append_assoc, arith}
+use Rattle.std.proofs.Common.{Result, Ok, inl, inr, ⊎_elim, refl, sym, ap, subst, ◌∙◌, append_assoc, arith}
 use Rattle.std.proofs.Common.{length-append, Option, Some, None, IfSome, IfNone}
 use Rattle.std.specs.Prelude.{flat_map}
 use Rattle.std.proofs.lemmas.Bool.{cases_lt}
@@ -30,17 +30,16 @@ use Rattle.ldmodel.specs.Rows.{Piece}
 use Rattle.ldmodel.specs.SectionEnd.{find_region, load_region, placed_section, section_end, with_room, with_section}
 use Rattle.ldmodel.specs.SectionHead.{Head, head_of}
 use Rattle.ldmodel.specs.declared.script_symbol.ScriptSymbol as code
-use Rattle.ldmodel.specs.declared.laid.Placed.{Placed}
 use Rattle.place.proofs.Alike.{More, item_more, more_on, no_more, same_sections, step_same}
-use Rattle.place.proofs.Ending.{Chained, chained}
+use Rattle.place.proofs.Ending.{chained}
 use Rattle.place.proofs.Grows.{MoreSymbols, body_grows, common_adds, common_keeps, given_is, same_symbols, symbols_given, symbols_on}
 use Rattle.place.proofs.Outputs.{regions_keep}
 use Rattle.place.proofs.Wholes.{starts_whole}
-use Rattle.place.specs.Coming.{Coming, Earlier}
+use Rattle.place.specs.Coming.{Coming}
 use Rattle.place.specs.Inputs.{rows_of}
 use Rattle.place.specs.Keyed.{KeyedSection, section_of}
 use Rattle.place.specs.Kept.{IsKept}
-use Rattle.place.specs.Leads.{GoesOn, Keeps, Knows, Leads, LeadsOn, LeadsValues, code_values, values_of}
+use Rattle.place.specs.Leads.{GoesOn, Keeps, Knows, Leads, code_values, values_of}
 use Rattle.place.specs.Naming.{Naming}
 use Rattle.place.specs.Places.{Places}
 use Rattle.place.specs.Wholes.{starts_in}

@@ -1,14 +1,13 @@
 -- The end of an output section.
-use Rattle.std.proofs.Common.{Bool, true, false, cond, ◌≡◌, ◌≢◌, ℕ, ◌+◌, ◌-◌, ◌<◌, ◌≤◌, max, List, [], ◌∷◌, ◌++◌, map}
+use Rattle.std.proofs.Common.{Bool, true, false, cond, ◌≡◌, ℕ, ◌+◌, ◌-◌, max, List, [], ◌∷◌, ◌++◌}
 use Rattle.std.proofs.Common.{Result, Ok, Err, refl, sym, ap, ◌∙◌, arith}
 use Rattle.std.specs.Option.{option_and_then}
 use Rattle.ldtree.specs.declared.section.OutputSection.{OutputSection}
-use Rattle.ldmodel.specs.Body.{Body}
 use Rattle.ldmodel.specs.Chain.{and_then}
 use Rattle.ldmodel.specs.Fault.{Fault}
 use Rattle.ldmodel.specs.Arithmetic.{is_address}
 use Rattle.ldmodel.specs.Fault.{PastAddressSpace}
-use Rattle.ldmodel.specs.Layout.{Layout, PlacedSection, address, region_named}
+use Rattle.ldmodel.specs.Layout.{PlacedSection, address, region_named}
 use Rattle.ldmodel.specs.SectionEnd.{placed_section, section_end, with_section, with_room, load_region}
 use Rattle.ldmodel.specs.SectionHead.{Head}
 use Rattle.place.specs.Ends.{body_alone, ended_body, load_end}

@@ -1,10 +1,9 @@
 -- What the code's table of output sections finds.
 use Rattle.std.proofs.Common.{◌≡◌, ◌≢◌, ℕ, zero, suc, ◌+◌, ◌<◌, ◌≤◌, List, [], ◌∷◌, ◌++◌, length, get_or, set, map}
-use Rattle.std.proofs.Common.{find, filter, Bool, true, false, cond, Option, Some, None, refl, sym, ap, ◌∙◌, arith}
-use Rattle.std.proofs.Common.{subst}
+use Rattle.std.proofs.Common.{find, Bool, true, false, Option, Some, None, refl, sym, ap, ◌∙◌, arith}
 use Rattle.std.specs.Prelude.{slice_get, bytes_eq}
 use Rattle.std.specs.List.{last_or}
-use Rattle.std.specs.Option.{option_map, option_and_then, option_map_or}
+use Rattle.std.specs.Option.{option_map, option_and_then}
 use Rattle.std.proofs.Common.{replicate, length-append, ◌==◌}
 use Rattle.std.proofs.lemmas.List.{length-map, append-nil, get_or-set_other, map-append, get_or-replicate}
 use Rattle.std.proofs.lemmas.List.{length-replicate, length-set, get_or_at}
@@ -18,13 +17,12 @@ use Rattle.ldtree.specs.declared.statement.Statement.{Statement}
 use Rattle.ldmodel.specs.Layout.{PlacedSection}
 use Rattle.ldmodel.specs.SectionHead.{difference_in, difference_of, same_region}
 use Rattle.ldmodel.specs.declared.laid.Placed.{Placed}
-use Rattle.place.proofs.Lists.{same_name, is_same_name, other_name}
+use Rattle.place.proofs.Lists.{same_name, is_same_name}
 use Rattle.place.proofs.Numbers.{sections_told, regions_told}
 use Rattle.place.proofs.Tabled.{found_under}
 use Rattle.place.proofs.Counting.{starts_grow}
 use Rattle.place.specs.Wholes.{starts_in}
 use Rattle.place.specs.Keyed.{KeyedSection, section_of}
-use Rattle.place.specs.Naming.{Naming}
 use Rattle.place.specs.SectionTable.{keyed, section_names, nameless, difference_by, AreSectionsOf, Fits}
 use Rattle.place.specs.Tables.{AreInOrder}
 use Rattle.place.specs.declared.sections.Closed.{Closed}

@@ -15,7 +15,6 @@ use Rattle.place.specs.declared.stop.Stop.TheVariants as stop
 use Rattle.ldtree.specs.Numbering.{OutputSectionAt, output_sections}
 use Rattle.ldtree.specs.declared.statement.Statement.{Statement}
 use Rattle.ldmodel.specs.FaultCode.{fault_of}
-use Rattle.ldmodel.specs.Layout.{Layout, PlacedSection}
 use Rattle.ldmodel.specs.Options.{default_options}
 use Rattle.ldmodel.specs.Overlaps.{overlaps}
 use Rattle.ldmodel.specs.Project.{Project}

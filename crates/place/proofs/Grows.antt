@@ -1,6 +1,6 @@
 -- What a step of a layout leaves as it was, and what it adds to.
-use Rattle.std.proofs.Common.{◌≡◌, ℕ, ◌+◌, List, [], ◌∷◌, ◌++◌, map, Bool, true, false, cond, Option, Some, None}
-use Rattle.std.proofs.Common.{Result, Ok, Err, refl, sym, ap, subst, ◌∙◌, nat_lt, append_assoc}
+use Rattle.std.proofs.Common.{◌≡◌, ℕ, ◌+◌, List, [], ◌∷◌, ◌++◌, Bool, true, false, cond, Option, Some, None}
+use Rattle.std.proofs.Common.{Result, Ok, Err, sym, ap, subst, ◌∙◌, nat_lt, append_assoc}
 use Rattle.std.specs.List.{list_any}
 use Rattle.std.specs.Prelude.{bytes_eq, ◌==◌}
 use Rattle.std.proofs.lemmas.List.{append-nil}
@@ -12,19 +12,18 @@ use Rattle.ldtree.specs.Widths.{byte_count}
 use Rattle.ldtree.specs.declared.common.Assignment.{Assignment}
 use Rattle.ldtree.specs.declared.common.Common.{Common}
 use Rattle.ldtree.specs.declared.common.Common.TheVariants as common
-use Rattle.ldtree.specs.declared.common.DotCommand.{DotCommand}
 use Rattle.ldtree.specs.declared.common.DotCommand.TheVariants.{Set, Add}
 use Rattle.ldtree.specs.declared.section.BodyCommand.{BodyCommand}
 use Rattle.ldtree.specs.declared.section.BodyCommand.TheVariants as body
 use Rattle.ldtree.specs.declared.section.BodyStatement.{BodyStatement}
 use Rattle.ldmodel.specs.Assigning.{assigned, common_step}
-use Rattle.ldmodel.specs.Body.{Body, advanced, body_command_step, body_step, data_step, dot_step, input_step, moved}
+use Rattle.ldmodel.specs.Body.{Body, advanced, body_command_step, body_step, input_step, moved}
 use Rattle.ldmodel.specs.Body.{piece_placed, piece_start, pieces_placed, set_to, with_data, with_dot}
 use Rattle.ldmodel.specs.Chain.{and_then, run}
 use Rattle.ldmodel.specs.Fault.{Fault, MovedBack}
-use Rattle.ldmodel.specs.Layout.{Layout, address, PlacedPiece, PlacedSection, ScriptSymbol, number, noted, with_symbol}
+use Rattle.ldmodel.specs.Layout.{Layout, address, PlacedPiece, ScriptSymbol, number, noted, with_symbol}
 use Rattle.ldmodel.specs.Rows.{Piece}
-use Rattle.place.proofs.Ending.{Chained, chained}
+use Rattle.place.proofs.Ending.{chained}
 
 -- a state that is given is that of the result
 pub given_is : {X : Type 0} (s t : X) → ◌≡◌ {A = Result X Fault} (Ok s) (Ok t) → s ≡ t
@@ -126,9 +125,10 @@ piece_grown line b p rest c e =
       rest = rest;
       pieces = b.pieces
           ++ record { start = piece_start b.layout.dot p; piece = p } ∷ [];
-    }) c h.second in
-    (ap (λ (u : Body). u.pieces) (sym d),
-    (ap (λ (u : Body). u.layout.sections) (sym d), ap (λ (u : Body). u.layout.symbols) (sym d)))
+    }) c h.second in (
+      ap (λ (u : Body). u.pieces) (sym d),
+      (ap (λ (u : Body). u.layout.sections) (sym d), ap (λ (u : Body). u.layout.symbols) (sym d)),
+    )
 
 pub piece_grows : (line : ℕ) (b : Body) (p : Piece) (rest : List Piece) (c : Body) → piece_placed line b p rest ≡ Ok c
     → Grown b c

@@ -1,23 +1,20 @@
 -- What a step to come tells of the steps that it is made of.
-use Rattle.std.proofs.Common.{◌≡◌, ℕ, zero, suc, ◌+◌, List, [], ◌∷◌, ◌++◌, length, map, drop, Bool, true, false, cond}
-use Rattle.std.proofs.Common.{Option, Some, None, IfSome, Result, Ok, Err, ◌⊎◌, inl, inr, refl, sym, ap, subst, ◌∙◌}
+use Rattle.std.proofs.Common.{◌≡◌, ℕ, zero, suc, ◌+◌, List, [], ◌∷◌, ◌++◌, length, drop, Bool, true, false, cond}
+use Rattle.std.proofs.Common.{Option, Some, None, IfSome, Result, Ok, inl, inr, refl, sym, ap, subst, ◌∙◌}
 use Rattle.std.proofs.Common.{append_assoc, get_or, ◌<◌}
 use Rattle.std.proofs.lemmas.Bool.{eqb-false}
-use Rattle.std.specs.Prelude.{flat_map, slice_get, bytes_eq, ◌==◌}
-use Rattle.std.specs.List.{list_any}
+use Rattle.std.specs.Prelude.{flat_map, slice_get, ◌==◌}
 use Rattle.std.proofs.Math.Seq.{drop-append_seam}
 use Rattle.std.proofs.lemmas.Grind.{flat_map-append}
 use Rattle.std.proofs.lemmas.List.{append-nil, length-map, map-append, drop_more}
 use Rattle.ldtree.specs.declared.common.Assignment.{Assignment}
-use Rattle.ldtree.specs.declared.common.Common.{Common}
-use Rattle.ldtree.specs.declared.common.Common.TheVariants as common
 use Rattle.ldtree.specs.declared.section.BodyStatement.{BodyStatement}
 use Rattle.ldtree.specs.declared.section.OutputSection.{OutputSection}
-use Rattle.ldmodel.specs.Assigning.{assigned, common_step}
+use Rattle.ldmodel.specs.Assigning.{assigned}
 use Rattle.ldmodel.specs.Body.{Body, body_step, input_step, piece_placed, piece_start, pieces_placed}
 use Rattle.ldmodel.specs.Chain.{and_then, run}
 use Rattle.ldmodel.specs.Fault.{Fault}
-use Rattle.ldmodel.specs.Layout.{Layout, PlacedPiece, PlacedSection, ScriptSymbol, number, with_symbol}
+use Rattle.ldmodel.specs.Layout.{Layout, PlacedPiece, ScriptSymbol, number, with_symbol}
 use Rattle.ldmodel.specs.Lent.{starts_of}
 use Rattle.ldmodel.specs.Placement.{opened, section_step}
 use Rattle.ldmodel.specs.Rows.{Piece}
@@ -25,11 +22,11 @@ use Rattle.ldmodel.specs.SectionEnd.{placed_section, section_end}
 use Rattle.ldmodel.specs.SectionHead.{Head, head_of}
 use Rattle.ldmodel.specs.declared.rows.Piece as rows
 use Rattle.ldmodel.specs.declared.script_symbol.ScriptSymbol as code
-use Rattle.place.proofs.Ending.{Chained, chained}
+use Rattle.place.proofs.Ending.{chained}
 use Rattle.place.proofs.Grows.{Grown, body_grows, given_is, pieces_grow, piece_grown}
 use Rattle.place.proofs.Outputs.{end_adds}
 use Rattle.place.specs.Naming.{Naming, piece_named, row_named}
-use Rattle.place.specs.Leads.{Goes, GoesOn, Knows, LeadsBody, LeadsOn, LeadsValues, code_values, piece_starts, values_of}
+use Rattle.place.specs.Leads.{Goes, GoesOn, Knows, LeadsBody, LeadsValues, code_values, piece_starts, values_of}
 
 -- the one after the first ones of a list
 pub after_first : {X : Type 0} (xs : List X) (x : X) (ys : List X) → slice_get (xs ++ x ∷ ys) (length xs) ≡ Some x

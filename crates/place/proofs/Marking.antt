@@ -1,15 +1,14 @@
 -- The table of the PROVIDEs that are in force.
-use Rattle.std.proofs.Common.{◌≡◌, ◌≢◌, ℕ, ◌+◌, ◌<◌, ◌≤◌, List, [], ◌∷◌, ◌++◌, length, get_or, set, Bool, true, false}
-use Rattle.std.proofs.Common.{cond, ◌||◌, Option, Some, None, refl, sym, ap, ◌∙◌, arith, ◌==◌}
+use Rattle.std.proofs.Common.{◌≡◌, ◌≢◌, ℕ, ◌<◌, ◌≤◌, List, [], ◌∷◌, ◌++◌, length, get_or, set, Bool, true, false}
+use Rattle.std.proofs.Common.{◌||◌, Some, None, refl, sym, ap, ◌∙◌, arith}
 use Rattle.std.specs.Prelude.{bytes_eq}
 use Rattle.std.specs.List.{list_any}
-use Rattle.std.proofs.lemmas.Bool.{eqb-true, eqb-false}
 use Rattle.std.proofs.lemmas.Grind.{get_or-set_at}
 use Rattle.std.proofs.lemmas.List.{get_or-set_other, length-set}
 use Rattle.ldtree.specs.declared.statement.Statement.{Statement}
 use Rattle.place.proofs.Lists.{is_same_name, same_name, other_name}
 use Rattle.place.proofs.Numbers.{symbols_told}
-use Rattle.place.specs.ProvidedTable.{AreInForce, Marks}
+use Rattle.place.specs.ProvidedTable.{Marks}
 use Rattle.place.specs.Tables.{symbol_number}
 
 any_more : (name m : List ℕ) (names : List (List ℕ)) → list_any (bytes_eq name) (names ++ m ∷ [])

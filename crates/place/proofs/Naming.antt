@@ -1,15 +1,14 @@
 -- What expressions may name does not turn on the names of input sections.
-use Rattle.std.proofs.Common.{◌≡◌, ℕ, List, [], ◌∷◌, map, find, Bool, true, false, cond, Option, Some, None, refl, sym}
+use Rattle.std.proofs.Common.{◌≡◌, ℕ, List, [], ◌∷◌, map, find, Bool, true, false, cond, Option, Some, refl, sym}
 use Rattle.std.proofs.Common.{ap, ◌∙◌}
 use Rattle.std.specs.Prelude.{bytes_eq}
 use Rattle.std.specs.Option.{option_map}
 use mathlib.Core.Path.{fun_ext}
-use Rattle.ldmodel.specs.Layout.{Layout, PlacedSection, scope_of, section_numbers, section_named}
-use Rattle.ldmodel.specs.Value.{Scope, SectionNumbers}
+use Rattle.ldmodel.specs.Layout.{PlacedSection, scope_of, section_named}
+use Rattle.ldmodel.specs.Value.{SectionNumbers}
 use Rattle.ldmodel.specs.declared.laid.Placed.{Placed}
 use Rattle.place.specs.Keyed.{KeyedSection, section_of}
 use Rattle.place.specs.Naming.{Naming}
-use Rattle.place.specs.SectionTable.{nameless}
 use Rattle.place.specs.State.{layout_of}
 use Rattle.place.specs.declared.state.Done.{Done}
 use Rattle.place.specs.declared.state.Here.{Here}

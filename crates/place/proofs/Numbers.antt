@@ -1,15 +1,13 @@
 -- The numbers of names tell the names apart.
-use Rattle.std.proofs.Common.{◌≡◌, ℕ, zero, suc, ◌+◌, ◌<◌, List, [], ◌∷◌, length, Bool, true, false, cond, Option, Some}
+use Rattle.std.proofs.Common.{◌≡◌, ℕ, suc, ◌+◌, ◌<◌, List, [], ◌∷◌, length, Bool, true, false, cond, Option, Some}
 use Rattle.std.proofs.Common.{None, refl, sym, ap, ◌∙◌, arith}
 use Rattle.std.specs.Prelude.{slice_get, bytes_eq}
 use Rattle.std.specs.Option.{option_map, option_map_or}
-use Rattle.ldtree.specs.Given.{assigned_from, provided_from, assigned_here, provided_here, given_as, given_by}
+use Rattle.ldtree.specs.Given.{assigned_from, provided_from, assigned_here, provided_here, given_as}
 use Rattle.ldtree.specs.Given.{section_from, section_number, region_from, region_number}
 use Rattle.ldtree.specs.Numbering.{CommonAt, OutputSectionAt, common_commands, output_sections, regions}
 use Rattle.ldtree.specs.declared.common.Common.{Common}
 use Rattle.ldtree.specs.declared.common.Common.TheVariants as common
-use Rattle.ldtree.specs.declared.given.Given.{Given}
-use Rattle.ldtree.specs.declared.given.Given.TheVariants.{Assigned, Provided}
 use Rattle.ldtree.specs.declared.statement.Region.{Region}
 use Rattle.ldtree.specs.declared.statement.Statement.{Statement}
 use Rattle.ldmodel.specs.Lent.{given_name}

@@ -1,7 +1,6 @@
 -- The output sections of a whole layout are those of the script, in their order.
-use Rattle.std.proofs.Common.{◌≡◌, ℕ, ◌+◌, List, [], ◌∷◌, ◌++◌, map, Result, Ok, Err, refl, sym, ap, ◌∙◌, append_assoc}
+use Rattle.std.proofs.Common.{◌≡◌, ℕ, ◌+◌, List, [], ◌∷◌, ◌++◌, map, Ok, refl, sym, ap, ◌∙◌, append_assoc}
 use Rattle.std.proofs.lemmas.List.{append-nil, map-append}
-use Rattle.std.specs.Option.{option_and_then}
 use Rattle.ldtree.specs.Numbering.{OutputSectionAt, items, items_of, sections_in, sections_of, output_sections}
 use Rattle.ldtree.specs.declared.common.DotCommand.{DotCommand}
 use Rattle.ldtree.specs.declared.common.DotCommand.TheVariants.{Set, Add}
@@ -15,15 +14,14 @@ use Rattle.ldtree.specs.declared.statement.Region.{Region}
 use Rattle.ldtree.specs.declared.statement.Statement.{Statement}
 use Rattle.ldmodel.specs.Arithmetic.{plus_modulo}
 use Rattle.ldmodel.specs.Body.{Body, body_step}
-use Rattle.ldmodel.specs.Chain.{and_then, run}
-use Rattle.ldmodel.specs.Fault.{Fault}
-use Rattle.ldmodel.specs.Layout.{Layout, PlacedSection, address, nothing_placed, noted, number, region_named}
+use Rattle.ldmodel.specs.Chain.{run}
+use Rattle.ldmodel.specs.Layout.{Layout, PlacedSection, address, nothing_placed, noted, number}
 use Rattle.ldmodel.specs.Placement.{command_step, free_dot_step, item_command_step, item_step, next_row, opened}
 use Rattle.ldmodel.specs.Placement.{placement, region_step, section_step, statement_step, with_region}
 use Rattle.ldmodel.specs.Rows.{Piece}
 use Rattle.ldmodel.specs.SectionEnd.{find_region, load_region, placed_section, section_end, with_room, with_section}
 use Rattle.ldmodel.specs.SectionHead.{Head, head_of}
-use Rattle.place.proofs.Ending.{Chained, chained}
+use Rattle.place.proofs.Ending.{chained}
 use Rattle.place.proofs.Grows.{body_grows, common_keeps, given_is}
 use Rattle.ldmodel.specs.Body.{Body}
 

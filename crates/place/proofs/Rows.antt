@@ -1,8 +1,7 @@
 -- The row of the next output section.
-use Rattle.std.proofs.Common.{◌≡◌, ℕ, List, [], length, get_or, map, sym, ap, ◌∙◌}
+use Rattle.std.proofs.Common.{◌≡◌, List, [], length, get_or, ap, ◌∙◌}
 use Rattle.std.proofs.Math.ListN.{get_or-map}
 use Rattle.std.proofs.lemmas.List.{length-map}
-use Rattle.ldmodel.specs.Layout.{Layout}
 use Rattle.ldmodel.specs.Placement.{next_row}
 use Rattle.ldmodel.specs.declared.rows.Piece as code
 use Rattle.place.specs.Keyed.{section_of}

@@ -1,9 +1,8 @@
 -- The number of an expression, as the code evaluates it.
-use Rattle.std.proofs.Common.{◌≡◌, ℕ, Result, refl, sym, ap, ◌∙◌}
+use Rattle.std.proofs.Common.{◌≡◌, ℕ, Result, ap, ◌∙◌}
 use Rattle.ldexpr.specs.Expressions.{Expr}
-use Rattle.ldmodel.specs.Fault.{Fault}
-use Rattle.ldmodel.specs.Layout.{Layout, number, value_at, scope_of}
-use Rattle.ldmodel.specs.Value.{Scope, ValueFault, value}
+use Rattle.ldmodel.specs.Layout.{number, value_at, scope_of}
+use Rattle.ldmodel.specs.Value.{Scope, value}
 use Rattle.ldvalue.specs.Outcomes.{outcome_of}
 use Rattle.ldvalue.specs.declared.value.ValueFault as code
 use Rattle.place.proofs.Naming.{same_scope}

@@ -1,5 +1,5 @@
 -- Heads of output sections, as the code holds them.
-use Rattle.std.specs.Prelude.{◌≡◌, ℕ, Option, Some, None, Result, Ok, Err, ◌⊎◌}
+use Rattle.std.specs.Prelude.{◌≡◌, Result, Ok, Err, ◌⊎◌}
 use Rattle.ldmodel.specs.Fault.{Fault}
 use Rattle.ldmodel.specs.SectionHead.{Given, Head}
 use Rattle.place.specs.State.{fault_of}

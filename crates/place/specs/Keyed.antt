@@ -1,5 +1,5 @@
 -- Output sections in their places, whose input sections have keys in place of names, and what they stand for.
-use Rattle.std.specs.Prelude.{◌≡◌, ℕ, List, map, Option}
+use Rattle.std.specs.Prelude.{ℕ, List, map, Option}
 use Rattle.byteorder.specs.Endian.{little_bytes}
 use Rattle.ldtree.specs.Widths.{byte_count}
 use Rattle.ldmodel.specs.Layout.{PlacedPiece, PlacedSection, PlacedData}

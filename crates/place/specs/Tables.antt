@@ -1,5 +1,5 @@
 -- Tables under the numbers that a script gives its names, and when they find what a search by name does.
-use Rattle.std.specs.Prelude.{◌≡◌, ℕ, ◌<◌, List, [], length, Option, Some, None, slice_get, slice_index_or}
+use Rattle.std.specs.Prelude.{◌≡◌, ℕ, ◌<◌, List, [], length, Option, Some, None, slice_index_or}
 use Rattle.std.specs.Option.{option_and_then}
 pub use Rattle.ldnumbers.specs.Numbers.{number_of, symbol_number}
 

@@ -94,11 +94,7 @@ fn number_of(script: &Script, list: &[Closed<'_>], guesses: &Guesses, name: &[u8
 
 impl<'a> Sections<'a> {
     /// No output section of this script, which has about this many.
-    pub fn new(
-        alloc: Global,
-        script: &'a Script,
-        count: usize,
-    ) -> Result<Sections<'a>, AllocError>
+    pub fn new(alloc: Global, script: &'a Script, count: usize) -> Result<Sections<'a>, AllocError>
         ensures { IfOk result (λ s. s ≡ []) }
     {
         let regions = script.regions(alloc)?;

@@ -2,8 +2,6 @@
 use Rattle.std.specs.Prelude.{ℕ, List, find, Option, bytes_eq, Bool}
 use Rattle.std.specs.Option.{option_map}
 use Rattle.ldmodel.specs.Value.{Scope}
-use Rattle.ldmodel.specs.declared.laid.Placed.{Placed}
-use Rattle.ldmodel.specs.declared.laid.PlacedRegion.{PlacedRegion}
 use Rattle.ldvalue.specs.Scopes.{section_numbers, region_numbers}
 use Rattle.trylayout.specs.declared.value.given.Given.{Given}
 use Rattle.trylayout.specs.declared.value.given.Named.{Named}

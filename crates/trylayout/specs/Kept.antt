@@ -1,7 +1,5 @@
 -- The kept objects, script and options as a project, and the places of keys in it.
 use Rattle.std.specs.Prelude.{ℕ, length, map, slice_get}
-use Rattle.std.specs.Option.{option_map_or}
-use Rattle.std.specs.Option as option
 use Rattle.std.specs.declared.option.Option.{Option}
 use Rattle.std.specs.declared.option.Option.TheVariants.{Some, None}
 use Rattle.ldmodel.specs.Project.{NamedObject, Project}

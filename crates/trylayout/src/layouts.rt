@@ -14,11 +14,11 @@ use ldmodel::names::ObjectKey;
 use ldmodel::rows::{InputIndex, Piece};
 use ldmodel::script_symbol::CommonIndex;
 use ldmodel::sections::{Part, SectionKey};
+use ldscript::script::Script;
 use ldscript::tree::Width;
 use place::fault::PlaceFault;
 use place::place::place;
 use place::placement::Placement;
-use ldscript::script::Script;
 use std::alloc::{AllocError, Global};
 use std::io;
 use std::io::Write;
@@ -133,7 +133,12 @@ impl Rows {
     }
 
     /// The placement of the present rows before this number, and of the rows that were laid out last from it on.
-    fn earlier(&self, alloc: Global, script: &Script, first: Option<usize>) -> Option<(Placement, usize)>
+    fn earlier(
+        &self,
+        alloc: Global,
+        script: &Script,
+        first: Option<usize>,
+    ) -> Option<(Placement, usize)>
         ensures { IfSome result (λ k.
             IsKept script.now (rows_named unnamed (map (λ v. v.items) self.now.rows.items))
             (provided_names script.now self.now.provided.items) k.0 k.1) }

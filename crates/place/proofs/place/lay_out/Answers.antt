@@ -1,9 +1,7 @@
-use Rattle.std.proofs.Common.{◌≡◌, ℕ, List, map, sym, ap, ◌∙◌, inl, inr, refl, subst, Err, Result}
+use Rattle.std.proofs.Common.{ℕ, List, map, sym, ap, ◌∙◌, inl, inr, refl, subst}
 use Rattle.ldtree.specs.declared.statement.Statement.{Statement}
 use Rattle.ldmodel.specs.Chain.{run}
-use Rattle.ldmodel.specs.Fault.{Fault}
-use Rattle.ldmodel.specs.Layout.{Layout}
-use Rattle.ldmodel.specs.Placement.{placement, statement_step}
+use Rattle.ldmodel.specs.Placement.{statement_step}
 use Rattle.place.proofs.Good.{begins, stops_at}
 use Rattle.place.proofs.Alike.{for_some, resumes_within}
 use Rattle.place.proofs.Comes.{by_option, nothing_comes, script_comes}

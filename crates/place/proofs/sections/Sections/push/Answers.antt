@@ -1,4 +1,4 @@
-use Rattle.std.proofs.Common.{◌≡◌, arith, length, ◌≤◌, ◌<◌, sym, get_or, None, Some, map, ap, ◌∙◌}
+use Rattle.std.proofs.Common.{◌≡◌, arith, length, ◌<◌, sym, Some, map, ap, ◌∙◌}
 use Rattle.std.proofs.lemmas.List.{map-append, length-map}
 use Rattle.ldtree.specs.Given.{section_number, region_number}
 use Rattle.place.proofs.FoundSections.{pushed_elsewhere, pushed_in}

@@ -1,6 +1,4 @@
-use Rattle.std.proofs.Common.{sym, subst, ◌∙◌, drop, get_or}
-use Rattle.ldmodel.specs.Body.{body_step}
-use Rattle.ldmodel.specs.Chain.{run}
+use Rattle.std.proofs.Common.{subst}
 use Rattle.place.proofs.Leading.{first_statement_at}
 use Rattle.place.specs.Leads.{Goes}
 use Rattle.place.specs.State.{body_of}

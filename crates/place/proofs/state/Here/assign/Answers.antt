@@ -1,8 +1,7 @@
-use Rattle.std.proofs.Common.{◌≡◌, ◌++◌, ◌∷◌, [], Some, Ok, length, refl, sym, ap, subst, ◌∙◌}
+use Rattle.std.proofs.Common.{◌++◌, ◌∷◌, [], Ok, length, refl, sym, ap, ◌∙◌}
 use Rattle.std.specs.Prelude.{slice_get}
 use Rattle.std.proofs.lemmas.List.{length-map}
 use Rattle.std.proofs.lemmas.Option.{slice_get_read}
-use Rattle.ldmodel.specs.Layout.{ScriptSymbol}
 use Rattle.place.proofs.Leading.{assigned_is, next_value}
 use Rattle.place.specs.SymbolTable.{symbol_of}
 use Rattle.place.specs.State.{layout_of, outcome}

@@ -1,4 +1,4 @@
-use Rattle.std.proofs.Common.{◌≡◌, ℕ, ◌+◌, max, Ok, inl, inr, sym, ap, ◌∙◌}
+use Rattle.std.proofs.Common.{ℕ, Ok, inl, inr, sym, ap, ◌∙◌}
 use Rattle.ldmodel.specs.Chain.{and_then}
 use Rattle.ldmodel.specs.Layout.{Layout, PlacedSection}
 use Rattle.ldmodel.specs.SectionEnd.{freed_from, with_section}

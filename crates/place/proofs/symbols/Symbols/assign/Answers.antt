@@ -1,4 +1,4 @@
-use Rattle.std.proofs.Common.{◌≡◌, arith, length, ◌≤◌, ◌<◌, sym, get_or, None, Some, map}
+use Rattle.std.proofs.Common.{◌≡◌, arith, length, ◌<◌, sym, get_or, None, Some, map}
 use Rattle.std.proofs.lemmas.List.{map-append}
 use Rattle.place.proofs.Tabled.{values_more, values_same, at_place}
 use Rattle.place.specs.SymbolTable.{symbol_of}

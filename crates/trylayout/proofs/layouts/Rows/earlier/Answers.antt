@@ -1,4 +1,4 @@
-use Rattle.std.proofs.Common.{List, map, refl, ap, subst, sym, ◌∙◌}
+use Rattle.std.proofs.Common.{map, ap, subst}
 use Rattle.place.specs.Outcomes.{IsGood}
 use Rattle.place.specs.Naming.{rows_named}
 use Rattle.place.specs.ProvidedTable.{provided_names}
