@@ -196,8 +196,8 @@ RESUMED = [
         ([(0, 0, BYTES, CODE, 10, 1), (1, 1, BYTES, DATA, 8, 4), (2, 2, NONE, DATA, 16, 8)], [0x8000, 0x20000, 0x20008], 0),
         ([(0, 0, BYTES, CODE, 10, 1), (1, 1, BYTES, DATA, 9, 4), (2, 2, NONE, DATA, 16, 8)], [0x8000, 0x20000, 0x20010], 1),
     ]),
-    ("symbols of resumed layouts", "s = 3; SECTIONS { a = 16; . = a; .a : { *(.a) b = 7; } c = SIZEOF(.a) + b; PROVIDE(d = c);"
-     " .b : { *(.b) } e = ADDR(.b) + c; .c : { *(.c) } f = e; }", [
+    ("symbols of resumed layouts", "s = 3; SECTIONS { a = 16; . = a; .a : { *(.a) b = 7; } c = SIZEOF(.a) + b;"
+     " PROVIDE(d = c); .b : { *(.b) } e = ADDR(.b) + c; .c : { *(.c) } f = e; }", [
         ([(0, 0, BYTES, CODE, 4, 1), (1, 1, BYTES, DATA, 8, 8), (2, 2, NONE, DATA, 4, 4)], [16, 24, 32], None),
         ([(0, 0, BYTES, CODE, 4, 1), (1, 1, BYTES, DATA, 8, 8), (2, 2, NONE, DATA, 8, 4)], [16, 24, 32], 2),
         ([(0, 0, BYTES, CODE, 4, 1), (1, 1, BYTES, DATA, 9, 8), (2, 2, NONE, DATA, 8, 4)], [16, 24, 36], 1),

@@ -70,8 +70,8 @@ section_more provided row s line o t e =
           ∙ ap (λ l. l ++ placed_section o h.value b.value ∷ []) g.sections;
     }
 
-pub item_more : (rows : List (List Piece)) (provided : List (List ℕ)) (line : ℕ) (s : Layout) (c : ItemCommand) (t : Layout)
-    → item_command_step rows provided line s c ≡ Ok t → More s t
+pub item_more : (rows : List (List Piece)) (provided : List (List ℕ)) (line : ℕ) (s : Layout) (c : ItemCommand)
+    (t : Layout) → item_command_step rows provided line s c ≡ Ok t → More s t
 unfolding item_command_step
 item_more rows provided line s (item.Dot c) t e = no_more s t (free_dot_keeps s line c t e)
 item_more rows provided line s (item.Common c) t e = no_more s t (common_keeps provided s line c t e)
@@ -230,7 +230,8 @@ pub resumes_within : (n : Naming) (script : List Statement) (rows : List (List c
     (p : Places) (first : ℕ) (t : Layout) (i : Input) (old new : Here) (before after : List KeyedSection)
     → Resumes i old new before after → IsKept script (rows_named n rows) provided p first
     → placement script (rows_named n rows) provided ≡ Ok t → t.sections ≡ map (section_of n) after
-    → i.kept.starts.now ≡ p.starts → i.kept.first ≡ first → map (λ v. v.items) i.rows.now ≡ rows → old.anew ≡ 0 → before ≡ []
+    → i.kept.starts.now ≡ p.starts → i.kept.first ≡ first
+    → map (λ v. v.items) i.rows.now ≡ rows → old.anew ≡ 0 → before ≡ []
     → new.anew ≤ entries first rows
 unfolding missed_in left_after
 resumes_within n script rows provided p first t i old new before after r k e s starts number same zero none =

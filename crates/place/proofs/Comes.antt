@@ -32,7 +32,8 @@ use Rattle.ldmodel.specs.SectionHead.{Head, head_of}
 use Rattle.ldmodel.specs.declared.script_symbol.ScriptSymbol as code
 use Rattle.place.proofs.Alike.{More, item_more, more_on, no_more, same_sections, step_same}
 use Rattle.place.proofs.Ending.{chained}
-use Rattle.place.proofs.Grows.{MoreSymbols, body_grows, common_adds, common_keeps, given_is, same_symbols, symbols_given, symbols_on}
+use Rattle.place.proofs.Grows.{MoreSymbols, body_grows, common_adds, common_keeps, given_is}
+use Rattle.place.proofs.Grows.{same_symbols, symbols_given, symbols_on}
 use Rattle.place.proofs.Outputs.{regions_keep}
 use Rattle.place.proofs.Wholes.{starts_whole}
 use Rattle.place.specs.Coming.{Coming}
@@ -132,7 +133,8 @@ fewer s t o =
     omega (arith, e)
 
 -- what leads to a later layout leads to an earlier one
-leads_before : (k : Kept) (s t : Layout) (r q : Result Layout Fault) → On s t → r ≡ Ok s → (l : Leads k q) → l.layout ≡ t
+leads_before : (k : Kept) (s t : Layout) (r q : Result Layout Fault) → On s t → r ≡ Ok s → (l : Leads k q)
+    → l.layout ≡ t
     → Leads k r
 leads_before k s t r q o e l m =
     let w : l.layout ≡ t = m in
@@ -279,8 +281,8 @@ unfolding command_step
 command_same provided first earlier rows line s (top.Entry name) t a e l = e
 command_same provided first earlier rows line s (top.Memory regions) t a e l = e
 command_same provided first earlier rows line s (top.Sections xs) t a e l =
-    run_same (λ rs. item_step rs provided) (λ rs. item_on rs provided) (item_same provided) first earlier rows xs s t a e
-    l
+    run_same (λ rs. item_step rs provided) (λ rs. item_on rs provided) (item_same provided) first earlier rows xs s t a
+    e l
 command_same provided first earlier rows line s (top.Common c) t a e l = e
 
 -- the statements of SECTIONS
@@ -313,7 +315,8 @@ module _ (provided : List (List ℕ)) (n : Naming) (i : Input) (s : Layout) (xs 
       (λ g z rs u y. command_same provided g z rs y.line u y.command) n i s xs k x t h e c f
 
 -- what is to come of a symbol
-knows_now : (k : Kept) (symbols : List code.ScriptSymbol) (r : Result Layout Fault) → symbols ≡ k.symbols.now → Leads k r
+knows_now : (k : Kept) (symbols : List code.ScriptSymbol) (r : Result Layout Fault) → symbols ≡ k.symbols.now
+    → Leads k r
     → Knows symbols r
 knows_now k symbols r e l = inr (record {
   layout = l.layout;

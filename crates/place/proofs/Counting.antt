@@ -161,12 +161,13 @@ pub section_resumes : (i : Input) (old new : Here) (before after : List KeyedSec
     → Resumes i old new before after
 unfolding missed_in left_after
 section_resumes i old new before after kept t lends row =
-    resumed_by i.kept.starts.now i.kept.first (map (λ v. v.items) i.rows.now) old.anew new.anew before after t.section kept t.added
-    t.taken lends row
+    resumed_by i.kept.starts.now i.kept.first (map (λ v. v.items) i.rows.now) old.anew new.anew before after t.section kept
+    t.added t.taken lends row
 
 pub section_on_ok : {T : Type 0} (r : Result T Stop) (i : Input) (old new : Here) (before after : List KeyedSection)
     (kept : List ℕ) (row : List Piece) → OnOk r (Takes kept old new before after)
-    → (length before < i.kept.first → kept ≡ drop (length (starts_in before)) i.kept.starts.now) → new.anew ≤ old.anew + length row
+    → (length before < i.kept.first → kept ≡ drop (length (starts_in before)) i.kept.starts.now)
+    → new.anew ≤ old.anew + length row
     → row ≡ get_or (map (λ v. v.items) i.rows.now) (length before) [] → OnOk r (Resumes i old new before after)
 section_on_ok (Ok u) i old new before after kept row t lends few same =
     section_resumes i old new before after kept t lends

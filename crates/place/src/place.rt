@@ -92,11 +92,11 @@ fn lay_out(
 /// Lays a script out: one pass over its statements, in which the rows' entries take their places.
 ///
 /// `rows` has one row for each output section, in the order of the script, `provided` the PROVIDEs that are in force.
-/// With `kept`, an earlier placement of the script, in which the same PROVIDEs were in force, and the number of the first
-/// row that differs from the earlier ones, what stands before that row is taken over: where its pieces start, and the
-/// values that the statements of SECTIONS and of the top level give symbols. Heads of output sections, their other
-/// statements and the ends of memory regions are evaluated anew. So the layout is the same with and without `kept`. The
-/// meter counts the pieces that were placed anew.
+/// With `kept`, an earlier placement of the script, in which the same PROVIDEs were in force, and the number of the
+/// first row that differs from the earlier ones, what stands before that row is taken over: where its pieces start, and
+/// the values that the statements of SECTIONS and of the top level give symbols. Heads of output sections, the
+/// statements of their bodies and the ends of memory regions are evaluated anew. So the layout is the same with and
+/// without `kept`. The meter counts the pieces that were placed anew.
 ///
 /// What the pieces' objects and sections are called does not matter: the contract holds with any names.
 ///

@@ -19,6 +19,7 @@ invariant-loop-statement g l = record {
   anew : l.here.anew + entries (length l.done.sections) (map (λ v. v.items) l.self.rows.now)
       ≤ l.fn.here.anew + entries (length l.fn.done.sections) (map (λ v. v.items) l.self.rows.now);
   coming : Coming g.naming l.self (layout_of g.naming l.here l.done) (λ rows.
-      run (statement_step rows l.self.provided.now) (layout_of g.naming l.here l.done) (drop l.statement-index l.statements));
+      run (statement_step rows l.self.provided.now) (layout_of g.naming l.here l.done)
+      (drop l.statement-index l.statements));
   resumed : Resumes l.self l.fn.here l.here l.fn.done.sections l.done.sections;
 }

@@ -22,7 +22,8 @@ returns-clause-gives g c =
           w.in-Some.symbol.now refl
           w.in-Some.ensures.lookup.3.0 w.in-Some.ensures.lookup.1))
           ∙ ap Ok (sym w.value-is)
-      | in-None+in_ok-value-in-None w ↦ sym w.formula.ensures ∙ (ap outcome (w.in_ok-value-in-None.was) ∙ ap Ok (sym w.value-is))
+      | in-None+in_ok-value-in-None w ↦
+          sym w.formula.ensures ∙ (ap outcome (w.in_ok-value-in-None.was) ∙ ap Ok (sym w.value-is))
     ])
     (c.in_ok-assign.ensures.given
     ∙ ap (λ n. c.args.self.now.symbols ++ record { name = n; value = c.match-get.value } ∷ []) c.as_bytes.ensures)
