@@ -18,6 +18,8 @@ pub(crate) struct Kept<'k> {
     pub symbols: &'k [ScriptSymbol],
     /// The number of the output section before which it is taken over.
     pub first: usize,
+    /// How many values of `.` it has.
+    pub dots: usize,
 }
 
 impl<'k> Kept<'k> {
@@ -32,12 +34,14 @@ impl<'k> Kept<'k> {
                 starts: placement.pieces(),
                 symbols: placement.symbols(),
                 first,
+                dots: placement.laid().dots.len(),
             },
             None => Kept {
                 sections: &[],
                 starts: &[],
                 symbols: &[],
                 first: 0,
+                dots: 0,
             },
         }
     }

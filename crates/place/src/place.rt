@@ -25,8 +25,8 @@ use ldoverlap::overlaps::overlaps;
 use ldscript::script::Script;
 use std::alloc::{AllocError, Global};
 
-/// Nothing is placed yet, and `.` is 0.
-fn nowhere<'a>(alloc: Global, script: &'a Script) -> Result<Here<'a>, AllocError>
+/// Nothing is placed yet, and `.` is 0; this many values of `.` are expected.
+fn nowhere<'a>(alloc: Global, script: &'a Script, expected: usize) -> Result<Here<'a>, AllocError>
     ensures dot { IfOk result (λ h. h.dot ≡ 0) }
     ensures dots { IfOk result (λ h. h.dots.items ≡ []) }
     ensures inputs { IfOk result (λ h. h.inputs ≡ 0) }
@@ -34,9 +34,10 @@ fn nowhere<'a>(alloc: Global, script: &'a Script) -> Result<Here<'a>, AllocError
     ensures symbols { IfOk result (λ h. h.symbols ≡ []) }
 {
     let symbols = Symbols::new(alloc, script)?;
+    let dots = Vec::with_capacity(alloc, expected)?;
     Ok(Here {
         dot: 0,
-        dots: Vec::new(alloc),
+        dots,
         inputs: 0,
         symbols,
         pieces: Vec::new(alloc),
@@ -70,11 +71,11 @@ fn lay_out(
         Stops script.now (rows_named naming (map (λ v. v.items) rows.now)) (provided_names script.now provided.now) f) }
 {
     let provided = Provided::new(alloc, script, provided)?;
-    let mut here = nowhere(alloc, script)?;
+    let taken = Kept::new(kept);
+    let mut here = nowhere(alloc, script, taken.dots)?;
     let sections = Sections::new(alloc, script, rows.len())?;
     let regions = Regions::new(alloc, script);
     let mut done = Done { sections, regions };
-    let taken = Kept::new(kept);
     let input = Input {
         alloc,
         provided: &provided,

@@ -51,9 +51,10 @@ impl<'a> Symbols<'a> {
     {
         let commands = Commands::new(alloc, script)?;
         let values = vec![in alloc; None; commands.as_slice().len()]?;
+        let list = Vec::with_capacity(alloc, values.len())?;
         Ok(Symbols {
             commands,
-            list: Vec::new(alloc),
+            list,
             values,
         })
     }

@@ -9,7 +9,7 @@ pub place_statement-requires : goal.place_statement-requires
 place_statement-requires g c =
     statement_comes c.args.self.now.provided.now g.naming c.args.self.now
     (layout_of g.naming c.loop-statement.here c.loop-statement.done)
-      c.args.statements.now c.loop-statement.statement-index c.statement-item.result
+    c.args.statements.now c.loop-statement.statement-index c.statement-item.result
     c.loop-statement-test.true c.statement-item.is
     c.loop-statement.invariant.coming
 
