@@ -161,7 +161,8 @@ pub section_resumes : (i : Input) (old new : Here) (before after : List KeyedSec
     → Resumes i old new before after
 unfolding missed_in left_after
 section_resumes i old new before after kept t lends row =
-    resumed_by i.kept.starts.now i.kept.first (map (λ v. v.items) i.rows.now) old.anew new.anew before after t.section kept
+    resumed_by i.kept.starts.now i.kept.first (map (λ v. v.items) i.rows.now) old.anew new.anew before after t.section
+    kept
     t.added t.taken lends row
 
 pub section_on_ok : {T : Type 0} (r : Result T Stop) (i : Input) (old new : Here) (before after : List KeyedSection)

@@ -86,7 +86,8 @@ impl<'a> Here<'a> {
     ) -> Result<(), Stop<'a>>
         ghost naming: { Naming }
         requires { GoesOn kept.now (layout_of naming self.now done.now).sections
-            (section_step provided.now (row_named naming row.now) (layout_of naming self.now done.now) line output.now) }
+            (section_step provided.now (row_named naming row.now) (layout_of naming self.now done.now) line
+            output.now) }
         ensures anew { self.new.anew ≤ self.old.anew + length row.now }
         ensures one { OnOk result (length done.new.sections ≡ length done.old.sections + 1) }
         ensures takes { OnOk result (Takes kept.now self.old self.new done.old.sections done.new.sections) }
