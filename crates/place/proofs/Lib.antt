@@ -14,7 +14,6 @@ pub mod Grows
 pub mod Outputs
 pub mod Reporting
 pub mod Good
-pub mod Multiples
 pub mod Counting
 pub mod Leading
 pub mod Alike
