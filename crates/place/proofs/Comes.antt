@@ -23,7 +23,7 @@ use Rattle.ldmodel.specs.Body.{Body, body_step}
 use Rattle.ldmodel.specs.Chain.{and_then, run}
 use Rattle.ldmodel.specs.Fault.{Fault}
 use Rattle.ldmodel.specs.Layout.{Layout, PlacedSection, ScriptSymbol, address, noted, number}
-use Rattle.ldmodel.specs.Lent.{placed_of, starts_of, symbol_of}
+use Rattle.ldmodel.specs.Lent.{starts_of, symbol_of}
 use Rattle.ldmodel.specs.Placement.{command_step, free_dot_step, item_command_step, item_step, next_row, opened}
 use Rattle.ldmodel.specs.Placement.{placement, region_step, section_step, statement_step, with_region}
 use Rattle.ldmodel.specs.Rows.{Piece}
@@ -153,12 +153,6 @@ leads_before k s t r q o e l m =
           ∙ (ap (λ ys. flat_map starts_of ys ++ l.later_starts) o.sections.sections
           ∙ (ap (λ ys. ys ++ l.later_starts) (flat_map-append starts_of s.sections o.sections.more)
           ∙ append_assoc (flat_map starts_of s.sections) (flat_map starts_of o.sections.more) l.later_starts)));
-      later_sections = map placed_of o.sections.more ++ l.later_sections;
-      sections = l.sections
-          ∙ (ap (λ (u : Layout). map placed_of u.sections ++ l.later_sections) w
-          ∙ (ap (λ ys. map placed_of ys ++ l.later_sections) o.sections.sections
-          ∙ (ap (λ ys. ys ++ l.later_sections) (map-append placed_of s.sections o.sections.more)
-          ∙ append_assoc (map placed_of s.sections) (map placed_of o.sections.more) l.later_sections)));
     }
 
 abbrev pub Same : ℕ → List (List Piece) → List (List Piece) → Type 0
@@ -231,8 +225,6 @@ module _ {X : Type 0} (step : List (List Piece) → Layout → X → Result Layo
           values = e.leads.values;
           later_starts = e.leads.later_starts;
           starts = e.leads.starts;
-          later_sections = e.leads.later_sections;
-          sections = e.leads.sections;
         };
       }
 
@@ -410,9 +402,6 @@ script_comes n i script xs s provided p first e k a begins l = record {
     later_starts = [];
     starts = a.starts
         ∙ (k.placed.places.starts ∙ sym (append-nil (flat_map starts_of k.placed.layout.sections)));
-    later_sections = [];
-    sections = a.sections
-        ∙ (k.placed.places.sections ∙ sym (append-nil (map placed_of k.placed.layout.sections)));
   };
 }
 

@@ -3,15 +3,13 @@ use Rattle.std.specs.Prelude.{◌≡◌, ℕ, List, [], ◌++◌, ◌⊎◌, len
 use Rattle.ldmodel.specs.Body.{Body}
 use Rattle.ldmodel.specs.Fault.{Fault}
 use Rattle.ldmodel.specs.Layout.{Layout, PlacedPiece, PlacedSection, ScriptSymbol}
-use Rattle.ldmodel.specs.Lent.{placed_of, starts_of}
-use Rattle.ldmodel.specs.declared.laid.Placed.{Placed}
+use Rattle.ldmodel.specs.Lent.{starts_of}
 use Rattle.ldmodel.specs.declared.script_symbol.ScriptSymbol as code
 use Rattle.place.specs.Places.{Places}
 use Rattle.place.specs.declared.kept.Kept.{Kept}
 
 -- all of a placement, before the row of a number
 pub record Keeps (p : Places) (first : ℕ) (k : Kept) : Type 0 where
-  pub sections : k.sections.now ≡ p.sections
   pub starts : k.starts.now ≡ p.starts
   pub symbols : k.symbols.now ≡ p.symbols
   pub first_is : k.first ≡ first
@@ -25,7 +23,7 @@ code_values symbols = map (λ (x : code.ScriptSymbol). x.value) symbols
 abbrev pub piece_starts : List PlacedPiece → List ℕ
 piece_starts pieces = map (λ (x : PlacedPiece). x.start) pieces
 
--- it comes to a layout whose symbols, input sections and output sections are the first of the kept ones
+-- it comes to a layout whose symbols have the first of the kept values, and its input sections the first of the starts
 pub record Leads (k : Kept) (wanted : Result Layout Fault) : Type 0 where
   pub layout : Layout
   pub comes : wanted ≡ Ok layout
@@ -33,8 +31,6 @@ pub record Leads (k : Kept) (wanted : Result Layout Fault) : Type 0 where
   pub values : code_values k.symbols.now ≡ values_of layout.symbols ++ later_values
   pub later_starts : List ℕ
   pub starts : k.starts.now ≡ flat_map starts_of layout.sections ++ later_starts
-  pub later_sections : List Placed
-  pub sections : k.sections.now ≡ map placed_of layout.sections ++ later_sections
 
 -- it comes to a layout whose symbols have the first of the kept values
 pub record LeadsValues (symbols : List code.ScriptSymbol) (wanted : Result Layout Fault) : Type 0 where

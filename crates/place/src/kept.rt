@@ -4,14 +4,11 @@ ghost use Rattle.std.specs.Prelude.{◌≡◌, IfSome, IfNone};
 ghost use Rattle.place.specs.Leads.{Keeps};
 
 use crate::placement::Placement;
-use ldmodel::laid::Placed;
 use ldmodel::script_symbol::ScriptSymbol;
 
 /// What is kept of an earlier layout, and how far it holds.
 #[derive(Clone, Copy)]
 pub(crate) struct Kept<'k> {
-    /// The output sections.
-    pub sections: &'k [Placed],
     /// Where the entries of all rows start.
     pub starts: &'k [u64],
     /// The symbols.
@@ -30,14 +27,12 @@ impl<'k> Kept<'k> {
     {
         match kept {
             Some((placement, first)) => Kept {
-                sections: placement.sections(),
                 starts: placement.pieces(),
                 symbols: placement.symbols(),
                 first,
                 dots: placement.laid().dots.len(),
             },
             None => Kept {
-                sections: &[],
                 starts: &[],
                 symbols: &[],
                 first: 0,

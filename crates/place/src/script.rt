@@ -122,7 +122,7 @@ impl<'i, 'a> Input<'i, 'a> {
             ItemCommand::Common(command) => {
                 let kept = self.symbols_at(done);
                 here.common(done, self.provided, kept, line, command)
-            },
+            }
             ItemCommand::Section(output) => {
                 let row = row_at(self.rows, done.sections.len());
                 let kept = self.starts_at(done);
@@ -226,7 +226,7 @@ impl<'i, 'a> Input<'i, 'a> {
             Command::Common(command) => {
                 let kept = self.symbols_at(done);
                 here.common(done, self.provided, kept, statement.line, command)
-            },
+            }
         }
     }
 
