@@ -6,7 +6,7 @@ use Rattle.std.specs.Prelude.{⊤}
 use Rattle.std.specs.Option.{option_map}
 use Rattle.std.proofs.lemmas.List.{get_or_append_left, length-append}
 use Rattle.std.proofs.lemmas.Slice.Eq.{bytes_eq-Decides}
-use Rattle.ldnumbers.specs.Numbers.{AreCommandsOf, gives, gives_at, number_of, symbol_number}
+use Rattle.ldnumbers.specs.Numbers.{AreCommandsOf, AreNumbered, gives, gives_at, number_of, symbol_number}
 use Rattle.ldtree.specs.Given.{assigned_from, assigned_here, given_as, provided_from, provided_here}
 use Rattle.ldtree.specs.Mentions.{Clashes, Mention, SymbolGiven, in_body, in_body_command, in_common}
 use Rattle.ldtree.specs.Mentions.{in_item_command, in_items, in_load_head, in_load_tail, in_optional, in_region_name}
@@ -237,7 +237,7 @@ number_is from n (c ∷ cs) (suc k) o e = go (gives c.command n) refl (number_is
         ∙ (later ∙ ap Some more))
 
 -- a command that gives a symbol its value is the one that is found by the symbol's name
-pub found_by_name : (script : List Statement) (commands : List CommonAt) (k : ℕ) (n : List ℕ)
+found_by_name : (script : List Statement) (commands : List CommonAt) (k : ℕ) (n : List ℕ)
     → AreCommandsOf script commands → gives_at commands k n ≡ true → symbol_number script n ≡ Some k
 found_by_name script commands k n c e =
     let none : NoClash [] (mentions script) =
@@ -251,3 +251,7 @@ found_by_name script commands k n c e =
     let from_none : 0 + k ≡ k = omega arith in
     number_is 0 n (common_commands script) k (all_once [] (in_script script) none)
     (ap (λ cs. gives_at cs k n) (sym c.all) ∙ e) ∙ ap Some from_none
+
+pub all_numbered : (script : List Statement) (commands : List CommonAt) → AreCommandsOf script commands
+    → AreNumbered script commands
+all_numbered script commands c = λ k n e. found_by_name script commands k n c e

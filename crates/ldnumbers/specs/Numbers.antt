@@ -1,5 +1,5 @@
 -- The number of the command that gives a symbol its value.
-use Rattle.std.specs.Prelude.{◌≡◌, ℕ, List, Bool, false, Option, slice_get, bytes_eq}
+use Rattle.std.specs.Prelude.{◌≡◌, ℕ, List, Bool, true, false, Option, Some, slice_get, bytes_eq}
 use Rattle.std.specs.Option.{option_map, option_map_or}
 use Rattle.ldscript.specs.Script.{IsSound}
 use Rattle.ldtree.specs.Given.{given_by}
@@ -33,3 +33,8 @@ gives_at commands number name = option_map_or (λ (c : CommonAt). gives c.comman
 pub record AreCommandsOf (script : List Statement) (commands : List CommonAt) : Type 0 where
   pub sound : IsSound script
   pub all : commands ≡ common_commands script
+
+-- a symbol that one of these gives its value is found under the number of that command
+abbrev pub AreNumbered : List Statement → List CommonAt → Type 0
+AreNumbered script commands =
+    (number : ℕ) (name : List ℕ) → gives_at commands number name ≡ true → symbol_number script name ≡ Some number

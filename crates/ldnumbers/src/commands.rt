@@ -2,7 +2,6 @@
 
 ghost use Rattle.std.specs.Prelude.{◌≡◌, IfOk};
 ghost use Rattle.ldtree.specs.Numbered.{shown_commons};
-ghost use Rattle.ldtree.specs.Numbering.{common_commands};
 ghost use Rattle.ldnumbers.specs.Numbers.{gives_at, symbol_number};
 
 use crate::guesses::Guesses;
@@ -31,12 +30,12 @@ impl<'a> Model for Commands<'a> {
 
     ghost coded = { Prim.hlevel (codes, formula.the_row.coded) };
 
-    ghost use Rattle.ldnumbers.specs.Numbers.{AreCommandsOf};
+    ghost use Rattle.ldnumbers.specs.Numbers.{AreNumbered};
     ghost use Rattle.ldtree.specs.Numbered.{shown_commons};
 
     ghost view = { λ c. c.script.now };
 
-    ghost invariant = { λ c. AreCommandsOf c.script.now (shown_commons c.list.items) };
+    ghost invariant = { λ c. AreNumbered c.script.now (shown_commons c.list.items) };
 }
 
 /// Whether the command of this number gives the symbol of this name its value.
@@ -82,7 +81,8 @@ fn guesses_of(alloc: Global, commands: &[CommonAt<'_>]) -> Result<Guesses, Alloc
 }
 
 impl<'a> Commands<'a> {
-    /// Those of a script.
+    /// Those of a script, with a list of them and a guess at each name: for who asks often.
+    #[tactic(auto, using(crate::proofs::Once::all_numbered))]
     pub fn new(alloc: Global, script: &'a Script) -> Result<Commands<'a>, AllocError>
         ensures { IfOk result (λ c. c ≡ script.now) }
     {
@@ -97,15 +97,25 @@ impl<'a> Commands<'a> {
         })
     }
 
-    /// All of them, in the order of the text.
-    pub fn as_slice(&self) -> &[CommonAt<'a>]
-        ensures { shown_commons result.now ≡ common_commands self.now }
+    /// Those of a script, without a list or guesses, so that each look-up is one in the script's table: for who asks
+    /// seldom.
+    pub fn unlisted(alloc: Global, script: &'a Script) -> Result<Commands<'a>, AllocError>
+        ensures { IfOk result (λ c. c ≡ script.now) }
     {
-        &self.list
+        let guesses = Guesses::new(alloc, 0)?;
+        Ok(Commands {
+            script,
+            list: Vec::new(alloc),
+            guesses,
+        })
+    }
+
+    /// How many are in the list: all commands of the script, or none.
+    pub fn listed(&self) -> usize {
+        self.list.len()
     }
 
     /// The number of the command that gives a symbol its value.
-    #[tactic(auto, using(crate::proofs::Once::found_by_name))]
     pub fn number(&self, name: &[u8]) -> Option<usize>
         ensures { result ≡ symbol_number self.now name.now }
     {
@@ -118,7 +128,6 @@ impl<'a> Commands<'a> {
     }
 
     /// The same, where this number is looked at first: for who goes through the commands in order, and knows the next.
-    #[tactic(auto, using(crate::proofs::Once::found_by_name))]
     pub fn number_or(&self, next: usize, name: &[u8]) -> Option<usize>
         ensures { result ≡ symbol_number self.now name.now }
     {

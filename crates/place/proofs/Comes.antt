@@ -5,7 +5,7 @@ use Rattle.std.proofs.Common.{length-append, Option, Some, None, IfSome, IfNone}
 use Rattle.std.specs.Prelude.{flat_map}
 use Rattle.std.proofs.lemmas.Bool.{cases_lt}
 use Rattle.std.proofs.lemmas.Grind.{flat_map-append}
-use Rattle.std.proofs.lemmas.List.{append-nil, length-map, map-append, drop_more}
+use Rattle.std.proofs.lemmas.List.{append-nil, length-map, drop_more}
 use Rattle.ldtree.specs.declared.common.Common.{Common}
 use Rattle.ldtree.specs.declared.common.DotCommand.{DotCommand}
 use Rattle.ldtree.specs.declared.common.DotCommand.TheVariants.{Set, Add}
@@ -22,7 +22,7 @@ use Rattle.ldmodel.specs.Assigning.{common_step}
 use Rattle.ldmodel.specs.Body.{Body, body_step}
 use Rattle.ldmodel.specs.Chain.{and_then, run}
 use Rattle.ldmodel.specs.Fault.{Fault}
-use Rattle.ldmodel.specs.Layout.{Layout, PlacedSection, ScriptSymbol, address, noted, number}
+use Rattle.ldmodel.specs.Layout.{Layout, PlacedSection, address, noted, number}
 use Rattle.ldmodel.specs.Lent.{starts_of, symbol_of}
 use Rattle.ldmodel.specs.Placement.{command_step, free_dot_step, item_command_step, item_step, next_row, opened}
 use Rattle.ldmodel.specs.Placement.{placement, region_step, section_step, statement_step, with_region}
@@ -40,9 +40,10 @@ use Rattle.place.specs.Coming.{Coming}
 use Rattle.place.specs.Inputs.{rows_of}
 use Rattle.place.specs.Keyed.{KeyedSection, section_of}
 use Rattle.place.specs.Kept.{IsKept}
-use Rattle.place.specs.Leads.{GoesOn, Keeps, Knows, Leads, code_values, values_of}
+use Rattle.place.specs.Leads.{GoesOn, Keeps, Knows, Leads}
 use Rattle.place.specs.Naming.{Naming}
 use Rattle.place.specs.Places.{Places}
+use Rattle.place.specs.SymbolTable.{AreFound}
 use Rattle.place.specs.Wholes.{starts_in}
 use Rattle.place.specs.declared.kept.Kept.{Kept}
 use Rattle.place.specs.declared.script.Input.{Input}
@@ -133,20 +134,20 @@ fewer s t o =
     omega (arith, e)
 
 -- what leads to a later layout leads to an earlier one
-leads_before : (k : Kept) (s t : Layout) (r q : Result Layout Fault) → On s t → r ≡ Ok s → (l : Leads k q)
-    → l.layout ≡ t
-    → Leads k r
-leads_before k s t r q o e l m =
+leads_before : (script : List Statement) (k : Kept) (s t : Layout) (r q : Result Layout Fault) → On s t → r ≡ Ok s
+    → (l : Leads script k q) → l.layout ≡ t
+    → Leads script k r
+leads_before script k s t r q o e l m =
     let w : l.layout ≡ t = m in
     record {
       layout = s;
       comes = e;
-      later_values = values_of o.symbols.more ++ l.later_values;
-      values = l.values
-          ∙ (ap (λ (u : Layout). values_of u.symbols ++ l.later_values) w
-          ∙ (ap (λ ys. values_of ys ++ l.later_values) o.symbols.symbols
-          ∙ (ap (λ ys. ys ++ l.later_values) (map-append (λ (y : ScriptSymbol). y.value) s.symbols o.symbols.more)
-          ∙ append_assoc (values_of s.symbols) (values_of o.symbols.more) l.later_values)));
+      later_symbols = o.symbols.more ++ l.later_symbols;
+      symbols = l.symbols
+          ∙ (ap (λ (u : Layout). u.symbols ++ l.later_symbols) w
+          ∙ (ap (λ ys. ys ++ l.later_symbols) o.symbols.symbols
+          ∙ append_assoc s.symbols o.symbols.more l.later_symbols));
+      found = l.found;
       later_starts = flat_map starts_of o.sections.more ++ l.later_starts;
       starts = l.starts
           ∙ (ap (λ (u : Layout). flat_map starts_of u.sections ++ l.later_starts) w
@@ -193,24 +194,24 @@ module _ {X : Type 0} (step : List (List Piece) → Layout → X → Result Layo
       (same first earlier rows s x h.value a h.first b)
       ∙ run_same first earlier rows xs h.value t a h.second l
 
-  first_comes : (n : Naming) (i : Input) (s : Layout) (x : X) (xs : List X)
-      → Coming n i s (λ rows. run (step rows) s (x ∷ xs)) → Coming n i s (λ rows. step rows s x)
+  first_comes : (n : Naming) (i : Input) (script : List Statement) (s : Layout) (x : X) (xs : List X)
+      → Coming n i script s (λ rows. run (step rows) s (x ∷ xs)) → Coming n i script s (λ rows. step rows s x)
   unfolding run
-  first_comes n i s x xs c l =
+  first_comes n i script s x xs c l =
       let e = c l in
       let h = chained (step e.rows s x) (λ u. run (step e.rows) u xs) e.leads.layout e.leads.comes in
       record {
         rows = e.rows;
         same = e.same;
-        leads = leads_before i.kept h.value e.leads.layout (step e.rows s x) (run (step e.rows) s (x ∷ xs))
+        leads = leads_before script i.kept h.value e.leads.layout (step e.rows s x) (run (step e.rows) s (x ∷ xs))
             (run_on e.rows xs h.value e.leads.layout h.second) h.first e.leads refl;
       }
 
-  next_comes : (n : Naming) (i : Input) (s : Layout) (x : X) (xs : List X) (t : Layout)
-      → Coming n i s (λ rows. run (step rows) s (x ∷ xs)) → step (rows_of n i) s x ≡ Ok t
-      → Coming n i t (λ rows. run (step rows) t xs)
+  next_comes : (n : Naming) (i : Input) (script : List Statement) (s : Layout) (x : X) (xs : List X) (t : Layout)
+      → Coming n i script s (λ rows. run (step rows) s (x ∷ xs)) → step (rows_of n i) s x ≡ Ok t
+      → Coming n i script t (λ rows. run (step rows) t xs)
   unfolding run
-  next_comes n i s x xs t c h l =
+  next_comes n i script s x xs t c h l =
       let f = fewer s t (grows (rows_of n i) s x t h) in
       let b : length s.sections < i.kept.first = omega (arith, f, l) in
       let e = c b in
@@ -221,28 +222,32 @@ module _ {X : Type 0} (step : List (List Piece) → Layout → X → Result Layo
         leads = record {
           layout = e.leads.layout;
           comes = sym (and_then_at (step e.rows s x) t (λ u. run (step e.rows) u xs) at) ∙ e.leads.comes;
-          later_values = e.leads.later_values;
-          values = e.leads.values;
+          later_symbols = e.leads.later_symbols;
+          symbols = e.leads.symbols;
+          found = e.leads.found;
           later_starts = e.leads.later_starts;
           starts = e.leads.starts;
         };
       }
 
   -- the same at a place in a list
-  pub first_comes_at : (n : Naming) (i : Input) (s : Layout) (xs : List X) (k : ℕ) (x : X) → k < length xs → x
-      ≡ get_or xs k x → Coming n i s (λ rows. run (step rows) s (drop k xs)) → Coming n i s (λ rows. step rows s x)
-  first_comes_at n i s xs k x h e c =
-      first_comes n i s x (drop (k + 1) xs)
-      (subst (λ ys. Coming n i s (λ rows. run (step rows) s ys))
+  pub first_comes_at : (n : Naming) (i : Input) (script : List Statement) (s : Layout) (xs : List X) (k : ℕ) (x : X)
+      → k < length xs → x ≡ get_or xs k x → Coming n i script s (λ rows. run (step rows) s (drop k xs))
+      → Coming n i script s (λ rows. step rows s x)
+  first_comes_at n i script s xs k x h e c =
+      first_comes n i script s x (drop (k + 1) xs)
+      (subst (λ ys. Coming n i script s (λ rows. run (step rows) s ys))
       (drop_more xs k x h ∙ ap (λ y. y ∷ drop (k + 1) xs) (sym e)) c)
 
-  pub next_comes_at : (n : Naming) (i : Input) (s : Layout) (xs : List X) (k : ℕ) (x : X) (t : Layout) → k < length xs
-      → x ≡ get_or xs k x → Coming n i s (λ rows. run (step rows) s (drop k xs)) → step (rows_of n i) s x ≡ Ok t
-      → Coming n i t (λ rows. run (step rows) t (drop (k + 1) xs))
-  next_comes_at n i s xs k x t h e c f =
-      next_comes n i s x (drop (k + 1) xs) t
-      (subst (λ ys. Coming n i s (λ rows. run (step rows) s ys))
-      (drop_more xs k x h ∙ ap (λ y. y ∷ drop (k + 1) xs) (sym e)) c) f
+  pub next_comes_at : (n : Naming) (i : Input) (script script' : List Statement) (s : Layout) (xs : List X) (k : ℕ)
+      (x : X) (t : Layout) → k < length xs
+      → x ≡ get_or xs k x → Coming n i script s (λ rows. run (step rows) s (drop k xs)) → step (rows_of n i) s x ≡ Ok t
+      → script' ≡ script → Coming n i script' t (λ rows. run (step rows) t (drop (k + 1) xs))
+  next_comes_at n i script script' s xs k x t h e c f same =
+      subst (λ z. Coming n i z t (λ rows. run (step rows) t (drop (k + 1) xs))) (sym same)
+      (next_comes n i script s x (drop (k + 1) xs) t
+      (subst (λ ys. Coming n i script s (λ rows. run (step rows) s ys))
+      (drop_more xs k x h ∙ ap (λ y. y ∷ drop (k + 1) xs) (sym e)) c) f)
 
 pub item_same : (provided : List (List ℕ)) (first : ℕ) (earlier rows : List (List Piece)) (s : Layout) (x : Item)
     (t : Layout) → Same first earlier rows → item_step rows provided s x ≡ Ok t → length t.sections < first
@@ -278,79 +283,86 @@ command_same provided first earlier rows line s (top.Sections xs) t a e l =
 command_same provided first earlier rows line s (top.Common c) t a e l = e
 
 -- the statements of SECTIONS
-module _ (provided : List (List ℕ)) (n : Naming) (i : Input) (s : Layout) (xs : List Item) (k : ℕ) (x : Item)
-    (h : k < length xs) (e : x ≡ get_or xs k x)
-    (c : Coming n i s (λ rows. run (item_step rows provided) s (drop k xs))) where
-  pub item_comes : Coming n i s (λ rows. item_step rows provided s x)
+module _ (provided : List (List ℕ)) (n : Naming) (i : Input) (script : List Statement) (s : Layout) (xs : List Item)
+    (k : ℕ) (x : Item) (h : k < length xs) (e : x ≡ get_or xs k x)
+    (c : Coming n i script s (λ rows. run (item_step rows provided) s (drop k xs))) where
+  pub item_comes : Coming n i script s (λ rows. item_step rows provided s x)
   item_comes =
-      first_comes_at (λ rs. item_step rs provided) (λ rs. item_on rs provided) (item_same provided) n i s xs k x h e c
+      first_comes_at (λ rs. item_step rs provided) (λ rs. item_on rs provided) (item_same provided) n i script s xs k x
+      h e c
 
-  pub items_come : (t : Layout) → item_step (rows_of n i) provided s x ≡ Ok t
-      → Coming n i t (λ rows. run (item_step rows provided) t (drop (k + 1) xs))
-  items_come t f =
-      next_comes_at (λ rs. item_step rs provided) (λ rs. item_on rs provided) (item_same provided) n i s xs k x t h e c
-      f
+  pub items_come : (script' : List Statement) (t : Layout) → item_step (rows_of n i) provided s x ≡ Ok t
+      → script' ≡ script
+      → Coming n i script' t (λ rows. run (item_step rows provided) t (drop (k + 1) xs))
+  items_come script' t f same =
+      next_comes_at (λ rs. item_step rs provided) (λ rs. item_on rs provided) (item_same provided) n i script script' s
+      xs k x t h e c f same
 
 -- the statements of the script
-module _ (provided : List (List ℕ)) (n : Naming) (i : Input) (s : Layout) (xs : List Statement) (k : ℕ) (x : Statement)
+module _ (provided : List (List ℕ)) (n : Naming) (i : Input) (script : List Statement) (s : Layout)
+    (xs : List Statement) (k : ℕ) (x : Statement)
     (h : k < length xs) (e : x ≡ get_or xs k x)
-    (c : Coming n i s (λ rows. run (statement_step rows provided) s (drop k xs))) where
-  pub statement_comes : Coming n i s (λ rows. statement_step rows provided s x)
+    (c : Coming n i script s (λ rows. run (statement_step rows provided) s (drop k xs))) where
+  pub statement_comes : Coming n i script s (λ rows. statement_step rows provided s x)
   statement_comes =
       first_comes_at (λ rs. statement_step rs provided) (λ rs u y. command_on rs provided y.line u y.command)
-      (λ f g rs u y. command_same provided f g rs y.line u y.command) n i s xs k x h e c
+      (λ f g rs u y. command_same provided f g rs y.line u y.command) n i script s xs k x h e c
 
-  pub statements_come : (t : Layout) → statement_step (rows_of n i) provided s x ≡ Ok t
-      → Coming n i t (λ rows. run (statement_step rows provided) t (drop (k + 1) xs))
-  statements_come t f =
+  pub statements_come : (script' : List Statement) (t : Layout) → statement_step (rows_of n i) provided s x ≡ Ok t
+      → script' ≡ script
+      → Coming n i script' t (λ rows. run (statement_step rows provided) t (drop (k + 1) xs))
+  statements_come script' t f same =
       next_comes_at (λ rs. statement_step rs provided) (λ rs u y. command_on rs provided y.line u y.command)
-      (λ g z rs u y. command_same provided g z rs y.line u y.command) n i s xs k x t h e c f
+      (λ g z rs u y. command_same provided g z rs y.line u y.command) n i script script' s xs k x t h e c f same
 
 -- what is to come of a symbol
-knows_now : (k : Kept) (symbols : List code.ScriptSymbol) (r : Result Layout Fault) → symbols ≡ k.symbols.now
-    → Leads k r
-    → Knows symbols r
-knows_now k symbols r e l = inr (record {
+knows_now : (script : List Statement) (k : Kept) (symbols : List code.ScriptSymbol) (r : Result Layout Fault)
+    → symbols ≡ k.symbols.now → Leads script k r
+    → Knows script symbols r
+knows_now script k symbols r e l = inr (record {
   layout = l.layout;
   comes = l.comes;
-  later = l.later_values;
-  values = ap code_values e ∙ l.values;
+  later = l.later_symbols;
+  begins = ap (map (symbol_of script)) e ∙ l.symbols;
+  found = subst (AreFound script) (sym e) l.found;
 })
 
-pub knows_item : (provided : List (List ℕ)) (n : Naming) (i : Input) (s : Layout) (line : ℕ) (c : Common) (count : ℕ)
+pub knows_item : (provided : List (List ℕ)) (n : Naming) (i : Input) (script : List Statement) (s : Layout)
+    (line : ℕ) (c : Common) (count : ℕ)
     (symbols : List code.ScriptSymbol) → length s.sections ≡ count
-    → Coming n i s (λ rows. item_command_step rows provided line s (item.Common c))
+    → Coming n i script s (λ rows. item_command_step rows provided line s (item.Common c))
     → (count < i.kept.first → symbols ≡ i.kept.symbols.now) → (i.kept.first ≤ count → symbols ≡ [])
-    → Knows symbols (common_step provided s line c)
+    → Knows script symbols (common_step provided s line c)
 unfolding item_command_step
-knows_item provided n i s line c count symbols m w taken past = ⊎_elim
+knows_item provided n i script s line c count symbols m w taken past = ⊎_elim
     (λ (l : count < i.kept.first). let e = w (omega (arith, l, m)) in
-    knows_now i.kept symbols (common_step provided s line c) (taken l) e.leads)
+    knows_now script i.kept symbols (common_step provided s line c) (taken l) e.leads)
     (λ (g : i.kept.first ≤ count). inl (past g))
     (cases_lt count i.kept.first)
 
-pub knows_statement : (provided : List (List ℕ)) (n : Naming) (i : Input) (s : Layout) (line : ℕ) (c : Common)
-    (count : ℕ) (symbols : List code.ScriptSymbol) → length s.sections ≡ count
-    → Coming n i s (λ rows. command_step rows provided line s (top.Common c))
+pub knows_statement : (provided : List (List ℕ)) (n : Naming) (i : Input) (script : List Statement) (s : Layout)
+    (line : ℕ) (c : Common) (count : ℕ) (symbols : List code.ScriptSymbol) → length s.sections ≡ count
+    → Coming n i script s (λ rows. command_step rows provided line s (top.Common c))
     → (count < i.kept.first → symbols ≡ i.kept.symbols.now) → (i.kept.first ≤ count → symbols ≡ [])
-    → Knows symbols (common_step provided s line c)
+    → Knows script symbols (common_step provided s line c)
 unfolding command_step
-knows_statement provided n i s line c count symbols m w taken past = ⊎_elim
+knows_statement provided n i script s line c count symbols m w taken past = ⊎_elim
     (λ (l : count < i.kept.first). let e = w (omega (arith, l, m)) in
-    knows_now i.kept symbols (common_step provided s line c) (taken l) e.leads)
+    knows_now script i.kept symbols (common_step provided s line c) (taken l) e.leads)
     (λ (g : i.kept.first ≤ count). inl (past g))
     (cases_lt count i.kept.first)
 
 -- what is to come of an output section
-pub goes_on_item : (provided : List (List ℕ)) (n : Naming) (i : Input) (s : Layout) (line : ℕ) (o : OutputSection)
+pub goes_on_item : (provided : List (List ℕ)) (n : Naming) (i : Input) (script : List Statement) (s : Layout)
+    (line : ℕ) (o : OutputSection)
     (before : List KeyedSection) (row : List Piece) (starts : List ℕ) → s.sections ≡ map (section_of n) before
     → row ≡ next_row (rows_of n i) s
-    → Coming n i s (λ rows. item_command_step rows provided line s (item.Section o))
+    → Coming n i script s (λ rows. item_command_step rows provided line s (item.Section o))
     → (length before < i.kept.first → starts ≡ drop (length (starts_in before)) i.kept.starts.now)
     → (i.kept.first ≤ length before → starts ≡ [])
     → GoesOn starts s.sections (section_step provided row s line o)
 unfolding item_command_step
-goes_on_item provided n i s line o before row starts m r w taken past = ⊎_elim
+goes_on_item provided n i script s line o before row starts m r w taken past = ⊎_elim
     (λ (l : length before < i.kept.first).
     let long : length s.sections ≡ length before = ap length m ∙ length-map before (section_of n) in
     let l' : length s.sections < i.kept.first = omega (arith, l, long) in
@@ -372,33 +384,32 @@ goes_on_item provided n i s line o before row starts m r w taken past = ⊎_elim
     (cases_lt (length before) i.kept.first)
 
 -- the statements of a SECTIONS
-pub sections_come : (provided : List (List ℕ)) (n : Naming) (i : Input) (s : Layout) (line : ℕ) (c : Command)
-    (xs : List Item) → c ≡ top.Sections xs → Coming n i s (λ rows. command_step rows provided line s c)
-    → Coming n i s (λ rows. run (item_step rows provided) s xs)
+pub sections_come : (provided : List (List ℕ)) (n : Naming) (i : Input) (script : List Statement) (s : Layout)
+    (line : ℕ) (c : Command)
+    (xs : List Item) → c ≡ top.Sections xs → Coming n i script s (λ rows. command_step rows provided line s c)
+    → Coming n i script s (λ rows. run (item_step rows provided) s xs)
 unfolding command_step
-sections_come provided n i s line c xs e w =
-    subst (λ d. Coming n i s (λ rows. command_step rows provided line s d)) e w
-
-values_same : (script : List Statement) (xs : List code.ScriptSymbol) → values_of (map (symbol_of script) xs)
-    ≡ code_values xs
-values_same script [] = refl
-values_same script (x ∷ xs) = ap (λ l. x.value ∷ l) (values_same script xs)
+sections_come provided n i script s line c xs e w =
+    subst (λ d. Coming n i script s (λ rows. command_step rows provided line s d)) e w
 
 -- what is to come of the whole script
-pub script_comes : (n : Naming) (i : Input) (script xs : List Statement) (s : Layout) (provided : List (List ℕ))
-    (p : Places) (first : ℕ) → xs ≡ script → IsKept script (rows_of n i) provided p first → Keeps p first i.kept
+pub script_comes : (n : Naming) (i : Input) (script script' xs : List Statement) (s : Layout) (provided : List (List ℕ))
+    (p : Places) (first : ℕ) → script' ≡ script → xs ≡ script
+    → IsKept script (rows_of n i) provided p first → Keeps p first i.kept
     → ((rows : List (List Piece)) → run (statement_step rows provided) s script ≡ placement script rows provided)
-    → Coming n i s (λ rows. run (statement_step rows provided) s xs)
-script_comes n i script xs s provided p first e k a begins l = record {
+    → Coming n i script' s (λ rows. run (statement_step rows provided) s xs)
+script_comes n i script script' xs s provided p first m e k a begins l = record {
   rows = k.earlier;
   same = λ j h. k.same j (subst (λ m. j < m) a.first_is h);
   leads = record {
     layout = k.placed.layout;
     comes = ap (run (statement_step k.earlier provided) s) e ∙ (begins k.earlier ∙ k.placed.placed);
-    later_values = [];
-    values = ap code_values a.symbols
-        ∙ (sym (values_same script p.symbols)
-        ∙ (ap values_of k.placed.places.symbols ∙ sym (append-nil (values_of k.placed.layout.symbols))));
+    later_symbols = [];
+    symbols = ap (λ z. map (symbol_of z) i.kept.symbols.now) m
+        ∙ (ap (map (symbol_of script)) a.symbols
+        ∙ (k.placed.places.symbols ∙ sym (append-nil k.placed.layout.symbols)));
+    found = subst (λ z. AreFound z i.kept.symbols.now) (sym m)
+        (subst (AreFound script) (sym a.symbols) k.placed.places.found);
     later_starts = [];
     starts = a.starts
         ∙ (k.placed.places.starts ∙ sym (append-nil (flat_map starts_of k.placed.layout.sections)));
@@ -406,9 +417,9 @@ script_comes n i script xs s provided p first e k a begins l = record {
 }
 
 -- nothing is to come where nothing is taken over
-pub nothing_comes : (n : Naming) (i : Input) (s : Layout) (wanted : List (List Piece) → Result Layout Fault)
-    → i.kept.first ≡ 0 → Coming n i s wanted
-nothing_comes n i s wanted none l = absurd (omega (arith, none, l))
+pub nothing_comes : (n : Naming) (i : Input) (script : List Statement) (s : Layout)
+    (wanted : List (List Piece) → Result Layout Fault) → i.kept.first ≡ 0 → Coming n i script s wanted
+nothing_comes n i script s wanted none l = absurd (omega (arith, none, l))
 
 pub by_option : {K : Type 0} (o : Option K) (A B : K → Type 0) (N C : Type 0) → IfSome o A → IfSome o B → IfNone o N
     → ((k : K) → A k → B k → C) → (N → C) → C

@@ -58,7 +58,7 @@ module _ (script : List Statement) (rows : List (List Piece)) (provided : List (
 -- where a layout begins
 pub begins : (n : Naming) (h : Here) (d : Done) (rows : List (List Piece)) (provided : List (List ℕ))
     (script : List Statement)
-    → h.dot ≡ 0 → h.dots.items ≡ [] → h.inputs ≡ 0 → h.symbols ≡ [] → d.sections ≡ [] → d.regions ≡ []
+    → h.dot ≡ 0 → h.dots.items ≡ [] → h.inputs ≡ 0 → h.symbols.list ≡ [] → d.sections ≡ [] → d.regions ≡ []
     → run (statement_step rows provided) (layout_of n h d) script ≡ placement script rows provided
 unfolding placement
 begins n h d rows provided script a b c e f g = rw (a, b, c, e, f, g) refl

@@ -1,7 +1,8 @@
 -- The numbers of names tell the names apart.
-use Rattle.std.proofs.Common.{◌≡◌, ℕ, suc, ◌+◌, ◌<◌, List, [], ◌∷◌, length, Bool, true, false, cond, Option, Some}
-use Rattle.std.proofs.Common.{None, refl, sym, ap, ◌∙◌, arith}
+use Rattle.std.proofs.Common.{◌≡◌, ℕ, suc, ◌+◌, ◌<◌, List, [], ◌∷◌, ◌++◌, length, map, Bool, true, false, cond, Option, Some}
+use Rattle.std.proofs.Common.{Result, Ok, Err, OnOk, None, refl, sym, ap, ◌∙◌, arith}
 use Rattle.std.specs.Prelude.{slice_get, bytes_eq}
+use Rattle.std.proofs.lemmas.List.{map-append}
 use Rattle.std.specs.Option.{option_map, option_map_or}
 use Rattle.ldtree.specs.Given.{assigned_from, provided_from, assigned_here, provided_here, given_as}
 use Rattle.ldtree.specs.Given.{section_from, section_number, region_from, region_number}
@@ -10,8 +11,10 @@ use Rattle.ldtree.specs.declared.common.Common.{Common}
 use Rattle.ldtree.specs.declared.common.Common.TheVariants as common
 use Rattle.ldtree.specs.declared.statement.Region.{Region}
 use Rattle.ldtree.specs.declared.statement.Statement.{Statement}
-use Rattle.ldmodel.specs.Lent.{given_name}
+use Rattle.ldmodel.specs.Lent.{given_name, name_given_by, symbol_of}
+use Rattle.ldmodel.specs.declared.script_symbol.ScriptSymbol as code
 use Rattle.place.proofs.Lists.{same_name}
+use Rattle.place.specs.SymbolTable.{named, IsFound, Numbered}
 use Rattle.place.specs.Tables.{number_of, symbol_number}
 
 -- what a number that was found says, counted from where the search began
@@ -155,3 +158,31 @@ region_named_by script name k e =
     let f = region_at 0 (regions script) name k e in
     let same : k ≡ f.more = omega (arith, f.here) in
     ap (λ j. option_map_or name_of_region (slice_get (regions script) j) []) same ∙ f.named
+
+-- the command under whose number a symbol is found gives it its value
+pub symbol_named_by : (script : List Statement) (name : List ℕ) (k : ℕ) → symbol_number script name ≡ Some k
+    → name_given_by script k ≡ name
+symbol_named_by script name k e =
+    let f = symbol_at script name k e in
+    let same : k ≡ f.more = omega (arith, f.here) in
+    ap (name_given_by script) same ∙ f.named
+
+pub found_by_name : (script : List Statement) (name : List ℕ) (n k v : ℕ) → symbol_number script name ≡ Some n → k ≡ n
+    → IsFound script (record { command = record { 0 = k }; value = v })
+found_by_name script name n k v e same =
+    let h : symbol_number script name ≡ Some k = e ∙ ap Some (sym same) in
+    ap (symbol_number script) (symbol_named_by script name k h) ∙ h
+
+pub named_by_number : {T E : Type 0} (r : Result T E) (s t : Numbered) (name : List ℕ) (n k v : ℕ)
+    → symbol_number s.script name ≡ Some n → k ≡ n → t.script ≡ s.script
+    → OnOk r (t.list ≡ s.list ++ record { command = record { 0 = k }; value = v } ∷ [])
+    → OnOk r (named t ≡ named s ++ record { name = name; value = v } ∷ [])
+named_by_number (Err f) s t name n k v e same keeps pushed = tt
+named_by_number (Ok u) s t name n k v e same keeps pushed =
+    let x : code.ScriptSymbol = record { command = record { 0 = k }; value = v } in
+    let h : symbol_number s.script name ≡ Some k = e ∙ ap Some (sym same) in
+    let here : symbol_of s.script x ≡ record { name = name; value = v } =
+    ap (λ m. record { name = m; value = v }) (symbol_named_by s.script name k h) in
+    ap (λ z. map (symbol_of z) t.list) keeps
+    ∙ (ap (map (symbol_of s.script)) pushed
+    ∙ (map-append (symbol_of s.script) s.list (x ∷ []) ∙ ap (λ y. named s ++ y ∷ []) here))

@@ -26,9 +26,10 @@ missed kept [] = 0
 missed [] (x ∷ xs) = suc (missed [] xs)
 missed (k ∷ kept) (x ∷ xs) = if k == x then missed kept xs else suc (missed kept xs)
 
--- in a body at most as many are placed anew as take their places, no more of these than the row has, and none whose
+-- in a body the script stays, at most as many are placed anew as take their places, no more of these than the row has, and none whose
 -- start is the kept one
 pub record Counted (old new : Here) (f : Frame) : Type 0 where
+  pub script : new.symbols.script ≡ old.symbols.script
   pub anew : new.anew + length old.pieces.items ≤ old.anew + length new.pieces.items
   pub within : length old.pieces.items ≤ length f.row.now → length new.pieces.items ≤ length f.row.now
   pub taken : new.anew + missed f.kept.now (starts_here old) ≤ old.anew + missed f.kept.now (starts_here new)

@@ -1,11 +1,13 @@
 -- What is to come, told by an earlier layout.
 use Rattle.std.specs.Prelude.{◌≡◌, ℕ, List, [], ◌++◌, ◌⊎◌, length, map, flat_map, drop, Result, Ok}
+use Rattle.ldtree.specs.declared.statement.Statement.{Statement}
 use Rattle.ldmodel.specs.Body.{Body}
 use Rattle.ldmodel.specs.Fault.{Fault}
 use Rattle.ldmodel.specs.Layout.{Layout, PlacedPiece, PlacedSection, ScriptSymbol}
-use Rattle.ldmodel.specs.Lent.{starts_of}
+use Rattle.ldmodel.specs.Lent.{starts_of, symbol_of}
 use Rattle.ldmodel.specs.declared.script_symbol.ScriptSymbol as code
 use Rattle.place.specs.Places.{Places}
+use Rattle.place.specs.SymbolTable.{AreFound}
 use Rattle.place.specs.declared.kept.Kept.{Kept}
 
 -- all of a placement, before the row of a number
@@ -14,34 +16,32 @@ pub record Keeps (p : Places) (first : ℕ) (k : Kept) : Type 0 where
   pub symbols : k.symbols.now ≡ p.symbols
   pub first_is : k.first ≡ first
 
-abbrev pub values_of : List ScriptSymbol → List ℕ
-values_of symbols = map (λ (x : ScriptSymbol). x.value) symbols
-
-abbrev pub code_values : List code.ScriptSymbol → List ℕ
-code_values symbols = map (λ (x : code.ScriptSymbol). x.value) symbols
-
 abbrev pub piece_starts : List PlacedPiece → List ℕ
 piece_starts pieces = map (λ (x : PlacedPiece). x.start) pieces
 
--- it comes to a layout whose symbols have the first of the kept values, and its input sections the first of the starts
-pub record Leads (k : Kept) (wanted : Result Layout Fault) : Type 0 where
+-- it comes to a layout whose symbols are the first of the kept ones, by the commands of a script, and whose input
+-- sections have the first of the starts
+pub record Leads (script : List Statement) (k : Kept) (wanted : Result Layout Fault) : Type 0 where
   pub layout : Layout
   pub comes : wanted ≡ Ok layout
-  pub later_values : List ℕ
-  pub values : code_values k.symbols.now ≡ values_of layout.symbols ++ later_values
+  pub later_symbols : List ScriptSymbol
+  pub symbols : map (symbol_of script) k.symbols.now ≡ layout.symbols ++ later_symbols
+  pub found : AreFound script k.symbols.now
   pub later_starts : List ℕ
   pub starts : k.starts.now ≡ flat_map starts_of layout.sections ++ later_starts
 
--- it comes to a layout whose symbols have the first of the kept values
-pub record LeadsValues (symbols : List code.ScriptSymbol) (wanted : Result Layout Fault) : Type 0 where
+-- it comes to a layout whose symbols are the first of the kept ones
+pub record LeadsSymbols (script : List Statement) (symbols : List code.ScriptSymbol) (wanted : Result Layout Fault)
+    : Type 0 where
   pub layout : Layout
   pub comes : wanted ≡ Ok layout
-  pub later : List ℕ
-  pub values : code_values symbols ≡ values_of layout.symbols ++ later
+  pub later : List ScriptSymbol
+  pub begins : map (symbol_of script) symbols ≡ layout.symbols ++ later
+  pub found : AreFound script symbols
 
 -- the same, or no symbol is kept
-abbrev pub Knows : List code.ScriptSymbol → Result Layout Fault → Type 0
-Knows symbols wanted = (symbols ≡ []) ⊎ LeadsValues symbols wanted
+abbrev pub Knows : List Statement → List code.ScriptSymbol → Result Layout Fault → Type 0
+Knows script symbols wanted = (symbols ≡ []) ⊎ LeadsSymbols script symbols wanted
 
 -- it comes to a body whose input sections have the first of the kept starts
 pub record LeadsBody (starts : List ℕ) (wanted : Result Body Fault) : Type 0 where

@@ -14,6 +14,7 @@ use Rattle.ldmodel.specs.declared.laid.Placed.{Placed}
 use Rattle.ldmodel.specs.declared.laid.PlacedData.{PlacedData}
 use Rattle.ldmodel.specs.declared.laid.PlacedRegion.{PlacedRegion}
 use Rattle.ldmodel.specs.declared.script_symbol.ScriptSymbol.{ScriptSymbol}
+use Rattle.place.specs.SymbolTable.{AreFound}
 
 -- what a placement lends, part by part
 pub record Places : Type 0 where
@@ -28,13 +29,14 @@ pub record Places : Type 0 where
 abbrev pub Ends : List Placed → Type 0
 Ends sections = All (λ (q : Placed). q.start + q.size < 2 ^ 64) sections
 
--- they are those of the layout of a script
+-- they are those of the layout of a script, and its symbols are found under the numbers of their commands
 pub record AreOf (script : List Statement) (s : Layout) (p : Places) : Type 0 where
   pub sections : p.sections ≡ map placed_of s.sections
   pub starts : p.starts ≡ flat_map starts_of s.sections
   pub data_commands : map data_of p.data_commands ≡ flat_map numbered (enumerate_from 0 s.sections)
   pub dots : p.dots ≡ s.dots
   pub symbols : map (symbol_of script) p.symbols ≡ s.symbols
+  pub found : AreFound script p.symbols
   pub regions : p.regions ≡ map region_of s.regions
 
 -- the script with these rows, in which these PROVIDEs are in force, has a layout, and these are its places

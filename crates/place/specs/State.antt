@@ -8,6 +8,7 @@ use Rattle.ldmodel.specs.declared.rows.Piece as rows
 use Rattle.place.specs.Keyed.{piece_at, data_at, section_of}
 use Rattle.place.specs.Naming.{Naming, row_named}
 use Rattle.place.specs.SectionTable.{keyed_piece}
+use Rattle.place.specs.SymbolTable.{named}
 use Rattle.place.specs.declared.state.Here.{Here}
 use Rattle.place.specs.declared.state.Done.{Done}
 use Rattle.place.specs.declared.state.Frame.{Frame}
@@ -19,7 +20,7 @@ layout_of n h d = record {
   dot = h.dot;
   dots = h.dots.items;
   inputs = h.inputs;
-  symbols = h.symbols;
+  symbols = named h.symbols;
   regions = d.regions;
   sections = map (section_of n) d.sections;
 }

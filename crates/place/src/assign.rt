@@ -13,7 +13,7 @@ use ldmodel::script_symbol::ScriptSymbol;
 use ldscript::tree::{Assignment, Common};
 
 impl<'a> Here<'a> {
-    /// `NAME = e`, with the value that was kept of it, if any.
+    /// `NAME = e`, with the symbol that was kept of it, if any.
     fn assign(
         &mut self,
         done: &Done<'a>,
@@ -22,22 +22,24 @@ impl<'a> Here<'a> {
         a: &'a Assignment,
     ) -> Result<(), Stop<'a>>
         ghost naming: { Naming }
-        requires { Knows kept.now (assigned (layout_of naming self.now done.now) line a.now) }
+        requires { Knows self.now.symbols.script kept.now (assigned (layout_of naming self.now done.now) line a.now) }
         ensures gives { Gives (assigned (layout_of naming self.old done.now) line a.now)
             (layout_of naming self.new done.now) result }
+        ensures script { self.new.symbols.script ≡ self.old.symbols.script }
         ensures pieces { self.new.pieces.items ≡ self.old.pieces.items }
         ensures data_commands { self.new.data_commands.items ≡ self.old.data_commands.items }
         ensures anew { self.new.anew ≡ self.old.anew }
     {
-        let value = match kept.get(self.symbols.as_slice().len()) {
-            Some(symbol) => symbol.value,
-            None => self.formula(done, line, &a.value)?,
-        };
-        self.symbols.assign(a.name.as_bytes(), value)?;
-        Ok(())
+        match kept.get(self.symbols.len()) {
+            Some(symbol) => self.symbols.push(*symbol),
+            None => {
+                let value = self.formula(done, line, &a.value)?;
+                self.symbols.assign(a.name.as_bytes(), value)
+            }
+        }
     }
 
-    /// An assignment of a symbol, a PROVIDE or an ASSERT; the symbols that were kept have their values.
+    /// An assignment of a symbol, a PROVIDE or an ASSERT; the symbols that were kept are taken over.
     #[tactic(auto, unfolding(ldmodel::specs::Assigning::common_step))]
     pub fn common(
         &mut self,
@@ -48,9 +50,11 @@ impl<'a> Here<'a> {
         command: &'a Common,
     ) -> Result<(), Stop<'a>>
         ghost naming: { Naming }
-        requires { Knows kept.now (common_step provided.now (layout_of naming self.now done.now) line command.now) }
+        requires { Knows self.now.symbols.script kept.now
+            (common_step provided.now (layout_of naming self.now done.now) line command.now) }
         ensures gives { Gives (common_step provided.now (layout_of naming self.old done.now) line command.now)
             (layout_of naming self.new done.now) result }
+        ensures script { self.new.symbols.script ≡ self.old.symbols.script }
         ensures pieces { self.new.pieces.items ≡ self.old.pieces.items }
         ensures data_commands { self.new.data_commands.items ≡ self.old.data_commands.items }
         ensures anew { self.new.anew ≡ self.old.anew }

@@ -49,6 +49,7 @@ impl<'d, 'a> Frame<'d, 'a> {
             (piece_placed line (body_of naming here.old self.now) (piece_named naming piece.now)
             (row_named naming (drop (length here.old.pieces.items + 1) self.now.row.now)))
             (body_of naming here.new self.now) result }
+        ensures script { here.new.symbols.script ≡ here.old.symbols.script }
         ensures one { OnOk result (length here.new.pieces.items ≡ length here.old.pieces.items + 1) }
         ensures anew { here.new.anew + length here.old.pieces.items ≤ here.old.anew + length here.new.pieces.items }
         ensures few { length here.new.pieces.items ≤ length here.old.pieces.items + 1 }

@@ -216,6 +216,7 @@ impl<'a> Here<'a> {
     ) -> Result<(), Stop<'a>>
         ghost naming: { Naming }
         ensures anew { self.new.anew ≡ self.old.anew }
+        ensures script { self.new.symbols.script ≡ self.old.symbols.script }
         ensures one { OnOk result (length done.new.sections ≡ length done.old.sections + 1) }
         ensures adds { OnOk result (Adds (starts_here self.old) done.old.sections done.new.sections) }
         ensures gives { Gives (section_end line output.now (head_from head) (ended_body naming self.old done.old))

@@ -25,16 +25,39 @@ use ldoverlap::overlaps::overlaps;
 use ldscript::script::Script;
 use std::alloc::{AllocError, Global};
 
-/// Nothing is placed yet, and `.` is 0; this many values of `.` are expected.
-fn nowhere<'a>(alloc: Global, script: &'a Script, expected: usize) -> Result<Here<'a>, AllocError>
+/// No symbol has a value yet, of a layout that has this many output sections.
+fn no_symbols<'a>(
+    alloc: Global,
+    script: &'a Script,
+    taken: Kept<'_>,
+    sections: usize,
+) -> Result<Symbols<'a>, AllocError>
+    ensures script { IfOk result (λ s. s.script ≡ script.now) }
+    ensures none { IfOk result (λ s. s.list ≡ []) }
+{
+    if taken.first > sections / 2 {
+        Symbols::taken_over(alloc, script, taken.symbols.len())
+    } else {
+        Symbols::new(alloc, script)
+    }
+}
+
+/// Nothing is placed yet, and `.` is 0.
+fn nowhere<'a>(
+    alloc: Global,
+    script: &'a Script,
+    taken: Kept<'_>,
+    sections: usize,
+) -> Result<Here<'a>, AllocError>
     ensures dot { IfOk result (λ h. h.dot ≡ 0) }
     ensures dots { IfOk result (λ h. h.dots.items ≡ []) }
     ensures inputs { IfOk result (λ h. h.inputs ≡ 0) }
     ensures anew { IfOk result (λ h. h.anew ≡ 0) }
-    ensures symbols { IfOk result (λ h. h.symbols ≡ []) }
+    ensures script { IfOk result (λ h. h.symbols.script ≡ script.now) }
+    ensures symbols { IfOk result (λ h. h.symbols.list ≡ []) }
 {
-    let symbols = Symbols::new(alloc, script)?;
-    let dots = Vec::with_capacity(alloc, expected)?;
+    let symbols = no_symbols(alloc, script, taken, sections)?;
+    let dots = Vec::with_capacity(alloc, taken.dots)?;
     Ok(Here {
         dot: 0,
         dots,
@@ -72,7 +95,7 @@ fn lay_out(
 {
     let provided = Provided::new(alloc, script, provided)?;
     let taken = Kept::new(kept);
-    let mut here = nowhere(alloc, script, taken.dots)?;
+    let mut here = nowhere(alloc, script, taken, rows.len())?;
     let sections = Sections::new(alloc, script, rows.len())?;
     let regions = Regions::new(alloc, script);
     let mut done = Done { sections, regions };
@@ -85,7 +108,7 @@ fn lay_out(
     let laid = input.place_statements(&mut here, &mut done, script.statements());
     meter.raise(Count::Pieces, here.anew);
     match laid {
-        Ok(()) => Ok(whole(alloc, script, here, &done)?),
+        Ok(()) => Ok(whole(alloc, here, &done)?),
         Err(stop) => Err(reported(alloc, script, stop)),
     }
 }

@@ -51,6 +51,7 @@ impl<'a> Here<'a> {
     ) -> Result<(), Stop<'a>>
         ghost naming: { Naming }
         ensures anew { self.new.anew ≡ self.old.anew }
+        ensures script { self.new.symbols.script ≡ self.old.symbols.script }
         ensures gives { Gives (free_dot_step (layout_of naming self.old done.now) line command.now)
             (layout_of naming self.new done.now) result }
     {
@@ -105,8 +106,9 @@ impl<'i, 'a> Input<'i, 'a> {
         command: &'a ItemCommand,
     ) -> Result<(), Stop<'a>>
         ghost naming: { Naming }
-        requires { Coming naming self.now (layout_of naming here.now done.now) (λ rows.
+        requires { Coming naming self.now here.now.symbols.script (layout_of naming here.now done.now) (λ rows.
             item_command_step rows self.now.provided.now line (layout_of naming here.now done.now) command.now) }
+        ensures script { here.new.symbols.script ≡ here.old.symbols.script }
         ensures anew { here.new.anew ≤ here.old.anew + entries (length done.old.sections)
             (map (λ v. v.items) self.now.rows.now) }
         ensures left { OnOk result
@@ -155,8 +157,9 @@ impl<'i, 'a> Input<'i, 'a> {
         item: &'a Item,
     ) -> Result<(), Stop<'a>>
         ghost naming: { Naming }
-        requires { Coming naming self.now (layout_of naming here.now done.now) (λ rows.
+        requires { Coming naming self.now here.now.symbols.script (layout_of naming here.now done.now) (λ rows.
             item_step rows self.now.provided.now (layout_of naming here.now done.now) item.now) }
+        ensures script { here.new.symbols.script ≡ here.old.symbols.script }
         ensures anew { here.new.anew ≤ here.old.anew + entries (length done.old.sections)
             (map (λ v. v.items) self.now.rows.now) }
         ensures left { OnOk result
@@ -180,8 +183,9 @@ impl<'i, 'a> Input<'i, 'a> {
         items: &'a [Item],
     ) -> Result<(), Stop<'a>>
         ghost naming: { Naming }
-        requires { Coming naming self.now (layout_of naming here.now done.now) (λ rows.
+        requires { Coming naming self.now here.now.symbols.script (layout_of naming here.now done.now) (λ rows.
             run (item_step rows self.now.provided.now) (layout_of naming here.now done.now) items.now) }
+        ensures script { here.new.symbols.script ≡ here.old.symbols.script }
         ensures anew { here.new.anew ≤ here.old.anew + entries (length done.old.sections)
             (map (λ v. v.items) self.now.rows.now) }
         ensures left { OnOk result
@@ -207,8 +211,9 @@ impl<'i, 'a> Input<'i, 'a> {
         statement: &'a Statement,
     ) -> Result<(), Stop<'a>>
         ghost naming: { Naming }
-        requires { Coming naming self.now (layout_of naming here.now done.now) (λ rows.
+        requires { Coming naming self.now here.now.symbols.script (layout_of naming here.now done.now) (λ rows.
             statement_step rows self.now.provided.now (layout_of naming here.now done.now) statement.now) }
+        ensures script { here.new.symbols.script ≡ here.old.symbols.script }
         ensures anew { here.new.anew ≤ here.old.anew + entries (length done.old.sections)
             (map (λ v. v.items) self.now.rows.now) }
         ensures left { OnOk result
@@ -239,8 +244,9 @@ impl<'i, 'a> Input<'i, 'a> {
         statements: &'a [Statement],
     ) -> Result<(), Stop<'a>>
         ghost naming: { Naming }
-        requires { Coming naming self.now (layout_of naming here.now done.now) (λ rows.
+        requires { Coming naming self.now here.now.symbols.script (layout_of naming here.now done.now) (λ rows.
             run (statement_step rows self.now.provided.now) (layout_of naming here.now done.now) statements.now) }
+        ensures script { here.new.symbols.script ≡ here.old.symbols.script }
         ensures anew { here.new.anew ≤ here.old.anew + entries (length done.old.sections)
             (map (λ v. v.items) self.now.rows.now) }
         ensures left { OnOk result

@@ -26,7 +26,7 @@ impl<'a> Here<'a> {
         ensures dot { OnOk result (self.new.dot ≡ start) }
         ensures dots { OnOk result (self.new.dots.items ≡ self.old.dots.items) }
         ensures inputs { OnOk result (self.new.inputs ≡ self.old.inputs) }
-        ensures symbols { OnOk result (self.new.symbols ≡ self.old.symbols) }
+        ensures symbols { self.new.symbols ≡ self.old.symbols }
         ensures pieces { OnOk result (self.new.pieces.items ≡ []) }
         ensures anew { self.new.anew ≡ self.old.anew }
         ensures data_commands { OnOk result (self.new.data_commands.items ≡ []) }
@@ -53,6 +53,7 @@ impl<'a> Here<'a> {
         requires { Goes kept.now
             (run (body_step provided.now)
             (opened (layout_of naming self.now done.now) (row_named naming row.now) (head_from head)) output.now.body) }
+        ensures script { self.new.symbols.script ≡ self.old.symbols.script }
         ensures anew { self.new.anew ≤ self.old.anew + length row.now }
         ensures taken { self.new.anew ≤ self.old.anew + missed kept.now (starts_here self.new) }
         ensures gives { Gives
@@ -88,6 +89,7 @@ impl<'a> Here<'a> {
         requires { GoesOn kept.now (layout_of naming self.now done.now).sections
             (section_step provided.now (row_named naming row.now) (layout_of naming self.now done.now) line
             output.now) }
+        ensures script { self.new.symbols.script ≡ self.old.symbols.script }
         ensures anew { self.new.anew ≤ self.old.anew + length row.now }
         ensures one { OnOk result (length done.new.sections ≡ length done.old.sections + 1) }
         ensures takes { OnOk result (Takes kept.now self.old self.new done.old.sections done.new.sections) }

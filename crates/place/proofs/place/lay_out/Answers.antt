@@ -74,12 +74,12 @@ place_statements-laid-requires g c =
     let d : Done = record { sections = c.in_ok-sections.sections; regions = c.new-regions.result } in
     by_option c.args.kept _ _ _ _ c.requires c.new-taken.ensures.some c.new-taken.ensures.none
     (λ k kept keeps.
-    script_comes g.naming _ c.args.script.now _ (layout_of g.naming c.in_ok-here.here d)
-    c.in_ok-provided.provided k.0.now k.1 c.statements.ensures.value
+    script_comes g.naming _ c.args.script.now c.in_ok-here.here.symbols.script _ (layout_of g.naming c.in_ok-here.here d)
+    c.in_ok-provided.provided k.0.now k.1 c.in_ok-here.ensures.script c.statements.ensures.value
     (subst (λ ps. IsKept c.args.script.now (rows_named g.naming (map (λ v. v.items) c.args.rows.now)) ps k.0.now k.1)
     (sym c.in_ok-provided.ensures) kept)
     keeps
     (λ rows. begins g.naming c.in_ok-here.here d rows c.in_ok-provided.provided c.args.script.now
     c.in_ok-here.ensures.dot c.in_ok-here.ensures.dots c.in_ok-here.ensures.inputs c.in_ok-here.ensures.symbols
     c.in_ok-sections.ensures c.new-regions.ensures))
-    (λ none. nothing_comes g.naming _ (layout_of g.naming c.in_ok-here.here d) _ none)
+    (λ none. nothing_comes g.naming _ c.in_ok-here.here.symbols.script (layout_of g.naming c.in_ok-here.here d) _ none)

@@ -18,13 +18,13 @@ returns-in-Section-clause-resumed g c =
 
 pub place_section-requires : goal.place_section-requires
 place_section-requires g c =
-    goes_on_item c.args.self.now.provided.now g.naming c.args.self.now
+    goes_on_item c.args.self.now.provided.now g.naming c.args.self.now c.args.here.now.symbols.script
     (layout_of g.naming c.args.here.now c.args.done.now) c.args.line c.get.result.now c.args.done.now.sections
     (row_named g.naming c.row_at-row.result.now) c.starts_at-kept.result.now refl
     (ap (row_named g.naming)
     (c.row_at-row.ensures ∙ ap (λ k. get_or (map (λ v. v.items) c.args.self.now.rows.now) k []) c.len.ensures)
     ∙ sym (next_row_is g.naming (map (λ v. v.items) c.args.self.now.rows.now) c.args.here.now c.args.done.now))
-    (subst (λ o. Coming g.naming c.args.self.now (layout_of g.naming c.args.here.now c.args.done.now) (λ rows.
+    (subst (λ o. Coming g.naming c.args.self.now c.args.here.now.symbols.script (layout_of g.naming c.args.here.now c.args.done.now) (λ rows.
     item_command_step rows c.args.self.now.provided.now c.args.line
     (layout_of g.naming c.args.here.now c.args.done.now) o))
     (c.in-Section.is ∙ ap item.Section (sym c.get.ensures)) c.requires)

@@ -17,7 +17,8 @@ invariant-loop-item g l = record {
       (drop l.item-index l.items);
   anew : l.here.anew + entries (length l.done.sections) (map (λ v. v.items) l.self.rows.now)
       ≤ l.fn.here.anew + entries (length l.fn.done.sections) (map (λ v. v.items) l.self.rows.now);
-  coming : Coming g.naming l.self (layout_of g.naming l.here l.done) (λ rows.
+  script : l.here.symbols.script ≡ l.fn.here.symbols.script;
+  coming : Coming g.naming l.self l.here.symbols.script (layout_of g.naming l.here l.done) (λ rows.
       run (item_step rows l.self.provided.now) (layout_of g.naming l.here l.done) (drop l.item-index l.items));
   resumed : Resumes l.self l.fn.here l.here l.fn.done.sections l.done.sections;
 }

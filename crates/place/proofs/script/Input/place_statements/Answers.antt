@@ -7,7 +7,7 @@ use Rattle.place.proofs.script.Input.place_statements.Goals as goal
 
 pub place_statement-requires : goal.place_statement-requires
 place_statement-requires g c =
-    statement_comes c.args.self.now.provided.now g.naming c.args.self.now
+    statement_comes c.args.self.now.provided.now g.naming c.args.self.now c.loop-statement.here.symbols.script
     (layout_of g.naming c.loop-statement.here c.loop-statement.done)
     c.args.statements.now c.loop-statement.statement-index c.statement-item.result
     c.loop-statement-test.true c.statement-item.is
@@ -22,10 +22,13 @@ loop-statement-preserved g c = record {
       c.loop-statement.statement-index
       c.statement-item.result c.loop-statement-test.true c.statement-item.is c.in_ok-place_statement.ensures.gives;
   anew = omega (arith, c.loop-statement.invariant.anew, c.in_ok-place_statement.ensures.left);
-  coming = statements_come c.args.self.now.provided.now g.naming c.args.self.now
+  script = c.place_statement.ensures.script ∙ c.loop-statement.invariant.script;
+  coming = statements_come c.args.self.now.provided.now g.naming c.args.self.now c.loop-statement.here.symbols.script
       (layout_of g.naming c.loop-statement.here c.loop-statement.done)
       c.args.statements.now c.loop-statement.statement-index c.statement-item.result
       c.loop-statement-test.true c.statement-item.is c.loop-statement.invariant.coming
-      (layout_of g.naming c.place_statement.new.here c.place_statement.new.done) c.in_ok-place_statement.ensures.gives;
+      c.place_statement.new.here.symbols.script
+      (layout_of g.naming c.place_statement.new.here c.place_statement.new.done)
+      c.in_ok-place_statement.ensures.gives c.place_statement.ensures.script;
   resumed = omega (arith, c.loop-statement.invariant.resumed, c.in_ok-place_statement.ensures.resumed);
 }
