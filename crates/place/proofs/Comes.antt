@@ -2,10 +2,11 @@
 use Rattle.std.proofs.Common.{◌≡◌, ℕ, ◌+◌, ◌≤◌, ◌<◌, List, [], ◌∷◌, ◌++◌, length, get_or, map, drop}
 use Rattle.std.proofs.Common.{Result, Ok, inl, inr, ⊎_elim, refl, sym, ap, subst, ◌∙◌, append_assoc, arith}
 use Rattle.std.proofs.Common.{length-append, Option, Some, None, IfSome, IfNone}
+use Rattle.std.specs.List.{enumerate_from}
 use Rattle.std.specs.Prelude.{flat_map}
 use Rattle.std.proofs.lemmas.Bool.{cases_lt}
 use Rattle.std.proofs.lemmas.Grind.{flat_map-append}
-use Rattle.std.proofs.lemmas.List.{append-nil, length-map, drop_more}
+use Rattle.std.proofs.lemmas.List.{append-nil, drop_more, length-map, map-append}
 use Rattle.ldtree.specs.declared.common.Common.{Common}
 use Rattle.ldtree.specs.declared.common.DotCommand.{DotCommand}
 use Rattle.ldtree.specs.declared.common.DotCommand.TheVariants.{Set, Add}
@@ -23,24 +24,24 @@ use Rattle.ldmodel.specs.Body.{Body, body_step}
 use Rattle.ldmodel.specs.Chain.{and_then, run}
 use Rattle.ldmodel.specs.Fault.{Fault}
 use Rattle.ldmodel.specs.Layout.{Layout, PlacedSection, address, noted, number}
-use Rattle.ldmodel.specs.Lent.{starts_of, symbol_of}
+use Rattle.ldmodel.specs.Lent.{data_of, numbered, placed_of, starts_of, symbol_of}
 use Rattle.ldmodel.specs.Placement.{command_step, free_dot_step, item_command_step, item_step, next_row, opened}
 use Rattle.ldmodel.specs.Placement.{placement, region_step, section_step, statement_step, with_region}
 use Rattle.ldmodel.specs.Rows.{Piece}
 use Rattle.ldmodel.specs.SectionEnd.{find_region, load_region, placed_section, section_end, with_room, with_section}
 use Rattle.ldmodel.specs.SectionHead.{Head, head_of}
 use Rattle.ldmodel.specs.declared.script_symbol.ScriptSymbol as code
-use Rattle.place.proofs.Alike.{More, item_more, more_on, no_more, same_sections, step_same}
+use Rattle.place.proofs.Adding.{enumerate_more, section_grows, step_same}
 use Rattle.place.proofs.Ending.{chained}
-use Rattle.place.proofs.Grows.{MoreSymbols, body_grows, common_adds, common_keeps, given_is}
-use Rattle.place.proofs.Grows.{same_symbols, symbols_given, symbols_on}
+use Rattle.place.proofs.Grows.{Longer, common_adds, common_keeps, common_leaves, given_is}
 use Rattle.place.proofs.Outputs.{regions_keep}
 use Rattle.place.proofs.Wholes.{starts_whole}
 use Rattle.place.specs.Coming.{Coming}
 use Rattle.place.specs.Inputs.{rows_of}
 use Rattle.place.specs.Keyed.{KeyedSection, section_of}
 use Rattle.place.specs.Kept.{IsKept}
-use Rattle.place.specs.Leads.{GoesOn, Keeps, Knows, Leads}
+use Rattle.place.specs.Leads.{Begins, Keeps, Knows, Leads, counts_of, data_in}
+use Rattle.place.specs.Steps.{symbols_given, symbols_in}
 use Rattle.place.specs.Naming.{Naming}
 use Rattle.place.specs.Places.{Places}
 use Rattle.place.specs.SymbolTable.{AreFound}
@@ -48,112 +49,146 @@ use Rattle.place.specs.Wholes.{starts_in}
 use Rattle.place.specs.declared.kept.Kept.{Kept}
 use Rattle.place.specs.declared.script.Input.{Input}
 
--- output sections and symbols, and more of both
+-- output sections, symbols and values of `.`, and more of each
 pub record On (s t : Layout) : Type 0 where
-  pub sections : More s t
-  pub symbols : MoreSymbols s t
+  pub sections : Begins s.sections t.sections
+  pub symbols : Begins s.symbols t.symbols
+  pub dots : Begins s.dots t.dots
+
+begins_on : {X : Type 0} (xs ys zs : List X) → Begins xs ys → Begins ys zs → Begins xs zs
+begins_on xs ys zs a b = record {
+  later = a.later ++ b.later;
+  is = b.is ∙ (ap (λ l. l ++ b.later) a.is ∙ append_assoc xs a.later b.later);
+}
+
+begins_same : {X : Type 0} (xs ys : List X) → ys ≡ xs → Begins xs ys
+begins_same xs ys e = record { later = []; is = e ∙ sym (append-nil xs) }
+
+begins_longer : {X : Type 0} (xs ys : List X) (n : ℕ) → Longer xs ys n → Begins xs ys
+begins_longer xs ys n l = record { later = l.more; is = l.is }
+
+begins_mapped : {X Y : Type 0} (f : X → Y) (xs ys : List X) → Begins xs ys → Begins (map f xs) (map f ys)
+begins_mapped f xs ys b = record { later = map f b.later; is = ap (map f) b.is ∙ map-append f xs b.later }
 
 on_on : (s t u : Layout) → On s t → On t u → On s u
-on_on s t u a b =
-    record { sections = more_on s t u a.sections b.sections; symbols = symbols_on s t u a.symbols b.symbols }
+on_on s t u a b = record {
+  sections = begins_on s.sections t.sections u.sections a.sections b.sections;
+  symbols = begins_on s.symbols t.symbols u.symbols a.symbols b.symbols;
+  dots = begins_on s.dots t.dots u.dots a.dots b.dots;
+}
 
-on_same : (s t : Layout) → t.sections ≡ s.sections → t.symbols ≡ s.symbols → On s t
-on_same s t a b = record { sections = no_more s t a; symbols = same_symbols s t b }
+on_same : (s t : Layout) → t.sections ≡ s.sections → t.symbols ≡ s.symbols → t.dots ≡ s.dots → On s t
+on_same s t a b c = record {
+  sections = begins_same s.sections t.sections a;
+  symbols = begins_same s.symbols t.symbols b;
+  dots = begins_same s.dots t.dots c;
+}
 
 on_given : (s t : Layout) → ◌≡◌ {A = Result Layout Fault} (Ok s) (Ok t) → On s t
-on_given s t e = record { sections = no_more s t (same_sections s t e); symbols = symbols_given s t e }
+on_given s t e = let d = sym (given_is s t e) in
+    on_same s t (ap (λ (u : Layout). u.sections) d) (ap (λ (u : Layout). u.symbols) d) (ap (λ (u : Layout). u.dots) d)
 
--- the end of a section keeps the symbols
-end_keeps : (line : ℕ) (o : OutputSection) (h : Head) (b : Body) (t : Layout) → section_end line o h b ≡ Ok t
-    → t.symbols ≡ b.layout.symbols
-unfolding section_end
-end_keeps line o h b t e =
-    let q : PlacedSection = placed_section o h b in
-    let x = chained (with_room (find_region b.layout o.region) q.start q.size q) _ t e in
-    let y = chained (with_room (find_region b.layout (load_region o.load)) q.load q.load_size q) _ t x.second in
-    let z = chained (address line (q.load + q.load_size)) _ t y.second in
-    ap (λ (u : Layout). u.symbols) (sym (given_is (with_section b.layout o q) t z.second))
+common_on : (provided : List (List ℕ)) (s : Layout) (line : ℕ) (c : Common) (t : Layout)
+    → common_step provided s line c ≡ Ok t → On s t
+common_on provided s line c t e = record {
+  sections = begins_same s.sections t.sections (common_keeps provided s line c t e);
+  symbols = begins_longer s.symbols t.symbols (symbols_given provided c) (common_adds provided s line c t e);
+  dots = begins_same s.dots t.dots (common_leaves (λ (u : Layout). u.dots) (λ u n x. refl) provided s line c t e);
+}
 
-section_adds : (provided : List (List ℕ)) (row : List Piece) (s : Layout) (line : ℕ) (o : OutputSection) (t : Layout)
-    → section_step provided row s line o ≡ Ok t → MoreSymbols s t
-unfolding section_step
-section_adds provided row s line o t e =
-    let h = chained (head_of s row line o) _ t e in
-    let b = chained (run (body_step provided) (opened s row h.value) o.body) (λ c. section_end line o h.value c) t
-    h.second in
-    let g = body_grows provided o.body (opened s row h.value) b.value b.first in
+free_dot_on : (s : Layout) (line : ℕ) (c : DotCommand) (t : Layout) → free_dot_step s line c ≡ Ok t → On s t
+free_dot_on s line (Set e) t h = let k = chained (number s line e) _ t h in
+    let d = sym (given_is (record s { dot = k.value }) t k.second) in
+    on_same s t (ap (λ (u : Layout). u.sections) d) (ap (λ (u : Layout). u.symbols) d) (ap (λ (u : Layout). u.dots) d)
+free_dot_on s line (Add e) t h = let k = chained (number s line e) _ t h in
+    let d = sym (given_is (record s { dot = plus_modulo s.dot k.value }) t k.second) in
+    on_same s t (ap (λ (u : Layout). u.sections) d) (ap (λ (u : Layout). u.symbols) d) (ap (λ (u : Layout). u.dots) d)
+
+section_on : (provided : List (List ℕ)) (row : List Piece) (s : Layout) (line : ℕ) (o : OutputSection) (t : Layout)
+    → section_step provided row s line o ≡ Ok t → On s t
+section_on provided row s line o t e =
+    let g = section_grows provided row s line o t e in
     record {
-      more = g.symbols.more;
-      symbols = end_keeps line o h.value b.value t b.second ∙ g.symbols.symbols;
+      sections = record { later = g.section ∷ []; is = g.added };
+      symbols = begins_longer s.symbols t.symbols (symbols_in provided o.body) g.symbols_are;
+      dots = begins_longer s.dots t.dots (length o.body) g.dots_are;
     }
 
-free_dot_adds : (s : Layout) (line : ℕ) (c : DotCommand) (t : Layout) → free_dot_step s line c ≡ Ok t → MoreSymbols s t
-free_dot_adds s line (Set e) t h = let k = chained (number s line e) _ t h in
-    same_symbols s t (ap (λ (u : Layout). u.symbols) (sym (given_is (record s { dot = k.value }) t k.second)))
-free_dot_adds s line (Add e) t h = let k = chained (number s line e) _ t h in
-    same_symbols s t (ap (λ (u : Layout). u.symbols)
-    (sym (given_is (record s { dot = plus_modulo s.dot k.value }) t k.second)))
-
-item_adds : (rows : List (List Piece)) (provided : List (List ℕ)) (line : ℕ) (s : Layout) (c : ItemCommand) (t : Layout)
-    → item_command_step rows provided line s c ≡ Ok t → MoreSymbols s t
+item_command_on : (rows : List (List Piece)) (provided : List (List ℕ)) (line : ℕ) (s : Layout) (c : ItemCommand)
+    (t : Layout) → item_command_step rows provided line s c ≡ Ok t → On s t
 unfolding item_command_step
-item_adds rows provided line s (item.Dot c) t e = free_dot_adds s line c t e
-item_adds rows provided line s (item.Common c) t e = common_adds provided s line c t e
-item_adds rows provided line s (item.Section o) t e = section_adds provided (next_row rows s) s line o t e
-item_adds rows provided line s (item.Discard inputs) t e =
-    same_symbols s t (ap (λ (u : Layout). u.symbols) (sym (given_is _ t e)))
+item_command_on rows provided line s (item.Dot c) t e = free_dot_on s line c t e
+item_command_on rows provided line s (item.Common c) t e = common_on provided s line c t e
+item_command_on rows provided line s (item.Section o) t e = section_on provided (next_row rows s) s line o t e
+item_command_on rows provided line s (item.Discard inputs) t e = let d = sym (given_is _ t e) in
+    on_same s t (ap (λ (u : Layout). u.sections) d) (ap (λ (u : Layout). u.symbols) d) (ap (λ (u : Layout). u.dots) d)
 
 item_on : (rows : List (List Piece)) (provided : List (List ℕ)) (s : Layout) (x : Item) (t : Layout)
     → item_step rows provided s x ≡ Ok t → On s t
 item_on rows provided s x t e =
-    let a = item_more rows provided x.line (noted s) x.command t e in
-    let b = item_adds rows provided x.line (noted s) x.command t e in
-    record {
-      sections = record { more = a.more; sections = a.sections };
-      symbols = record { more = b.more; symbols = b.symbols };
-    }
+    on_on s (noted s) t
+    (record {
+      sections = begins_same s.sections s.sections refl;
+      symbols = begins_same s.symbols s.symbols refl;
+      dots = record { later = s.dot ∷ []; is = refl };
+    })
+    (item_command_on rows provided x.line (noted s) x.command t e)
 
-region_adds : (s : Layout) (r : Region) (t : Layout) → region_step s r ≡ Ok t → t.symbols ≡ s.symbols
+region_on : (s : Layout) (r : Region) (t : Layout) → region_step s r ≡ Ok t → On s t
 unfolding region_step
-region_adds s r t e =
+region_on s r t e =
     let a = chained (number s r.line r.origin) _ t e in
     let b = chained (number s r.line r.extent) _ t a.second in
-    ap (λ (u : Layout). u.symbols) (sym (given_is (with_region s r.name a.value b.value) t b.second))
+    let d = sym (given_is (with_region s r.name a.value b.value) t b.second) in
+    on_same s t (ap (λ (u : Layout). u.sections) d) (ap (λ (u : Layout). u.symbols) d) (ap (λ (u : Layout). u.dots) d)
 
-regions_add : (rs : List Region) (s t : Layout) → run region_step s rs ≡ Ok t → t.symbols ≡ s.symbols
+regions_on : (rs : List Region) (s t : Layout) → run region_step s rs ≡ Ok t → On s t
 unfolding run
-regions_add [] s t e = ap (λ (u : Layout). u.symbols) (sym (given_is s t e))
-regions_add (r ∷ rs) s t e =
+regions_on [] s t e = on_given s t e
+regions_on (r ∷ rs) s t e =
     let h = chained (region_step s r) (λ u. run region_step u rs) t e in
-    regions_add rs h.value t h.second ∙ region_adds s r h.value h.first
+    on_on s h.value t (region_on s r h.value h.first) (regions_on rs h.value t h.second)
 
 pub fewer : (s t : Layout) → On s t → length s.sections ≤ length t.sections
 fewer s t o =
-    let e : length t.sections ≡ length s.sections + length o.sections.more =
-    ap length o.sections.sections ∙ length-append s.sections o.sections.more in
+    let e : length t.sections ≡ length s.sections + length o.sections.later =
+    ap length o.sections.is ∙ length-append s.sections o.sections.later in
     omega (arith, e)
+
+begins_flat : {X Y : Type 0} (f : X → List Y) (xs ys : List X) → Begins xs ys → Begins (flat_map f xs) (flat_map f ys)
+begins_flat f xs ys b = record {
+  later = flat_map f b.later;
+  is = ap (flat_map f) b.is ∙ flat_map-append f xs b.later;
+}
 
 -- what leads to a later layout leads to an earlier one
 leads_before : (script : List Statement) (k : Kept) (s t : Layout) (r q : Result Layout Fault) → On s t → r ≡ Ok s
     → (l : Leads script k q) → l.layout ≡ t
     → Leads script k r
 leads_before script k s t r q o e l m =
-    let w : l.layout ≡ t = m in
+    let v : On s l.layout = subst (λ u. On s u) (sym m) o in
     record {
       layout = s;
       comes = e;
-      later_symbols = o.symbols.more ++ l.later_symbols;
-      symbols = l.symbols
-          ∙ (ap (λ (u : Layout). u.symbols ++ l.later_symbols) w
-          ∙ (ap (λ ys. ys ++ l.later_symbols) o.symbols.symbols
-          ∙ append_assoc s.symbols o.symbols.more l.later_symbols));
+      sections = begins_on (map placed_of s.sections) (map placed_of l.layout.sections) k.sections.now
+          (begins_mapped placed_of s.sections l.layout.sections v.sections) l.sections;
+      counts = begins_on (counts_of s.sections) (counts_of l.layout.sections) k.counts.now
+          (begins_mapped (λ (x : PlacedSection). length x.pieces) s.sections l.layout.sections v.sections) l.counts;
+      starts = begins_on (flat_map starts_of s.sections) (flat_map starts_of l.layout.sections) k.starts.now
+          (begins_flat starts_of s.sections l.layout.sections v.sections) l.starts;
+      data_commands = begins_on (data_in s.sections) (data_in l.layout.sections) (map data_of k.data_commands.now)
+          (begins_data s.sections l.layout.sections v.sections) l.data_commands;
+      dots = begins_on s.dots l.layout.dots k.dots.now v.dots l.dots;
+      symbols = begins_on s.symbols l.layout.symbols (map (symbol_of script) k.symbols.now) v.symbols l.symbols;
       found = l.found;
-      later_starts = flat_map starts_of o.sections.more ++ l.later_starts;
-      starts = l.starts
-          ∙ (ap (λ (u : Layout). flat_map starts_of u.sections ++ l.later_starts) w
-          ∙ (ap (λ ys. flat_map starts_of ys ++ l.later_starts) o.sections.sections
-          ∙ (ap (λ ys. ys ++ l.later_starts) (flat_map-append starts_of s.sections o.sections.more)
-          ∙ append_assoc (flat_map starts_of s.sections) (flat_map starts_of o.sections.more) l.later_starts)));
+    }
+  where
+    begins_data : (xs ys : List PlacedSection) → Begins xs ys → Begins (data_in xs) (data_in ys)
+    begins_data xs ys b = record {
+      later = flat_map numbered (enumerate_from (0 + length xs) b.later);
+      is = ap data_in b.is
+          ∙ (ap (flat_map numbered) (enumerate_more 0 xs b.later)
+          ∙ flat_map-append numbered (enumerate_from 0 xs) (enumerate_from (0 + length xs) b.later));
     }
 
 abbrev pub Same : ℕ → List (List Piece) → List (List Piece) → Type 0
@@ -222,11 +257,13 @@ module _ {X : Type 0} (step : List (List Piece) → Layout → X → Result Layo
         leads = record {
           layout = e.leads.layout;
           comes = sym (and_then_at (step e.rows s x) t (λ u. run (step e.rows) u xs) at) ∙ e.leads.comes;
-          later_symbols = e.leads.later_symbols;
+          sections = e.leads.sections;
+          counts = e.leads.counts;
+          starts = e.leads.starts;
+          data_commands = e.leads.data_commands;
+          dots = e.leads.dots;
           symbols = e.leads.symbols;
           found = e.leads.found;
-          later_starts = e.leads.later_starts;
-          starts = e.leads.starts;
         };
       }
 
@@ -261,15 +298,10 @@ command_on : (rows : List (List Piece)) (provided : List (List ℕ)) (line : ℕ
     → command_step rows provided line s c ≡ Ok t → On s t
 unfolding command_step
 command_on rows provided line s (top.Entry name) t e = on_given s t e
-command_on rows provided line s (top.Memory regions) t e =
-    on_same s t (regions_keep regions s t e) (regions_add regions s t e)
+command_on rows provided line s (top.Memory regions) t e = regions_on regions s t e
 command_on rows provided line s (top.Sections xs) t e =
     run_on (λ rs. item_step rs provided) (λ rs. item_on rs provided) (item_same provided) rows xs s t e
-command_on rows provided line s (top.Common c) t e =
-    record {
-      sections = no_more s t (common_keeps provided s line c t e);
-      symbols = common_adds provided s line c t e;
-    }
+command_on rows provided line s (top.Common c) t e = common_on provided s line c t e
 
 command_same : (provided : List (List ℕ)) (first : ℕ) (earlier rows : List (List Piece)) (line : ℕ) (s : Layout)
     (c : Command) (t : Layout) → Same first earlier rows → command_step rows provided line s c ≡ Ok t
@@ -322,8 +354,7 @@ knows_now : (script : List Statement) (k : Kept) (symbols : List code.ScriptSymb
 knows_now script k symbols r e l = inr (record {
   layout = l.layout;
   comes = l.comes;
-  later = l.later_symbols;
-  begins = ap (map (symbol_of script)) e ∙ l.symbols;
+  begins = record { later = l.symbols.later; is = ap (map (symbol_of script)) e ∙ l.symbols.is };
   found = subst (AreFound script) (sym e) l.found;
 })
 
@@ -353,35 +384,28 @@ knows_statement provided n i script s line c count symbols m w taken past = ⊎_
     (cases_lt count i.kept.first)
 
 -- what is to come of an output section
-pub goes_on_item : (provided : List (List ℕ)) (n : Naming) (i : Input) (script : List Statement) (s : Layout)
-    (line : ℕ) (o : OutputSection)
-    (before : List KeyedSection) (row : List Piece) (starts : List ℕ) → s.sections ≡ map (section_of n) before
-    → row ≡ next_row (rows_of n i) s
+pub section_comes : (provided : List (List ℕ)) (n : Naming) (i : Input) (script : List Statement) (s : Layout)
+    (line : ℕ) (o : OutputSection) (row : List Piece) → row ≡ next_row (rows_of n i) s
     → Coming n i script s (λ rows. item_command_step rows provided line s (item.Section o))
-    → (length before < i.kept.first → starts ≡ drop (length (starts_in before)) i.kept.starts.now)
-    → (i.kept.first ≤ length before → starts ≡ [])
-    → GoesOn starts s.sections (section_step provided row s line o)
+    → length s.sections < i.kept.first
+    → Leads script i.kept (section_step provided row s line o)
 unfolding item_command_step
-goes_on_item provided n i script s line o before row starts m r w taken past = ⊎_elim
-    (λ (l : length before < i.kept.first).
-    let long : length s.sections ≡ length before = ap length m ∙ length-map before (section_of n) in
-    let l' : length s.sections < i.kept.first = omega (arith, l, long) in
-    let e = w l' in
+section_comes provided n i script s line o row r w l =
+    let e = w l in
     let same : section_step provided (next_row e.rows s) s line o ≡ section_step provided row s line o =
-    step_same e.rows (rows_of n i) provided i.kept.first e.same line s (item.Section o) l'
+    step_same e.rows (rows_of n i) provided i.kept.first e.same line s (item.Section o) l
     ∙ ap (λ q. section_step provided q s line o) (sym r) in
-    let count : length (starts_in before) ≡ length (flat_map starts_of s.sections) =
-    ap length (starts_whole n before) ∙ ap (λ q. length (flat_map starts_of q)) (sym m) in
-    inr (record {
+    record {
       layout = e.leads.layout;
       comes = sym same ∙ e.leads.comes;
-      later = e.leads.later_starts;
-      begins = taken l
-          ∙ (ap (λ q. drop q i.kept.starts.now) count
-          ∙ ap (drop (length (flat_map starts_of s.sections))) e.leads.starts);
-    }))
-    (λ (g : i.kept.first ≤ length before). inl (past g))
-    (cases_lt (length before) i.kept.first)
+      sections = e.leads.sections;
+      counts = e.leads.counts;
+      starts = e.leads.starts;
+      data_commands = e.leads.data_commands;
+      dots = e.leads.dots;
+      symbols = e.leads.symbols;
+      found = e.leads.found;
+    }
 
 -- the statements of a SECTIONS
 pub sections_come : (provided : List (List ℕ)) (n : Naming) (i : Input) (script : List Statement) (s : Layout)
@@ -398,24 +422,25 @@ pub script_comes : (n : Naming) (i : Input) (script script' xs : List Statement)
     → IsKept script (rows_of n i) provided p first → Keeps p first i.kept
     → ((rows : List (List Piece)) → run (statement_step rows provided) s script ≡ placement script rows provided)
     → Coming n i script' s (λ rows. run (statement_step rows provided) s xs)
-script_comes n i script script' xs s provided p first m e k a begins l = record {
+script_comes n i script script' xs s provided p first m e k a begins l = let t : Layout = k.placed.layout in record {
   rows = k.earlier;
   same = λ j h. k.same j (subst (λ m. j < m) a.first_is h);
   leads = record {
     layout = k.placed.layout;
     comes = ap (run (statement_step k.earlier provided) s) e ∙ (begins k.earlier ∙ k.placed.placed);
-    later_symbols = [];
-    symbols = ap (λ z. map (symbol_of z) i.kept.symbols.now) m
-        ∙ (ap (map (symbol_of script)) a.symbols
-        ∙ (k.placed.places.symbols ∙ sym (append-nil k.placed.layout.symbols)));
+    sections = begins_same (map placed_of t.sections) i.kept.sections.now (a.sections ∙ k.placed.places.sections);
+    counts = begins_same (counts_of t.sections) i.kept.counts.now (a.counts ∙ k.placed.places.counts);
+    starts = begins_same (flat_map starts_of t.sections) i.kept.starts.now (a.starts ∙ k.placed.places.starts);
+    data_commands = begins_same (data_in t.sections) (map data_of i.kept.data_commands.now)
+        (ap (map data_of) a.data_commands ∙ k.placed.places.data_commands);
+    dots = begins_same t.dots i.kept.dots.now (a.dots ∙ k.placed.places.dots);
+    symbols = begins_same t.symbols (map (symbol_of script') i.kept.symbols.now)
+        (ap (λ z. map (symbol_of z) i.kept.symbols.now) m
+        ∙ (ap (map (symbol_of script)) a.symbols ∙ k.placed.places.symbols));
     found = subst (λ z. AreFound z i.kept.symbols.now) (sym m)
         (subst (AreFound script) (sym a.symbols) k.placed.places.found);
-    later_starts = [];
-    starts = a.starts
-        ∙ (k.placed.places.starts ∙ sym (append-nil (flat_map starts_of k.placed.layout.sections)));
   };
 }
-
 -- nothing is to come where nothing is taken over
 pub nothing_comes : (n : Naming) (i : Input) (script : List Statement) (s : Layout)
     (wanted : List (List Piece) → Result Layout Fault) → i.kept.first ≡ 0 → Coming n i script s wanted
@@ -425,3 +450,7 @@ pub by_option : {K : Type 0} (o : Option K) (A B : K → Type 0) (N C : Type 0) 
     → ((k : K) → A k → B k → C) → (N → C) → C
 by_option (Some k) A B N C a b n some none = some k a b
 by_option None A B N C a b n some none = none n
+
+pub for_some : {K : Type 0} (o : Option K) (A C : K → Type 0) → IfSome o A → ((k : K) → A k → C k) → IfSome o C
+for_some (Some k) A C a go = go k a
+for_some None A C a go = tt

@@ -20,8 +20,8 @@ use Rattle.ldmodel.specs.declared.laid.Placed.{Placed}
 use Rattle.place.proofs.Lists.{same_name, is_same_name}
 use Rattle.place.proofs.Numbers.{sections_told, regions_told}
 use Rattle.place.proofs.Tabled.{found_under}
-use Rattle.place.proofs.Counting.{starts_grow}
-use Rattle.place.specs.Wholes.{starts_in}
+use Rattle.place.proofs.Counting.{data_grow, starts_grow}
+use Rattle.place.specs.Wholes.{all_data_in, starts_in}
 use Rattle.place.specs.Keyed.{KeyedSection, section_of}
 use Rattle.place.specs.SectionTable.{keyed, section_names, nameless, difference_by, AreSectionsOf, Fits}
 use Rattle.place.specs.Tables.{AreInOrder}
@@ -32,7 +32,7 @@ placed_under xs name =
     option_map (λ (x : KeyedSection). x.placed) (find (λ (x : KeyedSection). bytes_eq x.name name) xs)
 
 module _ (script : List Statement) (xs : List Closed) (name : List ℕ) (differences : List ℕ) (other : ℕ)
-    (count : ℕ) (o : AreSectionsOf script (map keyed xs) differences other count) where
+    (count commands : ℕ) (o : AreSectionsOf script (map keyed xs) differences other count commands) where
   under : placed_under (map keyed xs) name
       ≡ option_map (λ (x : KeyedSection).
       x.placed) (option_and_then (λ k. slice_get (map keyed xs) k) (section_number script name))
@@ -85,7 +85,7 @@ guessed_right number xs k r name o e same = go xs k e (o k (omega (arith, names_
     go (y ∷ ys) (suc j) h n = go ys j h n
 
 pub no_sections : (script : List Statement) (xs : List Closed) (ds : List ℕ) (n : ℕ) → xs ≡ [] → ds ≡ replicate n 0
-    → AreSectionsOf script (map keyed xs) ds 0 0
+    → AreSectionsOf script (map keyed xs) ds 0 0 0
 unfolding difference_by difference_in
 no_sections script xs ds n a b = rw (a, b) (record {
   order = λ k l. absurd (omega arith);
@@ -93,6 +93,7 @@ no_sections script xs ds n a b = rw (a, b) (record {
   elsewhere_of = refl;
   ends = λ k d l. absurd (omega arith);
   counted = refl;
+  data_counted = refl;
 })
 
 last_or_push : {X : Type 0} (o : Option X) (xs : List X) (x : X) → last_or o (xs ++ x ∷ []) ≡ Some x
@@ -125,9 +126,13 @@ difference_other xs x region e =
     ) refl
 
 module _ (script : List Statement) (xs : List KeyedSection) (x : KeyedSection) (ds : List ℕ) (elsewhere : ℕ)
-    (count more : ℕ) (o : AreSectionsOf script xs ds elsewhere count)
+    (count more commands more_data : ℕ) (o : AreSectionsOf script xs ds elsewhere count commands)
     (next : section_number script x.name ≡ Some (length xs)) (fits : Fits x) (grown : more ≡ count + length x.pieces)
+    (data_grown : more_data ≡ commands + length x.data_commands)
   where
+    data_more : more_data ≡ length (all_data_in 0 (xs ++ x ∷ []))
+    data_more = data_grown ∙ (ap (λ n. n + length x.data_commands) o.data_counted ∙ sym (data_grow 0 xs x))
+
     counted_more : more ≡ length (starts_in (xs ++ x ∷ []))
     counted_more = grown ∙ (ap (λ n. n + length x.pieces) o.counted ∙ sym (starts_grow xs x))
 
@@ -157,7 +162,7 @@ module _ (script : List Statement) (xs : List KeyedSection) (x : KeyedSection) (
 
     -- a section that names no region
     pub pushed_elsewhere : x.region ≡ None
-        → AreSectionsOf script (xs ++ x ∷ []) ds (difference_of (section_of nameless x)) more
+        → AreSectionsOf script (xs ++ x ∷ []) ds (difference_of (section_of nameless x)) more more_data
     pushed_elsewhere none = record {
       order = order_more;
       differences_of = λ name k e l. o.differences_of name k e l
@@ -165,12 +170,13 @@ module _ (script : List Statement) (xs : List KeyedSection) (x : KeyedSection) (
       elsewhere_of = sym (difference_same xs x None (ap (λ r. same_region r None) none));
       ends = All-push (λ (y : KeyedSection). Fits y) xs x o.ends fits;
       counted = counted_more;
+      data_counted = data_more;
     }
 
     -- a section that names a region
     pub pushed_in : (region : List ℕ) (j : ℕ) → x.region ≡ Some region → region_number script region ≡ Some j
         → j < length ds
-        → AreSectionsOf script (xs ++ x ∷ []) (set ds j (difference_of (section_of nameless x))) elsewhere more
+        → AreSectionsOf script (xs ++ x ∷ []) (set ds j (difference_of (section_of nameless x))) elsewhere more more_data
     pushed_in region j some number l = record {
       order = order_more;
       differences_of = λ name k e h.
@@ -179,6 +185,7 @@ module _ (script : List Statement) (xs : List KeyedSection) (x : KeyedSection) (
       elsewhere_of = o.elsewhere_of ∙ sym (difference_other xs x None (ap (λ r. same_region r None) some));
       ends = All-push (λ (y : KeyedSection). Fits y) xs x o.ends fits;
       counted = counted_more;
+      data_counted = data_more;
     }
       where
         go : (name : List ℕ) (k : ℕ) → region_number script name ≡ Some k → k < length ds → (b : Bool)

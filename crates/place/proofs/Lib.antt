@@ -16,5 +16,6 @@ pub mod Reporting
 pub mod Good
 pub mod Counting
 pub mod Leading
-pub mod Alike
+pub mod Adding
+pub mod Taking
 pub mod Comes

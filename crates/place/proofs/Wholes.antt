@@ -1,8 +1,10 @@
 -- The parts of all output sections, by the layout that they stand for.
 use Rattle.std.proofs.Common.{◌≡◌, ℕ, zero, suc, arith, ◌+◌, List, [], ◌∷◌, ◌++◌, map, refl, sym, ap, ◌∙◌, ◌<◌, length}
-use Rattle.std.proofs.Common.{get_or, drop, append_assoc}
-use Rattle.std.proofs.lemmas.List.{drop_more}
-use Rattle.place.specs.SectionTable.{keyed, keyed_piece}
+use Rattle.std.proofs.Common.{get_or, drop, append_assoc, take, min}
+use Rattle.std.proofs.lemmas.List.{drop_more, length-map}
+use Rattle.place.specs.SectionTable.{contents_of, keyed, taken_pieces}
+use Rattle.ldmodel.specs.declared.rows.Piece.{Piece}
+use Rattle.ldmodel.specs.Layout.{PlacedSection}
 use Rattle.place.specs.declared.sections.Closed.{Closed}
 use Rattle.std.specs.Prelude.{flat_map}
 use Rattle.std.specs.List.{enumerate_from}
@@ -12,11 +14,33 @@ use Rattle.place.specs.Keyed.{KeyedPiece, KeyedSection, section_of, piece_at}
 use Rattle.place.specs.Naming.{Naming}
 use Rattle.place.specs.Places.{Ends}
 use Rattle.place.specs.SectionTable.{Ends as KeyedEnds}
-use Rattle.place.specs.Wholes.{placed_in, starts_in, data_in, all_data_in}
+use Rattle.place.specs.Wholes.{counts_in, placed_in, starts_in, data_in, all_data_in}
 
 pub placed_whole : (n : Naming) (xs : List KeyedSection) → placed_in xs ≡ map placed_of (map (section_of n) xs)
 placed_whole n [] = refl
 placed_whole n (x ∷ xs) = ap (λ l. x.placed ∷ l) (placed_whole n xs)
+
+pub counts_whole : (n : Naming) (xs : List KeyedSection) → counts_in xs
+    ≡ map (λ (q : PlacedSection). length q.pieces) (map (section_of n) xs)
+counts_whole n [] = refl
+counts_whole n (x ∷ xs) =
+    ap (λ k. k ∷ counts_in xs) (sym (length-map x.pieces (piece_at n)))
+    ∙ ap (λ l. length (map (piece_at n) x.pieces) ∷ l) (counts_whole n xs)
+
+-- input sections that are taken over
+pub taken_starts : (xs : List ℕ) (ps : List Piece) → map (λ (p : KeyedPiece). p.start) (taken_pieces xs ps)
+    ≡ take (min (length xs) (length ps)) xs
+taken_starts [] [] = refl
+taken_starts [] (p ∷ ps) = let e : min 0 (length (p ∷ ps)) ≡ 0 = omega arith in ap (λ k. take k []) (sym e)
+taken_starts (x ∷ xs) [] = let e : min (length (x ∷ xs)) 0 ≡ 0 = omega arith in ap (λ k. take k (x ∷ xs)) (sym e)
+taken_starts (x ∷ xs) (p ∷ ps) =
+    let e : min (length (x ∷ xs)) (length (p ∷ ps)) ≡ suc (min (length xs) (length ps)) = omega arith in
+    ap (λ l. x ∷ l) (taken_starts xs ps) ∙ ap (λ k. take k (x ∷ xs)) (sym e)
+
+pub taken_length : (xs : List ℕ) (ps : List Piece) → length (taken_pieces xs ps) ≡ min (length xs) (length ps)
+taken_length [] ps = omega arith
+taken_length (x ∷ xs) [] = omega arith
+taken_length (x ∷ xs) (p ∷ ps) = let h = taken_length xs ps in omega (arith, h)
 
 starts_whole_in : (n : Naming) (ps : List KeyedPiece) → map (λ (p : KeyedPiece). p.start) ps
     ≡ map (λ (p : PlacedPiece). p.start) (map (piece_at n) ps)
@@ -37,12 +61,12 @@ data_whole n k (x ∷ xs) = ap (λ l. data_in k x.data_commands ++ l) (data_whol
 -- one more section's starts
 pub starts_more : (xs : List Closed) (i : ℕ) (x : Closed) (all old new : List ℕ) → i < length xs → x ≡ get_or xs i x
     → all ≡ old ++ starts_in (map keyed (drop i xs)) → new ≡ old
-    ++ map (λ (p : KeyedPiece). p.start) (map keyed_piece x.pieces.items) → all ≡ new
+    ++ map (λ (p : KeyedPiece). p.start) (contents_of x.contents) → all ≡ new
     ++ starts_in (map keyed (drop (i + 1) xs))
 starts_more xs i x all old new l at h e =
     let here : drop i xs ≡ x ∷ drop (i + 1) xs = drop_more xs i x l ∙ ap (λ y. y ∷ drop (i + 1) xs) (sym at) in
     h ∙ (ap (λ ys. old ++ starts_in (map keyed ys)) here
-    ∙ (sym (append_assoc old (map (λ (p : KeyedPiece). p.start) (map keyed_piece x.pieces.items))
+    ∙ (sym (append_assoc old (map (λ (p : KeyedPiece). p.start) (contents_of x.contents))
     (starts_in (map keyed (drop (i + 1) xs)))) ∙ ap (λ ys. ys ++ starts_in (map keyed (drop (i + 1) xs))) (sym e)))
 
 pub ends_whole : (xs : List KeyedSection) → KeyedEnds xs → Ends (placed_in xs)

@@ -10,6 +10,8 @@ pub mod Inputs
 pub mod Places
 pub mod Outcomes
 pub mod Wholes
+pub mod Steps
+pub mod Taken
 pub mod Heads
 pub mod Ends
 pub mod SectionTable

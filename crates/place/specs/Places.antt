@@ -1,10 +1,10 @@
 -- Where everything of a script stands, as the code keeps it.
-use Rattle.std.specs.Prelude.{◌≡◌, ℕ, ◌+◌, ◌^◌, ◌<◌, List, map, flat_map, Ok, Err}
+use Rattle.std.specs.Prelude.{◌≡◌, ℕ, ◌+◌, ◌^◌, ◌<◌, List, length, map, flat_map, Ok, Err}
 use Rattle.std.specs.List.{All, enumerate_from}
 use Rattle.ldtree.specs.declared.statement.Statement.{Statement}
 use Rattle.ldmodel.specs.Fault.{Fault}
 use Rattle.ldmodel.specs.FaultCode.{fault_of}
-use Rattle.ldmodel.specs.Layout.{Layout}
+use Rattle.ldmodel.specs.Layout.{Layout, PlacedSection}
 use Rattle.ldmodel.specs.Lent.{data_of, numbered, placed_of, region_of, starts_of, symbol_of}
 use Rattle.ldmodel.specs.Placement.{placement}
 use Rattle.ldmodel.specs.Project.{Project}
@@ -16,9 +16,10 @@ use Rattle.ldmodel.specs.declared.laid.PlacedRegion.{PlacedRegion}
 use Rattle.ldmodel.specs.declared.script_symbol.ScriptSymbol.{ScriptSymbol}
 use Rattle.place.specs.SymbolTable.{AreFound}
 
--- what a placement lends, part by part
+-- what a placement has, part by part
 pub record Places : Type 0 where
   pub sections : List Placed
+  pub counts : List ℕ
   pub starts : List ℕ
   pub data_commands : List PlacedData
   pub dots : List ℕ
@@ -32,6 +33,7 @@ Ends sections = All (λ (q : Placed). q.start + q.size < 2 ^ 64) sections
 -- they are those of the layout of a script, and its symbols are found under the numbers of their commands
 pub record AreOf (script : List Statement) (s : Layout) (p : Places) : Type 0 where
   pub sections : p.sections ≡ map placed_of s.sections
+  pub counts : p.counts ≡ map (λ (q : PlacedSection). length q.pieces) s.sections
   pub starts : p.starts ≡ flat_map starts_of s.sections
   pub data_commands : map data_of p.data_commands ≡ flat_map numbered (enumerate_from 0 s.sections)
   pub dots : p.dots ≡ s.dots

@@ -1,5 +1,5 @@
 -- The table of the output sections in their places.
-use Rattle.std.specs.Prelude.{◌≡◌, ℕ, ◌+◌, ◌^◌, ◌<◌, List, [], length, map, Option, Some, None, slice_index}
+use Rattle.std.specs.Prelude.{◌≡◌, ℕ, ◌+◌, ◌^◌, ◌<◌, List, [], ◌∷◌, length, map, Option, Some, None, slice_index}
 use Rattle.std.specs.List.{All}
 use Rattle.ldtree.specs.Given.{section_number, region_number}
 use Rattle.ldtree.specs.declared.statement.Statement.{Statement}
@@ -7,12 +7,25 @@ use Rattle.ldmodel.specs.SectionHead.{difference_in}
 use Rattle.place.specs.Keyed.{KeyedPiece, KeyedSection, section_of}
 use Rattle.place.specs.Naming.{Naming}
 use Rattle.place.specs.Tables.{AreInOrder}
-use Rattle.place.specs.Wholes.{starts_in}
+use Rattle.place.specs.Wholes.{all_data_in, starts_in}
 use Rattle.place.specs.declared.sections.Closed.{Closed}
+use Rattle.place.specs.declared.sections.Contents.{Contents}
+use Rattle.place.specs.declared.sections.Contents.TheVariants as contents
 use Rattle.place.specs.declared.sections.PieceAt.{PieceAt}
+use Rattle.ldmodel.specs.declared.rows.Piece as rows
 
 abbrev pub keyed_piece : PieceAt → KeyedPiece
 keyed_piece x = record { start = x.start; piece = x.piece.now }
+
+-- input sections that are taken over: the first entries of a row, as many as there are starts
+abbrev pub taken_pieces : List ℕ → List rows.Piece → List KeyedPiece
+taken_pieces [] ps = []
+taken_pieces (x ∷ xs) [] = []
+taken_pieces (x ∷ xs) (p ∷ ps) = record { start = x; piece = p } ∷ taken_pieces xs ps
+
+abbrev pub contents_of : Contents → List KeyedPiece
+contents_of (contents.Placed pieces) = map keyed_piece pieces.items
+contents_of (contents.Taken starts row) = taken_pieces starts.now row.now
 
 abbrev pub keyed : Closed → KeyedSection
 keyed x = record {
@@ -20,7 +33,7 @@ keyed x = record {
   region = x.output.now.region;
   fill = x.output.now.fill;
   placed = x.placed;
-  pieces = map keyed_piece x.pieces.items;
+  pieces = contents_of x.contents;
   data_commands = x.data_commands.items;
 }
 
@@ -42,12 +55,13 @@ abbrev pub Ends : List KeyedSection → Type 0
 Ends sections = All (λ (x : KeyedSection). Fits x) sections
 
 -- the sections stand under their numbers, their ends are addresses, the differences under those of their regions, and
--- their input sections are counted
+-- their input sections and data commands are counted
 pub record AreSectionsOf (script : List Statement) (sections : List KeyedSection) (differences : List ℕ)
-    (elsewhere : ℕ) (count : ℕ) : Type 0 where
+    (elsewhere : ℕ) (count data_count : ℕ) : Type 0 where
   pub order : AreInOrder (section_number script) (section_names sections)
   pub differences_of : (name : List ℕ) (k : ℕ) → region_number script name ≡ Some k → k < length differences
       → slice_index differences k ≡ difference_by sections (Some name)
   pub elsewhere_of : elsewhere ≡ difference_by sections None
   pub ends : Ends sections
   pub counted : count ≡ length (starts_in sections)
+  pub data_counted : data_count ≡ length (all_data_in 0 sections)

@@ -1,5 +1,5 @@
 -- The parts of all output sections, one section after another.
-use Rattle.std.specs.Prelude.{ℕ, ◌+◌, List, [], ◌∷◌, ◌++◌, map}
+use Rattle.std.specs.Prelude.{ℕ, ◌+◌, List, [], ◌∷◌, ◌++◌, length, map}
 use Rattle.ldmodel.specs.Layout.{PlacedData}
 use Rattle.ldmodel.specs.Lent.{NumberedData}
 use Rattle.ldmodel.specs.declared.laid.Placed.{Placed}
@@ -8,6 +8,9 @@ use Rattle.place.specs.declared.sections.DataAt.{DataAt}
 
 abbrev pub placed_in : List KeyedSection → List Placed
 placed_in sections = map (λ (x : KeyedSection). x.placed) sections
+
+abbrev pub counts_in : List KeyedSection → List ℕ
+counts_in sections = map (λ (x : KeyedSection). length x.pieces) sections
 
 abbrev pub starts_in : List KeyedSection → List ℕ
 starts_in [] = []

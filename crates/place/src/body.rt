@@ -1,14 +1,12 @@
 //! The body of an output section.
 
-ghost use Rattle.std.specs.Prelude.{◌^◌, ◌≤◌, IfSome, IfNone, ◌≡◌, ◌+◌, length, drop, OnOk, Some, false};
-ghost use Rattle.std.specs.Prelude.{slice_get};
+ghost use Rattle.std.specs.Prelude.{◌≤◌, ◌≡◌, ◌+◌, length, drop, OnOk};
 ghost use Rattle.ldexpr.specs.DotForms.{dot_form};
 ghost use Rattle.ldexpr.specs.Expressions.{expr_of};
 ghost use Rattle.ldmodel.specs.Body.{advanced, body_command_step, body_step, data_step, input_step, moved};
-ghost use Rattle.ldmodel.specs.Body.{piece_placed, piece_start, pieces_placed, set_to};
+ghost use Rattle.ldmodel.specs.Body.{piece_placed, pieces_placed, set_to};
 ghost use Rattle.ldmodel.specs.Chain.{run};
-ghost use Rattle.place.specs.Counted.{Counted, missed, starts_here};
-ghost use Rattle.place.specs.Leads.{Goes};
+ghost use Rattle.place.specs.Counted.{Counted};
 ghost use Rattle.place.specs.Naming.{Naming, piece_named, row_named};
 ghost use Rattle.place.specs.State.{body_of, Gives};
 
@@ -19,32 +17,10 @@ use ldmodel::rows::Piece;
 use ldscript::tree::{BodyCommand, BodyStatement, DotCommand, DotForm, Expr, Formula, Width};
 
 impl<'d, 'a> Frame<'d, 'a> {
-    /// Where the next entry of the row starts, and whether that was worked out anew.
-    fn start_of(&self, here: &Here<'a>, piece: &Piece) -> Option<(u64, bool)>
-        ghost naming: { Naming }
-        requires { IfSome (slice_get self.now.kept.now (length here.now.pieces.items)) (λ start.
-            start ≡ piece_start here.now.dot (piece_named naming piece.now)) }
-        ensures some { IfSome result (λ s. s.0 ≡ piece_start here.now.dot (piece_named naming piece.now)) }
-        ensures none { IfNone result (2 ^ 64 ≤ piece_start here.now.dot (piece_named naming piece.now)) }
-        ensures taken { IfSome result (λ s.
-            slice_get self.now.kept.now (length here.now.pieces.items) ≡ Some s.0 → s.1 ≡ false) }
-    {
-        match self.kept.get(here.pieces.len()) {
-            Some(start) => Some((*start, false)),
-            None => match here.dot.checked_next_multiple_of(piece.alignment.max(1)) {
-                Some(start) => Some((start, true)),
-                None => None,
-            },
-        }
-    }
-
     /// The next entry of the row takes its place.
     #[tactic(auto, unfolding(ldmodel::specs::Body::piece_placed))]
     fn place_piece(&self, here: &mut Here<'a>, line: u32, piece: &'a Piece) -> Result<(), Stop<'a>>
         ghost naming: { Naming }
-        requires { Goes self.now.kept.now
-            (piece_placed line (body_of naming here.now self.now) (piece_named naming piece.now)
-            (row_named naming (drop (length here.now.pieces.items + 1) self.now.row.now))) }
         ensures gives { Gives
             (piece_placed line (body_of naming here.old self.now) (piece_named naming piece.now)
             (row_named naming (drop (length here.old.pieces.items + 1) self.now.row.now)))
@@ -53,17 +29,15 @@ impl<'d, 'a> Frame<'d, 'a> {
         ensures one { OnOk result (length here.new.pieces.items ≡ length here.old.pieces.items + 1) }
         ensures anew { here.new.anew + length here.old.pieces.items ≤ here.old.anew + length here.new.pieces.items }
         ensures few { length here.new.pieces.items ≤ length here.old.pieces.items + 1 }
-        ensures taken { here.new.anew + missed self.now.kept.now (starts_here here.old)
-            ≤ here.old.anew + missed self.now.kept.now (starts_here here.new) }
     {
-        let Some((start, is_new)) = self.start_of(here, piece) else {
+        let Some(start) = here.dot.checked_next_multiple_of(piece.alignment.max(1)) else {
             return Err(Stop::PastAddressSpace { line });
         };
         let Some(end) = start.checked_add(piece.size) else {
             return Err(Stop::PastAddressSpace { line });
         };
         here.pieces.push(PieceAt { start, piece })?;
-        here.anew = here.anew.saturating_add(u64::from(is_new));
+        here.anew = here.anew.saturating_add(1);
         here.dot = end;
         Ok(())
     }
@@ -72,9 +46,6 @@ impl<'d, 'a> Frame<'d, 'a> {
     #[tactic(auto, unfolding(ldmodel::specs::Body::pieces_placed))]
     fn place_pieces(&self, here: &mut Here<'a>, line: u32, number: u64) -> Result<(), Stop<'a>>
         ghost naming: { Naming }
-        requires { Goes self.now.kept.now
-            (pieces_placed line number (body_of naming here.now self.now)
-            (row_named naming (drop (length here.now.pieces.items) self.now.row.now))) }
         ensures gives { Gives
             (pieces_placed line number (body_of naming here.old self.now)
             (row_named naming (drop (length here.old.pieces.items) self.now.row.now)))
@@ -94,7 +65,6 @@ impl<'d, 'a> Frame<'d, 'a> {
     /// An input statement.
     fn place_input(&self, here: &mut Here<'a>, line: u32) -> Result<(), Stop<'a>>
         ghost naming: { Naming }
-        requires { Goes self.now.kept.now (input_step line (body_of naming here.now self.now)) }
         ensures gives { Gives (input_step line (body_of naming here.old self.now)) (body_of naming here.new self.now)
             result }
         ensures counted { Counted here.old here.new self.now }
@@ -196,8 +166,6 @@ impl<'d, 'a> Frame<'d, 'a> {
         command: &'a BodyCommand,
     ) -> Result<(), Stop<'a>>
         ghost naming: { Naming }
-        requires { Goes self.now.kept.now
-            (body_command_step self.now.provided.now line (body_of naming here.now self.now) command.now) }
         ensures gives { Gives
             (body_command_step self.now.provided.now line (body_of naming here.old self.now) command.now)
             (body_of naming here.new self.now) result }
@@ -224,8 +192,6 @@ impl<'d, 'a> Frame<'d, 'a> {
         statement: &'a BodyStatement,
     ) -> Result<(), Stop<'a>>
         ghost naming: { Naming }
-        requires { Goes self.now.kept.now
-            (body_step self.now.provided.now (body_of naming here.now self.now) statement.now) }
         ensures gives { Gives (body_step self.now.provided.now (body_of naming here.old self.now) statement.now)
             (body_of naming here.new self.now) result }
         ensures counted { Counted here.old here.new self.now }
@@ -238,8 +204,6 @@ impl<'d, 'a> Frame<'d, 'a> {
     #[tactic(auto, unfolding(ldmodel::specs::Chain::run))]
     pub fn place_body(&self, here: &mut Here<'a>, body: &'a [BodyStatement]) -> Result<(), Stop<'a>>
         ghost naming: { Naming }
-        requires { Goes self.now.kept.now
-            (run (body_step self.now.provided.now) (body_of naming here.now self.now) body.now) }
         ensures gives { Gives (run (body_step self.now.provided.now) (body_of naming here.old self.now) body.now)
             (body_of naming here.new self.now) result }
         ensures counted { Counted here.old here.new self.now }

@@ -6,7 +6,6 @@ ghost use Rattle.std.specs.Option.{option_copied, option_and_then};
 ghost use Rattle.ldmodel.specs.Layout.{PlacedPiece, region_named};
 ghost use Rattle.ldmodel.specs.SectionEnd.{freed_from, has_file_bytes, has_flag, is_empty, is_in_file, is_within};
 ghost use Rattle.ldmodel.specs.SectionEnd.{load_region, placed_section, section_end, with_room};
-ghost use Rattle.place.specs.Counted.{Adds, starts_here};
 ghost use Rattle.place.specs.Ends.{body_alone, ended_body, load_end};
 ghost use Rattle.place.specs.Heads.{head_from, Yields};
 ghost use Rattle.place.specs.Keyed.{piece_at, section_of};
@@ -17,7 +16,7 @@ ghost use Rattle.place.specs.State.{layout_of, Gives};
 
 use crate::head::{Head, region_name};
 use crate::regions::{Region, Regions};
-use crate::sections::{Closed, PieceAt};
+use crate::sections::{Closed, Contents, PieceAt};
 use crate::state::{Done, Here};
 use crate::stop::Stop;
 use elfdefs::constants::{SHF_EXECINSTR, SHF_WRITE};
@@ -67,7 +66,7 @@ fn any_with_flag(pieces: &[PieceAt<'_>], flag: u64) -> bool
 }
 
 /// The region of `AT>region`.
-fn load_region_name(section: &OutputSection) -> Option<&[u8]>
+pub(crate) fn load_region_name(section: &OutputSection) -> Option<&[u8]>
     ensures { option_copied result ≡ load_region section.now.load }
 {
     match &section.load {
@@ -116,7 +115,7 @@ impl<'a> Regions<'a> {
     }
 
     /// Sets the next free address of a region, if one is named.
-    fn free(&mut self, name: Option<&[u8]>, next: u64)
+    pub fn free(&mut self, name: Option<&[u8]>, next: u64)
         ensures { self.new ≡ freed_from (option_copied name.entry) next self.old }
     {
         if let Some(name) = name {
@@ -184,7 +183,6 @@ impl<'a> Here<'a> {
         ensures inputs { self.new.inputs ≡ self.old.inputs }
         ensures symbols { self.new.symbols ≡ self.old.symbols }
         ensures anew { self.new.anew ≡ self.old.anew }
-        ensures pieces { (keyed result).pieces ≡ map keyed_piece self.old.pieces.items }
     {
         let size = self.dot.saturating_sub(head.start);
         let has_file_bytes = self.has_file_bytes();
@@ -200,7 +198,7 @@ impl<'a> Here<'a> {
         Closed {
             output,
             placed,
-            pieces: std::mem::replace(&mut self.pieces, Vec::new(alloc)),
+            contents: Contents::Placed(std::mem::replace(&mut self.pieces, Vec::new(alloc))),
             data_commands: std::mem::replace(&mut self.data_commands, Vec::new(alloc)),
         }
     }
@@ -218,7 +216,6 @@ impl<'a> Here<'a> {
         ensures anew { self.new.anew ≡ self.old.anew }
         ensures script { self.new.symbols.script ≡ self.old.symbols.script }
         ensures one { OnOk result (length done.new.sections ≡ length done.old.sections + 1) }
-        ensures adds { OnOk result (Adds (starts_here self.old) done.old.sections done.new.sections) }
         ensures gives { Gives (section_end line output.now (head_from head) (ended_body naming self.old done.old))
             (layout_of naming self.new done.new) result }
     {

@@ -4,19 +4,26 @@ ghost use Rattle.std.specs.Prelude.{◌≡◌, IfSome, IfNone};
 ghost use Rattle.place.specs.Leads.{Keeps};
 
 use crate::placement::Placement;
+use ldmodel::laid::{Placed, PlacedData};
 use ldmodel::script_symbol::ScriptSymbol;
 
 /// What is kept of an earlier layout, and how far it holds.
 #[derive(Clone, Copy)]
 pub(crate) struct Kept<'k> {
-    /// Where the entries of all rows start.
+    /// The numbers of the output sections.
+    pub sections: &'k [Placed],
+    /// How many input sections each of them has.
+    pub counts: &'k [usize],
+    /// Where these start, section by section.
     pub starts: &'k [u64],
+    /// The data commands, section by section.
+    pub data_commands: &'k [PlacedData],
+    /// `.` before each statement.
+    pub dots: &'k [u64],
     /// The symbols.
     pub symbols: &'k [ScriptSymbol],
     /// The number of the output section before which it is taken over.
     pub first: usize,
-    /// How many values of `.` it has.
-    pub dots: usize,
 }
 
 impl<'k> Kept<'k> {
@@ -26,17 +33,26 @@ impl<'k> Kept<'k> {
         ensures none { IfNone kept.entry (result.first ≡ 0) }
     {
         match kept {
-            Some((placement, first)) => Kept {
-                starts: placement.pieces(),
-                symbols: placement.symbols(),
-                first,
-                dots: placement.laid().dots.len(),
-            },
+            Some((placement, first)) => {
+                let laid = placement.laid();
+                Kept {
+                    sections: laid.sections,
+                    counts: placement.counts(),
+                    starts: laid.starts,
+                    data_commands: laid.data_commands,
+                    dots: laid.dots,
+                    symbols: laid.symbols,
+                    first,
+                }
+            }
             None => Kept {
+                sections: &[],
+                counts: &[],
                 starts: &[],
+                data_commands: &[],
+                dots: &[],
                 symbols: &[],
                 first: 0,
-                dots: 0,
             },
         }
     }

@@ -19,4 +19,5 @@ mod sections;
 mod state;
 mod stop;
 mod symbols;
+mod taken;
 mod whole;

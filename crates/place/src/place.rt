@@ -57,7 +57,7 @@ fn nowhere<'a>(
     ensures symbols { IfOk result (λ h. h.symbols.list ≡ []) }
 {
     let symbols = no_symbols(alloc, script, taken, sections)?;
-    let dots = Vec::with_capacity(alloc, taken.dots)?;
+    let dots = Vec::with_capacity(alloc, taken.dots.len())?;
     Ok(Here {
         dot: 0,
         dots,

@@ -15,6 +15,7 @@ use std::marker::Model;
 #[derive(Drop)]
 pub struct Placement {
     pub(crate) sections: Vec<Placed>,
+    pub(crate) counts: Vec<usize>,
     pub(crate) starts: Vec<u64>,
     pub(crate) data_commands: Vec<PlacedData>,
     pub(crate) dots: Vec<u64>,
@@ -31,6 +32,7 @@ impl Model for Placement {
 
     ghost view = { λ p. record {
       sections = p.sections.items;
+      counts = p.counts.items;
       starts = p.starts.items;
       data_commands =
           p.data_commands.items;
@@ -69,6 +71,13 @@ impl Placement {
         ensures { result.now ≡ self.now.sections }
     {
         &self.sections
+    }
+
+    /// How many input sections each output section has.
+    pub(crate) fn counts(&self) -> &[usize]
+        ensures { result.now ≡ self.now.counts }
+    {
+        &self.counts
     }
 
     /// Where the input sections start, row by row.

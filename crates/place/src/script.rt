@@ -1,6 +1,6 @@
 //! The statements of a script.
 
-ghost use Rattle.std.specs.Prelude.{◌≡◌, ◌≤◌, ◌<◌, ◌+◌, [], map, slice_index_or, length, drop, OnOk};
+ghost use Rattle.std.specs.Prelude.{◌≡◌, ◌≤◌, ◌<◌, ◌+◌, [], map, slice_index_or, length, OnOk};
 ghost use Rattle.ldmodel.specs.Chain.{run};
 ghost use Rattle.ldmodel.specs.Placement.{free_dot_step, item_command_step, item_step, statement_step};
 ghost use Rattle.place.specs.Counted.{Resumes, entries};
@@ -8,7 +8,6 @@ ghost use Rattle.place.specs.Coming.{Coming};
 ghost use Rattle.place.specs.Inputs.{rows_of};
 ghost use Rattle.place.specs.Naming.{Naming};
 ghost use Rattle.place.specs.State.{layout_of, Gives};
-ghost use Rattle.place.specs.Wholes.{starts_in};
 
 use crate::kept::Kept;
 use crate::provided::Provided;
@@ -29,7 +28,7 @@ pub(crate) struct Input<'i, 'a> {
     /// The rows of the output sections.
     pub rows: &'a [Vec<Piece>],
     /// What is kept of an earlier layout.
-    pub kept: Kept<'i>,
+    pub kept: Kept<'a>,
 }
 
 fn row_at(rows: &[Vec<Piece>], section: usize) -> &[Piece]
@@ -71,7 +70,7 @@ impl<'a> Here<'a> {
 
 impl<'i, 'a> Input<'i, 'a> {
     /// The symbols that are taken over where the layout has come to, with those before.
-    fn symbols_at(&self, done: &Done<'a>) -> &'i [ScriptSymbol]
+    fn symbols_at(&self, done: &Done<'a>) -> &'a [ScriptSymbol]
         ensures taken { length done.now.sections < self.now.kept.first → result.now ≡ self.now.kept.symbols.now }
         ensures past { self.now.kept.first ≤ length done.now.sections → result.now ≡ [] }
     {
@@ -79,21 +78,6 @@ impl<'i, 'a> Input<'i, 'a> {
             self.kept.symbols
         } else {
             &[]
-        }
-    }
-
-    /// The starts that are taken over in the next output section.
-    fn starts_at(&self, done: &Done<'a>) -> &'i [u64]
-        ensures taken { length done.now.sections < self.now.kept.first
-            → result.now ≡ drop (length (starts_in done.now.sections)) self.now.kept.starts.now }
-        ensures past { self.now.kept.first ≤ length done.now.sections → result.now ≡ [] }
-    {
-        if done.sections.len() >= self.kept.first {
-            return &[];
-        }
-        match self.kept.starts.get(done.sections.count()..) {
-            Some(kept) => kept,
-            None => &[],
         }
     }
 
@@ -127,16 +111,26 @@ impl<'i, 'a> Input<'i, 'a> {
             }
             ItemCommand::Section(output) => {
                 let row = row_at(self.rows, done.sections.len());
-                let kept = self.starts_at(done);
-                here.place_section(
-                    self.alloc,
-                    done,
-                    self.provided,
-                    row,
-                    kept,
-                    line,
-                    output.get(),
-                )
+                if done.sections.len() < self.kept.first {
+                    here.take_section(
+                        self.alloc,
+                        done,
+                        self.provided,
+                        row,
+                        self.kept,
+                        line,
+                        output.get(),
+                    )
+                } else {
+                    here.place_section(
+                        self.alloc,
+                        done,
+                        self.provided,
+                        row,
+                        line,
+                        output.get(),
+                    )
+                }
             }
             ItemCommand::Discard(inputs) => {
                 let Some(next) = here.inputs.checked_add(inputs.as_slice().len() as u64) else {

@@ -4,9 +4,7 @@ ghost use Rattle.std.specs.Prelude.{◌≡◌, ◌≤◌, ◌+◌, [], length, O
 ghost use Rattle.ldmodel.specs.Body.{body_step};
 ghost use Rattle.ldmodel.specs.Chain.{run};
 ghost use Rattle.ldmodel.specs.Placement.{opened, section_step};
-ghost use Rattle.place.specs.Counted.{Takes, missed, starts_here};
 ghost use Rattle.place.specs.Heads.{head_from};
-ghost use Rattle.place.specs.Leads.{Goes, GoesOn};
 ghost use Rattle.place.specs.Naming.{Naming, row_named};
 ghost use Rattle.place.specs.State.{body_from, layout_of, Gives};
 ghost use Rattle.place.specs.declared.stop.Stop.TheVariants.{NoMemory};
@@ -45,17 +43,12 @@ impl<'a> Here<'a> {
         done: &Done<'a>,
         provided: &Provided<'a>,
         row: &'a [Piece],
-        kept: &[u64],
         head: Head,
         output: &'a OutputSection,
     ) -> Result<(), Stop<'a>>
         ghost naming: { Naming }
-        requires { Goes kept.now
-            (run (body_step provided.now)
-            (opened (layout_of naming self.now done.now) (row_named naming row.now) (head_from head)) output.now.body) }
         ensures script { self.new.symbols.script ≡ self.old.symbols.script }
         ensures anew { self.new.anew ≤ self.old.anew + length row.now }
-        ensures taken { self.new.anew ≤ self.old.anew + missed kept.now (starts_here self.new) }
         ensures gives { Gives
             (run (body_step provided.now)
             (opened (layout_of naming self.old done.now) (row_named naming row.now) (head_from head)) output.now.body)
@@ -66,7 +59,6 @@ impl<'a> Here<'a> {
             provided,
             row,
             start: head.start,
-            kept,
         };
         self.open(alloc, head.start, row.len())?;
         frame.place_body(self, output.body.as_slice())?;
@@ -81,24 +73,19 @@ impl<'a> Here<'a> {
         done: &mut Done<'a>,
         provided: &Provided<'a>,
         row: &'a [Piece],
-        kept: &[u64],
         line: u32,
         output: &'a OutputSection,
     ) -> Result<(), Stop<'a>>
         ghost naming: { Naming }
-        requires { GoesOn kept.now (layout_of naming self.now done.now).sections
-            (section_step provided.now (row_named naming row.now) (layout_of naming self.now done.now) line
-            output.now) }
         ensures script { self.new.symbols.script ≡ self.old.symbols.script }
         ensures anew { self.new.anew ≤ self.old.anew + length row.now }
         ensures one { OnOk result (length done.new.sections ≡ length done.old.sections + 1) }
-        ensures takes { OnOk result (Takes kept.now self.old self.new done.old.sections done.new.sections) }
         ensures gives { Gives
             (section_step provided.now (row_named naming row.now) (layout_of naming self.old done.old) line output.now)
             (layout_of naming self.new done.new) result }
     {
         let head = self.head(done, row, line, output)?;
-        self.body(alloc, done, provided, row, kept, head, output)?;
+        self.body(alloc, done, provided, row, head, output)?;
         self.end(alloc, done, line, output, head)?;
         Ok(())
     }

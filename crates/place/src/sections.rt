@@ -5,9 +5,9 @@ ghost use Rattle.std.specs.Prelude.{bytes_eq, option_map};
 ghost use Rattle.std.specs.Option.{option_copied};
 ghost use Rattle.ldtree.specs.Given.{section_number};
 ghost use Rattle.place.specs.Keyed.{KeyedSection};
-ghost use Rattle.place.specs.SectionTable.{keyed, difference_by, section_names, Ends, Fits};
+ghost use Rattle.place.specs.SectionTable.{contents_of, keyed, difference_by, section_names, Ends, Fits};
 ghost use Rattle.place.specs.Tables.{AreInOrder};
-ghost use Rattle.place.specs.Wholes.{starts_in};
+ghost use Rattle.place.specs.Wholes.{all_data_in, starts_in};
 ghost use Rattle.place.specs.declared.stop.Stop.TheVariants.{NoMemory};
 
 use crate::stop::Stop;
@@ -39,6 +39,33 @@ pub(crate) struct DataAt {
     pub value: u64,
 }
 
+/// The input sections of an output section, in their places.
+#[derive(Drop)]
+pub(crate) enum Contents<'a> {
+    /// They were placed in this layout.
+    Placed(Vec<PieceAt<'a>>),
+    /// They are the first entries of the row, and start where they did in an earlier layout.
+    Taken {
+        /// Where they start.
+        starts: &'a [u64],
+        /// The row.
+        row: &'a [Piece],
+    },
+}
+
+impl<'a> Contents<'a> {
+    /// How many there are.
+    #[tactic(auto, using(crate::proofs::Wholes::taken_length))]
+    pub fn len(&self) -> usize
+        ensures { result ≡ length (contents_of self.now) }
+    {
+        match self {
+            Contents::Placed(pieces) => pieces.len(),
+            Contents::Taken { starts, row } => starts.len().min(row.len()),
+        }
+    }
+}
+
 /// An output section in its place.
 #[derive(Drop)]
 pub(crate) struct Closed<'a> {
@@ -47,7 +74,7 @@ pub(crate) struct Closed<'a> {
     /// Its numbers.
     pub placed: Placed,
     /// Its input sections.
-    pub pieces: Vec<PieceAt<'a>>,
+    pub contents: Contents<'a>,
     /// Its data commands.
     pub data_commands: Vec<DataAt>,
 }
@@ -59,6 +86,7 @@ pub(crate) struct Sections<'a> {
     script: &'a Script,
     list: Vec<Closed<'a>>,
     count: usize,
+    data_count: usize,
     differences: Vec<u64>,
     elsewhere: u64,
     guesses: Guesses,
@@ -74,7 +102,7 @@ impl<'a> Model for Sections<'a> {
 
     ghost view = { λ s. map keyed s.list.items };
 
-    ghost invariant = { λ s. AreSectionsOf s.script.now (map keyed s.list.items) s.differences.items s.elsewhere s.count };
+    ghost invariant = { λ s. AreSectionsOf s.script.now (map keyed s.list.items) s.differences.items s.elsewhere s.count s.data_count };
 }
 
 /// The number of the output section of a name, of which the guess is looked at first.
@@ -104,6 +132,7 @@ impl<'a> Sections<'a> {
             script,
             list: Vec::new(alloc),
             count: 0,
+            data_count: 0,
             differences,
             elsewhere: 0,
             guesses,
@@ -130,6 +159,13 @@ impl<'a> Sections<'a> {
         ensures { result ≡ length (starts_in self.now) }
     {
         self.count
+    }
+
+    /// How many data commands are in them.
+    pub fn data_count(&self) -> usize
+        ensures { result ≡ length (all_data_in 0 self.now) }
+    {
+        self.data_count
     }
 
     /// The numbers of the output section of a name.
@@ -185,13 +221,17 @@ impl<'a> Sections<'a> {
         }
         self.guesses.put(section.output.name.as_bytes(), place);
         let difference = section.placed.start.wrapping_sub(section.placed.load);
-        let Some(count) = self.count.checked_add(section.pieces.len()) else {
+        let Some(count) = self.count.checked_add(section.contents.len()) else {
+            return Err(Stop::NoMemory);
+        };
+        let Some(data_count) = self.data_count.checked_add(section.data_commands.len()) else {
             return Err(Stop::NoMemory);
         };
         match &section.output.region {
             None => {
                 self.list.push(section)?;
                 self.count = count;
+                self.data_count = data_count;
                 self.elsewhere = difference;
                 Ok(())
             }
@@ -202,6 +242,8 @@ impl<'a> Sections<'a> {
                     }
                     self.list.push(section)?;
                     self.count = count;
+                    self.data_count = data_count;
+                self.data_count = data_count;
                     self.differences[number] = difference;
                     Ok(())
                 }

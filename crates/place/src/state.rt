@@ -45,6 +45,4 @@ pub(crate) struct Frame<'d, 'a> {
     pub row: &'a [Piece],
     /// Where it starts.
     pub start: u64,
-    /// Where the entries of its row started in an earlier layout, as far as these may be taken over.
-    pub kept: &'d [u64],
 }

@@ -133,6 +133,19 @@ impl<'a> Symbols<'a> {
         }
     }
 
+    /// More symbols. It is an error where memory ran out.
+    pub fn extend(&mut self, symbols: &[ScriptSymbol]) -> Result<(), Stop<'a>>
+        requires { AreFound self.now.script symbols.now }
+        ensures script { self.new.script ≡ self.old.script }
+        ensures pushed { OnOk result (self.new.list ≡ self.old.list ++ symbols.now) }
+        ensures refused { IfErr result (λ f. f ≡ NoMemory) }
+    {
+        for symbol in symbols {
+            self.push(*symbol)?;
+        }
+        Ok(())
+    }
+
     /// Gives a symbol a value. It is an error where memory ran out.
     pub fn assign(&mut self, name: &[u8], value: u64) -> Result<(), Stop<'a>>
         ensures script { self.new.script ≡ self.old.script }

@@ -6,13 +6,13 @@ ghost use Rattle.place.specs.Keyed.{KeyedPiece};
 ghost use Rattle.place.specs.Naming.{Naming};
 ghost use Rattle.place.specs.Places.{AreOf};
 ghost use Rattle.place.specs.RegionTable.{region_of};
-ghost use Rattle.place.specs.SectionTable.{keyed, keyed_piece};
+ghost use Rattle.place.specs.SectionTable.{contents_of, keyed, keyed_piece};
 ghost use Rattle.place.specs.State.{layout_of};
-ghost use Rattle.place.specs.Wholes.{all_data_in, data_in, placed_in, starts_in};
+ghost use Rattle.place.specs.Wholes.{all_data_in, counts_in, data_in, placed_in, starts_in};
 
 use crate::placement::Placement;
 use crate::regions::Region;
-use crate::sections::{Closed, DataAt, PieceAt};
+use crate::sections::{Closed, Contents, DataAt, PieceAt};
 use crate::state::{Done, Here};
 use ldmodel::laid::{OutputIndex, Placed, PlacedData, PlacedRegion};
 use std::alloc::{AllocError, Global};
@@ -28,7 +28,7 @@ fn numbers_of(alloc: Global, sections: &[Closed<'_>]) -> Result<Vec<Placed>, All
     Ok(list)
 }
 
-fn add_starts(list: &mut Vec<u64>, pieces: &[PieceAt<'_>]) -> Result<(), AllocError>
+fn add_placed(list: &mut Vec<u64>, pieces: &[PieceAt<'_>]) -> Result<(), AllocError>
     ensures { OnOk result (list.new.items ≡ list.old.items
         ++ map (λ (x : KeyedPiece). x.start) (map keyed_piece pieces.now)) }
 {
@@ -38,13 +38,42 @@ fn add_starts(list: &mut Vec<u64>, pieces: &[PieceAt<'_>]) -> Result<(), AllocEr
     Ok(())
 }
 
+#[tactic(auto, using(crate::proofs::Wholes::taken_starts))]
+fn add_starts(list: &mut Vec<u64>, contents: &Contents<'_>) -> Result<(), AllocError>
+    ensures { OnOk result (list.new.items ≡ list.old.items
+        ++ map (λ (x : KeyedPiece). x.start) (contents_of contents.now)) }
+{
+    match contents {
+        Contents::Placed(pieces) => add_placed(list, pieces),
+        Contents::Taken { starts, row } => {
+            let count = starts.len().min(row.len());
+            match starts.get(..count) {
+                Some(starts) => list.extend_from_slice(starts),
+                // it does not come to this: the count is one of these starts
+                None => Err(AllocError),
+            }
+        }
+    }
+}
+
 /// Where the input sections start, row by row, of which there are this many.
 fn starts_of(alloc: Global, count: usize, sections: &[Closed<'_>]) -> Result<Vec<u64>, AllocError>
     ensures { IfOk result (λ v. v.items ≡ starts_in (map keyed sections.now)) }
 {
     let mut list = Vec::with_capacity(alloc, count)?;
     for section in sections {
-        add_starts(&mut list, &section.pieces)?;
+        add_starts(&mut list, &section.contents)?;
+    }
+    Ok(list)
+}
+
+/// How many input sections each output section has.
+fn counts_of(alloc: Global, sections: &[Closed<'_>]) -> Result<Vec<usize>, AllocError>
+    ensures { IfOk result (λ v. v.items ≡ counts_in (map keyed sections.now)) }
+{
+    let mut list = Vec::with_capacity(alloc, sections.len())?;
+    for section in sections {
+        list.push(section.contents.len())?;
     }
     Ok(list)
 }
@@ -99,18 +128,20 @@ fn regions_of(alloc: Global, regions: &[Region<'_>]) -> Result<Vec<PlacedRegion>
 }
 
 /// The whole of a layout.
-#[tactic(auto, using(crate::proofs::Wholes::placed_whole, crate::proofs::Wholes::starts_whole, crate::proofs::Wholes::data_whole))]
+#[tactic(auto, using(crate::proofs::Wholes::placed_whole, crate::proofs::Wholes::counts_whole, crate::proofs::Wholes::starts_whole, crate::proofs::Wholes::data_whole))]
 pub(crate) fn whole(alloc: Global, here: Here<'_>, done: &Done<'_>) -> Result<Placement, AllocError>
     ghost naming: { Naming }
     ensures { IfOk result (λ p. AreOf here.entry.symbols.script (layout_of naming here.entry done.now) p) }
 {
     let sections = done.sections.as_slice();
     let placed = numbers_of(alloc, sections)?;
+    let counts = counts_of(alloc, sections)?;
     let starts = starts_of(alloc, done.sections.count(), sections)?;
     let data_commands = data_commands_of(alloc, sections)?;
     let regions = regions_of(alloc, done.regions.as_slice())?;
     Ok(Placement {
         sections: placed,
+        counts,
         starts,
         data_commands,
         dots: here.dots,

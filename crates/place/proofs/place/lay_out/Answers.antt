@@ -3,8 +3,8 @@ use Rattle.ldtree.specs.declared.statement.Statement.{Statement}
 use Rattle.ldmodel.specs.Chain.{run}
 use Rattle.ldmodel.specs.Placement.{statement_step}
 use Rattle.place.proofs.Good.{begins, stops_at}
-use Rattle.place.proofs.Alike.{for_some, resumes_within}
-use Rattle.place.proofs.Comes.{by_option, nothing_comes, script_comes}
+use Rattle.place.proofs.Comes.{by_option, for_some, nothing_comes, script_comes}
+use Rattle.place.proofs.Counting.{resumes_within}
 use Rattle.place.proofs.place.lay_out.Goals as goal
 use Rattle.place.specs.Kept.{IsKept}
 use Rattle.place.specs.Naming.{rows_named}
@@ -43,29 +43,9 @@ returns-in-Ok-clause-resumed g c =
     for_some c.args.kept _ _ c.new-taken.ensures.some
     (λ k keeps kept. inr (
       c.place_statements-laid.new.here.anew,
-      resumes_within g.naming c.args.script.now (map (λ v. v.items) c.args.rows.now)
-          (provided_names c.args.script.now c.args.provided.now) k.0.now k.1
-          (layout_of g.naming c.place_statements-laid.new.here c.place_statements-laid.new.done) _
-          c.in_ok-here.here c.place_statements-laid.new.here c.in_ok-sections.sections
-          c.place_statements-laid.new.done.sections c.in-Ok.ensures.resumed kept
-          (sym (begins g.naming c.in_ok-here.here
-          (record { sections = c.in_ok-sections.sections; regions = c.new-regions.result })
-          (rows_named g.naming (map (λ v. v.items) c.args.rows.now))
-          (provided_names c.args.script.now c.args.provided.now) c.args.script.now
-          c.in_ok-here.ensures.dot c.in_ok-here.ensures.dots c.in_ok-here.ensures.inputs c.in_ok-here.ensures.symbols
-          c.in_ok-sections.ensures c.new-regions.ensures)
-          ∙ (ap (λ (ps : List (List ℕ)).
-          run (statement_step (rows_named g.naming (map (λ v. v.items) c.args.rows.now)) ps)
-          (layout_of g.naming c.in_ok-here.here
-          (record { sections = c.in_ok-sections.sections; regions = c.new-regions.result })) c.args.script.now)
-          (sym c.in_ok-provided.ensures)
-          ∙ (ap (λ (xs : List Statement).
-          run (statement_step (rows_named g.naming (map (λ v. v.items) c.args.rows.now)) c.in_ok-provided.provided)
-          (layout_of g.naming c.in_ok-here.here
-          (record { sections = c.in_ok-sections.sections; regions = c.new-regions.result })) xs)
-          (sym c.statements.ensures.value)
-          ∙ c.in-Ok.ensures.gives)))
-          refl keeps.starts keeps.first_is refl c.in_ok-here.ensures.anew c.in_ok-sections.ensures,
+      resumes_within _ c.in_ok-here.here c.place_statements-laid.new.here c.in_ok-sections.sections
+          c.place_statements-laid.new.done.sections k.1 (map (λ v. v.items) c.args.rows.now) c.in-Ok.ensures.resumed
+          keeps.first_is refl c.in_ok-here.ensures.anew c.in_ok-sections.ensures,
       c.raise.ensures,
     ))
 

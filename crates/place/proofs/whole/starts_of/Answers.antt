@@ -1,8 +1,7 @@
-use Rattle.std.proofs.Common.{◌++◌, ap, ◌∙◌, map}
+use Rattle.std.proofs.Common.{map}
 use Rattle.place.proofs.Wholes.{starts_more}
 use Rattle.place.proofs.whole.starts_of.Goals as goal
-use Rattle.place.specs.Keyed.{KeyedPiece}
-use Rattle.place.specs.SectionTable.{keyed, keyed_piece}
+use Rattle.place.specs.SectionTable.{keyed}
 use Rattle.place.specs.Wholes.{starts_in}
 
 pub loop-section-preserved : goal.loop-section-preserved
@@ -11,6 +10,4 @@ loop-section-preserved c =
     (starts_in (map keyed c.args.sections.now))
     c.loop-section.list.items c.add_starts.new.list.items c.loop-section-test.true c.section-item.is
     c.loop-section.invariant
-    (c.in_ok-add_starts.ensures
-    ∙ ap (λ l. c.loop-section.list.items ++ map (λ (p : KeyedPiece). p.start) (map keyed_piece l))
-    c.deref.ensures.value)
+    c.in_ok-add_starts.ensures

@@ -11,16 +11,12 @@ invariant_of-self-in-None c =
     omega (arith, c.len.ensures, length-map c.self.inside.list.items keyed) in
     rw (c.in_ok-push-in-None.ensures.items, map-append keyed c.self.inside.list.items)
     (pushed_elsewhere c.self.inside.script.now (map keyed c.self.inside.list.items) (keyed c.args.section)
-    c.self.inside.differences.items c.self.inside.elsewhere c.self.inside.count c.in-Some-checked_add.count
+    c.self.inside.differences.items c.self.inside.elsewhere c.self.inside.count c.in-Some-checked_add.count c.self.inside.data_count c.in-Some-checked_add-2.data_count
     c.self.invariant
     (ap (section_number c.self.inside.script.now) (sym c.as_bytes.ensures)
     ∙ (sym c.in-Some.ensures ∙ ap Some last)) c.requires
-    (omega (
-      arith,
-      c.in-Some-checked_add.ensures.1,
-      c.len-2.ensures,
-      length-map c.args.section.pieces.items keyed_piece,
-    )) c.in-None.is)
+    (omega (arith, c.in-Some-checked_add.ensures.1, c.len-2.ensures))
+    (omega (arith, c.in-Some-checked_add-2.ensures.1, c.len-3.ensures)) c.in-None.is)
 
 pub invariant_of-self-in-Some-region_number : goal.invariant_of-self-in-Some-region_number
 invariant_of-self-in-Some-region_number c =
@@ -30,16 +26,12 @@ invariant_of-self-in-Some-region_number c =
     omega (arith, c.len-in-Some-region_number.ensures) in
     rw (c.in_ok-push-in-Some-region_number.ensures.items, map-append keyed c.self.inside.list.items)
     (pushed_in c.self.inside.script.now (map keyed c.self.inside.list.items) (keyed c.args.section)
-    c.self.inside.differences.items c.self.inside.elsewhere c.self.inside.count c.in-Some-checked_add.count
+    c.self.inside.differences.items c.self.inside.elsewhere c.self.inside.count c.in-Some-checked_add.count c.self.inside.data_count c.in-Some-checked_add-2.data_count
     c.self.invariant
     (ap (section_number c.self.inside.script.now) (sym c.as_bytes.ensures)
     ∙ (sym c.in-Some.ensures ∙ ap Some last)) c.requires
-    (omega (
-      arith,
-      c.in-Some-checked_add.ensures.1,
-      c.len-2.ensures,
-      length-map c.args.section.pieces.items keyed_piece,
-    ))
+    (omega (arith, c.in-Some-checked_add.ensures.1, c.len-2.ensures))
+    (omega (arith, c.in-Some-checked_add-2.ensures.1, c.len-3.ensures))
     c.in-Some-region.region c.in-Some-region_number.number c.in-Some-region.is
     (ap (region_number c.self.inside.script.now) (sym c.as_bytes-in-Some-region.ensures)
     ∙ sym c.in-Some-region_number.ensures) l)

@@ -4,7 +4,6 @@ use Rattle.ldmodel.specs.Layout.{Layout, PlacedSection}
 use Rattle.ldmodel.specs.SectionEnd.{freed_from, with_section}
 use Rattle.place.proofs.Ending.{end_is, ends_there, joined, load_end_is}
 use Rattle.place.proofs.state.Here.end.Goals as goal
-use Rattle.place.specs.Counted.{starts_of}
 use Rattle.place.specs.Ends.{ended_body}
 use Rattle.place.specs.Heads.{head_from}
 use Rattle.place.specs.Keyed.{section_of}
@@ -41,10 +40,3 @@ returns-clause-gives g c =
       | inl h ↦ inl (e ∙ ap (λ r. and_then r (λ (_ : ℕ). Ok (with_section s c.args.output.now q))) h)
       | inr h ↦ inr h
     ]
-
-pub returns-in-Ok-clause-adds : goal.returns-in-Ok-clause-adds
-returns-in-Ok-clause-adds g c = record {
-  section = keyed c.close-section.result;
-  added = c.in_ok-push-in-Ok.ensures.pushed;
-  starts_are = ap starts_of c.close-section.ensures.pieces;
-}

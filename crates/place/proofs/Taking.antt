@@ -1,0 +1,223 @@
+-- An output section that is taken over is the one that its statement makes.
+use Rattle.std.proofs.Common.{◌≡◌, ℕ, ◌+◌, List, [], ◌∷◌, ◌++◌, length, map, take, drop, Some, Ok, Err, Result}
+use Rattle.std.proofs.Common.{IfErr, OnOk, inr, refl, sym, ap, subst, ◌∙◌, arith, append_assoc}
+use Rattle.std.specs.List.{enumerate_from}
+use Rattle.std.specs.Prelude.{flat_map, slice_get}
+use Rattle.std.proofs.Math.Seq.{drop-append_seam, take-append_seam}
+use Rattle.std.proofs.lemmas.Grind.{flat_map-append}
+use Rattle.std.proofs.lemmas.List.{append-nil, drop-map, length-map, map-append, take-map}
+use Rattle.ldtree.specs.declared.section.OutputSection.{OutputSection}
+use Rattle.ldtree.specs.declared.statement.Statement.{Statement}
+use Rattle.ldmodel.specs.Layout.{Layout, MemoryRegion, PlacedData, PlacedPiece, PlacedSection, ScriptSymbol}
+use Rattle.ldmodel.specs.Lent.{NumberedData, data_of, numbered, placed_of, starts_of, symbol_of}
+use Rattle.ldmodel.specs.Placement.{section_step}
+use Rattle.ldmodel.specs.Rows.{Piece}
+use Rattle.ldmodel.specs.SectionEnd.{freed_from, load_region}
+use Rattle.ldmodel.specs.declared.laid.Placed.{Placed}
+use Rattle.ldmodel.specs.declared.laid.PlacedData as code_data
+use Rattle.ldmodel.specs.declared.rows.Piece as rows
+use Rattle.ldmodel.specs.declared.script_symbol.ScriptSymbol as code
+use Rattle.place.proofs.Adding.{SectionGrown, enumerate_more, section_grows}
+use Rattle.place.proofs.Grows.{the_piece}
+use Rattle.place.proofs.Leading.{after_first}
+use Rattle.place.proofs.Wholes.{data_whole, starts_whole}
+use Rattle.place.specs.Keyed.{KeyedPiece, KeyedSection, data_at, piece_at, section_of}
+use Rattle.place.specs.Leads.{Begins, Leads, counts_of, data_in}
+use Rattle.place.specs.Naming.{Naming, piece_named, row_named}
+use Rattle.place.specs.SectionTable.{taken_pieces}
+use Rattle.place.specs.State.{layout_of, Gives}
+use Rattle.place.specs.Steps.{data_in as data_steps, inputs_in, symbols_in}
+use Rattle.place.specs.Taken.{IsTaken, data_at_of, part_of}
+use Rattle.place.specs.Wholes.{all_data_in, starts_in}
+use Rattle.place.specs.declared.kept.Kept.{Kept}
+use Rattle.place.specs.declared.state.Done.{Done}
+use Rattle.place.specs.declared.state.Here.{Here}
+use Rattle.place.specs.declared.stop.Stop.{Stop}
+use Rattle.place.specs.declared.stop.Stop.TheVariants.{NoMemory}
+
+-- the part of a list that follows some of its first elements
+next_part : {X : Type 0} (xs more ys all : List X) (from count : ℕ) → ys ≡ xs ++ more → Begins ys all → from ≡ length xs
+    → count ≡ length more → part_of all from count ≡ more
+next_part xs more ys all from count e b f c =
+    let whole : all ≡ xs ++ (more ++ b.later) =
+    b.is ∙ (ap (λ l. l ++ b.later) e ∙ append_assoc xs more b.later) in
+    ap (λ k. take count (drop k all)) f
+    ∙ (ap (λ l. take count (drop (length xs) l)) whole
+    ∙ (ap (take count) (drop-append_seam xs (more ++ b.later))
+    ∙ (ap (λ k. take k (more ++ b.later)) c ∙ take-append_seam more b.later)))
+
+next_element : {X : Type 0} (xs : List X) (x : X) (ys all : List X) (from : ℕ) → ys ≡ xs ++ x ∷ [] → Begins ys all
+    → from ≡ length xs → slice_get all from ≡ Some x
+next_element xs x ys all from e b f =
+    ap (slice_get all) f
+    ∙ (ap (λ l. slice_get l (length xs)) (b.is ∙ (ap (λ l. l ++ b.later) e ∙ append_assoc xs (x ∷ []) b.later))
+    ∙ after_first xs x b.later)
+
+mapped_part : {X Y : Type 0} (f : X → Y) (xs : List X) (from count : ℕ) → map f (part_of xs from count)
+    ≡ part_of (map f xs) from count
+mapped_part f xs from count =
+    sym (take-map f count (drop from xs)) ∙ ap (take count) (sym (drop-map f from xs))
+
+-- input sections by their starts, and their row
+by_starts : (n : Naming) (qs : List PlacedPiece) (row : List rows.Piece) (rest : List Piece)
+    → map the_piece qs ++ rest ≡ row_named n row
+    → map (piece_at n) (taken_pieces (map (λ (x : PlacedPiece). x.start) qs) row) ≡ qs
+by_starts n [] row rest e = refl
+by_starts n (q ∷ qs) [] rest e = absurd (let no : ⊥ = cc in no)
+by_starts n (q ∷ qs) (p ∷ ps) rest e =
+    let first : q.piece ≡ piece_named n p = cc in
+    let others : map the_piece qs ++ rest ≡ row_named n ps = cc in
+    ap (λ z. record { start = q.start; piece = z } ∷ map (piece_at n) (taken_pieces (map (λ (x : PlacedPiece).
+    x.start) qs) ps)) (sym first)
+    ∙ ap (λ l. q ∷ l) (by_starts n qs ps rest others)
+
+abbrev plain : NumberedData → PlacedData
+plain d = record { start = d.start; bytes = d.bytes }
+
+plain_data : (ds : List code_data.PlacedData) → map data_at (map data_at_of ds) ≡ map plain (map data_of ds)
+plain_data [] = refl
+plain_data (d ∷ ds) = ap (λ l. data_at (data_at_of d) ∷ l) (plain_data ds)
+
+plain_numbered : (k : ℕ) (q : PlacedSection) → map plain (numbered (k, q)) ≡ q.data_commands
+plain_numbered k q = go q.data_commands
+  where
+    go : (ds : List PlacedData)
+        → map plain (map (λ (d : PlacedData). record { section = k; start = d.start; bytes = d.bytes }) ds) ≡ ds
+    go [] = refl
+    go (d ∷ ds) = ap (λ l. d ∷ l) (go ds)
+
+numbered_long : (k : ℕ) (q : PlacedSection) → length (numbered (k, q)) ≡ length q.data_commands
+numbered_long k q =
+    length-map q.data_commands (λ (d : PlacedData). record { section = k; start = d.start; bytes = d.bytes })
+
+module _ (n : Naming) (script : List Statement) (k : Kept) (provided : List (List ℕ)) (row : List rows.Piece)
+    (s : Layout) (line : ℕ) (o : OutputSection) (before : List KeyedSection)
+    (sections : s.sections ≡ map (section_of n) before)
+    (l : Leads script k (section_step provided (row_named n row) s line o)) where
+  abbrev t : Layout
+  t = l.layout
+
+  pub grown : SectionGrown provided (row_named n row) s o t
+  grown = section_grows provided (row_named n row) s line o t l.comes
+
+  abbrev q : PlacedSection
+  q = grown.section
+
+  many : length before ≡ length s.sections
+  many = sym (ap length sections ∙ length-map before (section_of n))
+
+  placed_is : (p : Placed) → slice_get k.sections.now (length before) ≡ Some p → p ≡ placed_of q
+  placed_is p e =
+      let at = next_element (map placed_of s.sections) (placed_of q) (map placed_of t.sections) k.sections.now
+      (length before) (ap (map placed_of) grown.added ∙ map-append placed_of s.sections (q ∷ [])) l.sections
+      (many ∙ sym (length-map s.sections placed_of)) in
+      cc
+
+  count_is : (m : ℕ) → slice_get k.counts.now (length before) ≡ Some m → m ≡ length q.pieces
+  count_is m e =
+      let at = next_element (counts_of s.sections) (length q.pieces) (counts_of t.sections) k.counts.now
+      (length before) (ap counts_of grown.added
+      ∙ map-append (λ (x : PlacedSection). length x.pieces) s.sections (q ∷ [])) l.counts
+      (many ∙ sym (length-map s.sections (λ (x : PlacedSection). length x.pieces))) in
+      cc
+
+  starts_are : (m : ℕ) → m ≡ length q.pieces → part_of k.starts.now (length (starts_in before)) m ≡ starts_of q
+  starts_are m e =
+      next_part (flat_map starts_of s.sections) (starts_of q) (flat_map starts_of t.sections) k.starts.now
+      (length (starts_in before)) m
+      (ap (flat_map starts_of) grown.added
+      ∙ (flat_map-append starts_of s.sections (q ∷ [])
+      ∙ ap (λ x. flat_map starts_of s.sections ++ x) (append-nil (starts_of q))))
+      l.starts
+      (ap length (starts_whole n before ∙ ap (flat_map starts_of) (sym sections)))
+      (e ∙ sym (length-map q.pieces (λ (x : PlacedPiece). x.start)))
+
+  data_are : map data_at (map data_at_of
+      (part_of k.data_commands.now (length (all_data_in 0 before)) (data_steps o.body))) ≡ q.data_commands
+  data_are =
+      let from : ℕ = length (all_data_in 0 before) in
+      let count : ℕ = data_steps o.body in
+      let last : enumerate_from 0 t.sections ≡ enumerate_from 0 s.sections ++ (length s.sections, q) ∷ [] =
+      ap (enumerate_from 0) grown.added
+      ∙ (enumerate_more 0 s.sections (q ∷ [])
+      ∙ (let e : 0 + length s.sections ≡ length s.sections = omega arith in
+      ap (λ j. enumerate_from 0 s.sections ++ (j, q) ∷ []) e)) in
+      let whole : data_in t.sections ≡ data_in s.sections ++ numbered (length s.sections, q) =
+      ap (flat_map numbered) last
+      ∙ (flat_map-append numbered (enumerate_from 0 s.sections) ((length s.sections, q) ∷ [])
+      ∙ ap (λ x. data_in s.sections ++ x) (append-nil (numbered (length s.sections, q)))) in
+      plain_data (part_of k.data_commands.now from count)
+      ∙ (ap (map plain)
+      (mapped_part data_of k.data_commands.now from count
+      ∙ next_part (data_in s.sections) (numbered (length s.sections, q)) (data_in t.sections)
+      (map data_of k.data_commands.now) from count whole l.data_commands
+      (ap length (data_whole n 0 before ∙ ap data_in (sym sections)))
+      (sym (numbered_long (length s.sections) q ∙ grown.data_long)))
+      ∙ plain_numbered (length s.sections) q)
+
+  -- the section
+  pub section_taken : (x : KeyedSection) → IsTaken k before row o x → section_of n x ≡ q
+  section_taken x i =
+      let p = placed_is x.placed i.placed in
+      let m = count_is i.count i.counted in
+      let ps : map (piece_at n) x.pieces ≡ q.pieces =
+      ap (map (piece_at n)) (i.pieces ∙ ap (λ z. taken_pieces z row) (starts_are i.count m))
+      ∙ by_starts n q.pieces row grown.rest grown.row_is in
+      let ds : map data_at x.data_commands ≡ q.data_commands = ap (map data_at) i.data_commands ∙ data_are in
+      rw (i.name ∙ sym grown.name, i.region ∙ sym grown.region, i.fill ∙ sym grown.fill, p, ps, ds) refl
+
+  pub dots_taken : (vs : List ℕ) → vs ≡ s.dots ++ part_of k.dots.now (length s.dots) (length o.body) → vs ≡ t.dots
+  dots_taken vs e =
+      e ∙ (ap (λ z. s.dots ++ z) (next_part s.dots grown.dots_are.more t.dots k.dots.now (length s.dots) (length o.body)
+      grown.dots_are.is l.dots refl (sym grown.dots_are.long)) ∙ sym grown.dots_are.is)
+
+  pub symbols_taken : (old new : List code.ScriptSymbol) → s.symbols ≡ map (symbol_of script) old
+      → new ≡ old ++ part_of k.symbols.now (length old) (symbols_in provided o.body)
+      → map (symbol_of script) new ≡ t.symbols
+  symbols_taken old new same e =
+      let count : ℕ = symbols_in provided o.body in
+      ap (map (symbol_of script)) e
+      ∙ (map-append (symbol_of script) old (part_of k.symbols.now (length old) count)
+      ∙ (ap (λ z. map (symbol_of script) old ++ z)
+      (mapped_part (symbol_of script) k.symbols.now (length old) count
+      ∙ next_part s.symbols grown.symbols_are.more t.symbols (map (symbol_of script) k.symbols.now) (length old) count
+      grown.symbols_are.is l.symbols (sym (ap length same ∙ length-map old (symbol_of script)))
+      (sym grown.symbols_are.long))
+      ∙ (ap (λ z. z ++ grown.symbols_are.more) (sym same) ∙ sym grown.symbols_are.is)))
+
+  -- the layout after it, part by part
+  pub layout_taken : (x : KeyedSection) (h : Here) (d : Done) (first second : List MemoryRegion) (end loaded : ℕ)
+      → IsTaken k before row o x → d.sections ≡ before ++ x ∷ [] → h.symbols.script ≡ script
+      → h.dot ≡ x.placed.start + x.placed.size → end ≡ h.dot → loaded ≡ x.placed.load + x.placed.load_size
+      → first ≡ freed_from o.region end s.regions → second ≡ freed_from (load_region o.load) loaded first
+      → d.regions ≡ second
+      → h.dots.items ≡ s.dots ++ part_of k.dots.now (length s.dots) (length o.body)
+      → h.inputs ≡ s.inputs + inputs_in o.body
+      → (old : List code.ScriptSymbol) → s.symbols ≡ map (symbol_of script) old
+      → h.symbols.list ≡ old ++ part_of k.symbols.now (length old) (symbols_in provided o.body)
+      → section_step provided (row_named n row) s line o ≡ Ok (layout_of n h d)
+  layout_taken x h d first second end loaded i pushed same dot ends loads a b c dots inputs old was symbols =
+      let z = section_taken x i in
+      let p = placed_is x.placed i.placed in
+      let start : x.placed.start ≡ q.start = ap (λ (y : Placed). y.start) p in
+      let size : x.placed.size ≡ q.size = ap (λ (y : Placed). y.size) p in
+      let load : x.placed.load ≡ q.load = ap (λ (y : Placed). y.load) p in
+      let load_size : x.placed.load_size ≡ q.load_size = ap (λ (y : Placed). y.load_size) p in
+      let dot_is : h.dot ≡ t.dot = omega (arith, dot, start, size, grown.dot) in
+      let end_is : end ≡ q.start + q.size = omega (arith, ends, dot, start, size) in
+      let loaded_is : loaded ≡ q.load + q.load_size = omega (arith, loads, load, load_size) in
+      let regions : d.regions ≡ t.regions =
+      c ∙ (b ∙ (ap (λ y. freed_from (load_region o.load) loaded y) a
+      ∙ (ap (λ y. freed_from (load_region o.load) y (freed_from o.region end s.regions)) loaded_is
+      ∙ (ap (λ y. freed_from (load_region o.load) (q.load + q.load_size) (freed_from o.region y s.regions)) end_is
+      ∙ sym grown.regions)))) in
+      let all : map (section_of n) d.sections ≡ t.sections =
+      ap (map (section_of n)) pushed
+      ∙ (map-append (section_of n) before (x ∷ [])
+      ∙ (ap (λ y. y ++ section_of n x ∷ []) (sym sections)
+      ∙ (ap (λ y. s.sections ++ y ∷ []) z ∙ sym grown.added))) in
+      let names : map (symbol_of h.symbols.script) h.symbols.list ≡ t.symbols =
+      ap (λ y. map (symbol_of y) h.symbols.list) same ∙ symbols_taken old h.symbols.list was symbols in
+      let whole : layout_of n h d ≡ t =
+      rw (dot_is, dots_taken h.dots.items dots, inputs ∙ sym grown.inputs, names, regions, all) refl in
+      l.comes ∙ ap Ok (sym whole)

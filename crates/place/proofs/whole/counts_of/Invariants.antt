@@ -1,0 +1,8 @@
+use Rattle.std.proofs.Common.{◌≡◌, ◌++◌, drop, map}
+use Rattle.place.specs.SectionTable.{keyed}
+use Rattle.place.specs.Wholes.{counts_in}
+use Rattle.place.proofs.whole.counts_of.Given as goal
+
+abbrev pub invariant-loop-section : goal.invariant-loop-section
+invariant-loop-section l = counts_in (map keyed l.sections) ≡ l.list.items
+    ++ counts_in (map keyed (drop l.section-index l.sections))
