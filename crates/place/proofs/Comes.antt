@@ -40,7 +40,7 @@ use Rattle.place.specs.Coming.{Coming}
 use Rattle.place.specs.Inputs.{rows_of}
 use Rattle.place.specs.Keyed.{KeyedSection, section_of}
 use Rattle.place.specs.Kept.{IsKept}
-use Rattle.place.specs.Leads.{Begins, Keeps, Knows, Leads, counts_of, data_in}
+use Rattle.place.specs.Leads.{Begins, Keeps, Leads, counts_of, data_in}
 use Rattle.place.specs.Steps.{symbols_given, symbols_in}
 use Rattle.place.specs.Naming.{Naming}
 use Rattle.place.specs.Places.{Places}
@@ -55,7 +55,7 @@ pub record On (s t : Layout) : Type 0 where
   pub symbols : Begins s.symbols t.symbols
   pub dots : Begins s.dots t.dots
 
-begins_on : {X : Type 0} (xs ys zs : List X) → Begins xs ys → Begins ys zs → Begins xs zs
+pub begins_on : {X : Type 0} (xs ys zs : List X) → Begins xs ys → Begins ys zs → Begins xs zs
 begins_on xs ys zs a b = record {
   later = a.later ++ b.later;
   is = b.is ∙ (ap (λ l. l ++ b.later) a.is ∙ append_assoc xs a.later b.later);
@@ -206,6 +206,11 @@ run_goes step s t xs k x h e f =
     ap (run step s) (drop_more xs k x h ∙ ap (λ y. y ∷ drop (k + 1) xs) (sym e))
     ∙ and_then_at (step s x) t (λ u. run step u (drop (k + 1) xs)) f
 
+pub run_first : {X : Type 0} (step : Layout → X → Result Layout Fault) (s t : Layout) (x : X) (xs rest : List X)
+    → rest ≡ x ∷ xs → step s x ≡ Ok t → run step s rest ≡ run step t xs
+unfolding run
+run_first step s t x xs rest e f = ap (run step s) e ∙ and_then_at (step s x) t (λ u. run step u xs) f
+
 module _ {X : Type 0} (step : List (List Piece) → Layout → X → Result Layout Fault)
     (grows : (rows : List (List Piece)) (s : Layout) (x : X) (t : Layout) → step rows s x ≡ Ok t → On s t)
     (same : (first : ℕ) (earlier rows : List (List Piece)) (s : Layout) (x : X) (t : Layout) → Same first earlier rows
@@ -286,7 +291,7 @@ module _ {X : Type 0} (step : List (List Piece) → Layout → X → Result Layo
       (subst (λ ys. Coming n i script s (λ rows. run (step rows) s ys))
       (drop_more xs k x h ∙ ap (λ y. y ∷ drop (k + 1) xs) (sym e)) c) f)
 
-pub item_same : (provided : List (List ℕ)) (first : ℕ) (earlier rows : List (List Piece)) (s : Layout) (x : Item)
+item_same : (provided : List (List ℕ)) (first : ℕ) (earlier rows : List (List Piece)) (s : Layout) (x : Item)
     (t : Layout) → Same first earlier rows → item_step rows provided s x ≡ Ok t → length t.sections < first
     → item_step earlier provided s x ≡ Ok t
 item_same provided first earlier rows s x t a e l =
@@ -294,13 +299,16 @@ item_same provided first earlier rows s x t a e l =
     let b : length s.sections < first = omega (arith, f, l) in
     step_same earlier rows provided first a x.line (noted s) x.command b ∙ e
 
+pub items_on : (rows : List (List Piece)) (provided : List (List ℕ)) (xs : List Item) (s t : Layout)
+    → run (item_step rows provided) s xs ≡ Ok t → On s t
+items_on rows provided = run_on (λ rs. item_step rs provided) (λ rs. item_on rs provided) (item_same provided) rows
+
 command_on : (rows : List (List Piece)) (provided : List (List ℕ)) (line : ℕ) (s : Layout) (c : Command) (t : Layout)
     → command_step rows provided line s c ≡ Ok t → On s t
 unfolding command_step
 command_on rows provided line s (top.Entry name) t e = on_given s t e
 command_on rows provided line s (top.Memory regions) t e = regions_on regions s t e
-command_on rows provided line s (top.Sections xs) t e =
-    run_on (λ rs. item_step rs provided) (λ rs. item_on rs provided) (item_same provided) rows xs s t e
+command_on rows provided line s (top.Sections xs) t e = items_on rows provided xs s t e
 command_on rows provided line s (top.Common c) t e = common_on provided s line c t e
 
 command_same : (provided : List (List ℕ)) (first : ℕ) (earlier rows : List (List Piece)) (line : ℕ) (s : Layout)
@@ -315,20 +323,18 @@ command_same provided first earlier rows line s (top.Sections xs) t a e l =
 command_same provided first earlier rows line s (top.Common c) t a e l = e
 
 -- the statements of SECTIONS
-module _ (provided : List (List ℕ)) (n : Naming) (i : Input) (script : List Statement) (s : Layout) (xs : List Item)
-    (k : ℕ) (x : Item) (h : k < length xs) (e : x ≡ get_or xs k x)
-    (c : Coming n i script s (λ rows. run (item_step rows provided) s (drop k xs))) where
+module _ (provided : List (List ℕ)) (n : Naming) (i : Input) (script : List Statement) (s : Layout) (x : Item)
+    (xs : List Item) (c : Coming n i script s (λ rows. run (item_step rows provided) s (x ∷ xs))) where
   pub item_comes : Coming n i script s (λ rows. item_step rows provided s x)
   item_comes =
-      first_comes_at (λ rs. item_step rs provided) (λ rs. item_on rs provided) (item_same provided) n i script s xs k x
-      h e c
+      first_comes (λ rs. item_step rs provided) (λ rs. item_on rs provided) (item_same provided) n i script s x xs c
 
   pub items_come : (script' : List Statement) (t : Layout) → item_step (rows_of n i) provided s x ≡ Ok t
       → script' ≡ script
-      → Coming n i script' t (λ rows. run (item_step rows provided) t (drop (k + 1) xs))
+      → Coming n i script' t (λ rows. run (item_step rows provided) t xs)
   items_come script' t f same =
-      next_comes_at (λ rs. item_step rs provided) (λ rs. item_on rs provided) (item_same provided) n i script script' s
-      xs k x t h e c f same
+      subst (λ z. Coming n i z t (λ rows. run (item_step rows provided) t xs)) (sym same)
+      (next_comes (λ rs. item_step rs provided) (λ rs. item_on rs provided) (item_same provided) n i script s x xs t c f)
 
 -- the statements of the script
 module _ (provided : List (List ℕ)) (n : Naming) (i : Input) (script : List Statement) (s : Layout)
@@ -346,42 +352,6 @@ module _ (provided : List (List ℕ)) (n : Naming) (i : Input) (script : List St
   statements_come script' t f same =
       next_comes_at (λ rs. statement_step rs provided) (λ rs u y. command_on rs provided y.line u y.command)
       (λ g z rs u y. command_same provided g z rs y.line u y.command) n i script script' s xs k x t h e c f same
-
--- what is to come of a symbol
-knows_now : (script : List Statement) (k : Kept) (symbols : List code.ScriptSymbol) (r : Result Layout Fault)
-    → symbols ≡ k.symbols.now → Leads script k r
-    → Knows script symbols r
-knows_now script k symbols r e l = inr (record {
-  layout = l.layout;
-  comes = l.comes;
-  begins = record { later = l.symbols.later; is = ap (map (symbol_of script)) e ∙ l.symbols.is };
-  found = subst (AreFound script) (sym e) l.found;
-})
-
-pub knows_item : (provided : List (List ℕ)) (n : Naming) (i : Input) (script : List Statement) (s : Layout)
-    (line : ℕ) (c : Common) (count : ℕ)
-    (symbols : List code.ScriptSymbol) → length s.sections ≡ count
-    → Coming n i script s (λ rows. item_command_step rows provided line s (item.Common c))
-    → (count < i.kept.first → symbols ≡ i.kept.symbols.now) → (i.kept.first ≤ count → symbols ≡ [])
-    → Knows script symbols (common_step provided s line c)
-unfolding item_command_step
-knows_item provided n i script s line c count symbols m w taken past = ⊎_elim
-    (λ (l : count < i.kept.first). let e = w (omega (arith, l, m)) in
-    knows_now script i.kept symbols (common_step provided s line c) (taken l) e.leads)
-    (λ (g : i.kept.first ≤ count). inl (past g))
-    (cases_lt count i.kept.first)
-
-pub knows_statement : (provided : List (List ℕ)) (n : Naming) (i : Input) (script : List Statement) (s : Layout)
-    (line : ℕ) (c : Common) (count : ℕ) (symbols : List code.ScriptSymbol) → length s.sections ≡ count
-    → Coming n i script s (λ rows. command_step rows provided line s (top.Common c))
-    → (count < i.kept.first → symbols ≡ i.kept.symbols.now) → (i.kept.first ≤ count → symbols ≡ [])
-    → Knows script symbols (common_step provided s line c)
-unfolding command_step
-knows_statement provided n i script s line c count symbols m w taken past = ⊎_elim
-    (λ (l : count < i.kept.first). let e = w (omega (arith, l, m)) in
-    knows_now script i.kept symbols (common_step provided s line c) (taken l) e.leads)
-    (λ (g : i.kept.first ≤ count). inl (past g))
-    (cases_lt count i.kept.first)
 
 -- what is to come of an output section
 pub section_comes : (provided : List (List ℕ)) (n : Naming) (i : Input) (script : List Statement) (s : Layout)

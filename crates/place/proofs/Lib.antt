@@ -15,7 +15,7 @@ pub mod Outputs
 pub mod Reporting
 pub mod Good
 pub mod Counting
-pub mod Leading
+pub mod Commons
 pub mod Adding
 pub mod Taking
 pub mod Comes

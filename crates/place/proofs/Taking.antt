@@ -19,7 +19,6 @@ use Rattle.ldmodel.specs.declared.rows.Piece as rows
 use Rattle.ldmodel.specs.declared.script_symbol.ScriptSymbol as code
 use Rattle.place.proofs.Adding.{SectionGrown, enumerate_more, section_grows}
 use Rattle.place.proofs.Grows.{the_piece}
-use Rattle.place.proofs.Leading.{after_first}
 use Rattle.place.proofs.Wholes.{data_whole, starts_whole}
 use Rattle.place.specs.Keyed.{KeyedPiece, KeyedSection, data_at, piece_at, section_of}
 use Rattle.place.specs.Leads.{Begins, Leads, counts_of, data_in}
@@ -35,8 +34,13 @@ use Rattle.place.specs.declared.state.Here.{Here}
 use Rattle.place.specs.declared.stop.Stop.{Stop}
 use Rattle.place.specs.declared.stop.Stop.TheVariants.{NoMemory}
 
+-- the one after the first ones of a list
+after_first : {X : Type 0} (xs : List X) (x : X) (ys : List X) → slice_get (xs ++ x ∷ ys) (length xs) ≡ Some x
+after_first [] x ys = refl
+after_first (y ∷ xs) x ys = after_first xs x ys
+
 -- the part of a list that follows some of its first elements
-next_part : {X : Type 0} (xs more ys all : List X) (from count : ℕ) → ys ≡ xs ++ more → Begins ys all → from ≡ length xs
+pub next_part : {X : Type 0} (xs more ys all : List X) (from count : ℕ) → ys ≡ xs ++ more → Begins ys all → from ≡ length xs
     → count ≡ length more → part_of all from count ≡ more
 next_part xs more ys all from count e b f c =
     let whole : all ≡ xs ++ (more ++ b.later) =
@@ -53,7 +57,7 @@ next_element xs x ys all from e b f =
     ∙ (ap (λ l. slice_get l (length xs)) (b.is ∙ (ap (λ l. l ++ b.later) e ∙ append_assoc xs (x ∷ []) b.later))
     ∙ after_first xs x b.later)
 
-mapped_part : {X Y : Type 0} (f : X → Y) (xs : List X) (from count : ℕ) → map f (part_of xs from count)
+pub mapped_part : {X Y : Type 0} (f : X → Y) (xs : List X) (from count : ℕ) → map f (part_of xs from count)
     ≡ part_of (map f xs) from count
 mapped_part f xs from count =
     sym (take-map f count (drop from xs)) ∙ ap (take count) (sym (drop-map f from xs))

@@ -1,12 +1,10 @@
 -- What is to come, told by an earlier layout.
-use Rattle.std.specs.Prelude.{◌≡◌, ℕ, List, [], ◌++◌, ◌⊎◌, length, map, flat_map, Result, Ok}
+use Rattle.std.specs.Prelude.{◌≡◌, ℕ, List, ◌++◌, length, map, flat_map, Result, Ok}
 use Rattle.std.specs.List.{enumerate_from}
 use Rattle.ldtree.specs.declared.statement.Statement.{Statement}
 use Rattle.ldmodel.specs.Fault.{Fault}
-use Rattle.ldmodel.specs.Layout.{Layout, PlacedSection, ScriptSymbol}
+use Rattle.ldmodel.specs.Layout.{Layout, PlacedSection}
 use Rattle.ldmodel.specs.Lent.{NumberedData, data_of, numbered, placed_of, starts_of, symbol_of}
-use Rattle.ldmodel.specs.declared.laid.Placed.{Placed}
-use Rattle.ldmodel.specs.declared.script_symbol.ScriptSymbol as code
 use Rattle.place.specs.Places.{Places}
 use Rattle.place.specs.SymbolTable.{AreFound}
 use Rattle.place.specs.declared.kept.Kept.{Kept}
@@ -43,15 +41,3 @@ pub record Leads (script : List Statement) (k : Kept) (wanted : Result Layout Fa
   pub dots : Begins layout.dots k.dots.now
   pub symbols : Begins layout.symbols (map (symbol_of script) k.symbols.now)
   pub found : AreFound script k.symbols.now
-
--- it comes to a layout whose symbols are the first of the kept ones
-pub record LeadsSymbols (script : List Statement) (symbols : List code.ScriptSymbol) (wanted : Result Layout Fault)
-    : Type 0 where
-  pub layout : Layout
-  pub comes : wanted ≡ Ok layout
-  pub begins : Begins layout.symbols (map (symbol_of script) symbols)
-  pub found : AreFound script symbols
-
--- the same, or no symbol is kept
-abbrev pub Knows : List Statement → List code.ScriptSymbol → Result Layout Fault → Type 0
-Knows script symbols wanted = (symbols ≡ []) ⊎ LeadsSymbols script symbols wanted

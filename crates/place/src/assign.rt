@@ -2,27 +2,23 @@
 
 ghost use Rattle.std.specs.Prelude.{◌≡◌};
 ghost use Rattle.ldmodel.specs.Assigning.{assigned, common_step};
-ghost use Rattle.place.specs.Leads.{Knows};
 ghost use Rattle.place.specs.Naming.{Naming};
 ghost use Rattle.place.specs.State.{layout_of, Gives};
 
 use crate::provided::Provided;
 use crate::state::{Done, Here};
 use crate::stop::Stop;
-use ldmodel::script_symbol::ScriptSymbol;
 use ldscript::tree::{Assignment, Common};
 
 impl<'a> Here<'a> {
-    /// `NAME = e`, with the symbol that was kept of it, if any.
+    /// `NAME = e`.
     fn assign(
         &mut self,
         done: &Done<'a>,
-        kept: &[ScriptSymbol],
         line: u32,
         a: &'a Assignment,
     ) -> Result<(), Stop<'a>>
         ghost naming: { Naming }
-        requires { Knows self.now.symbols.script kept.now (assigned (layout_of naming self.now done.now) line a.now) }
         ensures gives { Gives (assigned (layout_of naming self.old done.now) line a.now)
             (layout_of naming self.new done.now) result }
         ensures script { self.new.symbols.script ≡ self.old.symbols.script }
@@ -30,28 +26,20 @@ impl<'a> Here<'a> {
         ensures data_commands { self.new.data_commands.items ≡ self.old.data_commands.items }
         ensures anew { self.new.anew ≡ self.old.anew }
     {
-        match kept.get(self.symbols.len()) {
-            Some(symbol) => self.symbols.push(*symbol),
-            None => {
-                let value = self.formula(done, line, &a.value)?;
-                self.symbols.assign(a.name.as_bytes(), value)
-            }
-        }
+        let value = self.formula(done, line, &a.value)?;
+        self.symbols.assign(a.name.as_bytes(), value)
     }
 
-    /// An assignment of a symbol, a PROVIDE or an ASSERT; the symbols that were kept are taken over.
+    /// An assignment of a symbol, a PROVIDE or an ASSERT.
     #[tactic(auto, unfolding(ldmodel::specs::Assigning::common_step))]
     pub fn common(
         &mut self,
         done: &Done<'a>,
         provided: &Provided<'a>,
-        kept: &[ScriptSymbol],
         line: u32,
         command: &'a Common,
     ) -> Result<(), Stop<'a>>
         ghost naming: { Naming }
-        requires { Knows self.now.symbols.script kept.now
-            (common_step provided.now (layout_of naming self.now done.now) line command.now) }
         ensures gives { Gives (common_step provided.now (layout_of naming self.old done.now) line command.now)
             (layout_of naming self.new done.now) result }
         ensures script { self.new.symbols.script ≡ self.old.symbols.script }
@@ -60,9 +48,9 @@ impl<'a> Here<'a> {
         ensures anew { self.new.anew ≡ self.old.anew }
     {
         match command {
-            Common::Assign(a) => self.assign(done, kept, line, a),
+            Common::Assign(a) => self.assign(done, line, a),
             Common::Provide(a) => match provided.is_in_force(a.name.as_bytes()) {
-                Some(true) => self.assign(done, kept, line, a),
+                Some(true) => self.assign(done, line, a),
                 Some(false) => Ok(()),
                 // it does not come to this: the name is one that the script gives a value
                 None => Err(Stop::NoMemory),

@@ -1,6 +1,6 @@
 //! The statements of a script.
 
-ghost use Rattle.std.specs.Prelude.{◌≡◌, ◌≤◌, ◌<◌, ◌+◌, [], map, slice_index_or, length, OnOk};
+ghost use Rattle.std.specs.Prelude.{◌≡◌, ◌≤◌, ◌<◌, ◌+◌, [], map, slice_index_or, length, IfErr, IfOk, OnOk};
 ghost use Rattle.ldmodel.specs.Chain.{run};
 ghost use Rattle.ldmodel.specs.Placement.{free_dot_step, item_command_step, item_step, statement_step};
 ghost use Rattle.place.specs.Counted.{Resumes, entries};
@@ -8,13 +8,14 @@ ghost use Rattle.place.specs.Coming.{Coming};
 ghost use Rattle.place.specs.Inputs.{rows_of};
 ghost use Rattle.place.specs.Naming.{Naming};
 ghost use Rattle.place.specs.State.{layout_of, Gives};
+ghost use Rattle.place.specs.declared.stop.Stop.TheVariants.{NoMemory};
 
 use crate::kept::Kept;
 use crate::provided::Provided;
 use crate::state::{Done, Here};
 use crate::stop::Stop;
+use crate::taken::{Commons, Steps, after};
 use ldmodel::rows::Piece;
-use ldmodel::script_symbol::ScriptSymbol;
 use ldscript::tree::{Command, DotCommand, Item, ItemCommand, Statement};
 use std::alloc::Global;
 
@@ -69,18 +70,6 @@ impl<'a> Here<'a> {
 }
 
 impl<'i, 'a> Input<'i, 'a> {
-    /// The symbols that are taken over where the layout has come to, with those before.
-    fn symbols_at(&self, done: &Done<'a>) -> &'a [ScriptSymbol]
-        ensures taken { length done.now.sections < self.now.kept.first → result.now ≡ self.now.kept.symbols.now }
-        ensures past { self.now.kept.first ≤ length done.now.sections → result.now ≡ [] }
-    {
-        if done.sections.len() < self.kept.first {
-            self.kept.symbols
-        } else {
-            &[]
-        }
-    }
-
     #[tactic(auto, unfolding(ldmodel::specs::Placement::item_command_step), using(crate::proofs::Rows::next_row_is, crate::proofs::Counting::entries_more))]
     fn place_command(
         &self,
@@ -105,10 +94,7 @@ impl<'i, 'a> Input<'i, 'a> {
     {
         match command {
             ItemCommand::Dot(command) => here.move_freely(done, line, command),
-            ItemCommand::Common(command) => {
-                let kept = self.symbols_at(done);
-                here.common(done, self.provided, kept, line, command)
-            }
+            ItemCommand::Common(command) => here.common(done, self.provided, line, command),
             ItemCommand::Section(output) => {
                 let row = row_at(self.rows, done.sections.len());
                 if done.sections.len() < self.kept.first {
@@ -168,6 +154,49 @@ impl<'i, 'a> Input<'i, 'a> {
         self.place_command(here, done, item.line, &item.command)
     }
 
+    /// The commands of symbols that these statements of SECTIONS begin with, as they were in the earlier layout, as
+    /// long as all is taken over. It gives the statements after them.
+    fn take_commons(
+        &self,
+        here: &mut Here<'a>,
+        done: &Done<'a>,
+        items: &'a [Item],
+    ) -> Result<&'a [Item], Stop<'a>>
+        ghost naming: { Naming }
+        requires { Coming naming self.now here.now.symbols.script (layout_of naming here.now done.now) (λ rows.
+            run (item_step rows self.now.provided.now) (layout_of naming here.now done.now) items.now) }
+        ensures script { here.new.symbols.script ≡ here.old.symbols.script }
+        ensures anew { here.new.anew ≡ here.old.anew }
+        ensures fewer { IfOk result (λ rest. length rest.now ≤ length items.now) }
+        ensures goes { IfOk result (λ rest.
+            run (item_step (rows_of naming self.now) self.now.provided.now) (layout_of naming here.old done.now)
+            items.now
+            ≡ run (item_step (rows_of naming self.now) self.now.provided.now) (layout_of naming here.new done.now)
+            rest.now) }
+        ensures comes { IfOk result (λ rest.
+            Coming naming self.now here.new.symbols.script (layout_of naming here.new done.now) (λ rows.
+            run (item_step rows self.now.provided.now) (layout_of naming here.new done.now) rest.now)) }
+        ensures refused { IfErr result (λ f. f ≡ NoMemory) }
+    {
+        if done.sections.len() >= self.kept.first {
+            return Ok(items);
+        }
+        // it does not come to an error here but for memory: the names are those that the script gives values
+        let Some(commons) = Commons::first(self.provided, items) else {
+            return Err(Stop::NoMemory);
+        };
+        let steps = Steps {
+            inputs: 0,
+            symbols: commons.symbols,
+            data_commands: 0,
+        };
+        here.pass(self.kept, commons.items, steps, here.dot)?;
+        match after(items, commons.items) {
+            Some(rest) => Ok(rest),
+            None => Err(Stop::NoMemory),
+        }
+    }
+
     /// The statements of SECTIONS.
     #[tactic(auto, unfolding(ldmodel::specs::Chain::run))]
     fn place_items(
@@ -190,8 +219,13 @@ impl<'i, 'a> Input<'i, 'a> {
             (run (item_step (rows_of naming self.now) self.now.provided.now) (layout_of naming here.old done.old)
             items.now) (layout_of naming here.new done.new) result }
     {
-        for item in items {
-            self.place_item(here, done, item)?;
+        let mut rest = items;
+        while !rest.is_empty() {
+            rest = self.take_commons(here, done, rest)?;
+            if let Some((item, later)) = rest.split_first() {
+                self.place_item(here, done, item)?;
+                rest = later;
+            }
         }
         Ok(())
     }
@@ -223,8 +257,7 @@ impl<'i, 'a> Input<'i, 'a> {
             Command::Memory(regions) => here.declare_all(done, regions.as_slice()),
             Command::Sections(items) => self.place_items(here, done, items.as_slice()),
             Command::Common(command) => {
-                let kept = self.symbols_at(done);
-                here.common(done, self.provided, kept, statement.line, command)
+                here.common(done, self.provided, statement.line, command)
             }
         }
     }

@@ -1,12 +1,13 @@
 //! Output sections that are taken over from an earlier layout.
 
-ghost use Rattle.std.specs.Prelude.{◌≡◌, ◌+◌, ◌++◌, ℕ, length, map, take, drop, IfOk, IfSome, IfErr, OnOk};
+ghost use Rattle.std.specs.Prelude.{◌≡◌, ◌≤◌, ◌+◌, ◌++◌, length, map, drop, IfOk, IfSome, IfErr, OnOk};
 ghost use Rattle.ldmodel.specs.Placement.{section_step};
 ghost use Rattle.place.specs.Leads.{Leads};
 ghost use Rattle.place.specs.Naming.{Naming, row_named};
 ghost use Rattle.place.specs.SectionTable.{keyed, Fits};
 ghost use Rattle.place.specs.State.{layout_of, Gives};
-ghost use Rattle.place.specs.Steps.{data_in, data_of, inputs_in, inputs_of, symbols_given, symbols_in, symbols_of};
+ghost use Rattle.place.specs.Steps.{commons_first, data_in, data_of, inputs_in, inputs_of, symbols_first};
+ghost use Rattle.place.specs.Steps.{symbols_given, symbols_in, symbols_of};
 ghost use Rattle.place.specs.SymbolTable.{AreFound};
 ghost use Rattle.place.specs.Taken.{data_at_of, part_of, IsTaken};
 ghost use Rattle.place.specs.declared.stop.Stop.TheVariants.{NoMemory};
@@ -20,7 +21,7 @@ use crate::state::{Done, Here};
 use crate::stop::Stop;
 use ldmodel::laid::PlacedData;
 use ldmodel::rows::Piece;
-use ldscript::tree::{BodyCommand, BodyStatement, Common, OutputSection};
+use ldscript::tree::{BodyCommand, BodyStatement, Common, Item, ItemCommand, OutputSection};
 use std::alloc::{AllocError, Global};
 
 /// What the statements of a body add to a layout.
@@ -34,11 +35,19 @@ pub(crate) struct Steps {
     pub data_commands: usize,
 }
 
+/// What follows this many elements of a list.
+pub(crate) fn after<T>(list: &[T], count: usize) -> Option<&[T]>
+    ensures after { IfSome result (λ x. x.now ≡ drop count list.now) }
+    ensures fewer { IfSome result (λ x. length x.now ≤ length list.now) }
+{
+    list.get(count..)
+}
+
 /// The part of a list from a place on that has this many elements.
 fn part<T>(list: &[T], from: usize, count: usize) -> Option<&[T]>
     ensures { IfSome result (λ x. x.now ≡ part_of list.now from count) }
 {
-    match list.get(from..) {
+    match after(list, from) {
         Some(rest) => rest.get(..count),
         None => None,
     }
@@ -124,6 +133,38 @@ impl Steps {
     }
 }
 
+/// Commands of symbols that a list of statements begins with.
+#[derive(Clone, Copy)]
+pub(crate) struct Commons {
+    /// How many they are.
+    pub items: usize,
+    /// How many symbols they give values.
+    pub symbols: usize,
+}
+
+impl Commons {
+    /// Those that these statements begin with.
+    pub fn first(provided: &Provided<'_>, items: &[Item]) -> Option<Commons>
+        ensures items { IfSome result (λ c. c.items ≡ commons_first items.now) }
+        ensures symbols { IfSome result (λ c. c.symbols ≡ symbols_first provided.now items.now) }
+    {
+        let mut commons = Commons {
+            items: 0,
+            symbols: 0,
+        };
+        for item in items {
+            match &item.command {
+                ItemCommand::Common(command) => {
+                    commons.items = commons.items.checked_add(1)?;
+                    commons.symbols = commons.symbols.checked_add(given_by(provided, command)?)?;
+                }
+                _ => return Some(commons),
+            }
+        }
+        Some(commons)
+    }
+}
+
 /// Data commands in their places.
 fn data_commands_of(alloc: Global, commands: &[PlacedData]) -> Result<Vec<DataAt>, AllocError>
     ensures { IfOk result (λ v. v.items ≡ map data_at_of commands.now) }
@@ -180,7 +221,7 @@ impl<'a> Kept<'a> {
 
 impl<'a> Here<'a> {
     /// Goes on past a body with this many statements, to a value of `.`. It is an error where memory ran out.
-    fn pass(
+    pub fn pass(
         &mut self,
         kept: Kept<'_>,
         statements: usize,
