@@ -1,6 +1,6 @@
 -- A script in which nothing is given twice has at most one command that gives a symbol its value.
 use Rattle.std.proofs.Common.{◌≡◌, ◌∙◌, sym, refl, ap, subst, ℕ, zero, suc, ◌+◌, List, [], ◌∷◌, ◌++◌, append_assoc}
-use Rattle.std.proofs.Common.{append-nil, Bool, true, false, cond, bytes_eq, arith, Option, Some, None}
+use Rattle.std.proofs.Common.{append-nil, Bool, true, false, bytes_eq, arith, Option, Some, None}
 use Rattle.std.specs.List.{Contains}
 use Rattle.std.specs.Prelude.{⊤}
 use Rattle.std.specs.Option.{option_map}

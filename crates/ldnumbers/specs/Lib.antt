@@ -1,2 +1,11 @@
--- The numbers of the commands that give symbols values.
+-- What a layout keeps under the numbers that a script gives its names.
 pub mod Numbers
+pub mod Naming
+pub mod Keyed
+pub mod Tables
+pub mod SymbolTable
+pub mod RegionTable
+pub mod ProvidedTable
+pub mod Wholes
+pub mod SectionTable
+pub mod Steps

@@ -1,5 +1,13 @@
-//! The numbers of the commands that give a script's symbols their values, found by guesses that are looked at.
+//! What a layout keeps under the numbers that a script gives its names: the commands of symbols and the symbols' values,
+//! the PROVIDEs in force, the output sections and the memory regions. Names are looked up by guesses that are compared, or
+//! in the script's own tables.
 #![tactic(auto)]
 
 pub mod commands;
 pub mod guesses;
+pub mod named;
+pub mod provided;
+pub mod regions;
+pub mod sections;
+pub mod steps;
+pub mod symbols;

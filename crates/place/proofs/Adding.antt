@@ -1,22 +1,21 @@
 -- What the steps of a script add to the output sections, and that they look at one row alone.
-use Rattle.std.proofs.Common.{◌≡◌, ℕ, ◌<◌, List, [], ◌∷◌, ◌++◌, length, get_or, Result, Ok, refl, sym, ap, ◌∙◌}
-use Rattle.std.proofs.Common.{arith, map, suc, subst, ◌+◌}
+use Rattle.std.proofs.Common.{◌≡◌, ℕ, ◌<◌, List, [], ◌∷◌, ◌++◌, length, get_or, Ok, refl, sym, ap, ◌∙◌}
+use Rattle.std.proofs.Common.{arith, map, subst, ◌+◌}
 use Rattle.std.specs.List.{enumerate_from}
 use Rattle.ldtree.specs.declared.section.OutputSection.{OutputSection}
 use Rattle.ldtree.specs.declared.statement.ItemCommand.{ItemCommand}
 use Rattle.ldtree.specs.declared.statement.ItemCommand.TheVariants as item
 use Rattle.ldmodel.specs.Body.{Body, body_step}
 use Rattle.ldmodel.specs.Chain.{run}
-use Rattle.ldmodel.specs.Fault.{Fault}
 use Rattle.ldmodel.specs.Layout.{Layout, PlacedSection, address}
-use Rattle.ldmodel.specs.Placement.{item_command_step, next_row, opened, section_step}
+use Rattle.ldmodel.specs.Placement.{item_command_step, opened, section_step}
 use Rattle.ldmodel.specs.Rows.{Piece}
 use Rattle.ldmodel.specs.SectionEnd.{find_region, freed_from, load_region, placed_section, section_end, with_room}
 use Rattle.ldmodel.specs.SectionEnd.{with_section}
 use Rattle.ldmodel.specs.SectionHead.{Head, head_of}
 use Rattle.place.proofs.Ending.{chained}
 use Rattle.place.proofs.Grows.{Grown, Longer, body_grows, given_is, the_piece}
-use Rattle.place.specs.Steps.{data_in, inputs_in, symbols_in}
+use Rattle.ldnumbers.specs.Steps.{data_in, inputs_in, symbols_in}
 
 -- the numbers of a list go on
 pub enumerate_more : {X : Type 0} (k : ℕ) (xs ys : List X) → enumerate_from k (xs ++ ys)

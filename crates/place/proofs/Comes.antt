@@ -1,12 +1,11 @@
 -- What is to come of a layout, from one statement to the next.
 use Rattle.std.proofs.Common.{◌≡◌, ℕ, ◌+◌, ◌≤◌, ◌<◌, List, [], ◌∷◌, ◌++◌, length, get_or, map, drop}
-use Rattle.std.proofs.Common.{Result, Ok, inl, inr, ⊎_elim, refl, sym, ap, subst, ◌∙◌, append_assoc, arith}
+use Rattle.std.proofs.Common.{Result, Ok, refl, sym, ap, subst, ◌∙◌, append_assoc, arith}
 use Rattle.std.proofs.Common.{length-append, Option, Some, None, IfSome, IfNone}
 use Rattle.std.specs.List.{enumerate_from}
 use Rattle.std.specs.Prelude.{flat_map}
-use Rattle.std.proofs.lemmas.Bool.{cases_lt}
 use Rattle.std.proofs.lemmas.Grind.{flat_map-append}
-use Rattle.std.proofs.lemmas.List.{append-nil, drop_more, length-map, map-append}
+use Rattle.std.proofs.lemmas.List.{append-nil, drop_more, map-append}
 use Rattle.ldtree.specs.declared.common.Common.{Common}
 use Rattle.ldtree.specs.declared.common.DotCommand.{DotCommand}
 use Rattle.ldtree.specs.declared.common.DotCommand.TheVariants.{Set, Add}
@@ -20,32 +19,24 @@ use Rattle.ldtree.specs.declared.statement.Region.{Region}
 use Rattle.ldtree.specs.declared.statement.Statement.{Statement}
 use Rattle.ldmodel.specs.Arithmetic.{plus_modulo}
 use Rattle.ldmodel.specs.Assigning.{common_step}
-use Rattle.ldmodel.specs.Body.{Body, body_step}
 use Rattle.ldmodel.specs.Chain.{and_then, run}
 use Rattle.ldmodel.specs.Fault.{Fault}
-use Rattle.ldmodel.specs.Layout.{Layout, PlacedSection, address, noted, number}
+use Rattle.ldmodel.specs.Layout.{Layout, PlacedSection, noted, number}
 use Rattle.ldmodel.specs.Lent.{data_of, numbered, placed_of, starts_of, symbol_of}
-use Rattle.ldmodel.specs.Placement.{command_step, free_dot_step, item_command_step, item_step, next_row, opened}
+use Rattle.ldmodel.specs.Placement.{command_step, free_dot_step, item_command_step, item_step, next_row}
 use Rattle.ldmodel.specs.Placement.{placement, region_step, section_step, statement_step, with_region}
 use Rattle.ldmodel.specs.Rows.{Piece}
-use Rattle.ldmodel.specs.SectionEnd.{find_region, load_region, placed_section, section_end, with_room, with_section}
-use Rattle.ldmodel.specs.SectionHead.{Head, head_of}
-use Rattle.ldmodel.specs.declared.script_symbol.ScriptSymbol as code
 use Rattle.place.proofs.Adding.{enumerate_more, section_grows, step_same}
 use Rattle.place.proofs.Ending.{chained}
 use Rattle.place.proofs.Grows.{Longer, common_adds, common_keeps, common_leaves, given_is}
-use Rattle.place.proofs.Outputs.{regions_keep}
-use Rattle.place.proofs.Wholes.{starts_whole}
 use Rattle.place.specs.Coming.{Coming}
 use Rattle.place.specs.Inputs.{rows_of}
-use Rattle.place.specs.Keyed.{KeyedSection, section_of}
 use Rattle.place.specs.Kept.{IsKept}
 use Rattle.place.specs.Leads.{Begins, Keeps, Leads, counts_of, data_in}
-use Rattle.place.specs.Steps.{symbols_given, symbols_in}
-use Rattle.place.specs.Naming.{Naming}
+use Rattle.ldnumbers.specs.Steps.{symbols_given, symbols_in}
+use Rattle.ldnumbers.specs.Naming.{Naming}
 use Rattle.place.specs.Places.{Places}
-use Rattle.place.specs.SymbolTable.{AreFound}
-use Rattle.place.specs.Wholes.{starts_in}
+use Rattle.ldnumbers.specs.SymbolTable.{AreFound}
 use Rattle.place.specs.declared.kept.Kept.{Kept}
 use Rattle.place.specs.declared.script.Input.{Input}
 

@@ -4,7 +4,7 @@ use Rattle.std.proofs.Common.{refl, sym, ap, ◌∙◌, arith}
 use Rattle.std.proofs.lemmas.Bool.{eqb-true, eqb-false}
 use Rattle.ldmodel.specs.Chain.{run}
 use Rattle.ldmodel.specs.Placement.{placement, statement_step}
-use Rattle.place.specs.Naming.{Naming}
+use Rattle.ldnumbers.specs.Naming.{Naming}
 use Rattle.place.specs.State.{layout_of, fault_of as fault_named}
 use Rattle.place.specs.declared.fault.PlaceFault.{PlaceFault}
 use Rattle.place.specs.declared.fault.PlaceFault.TheVariants as place_fault

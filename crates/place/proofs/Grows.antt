@@ -4,7 +4,6 @@ use Rattle.std.proofs.Common.{Some, None, arith, refl, length-append}
 use Rattle.std.proofs.Common.{Result, Ok, Err, sym, ap, subst, ◌∙◌, nat_lt, append_assoc}
 use Rattle.std.specs.List.{list_any}
 use Rattle.std.specs.Prelude.{bytes_eq, ◌==◌}
-use Rattle.std.proofs.lemmas.Bool.{cases_lt}
 use Rattle.std.proofs.lemmas.List.{append-nil, map-append}
 use Rattle.byteorder.specs.Endian.{little_bytes}
 use Rattle.ldexpr.specs.Expressions as expression
@@ -23,10 +22,10 @@ use Rattle.ldmodel.specs.Body.{Body, advanced, body_command_step, body_step, inp
 use Rattle.ldmodel.specs.Body.{piece_placed, piece_start, pieces_placed, set_to, with_data, with_dot}
 use Rattle.ldmodel.specs.Chain.{and_then, run}
 use Rattle.ldmodel.specs.Fault.{Fault, MovedBack}
-use Rattle.ldmodel.specs.Layout.{Layout, address, PlacedPiece, PlacedData, ScriptSymbol, number, noted, with_symbol}
+use Rattle.ldmodel.specs.Layout.{Layout, address, PlacedPiece, PlacedData, number, noted, with_symbol}
 use Rattle.ldmodel.specs.Rows.{Piece}
 use Rattle.place.proofs.Ending.{address_is, chained}
-use Rattle.place.specs.Steps.{data_in, data_of, inputs_in, inputs_of, symbols_given, symbols_in, symbols_of}
+use Rattle.ldnumbers.specs.Steps.{data_in, data_of, inputs_in, inputs_of, symbols_given, symbols_in, symbols_of}
 
 -- a state that is given is that of the result
 pub given_is : {X : Type 0} (s t : X) → ◌≡◌ {A = Result X Fault} (Ok s) (Ok t) → s ≡ t

@@ -1,6 +1,6 @@
 -- An output section that is taken over is the one that its statement makes.
-use Rattle.std.proofs.Common.{◌≡◌, ℕ, ◌+◌, List, [], ◌∷◌, ◌++◌, length, map, take, drop, Some, Ok, Err, Result}
-use Rattle.std.proofs.Common.{IfErr, OnOk, inr, refl, sym, ap, subst, ◌∙◌, arith, append_assoc}
+use Rattle.std.proofs.Common.{◌≡◌, ℕ, ◌+◌, List, [], ◌∷◌, ◌++◌, length, map, take, drop, Some, Ok}
+use Rattle.std.proofs.Common.{refl, sym, ap, ◌∙◌, arith, append_assoc}
 use Rattle.std.specs.List.{enumerate_from}
 use Rattle.std.specs.Prelude.{flat_map, slice_get}
 use Rattle.std.proofs.Math.Seq.{drop-append_seam, take-append_seam}
@@ -8,7 +8,7 @@ use Rattle.std.proofs.lemmas.Grind.{flat_map-append}
 use Rattle.std.proofs.lemmas.List.{append-nil, drop-map, length-map, map-append, take-map}
 use Rattle.ldtree.specs.declared.section.OutputSection.{OutputSection}
 use Rattle.ldtree.specs.declared.statement.Statement.{Statement}
-use Rattle.ldmodel.specs.Layout.{Layout, MemoryRegion, PlacedData, PlacedPiece, PlacedSection, ScriptSymbol}
+use Rattle.ldmodel.specs.Layout.{Layout, MemoryRegion, PlacedData, PlacedPiece, PlacedSection}
 use Rattle.ldmodel.specs.Lent.{NumberedData, data_of, numbered, placed_of, starts_of, symbol_of}
 use Rattle.ldmodel.specs.Placement.{section_step}
 use Rattle.ldmodel.specs.Rows.{Piece}
@@ -20,19 +20,17 @@ use Rattle.ldmodel.specs.declared.script_symbol.ScriptSymbol as code
 use Rattle.place.proofs.Adding.{SectionGrown, enumerate_more, section_grows}
 use Rattle.place.proofs.Grows.{the_piece}
 use Rattle.place.proofs.Wholes.{data_whole, starts_whole}
-use Rattle.place.specs.Keyed.{KeyedPiece, KeyedSection, data_at, piece_at, section_of}
+use Rattle.ldnumbers.specs.Keyed.{KeyedSection, data_at, piece_at, section_of}
 use Rattle.place.specs.Leads.{Begins, Leads, counts_of, data_in}
-use Rattle.place.specs.Naming.{Naming, piece_named, row_named}
-use Rattle.place.specs.SectionTable.{taken_pieces}
-use Rattle.place.specs.State.{layout_of, Gives}
-use Rattle.place.specs.Steps.{data_in as data_steps, inputs_in, symbols_in}
+use Rattle.ldnumbers.specs.Naming.{Naming, piece_named, row_named}
+use Rattle.ldnumbers.specs.SectionTable.{taken_pieces}
+use Rattle.place.specs.State.{layout_of}
+use Rattle.ldnumbers.specs.Steps.{data_in as data_steps, inputs_in, symbols_in}
 use Rattle.place.specs.Taken.{IsTaken, data_at_of, part_of}
-use Rattle.place.specs.Wholes.{all_data_in, starts_in}
+use Rattle.ldnumbers.specs.Wholes.{all_data_in, starts_in}
 use Rattle.place.specs.declared.kept.Kept.{Kept}
 use Rattle.place.specs.declared.state.Done.{Done}
 use Rattle.place.specs.declared.state.Here.{Here}
-use Rattle.place.specs.declared.stop.Stop.{Stop}
-use Rattle.place.specs.declared.stop.Stop.TheVariants.{NoMemory}
 
 -- the one after the first ones of a list
 after_first : {X : Type 0} (xs : List X) (x : X) (ys : List X) → slice_get (xs ++ x ∷ ys) (length xs) ≡ Some x

@@ -2,19 +2,19 @@
 use Rattle.std.proofs.Common.{◌≡◌, ℕ, zero, suc, arith, ◌+◌, List, [], ◌∷◌, ◌++◌, map, refl, sym, ap, ◌∙◌, ◌<◌, length}
 use Rattle.std.proofs.Common.{get_or, drop, append_assoc, take, min}
 use Rattle.std.proofs.lemmas.List.{drop_more, length-map}
-use Rattle.place.specs.SectionTable.{contents_of, keyed, taken_pieces}
+use Rattle.ldnumbers.specs.SectionTable.{contents_of, keyed, taken_pieces}
 use Rattle.ldmodel.specs.declared.rows.Piece.{Piece}
 use Rattle.ldmodel.specs.Layout.{PlacedSection}
-use Rattle.place.specs.declared.sections.Closed.{Closed}
+use Rattle.ldnumbers.specs.declared.sections.Closed.{Closed}
 use Rattle.std.specs.Prelude.{flat_map}
 use Rattle.std.specs.List.{enumerate_from}
 use Rattle.ldmodel.specs.Layout.{PlacedPiece}
 use Rattle.ldmodel.specs.Lent.{placed_of, starts_of, numbered}
-use Rattle.place.specs.Keyed.{KeyedPiece, KeyedSection, section_of, piece_at}
-use Rattle.place.specs.Naming.{Naming}
+use Rattle.ldnumbers.specs.Keyed.{KeyedPiece, KeyedSection, section_of, piece_at}
+use Rattle.ldnumbers.specs.Naming.{Naming}
 use Rattle.place.specs.Places.{Ends}
-use Rattle.place.specs.SectionTable.{Ends as KeyedEnds}
-use Rattle.place.specs.Wholes.{counts_in, placed_in, starts_in, data_in, all_data_in}
+use Rattle.ldnumbers.specs.SectionTable.{Ends as KeyedEnds}
+use Rattle.ldnumbers.specs.Wholes.{counts_in, placed_in, starts_in, data_in, all_data_in}
 
 pub placed_whole : (n : Naming) (xs : List KeyedSection) → placed_in xs ≡ map placed_of (map (section_of n) xs)
 placed_whole n [] = refl
@@ -36,11 +36,6 @@ taken_starts (x ∷ xs) [] = let e : min (length (x ∷ xs)) 0 ≡ 0 = omega ari
 taken_starts (x ∷ xs) (p ∷ ps) =
     let e : min (length (x ∷ xs)) (length (p ∷ ps)) ≡ suc (min (length xs) (length ps)) = omega arith in
     ap (λ l. x ∷ l) (taken_starts xs ps) ∙ ap (λ k. take k (x ∷ xs)) (sym e)
-
-pub taken_length : (xs : List ℕ) (ps : List Piece) → length (taken_pieces xs ps) ≡ min (length xs) (length ps)
-taken_length [] ps = omega arith
-taken_length (x ∷ xs) [] = omega arith
-taken_length (x ∷ xs) (p ∷ ps) = let h = taken_length xs ps in omega (arith, h)
 
 starts_whole_in : (n : Naming) (ps : List KeyedPiece) → map (λ (p : KeyedPiece). p.start) ps
     ≡ map (λ (p : PlacedPiece). p.start) (map (piece_at n) ps)

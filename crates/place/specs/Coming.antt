@@ -6,7 +6,7 @@ use Rattle.ldmodel.specs.Layout.{Layout}
 use Rattle.ldmodel.specs.Rows.{Piece}
 use Rattle.place.specs.Inputs.{rows_of}
 use Rattle.place.specs.Leads.{Leads}
-use Rattle.place.specs.Naming.{Naming}
+use Rattle.ldnumbers.specs.Naming.{Naming}
 use Rattle.place.specs.declared.script.Input.{Input}
 
 -- with earlier rows, the same before the number, it comes to a layout with which the kept one begins

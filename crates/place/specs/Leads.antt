@@ -6,7 +6,7 @@ use Rattle.ldmodel.specs.Fault.{Fault}
 use Rattle.ldmodel.specs.Layout.{Layout, PlacedSection}
 use Rattle.ldmodel.specs.Lent.{NumberedData, data_of, numbered, placed_of, starts_of, symbol_of}
 use Rattle.place.specs.Places.{Places}
-use Rattle.place.specs.SymbolTable.{AreFound}
+use Rattle.ldnumbers.specs.SymbolTable.{AreFound}
 use Rattle.place.specs.declared.kept.Kept.{Kept}
 
 -- all of a placement, before the row of a number

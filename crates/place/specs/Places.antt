@@ -14,7 +14,7 @@ use Rattle.ldmodel.specs.declared.laid.Placed.{Placed}
 use Rattle.ldmodel.specs.declared.laid.PlacedData.{PlacedData}
 use Rattle.ldmodel.specs.declared.laid.PlacedRegion.{PlacedRegion}
 use Rattle.ldmodel.specs.declared.script_symbol.ScriptSymbol.{ScriptSymbol}
-use Rattle.place.specs.SymbolTable.{AreFound}
+use Rattle.ldnumbers.specs.SymbolTable.{AreFound}
 
 -- what a placement has, part by part
 pub record Places : Type 0 where

@@ -1,14 +1,14 @@
 -- An output section that is taken over from an earlier layout.
-use Rattle.std.specs.Prelude.{◌≡◌, ℕ, ◌+◌, List, length, map, take, drop, Some, slice_get}
+use Rattle.std.specs.Prelude.{◌≡◌, ℕ, List, length, map, take, drop, Some, slice_get}
 use Rattle.ldtree.specs.declared.section.OutputSection.{OutputSection}
 use Rattle.ldmodel.specs.declared.laid.PlacedData.{PlacedData}
 use Rattle.ldmodel.specs.declared.rows.Piece.{Piece}
-use Rattle.place.specs.Keyed.{KeyedSection}
-use Rattle.place.specs.SectionTable.{taken_pieces}
-use Rattle.place.specs.Steps.{data_in}
-use Rattle.place.specs.Wholes.{all_data_in, starts_in}
+use Rattle.ldnumbers.specs.Keyed.{KeyedSection}
+use Rattle.ldnumbers.specs.SectionTable.{taken_pieces}
+use Rattle.ldnumbers.specs.Steps.{data_in}
+use Rattle.ldnumbers.specs.Wholes.{all_data_in, starts_in}
 use Rattle.place.specs.declared.kept.Kept.{Kept}
-use Rattle.place.specs.declared.sections.DataAt.{DataAt}
+use Rattle.ldnumbers.specs.declared.sections.DataAt.{DataAt}
 
 abbrev pub data_at_of : PlacedData → DataAt
 data_at_of d = record { start = d.start; width = d.width; value = d.value }

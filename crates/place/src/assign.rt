@@ -2,10 +2,10 @@
 
 ghost use Rattle.std.specs.Prelude.{◌≡◌};
 ghost use Rattle.ldmodel.specs.Assigning.{assigned, common_step};
-ghost use Rattle.place.specs.Naming.{Naming};
+ghost use Rattle.ldnumbers.specs.Naming.{Naming};
 ghost use Rattle.place.specs.State.{layout_of, Gives};
 
-use crate::provided::Provided;
+use ldnumbers::provided::Provided;
 use crate::state::{Done, Here};
 use crate::stop::Stop;
 use ldscript::tree::{Assignment, Common};
@@ -27,7 +27,8 @@ impl<'a> Here<'a> {
         ensures anew { self.new.anew ≡ self.old.anew }
     {
         let value = self.formula(done, line, &a.value)?;
-        self.symbols.assign(a.name.as_bytes(), value)
+        self.symbols.assign(a.name.as_bytes(), value)?;
+        Ok(())
     }
 
     /// An assignment of a symbol, a PROVIDE or an ASSERT.

@@ -7,10 +7,10 @@ ghost use Rattle.ldmodel.specs.Body.{advanced, body_command_step, body_step, dat
 ghost use Rattle.ldmodel.specs.Body.{piece_placed, pieces_placed, set_to};
 ghost use Rattle.ldmodel.specs.Chain.{run};
 ghost use Rattle.place.specs.Counted.{Counted};
-ghost use Rattle.place.specs.Naming.{Naming, piece_named, row_named};
+ghost use Rattle.ldnumbers.specs.Naming.{Naming, piece_named, row_named};
 ghost use Rattle.place.specs.State.{body_of, Gives};
 
-use crate::sections::{DataAt, PieceAt};
+use ldnumbers::sections::{DataAt, PieceAt};
 use crate::state::{Frame, Here};
 use crate::stop::Stop;
 use ldmodel::rows::Piece;

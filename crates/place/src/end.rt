@@ -8,15 +8,15 @@ ghost use Rattle.ldmodel.specs.SectionEnd.{freed_from, has_file_bytes, has_flag,
 ghost use Rattle.ldmodel.specs.SectionEnd.{load_region, placed_section, section_end, with_room};
 ghost use Rattle.place.specs.Ends.{body_alone, ended_body, load_end};
 ghost use Rattle.place.specs.Heads.{head_from, Yields};
-ghost use Rattle.place.specs.Keyed.{piece_at, section_of};
-ghost use Rattle.place.specs.Naming.{Naming};
-ghost use Rattle.place.specs.RegionTable.{region_of};
-ghost use Rattle.place.specs.SectionTable.{keyed, keyed_piece, Fits};
+ghost use Rattle.ldnumbers.specs.Keyed.{piece_at, section_of};
+ghost use Rattle.ldnumbers.specs.Naming.{Naming};
+ghost use Rattle.ldnumbers.specs.RegionTable.{region_of};
+ghost use Rattle.ldnumbers.specs.SectionTable.{keyed, keyed_piece, Fits};
 ghost use Rattle.place.specs.State.{layout_of, Gives};
 
 use crate::head::{Head, region_name};
-use crate::regions::{Region, Regions};
-use crate::sections::{Closed, Contents, PieceAt};
+use ldnumbers::regions::{Region, Regions};
+use ldnumbers::sections::{Closed, Contents, PieceAt};
 use crate::state::{Done, Here};
 use crate::stop::Stop;
 use elfdefs::constants::{SHF_EXECINSTR, SHF_WRITE};
@@ -84,43 +84,41 @@ fn is_within(region: &Region<'_>, at: u64, size: u64) -> bool
     size == 0 || region.origin <= at && end <= limit
 }
 
-impl<'a> Regions<'a> {
-    /// Finds that the region that is named, if any, has room for a range of addresses of an output section.
-    fn check_room(
-        &self,
-        section: &Closed<'a>,
-        name: Option<&[u8]>,
-        at: u64,
-        size: u64,
-    ) -> Result<(), Stop<'a>>
-        ghost naming: { Naming }
-        ensures { Yields (λ _. section_of naming (keyed section.now))
-            (with_room (option_and_then (region_named self.now) (option_copied name.entry)) at size
-            (section_of naming (keyed section.now))) result }
-    {
-        let Some(name) = name else {
-            return Ok(());
-        };
-        let Some(region) = self.get(name) else {
-            return Ok(());
-        };
-        if is_within(&region, at, size) {
-            Ok(())
-        } else {
-            Err(Stop::RegionFull {
-                section: section.output.name.as_bytes(),
-                region: region.name,
-            })
-        }
+/// Finds that the region that is named, if any, has room for a range of addresses of an output section.
+fn check_room<'a>(
+    regions: &Regions<'a>,
+    section: &Closed<'a>,
+    name: Option<&[u8]>,
+    at: u64,
+    size: u64,
+) -> Result<(), Stop<'a>>
+    ghost naming: { Naming }
+    ensures { Yields (λ _. section_of naming (keyed section.now))
+        (with_room (option_and_then (region_named regions.now) (option_copied name.entry)) at size
+        (section_of naming (keyed section.now))) result }
+{
+    let Some(name) = name else {
+        return Ok(());
+    };
+    let Some(region) = regions.get(name) else {
+        return Ok(());
+    };
+    if is_within(&region, at, size) {
+        Ok(())
+    } else {
+        Err(Stop::RegionFull {
+            section: section.output.name.as_bytes(),
+            region: region.name,
+        })
     }
+}
 
-    /// Sets the next free address of a region, if one is named.
-    pub fn free(&mut self, name: Option<&[u8]>, next: u64)
-        ensures { self.new ≡ freed_from (option_copied name.entry) next self.old }
-    {
-        if let Some(name) = name {
-            self.free_from(name, next);
-        }
+/// Sets the next free address of a region, if one is named.
+pub(crate) fn free(regions: &mut Regions<'_>, name: Option<&[u8]>, next: u64)
+    ensures { regions.new ≡ freed_from (option_copied name.entry) next regions.old }
+{
+    if let Some(name) = name {
+        regions.free_from(name, next);
     }
 }
 
@@ -137,10 +135,8 @@ impl<'a> Done<'a> {
             result }
     {
         let at = section.placed;
-        self.regions
-            .check_room(section, region_name(output), at.start, at.size)?;
-        self.regions
-            .check_room(section, load_region_name(output), at.load, at.load_size)?;
+        check_room(&self.regions, section, region_name(output), at.start, at.size)?;
+        check_room(&self.regions, section, load_region_name(output), at.load, at.load_size)?;
         match at.load.checked_add(at.load_size) {
             Some(end) => Ok(end),
             None => Err(Stop::PastAddressSpace { line }),
@@ -223,8 +219,8 @@ impl<'a> Here<'a> {
         let section = self.close(alloc, output, head);
         match done.load_end(line, &section, output) {
             Ok(load_end) => {
-                done.regions.free(region_name(output), end);
-                done.regions.free(load_region_name(output), load_end);
+                free(&mut done.regions, region_name(output), end);
+                free(&mut done.regions, load_region_name(output), load_end);
                 done.sections.push(section)?;
                 Ok(())
             }

@@ -1,9 +1,6 @@
 //! Why a script has no layout.
 
-ghost use Rattle.std.specs.Prelude.{◌≡◌, [], IfSome, Some, slice_get};
-ghost use Rattle.std.specs.Option.{option_map_or};
-ghost use Rattle.ldtree.specs.Numbering.{OutputSectionAt, output_sections, regions};
-ghost use Rattle.ldtree.specs.declared.statement.Region.{Region};
+ghost use Rattle.std.specs.Prelude.{◌≡◌, IfSome, Some, slice_get};
 ghost use Rattle.ldmodel.specs.Fault.{NotReady, RegionFull};
 ghost use Rattle.ldmodel.specs.Mentioned.{mentioned_names};
 ghost use Rattle.place.specs.Outcomes.{Reports};
@@ -13,7 +10,7 @@ ghost use Rattle.place.specs.declared.fault.PlaceFault.TheVariants.{NoMemory};
 
 use crate::stop::Stop;
 use ldmodel::fault::{Fault, MentionIndex};
-use ldmodel::laid::{OutputIndex, RegionIndex};
+use ldnumbers::named::{output_named, region_named};
 use ldscript::script::Script;
 use ldvalue::mentioned::{mention_of, mentioned_names};
 use std::alloc::{AllocError, Global};
@@ -50,37 +47,6 @@ fn mention(alloc: Global, script: &Script, name: &[u8]) -> Option<MentionIndex>
     }
 }
 
-/// The number of the output section of a name.
-#[tactic(auto, using(crate::proofs::Numbers::section_named_by))]
-fn output(script: &Script, name: &[u8]) -> Option<OutputIndex>
-    ensures { IfSome result (λ k.
-        option_map_or (λ (x : OutputSectionAt). x.section.name) (slice_get (output_sections script.now) k.0) []
-        ≡ name.now) }
-{
-    match script.section_number(name) {
-        Some(number) => match u32::try_from(number) {
-            Ok(number) => Some(OutputIndex(number)),
-            Err(_) => None,
-        },
-        None => None,
-    }
-}
-
-/// The number of the memory region of a name.
-#[tactic(auto, using(crate::proofs::Numbers::region_named_by))]
-fn region(script: &Script, name: &[u8]) -> Option<RegionIndex>
-    ensures { IfSome result (λ k. option_map_or (λ (x : Region). x.name) (slice_get (regions script.now) k.0) []
-        ≡ name.now) }
-{
-    match script.region_number(name) {
-        Some(number) => match u32::try_from(number) {
-            Ok(number) => Some(RegionIndex(number)),
-            Err(_) => None,
-        },
-        None => None,
-    }
-}
-
 fn not_ready(alloc: Global, script: &Script, line: u32, name: &[u8]) -> PlaceFault
     ensures { Reports script.now (NotReady line name.now) result }
 {
@@ -93,10 +59,10 @@ fn not_ready(alloc: Global, script: &Script, line: u32, name: &[u8]) -> PlaceFau
 fn region_full(script: &Script, section: &[u8], name: &[u8]) -> PlaceFault
     ensures { Reports script.now (RegionFull section.now name.now) result }
 {
-    let Some(section) = output(script, section) else {
+    let Some(section) = output_named(script, section) else {
         return PlaceFault::NoMemory;
     };
-    match region(script, name) {
+    match region_named(script, name) {
         Some(region) => PlaceFault::First(Fault::RegionFull { section, region }),
         None => PlaceFault::NoMemory,
     }

@@ -3,20 +3,20 @@
 ghost use Rattle.std.specs.Prelude.{◌≡◌, [], map, IfErr, IfOk, IfSome};
 ghost use Rattle.place.specs.Counted.{CountsPieces, entries};
 ghost use Rattle.place.specs.Kept.{IsKept};
-ghost use Rattle.place.specs.Naming.{Naming, rows_named};
+ghost use Rattle.ldnumbers.specs.Naming.{Naming, rows_named};
 ghost use Rattle.place.specs.Outcomes.{IsGood, IsWhy, Stops};
 ghost use Rattle.place.specs.Places.{IsPlacement};
-ghost use Rattle.place.specs.ProvidedTable.{provided_names};
+ghost use Rattle.ldnumbers.specs.ProvidedTable.{provided_names};
 
 use crate::fault::{PlaceFault, reported};
 use crate::kept::Kept;
 use crate::placement::Placement;
-use crate::provided::Provided;
-use crate::regions::Regions;
+use ldnumbers::provided::Provided;
+use ldnumbers::regions::Regions;
 use crate::script::Input;
-use crate::sections::Sections;
+use ldnumbers::sections::Sections;
 use crate::state::{Done, Here};
-use crate::symbols::Symbols;
+use ldnumbers::symbols::Symbols;
 use crate::whole::whole;
 use ldmodel::meter::{Count, Meter};
 use ldmodel::rows::Piece;

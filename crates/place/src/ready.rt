@@ -3,7 +3,7 @@
 ghost use Rattle.std.specs.Prelude.{◌≡◌};
 ghost use Rattle.ldexpr.specs.Expressions.{expr_of};
 ghost use Rattle.ldmodel.specs.Layout.{number};
-ghost use Rattle.place.specs.Naming.{Naming};
+ghost use Rattle.ldnumbers.specs.Naming.{Naming};
 ghost use Rattle.place.specs.State.{layout_of, outcome};
 
 use crate::state::{Done, Here};
@@ -23,7 +23,7 @@ struct Ready<'s, 'a> {
 impl<'s, 'a> Scope for Ready<'s, 'a> {
     ghost use Rattle.std.specs.Prelude.{⊤};
     ghost use Rattle.ldmodel.specs.Layout.{scope_of};
-    ghost use Rattle.place.specs.SectionTable.{nameless};
+    ghost use Rattle.ldnumbers.specs.SectionTable.{nameless};
     ghost use Rattle.place.specs.State.{layout_of};
 
     ghost can_look_up = { λ _. ⊤ };

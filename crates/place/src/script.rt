@@ -6,15 +6,16 @@ ghost use Rattle.ldmodel.specs.Placement.{free_dot_step, item_command_step, item
 ghost use Rattle.place.specs.Counted.{Resumes, entries};
 ghost use Rattle.place.specs.Coming.{Coming};
 ghost use Rattle.place.specs.Inputs.{rows_of};
-ghost use Rattle.place.specs.Naming.{Naming};
+ghost use Rattle.ldnumbers.specs.Naming.{Naming};
 ghost use Rattle.place.specs.State.{layout_of, Gives};
 ghost use Rattle.place.specs.declared.stop.Stop.TheVariants.{NoMemory};
 
 use crate::kept::Kept;
-use crate::provided::Provided;
+use ldnumbers::provided::Provided;
 use crate::state::{Done, Here};
 use crate::stop::Stop;
-use crate::taken::{Commons, Steps, after};
+use crate::taken::after;
+use ldnumbers::steps::{Commons, Steps};
 use ldmodel::rows::Piece;
 use ldscript::tree::{Command, DotCommand, Item, ItemCommand, Statement};
 use std::alloc::Global;

@@ -5,12 +5,12 @@ ghost use Rattle.ldmodel.specs.Body.{body_step};
 ghost use Rattle.ldmodel.specs.Chain.{run};
 ghost use Rattle.ldmodel.specs.Placement.{opened, section_step};
 ghost use Rattle.place.specs.Heads.{head_from};
-ghost use Rattle.place.specs.Naming.{Naming, row_named};
+ghost use Rattle.ldnumbers.specs.Naming.{Naming, row_named};
 ghost use Rattle.place.specs.State.{body_from, layout_of, Gives};
 ghost use Rattle.place.specs.declared.stop.Stop.TheVariants.{NoMemory};
 
 use crate::head::Head;
-use crate::provided::Provided;
+use ldnumbers::provided::Provided;
 use crate::state::{Done, Frame, Here};
 use crate::stop::Stop;
 use ldmodel::rows::Piece;

@@ -1,9 +1,9 @@
 //! A layout, as far as it has come.
 
-use crate::provided::Provided;
-use crate::regions::Regions;
-use crate::sections::{DataAt, PieceAt, Sections};
-use crate::symbols::Symbols;
+use ldnumbers::provided::Provided;
+use ldnumbers::regions::Regions;
+use ldnumbers::sections::{DataAt, PieceAt, Sections};
+use ldnumbers::symbols::Symbols;
 use ldmodel::rows::Piece;
 
 /// Where a layout has come to: what changes from statement to statement, in the body of an output section too.

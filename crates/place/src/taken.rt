@@ -3,37 +3,26 @@
 ghost use Rattle.std.specs.Prelude.{◌≡◌, ◌≤◌, ◌+◌, ◌++◌, length, map, drop, IfOk, IfSome, IfErr, OnOk};
 ghost use Rattle.ldmodel.specs.Placement.{section_step};
 ghost use Rattle.place.specs.Leads.{Leads};
-ghost use Rattle.place.specs.Naming.{Naming, row_named};
-ghost use Rattle.place.specs.SectionTable.{keyed, Fits};
+ghost use Rattle.ldnumbers.specs.Naming.{Naming, row_named};
+ghost use Rattle.ldnumbers.specs.SectionTable.{keyed, Fits};
 ghost use Rattle.place.specs.State.{layout_of, Gives};
-ghost use Rattle.place.specs.Steps.{commons_first, data_in, data_of, inputs_in, inputs_of, symbols_first};
-ghost use Rattle.place.specs.Steps.{symbols_given, symbols_in, symbols_of};
-ghost use Rattle.place.specs.SymbolTable.{AreFound};
+ghost use Rattle.ldnumbers.specs.Steps.{data_in};
+ghost use Rattle.ldnumbers.specs.SymbolTable.{AreFound};
 ghost use Rattle.place.specs.Taken.{data_at_of, part_of, IsTaken};
 ghost use Rattle.place.specs.declared.stop.Stop.TheVariants.{NoMemory};
 
+use crate::end::{free, load_region_name};
 use crate::head::region_name;
-use crate::end::load_region_name;
 use crate::kept::Kept;
-use crate::provided::Provided;
-use crate::sections::{Closed, Contents, DataAt};
 use crate::state::{Done, Here};
 use crate::stop::Stop;
 use ldmodel::laid::PlacedData;
 use ldmodel::rows::Piece;
-use ldscript::tree::{BodyCommand, BodyStatement, Common, Item, ItemCommand, OutputSection};
+use ldnumbers::provided::Provided;
+use ldnumbers::sections::{Closed, Contents, DataAt};
+use ldnumbers::steps::Steps;
+use ldscript::tree::OutputSection;
 use std::alloc::{AllocError, Global};
-
-/// What the statements of a body add to a layout.
-#[derive(Clone, Copy)]
-pub(crate) struct Steps {
-    /// How many input statements.
-    pub inputs: u64,
-    /// How many symbols.
-    pub symbols: usize,
-    /// How many data commands.
-    pub data_commands: usize,
-}
 
 /// What follows this many elements of a list.
 pub(crate) fn after<T>(list: &[T], count: usize) -> Option<&[T]>
@@ -50,118 +39,6 @@ fn part<T>(list: &[T], from: usize, count: usize) -> Option<&[T]>
     match after(list, from) {
         Some(rest) => rest.get(..count),
         None => None,
-    }
-}
-
-/// How many symbols a command gives values.
-fn given_by(provided: &Provided<'_>, command: &Common) -> Option<usize>
-    ensures { IfSome result (λ n. n ≡ symbols_given provided.now command.now) }
-{
-    match command {
-        Common::Assign(_) => Some(1),
-        Common::Provide(a) => match provided.is_in_force(a.name.as_bytes()) {
-            Some(true) => Some(1),
-            Some(false) => Some(0),
-            None => None,
-        },
-        Common::Assert(_) => Some(0),
-    }
-}
-
-impl Steps {
-    /// Of no statement.
-    const NONE: Steps = Steps {
-        inputs: 0,
-        symbols: 0,
-        data_commands: 0,
-    };
-
-    /// Of one statement.
-    fn of(provided: &Provided<'_>, command: &BodyCommand) -> Option<Steps>
-        ensures inputs { IfSome result (λ s. s.inputs ≡ inputs_of command.now) }
-        ensures symbols { IfSome result (λ s. s.symbols ≡ symbols_of provided.now command.now) }
-        ensures data_commands { IfSome result (λ s. s.data_commands ≡ data_of command.now) }
-    {
-        match command {
-            BodyCommand::Dot(_) => Some(Steps::NONE),
-            BodyCommand::Common(command) => match given_by(provided, command) {
-                Some(symbols) => Some(Steps {
-                    inputs: 0,
-                    symbols,
-                    data_commands: 0,
-                }),
-                None => None,
-            },
-            BodyCommand::Data(_, _) => Some(Steps {
-                inputs: 0,
-                symbols: 0,
-                data_commands: 1,
-            }),
-            BodyCommand::Input(_) => Some(Steps {
-                inputs: 1,
-                symbols: 0,
-                data_commands: 0,
-            }),
-        }
-    }
-
-    /// With those of a later statement.
-    fn and(self, later: Steps) -> Option<Steps>
-        ensures inputs { IfSome result (λ s. s.inputs ≡ self.inputs + later.inputs) }
-        ensures symbols { IfSome result (λ s. s.symbols ≡ self.symbols + later.symbols) }
-        ensures data_commands { IfSome result (λ s. s.data_commands ≡ self.data_commands + later.data_commands) }
-    {
-        Some(Steps {
-            inputs: self.inputs.checked_add(later.inputs)?,
-            symbols: self.symbols.checked_add(later.symbols)?,
-            data_commands: self.data_commands.checked_add(later.data_commands)?,
-        })
-    }
-
-    /// Of the statements of a body.
-    fn of_body(provided: &Provided<'_>, body: &[BodyStatement]) -> Option<Steps>
-        ensures inputs { IfSome result (λ s. s.inputs ≡ inputs_in body.now) }
-        ensures symbols { IfSome result (λ s. s.symbols ≡ symbols_in provided.now body.now) }
-        ensures data_commands { IfSome result (λ s. s.data_commands ≡ data_in body.now) }
-    {
-        let mut steps = Steps::NONE;
-        for statement in body {
-            let one = Steps::of(provided, &statement.command)?;
-            steps = steps.and(one)?;
-        }
-        Some(steps)
-    }
-}
-
-/// Commands of symbols that a list of statements begins with.
-#[derive(Clone, Copy)]
-pub(crate) struct Commons {
-    /// How many they are.
-    pub items: usize,
-    /// How many symbols they give values.
-    pub symbols: usize,
-}
-
-impl Commons {
-    /// Those that these statements begin with.
-    pub fn first(provided: &Provided<'_>, items: &[Item]) -> Option<Commons>
-        ensures items { IfSome result (λ c. c.items ≡ commons_first items.now) }
-        ensures symbols { IfSome result (λ c. c.symbols ≡ symbols_first provided.now items.now) }
-    {
-        let mut commons = Commons {
-            items: 0,
-            symbols: 0,
-        };
-        for item in items {
-            match &item.command {
-                ItemCommand::Common(command) => {
-                    commons.items = commons.items.checked_add(1)?;
-                    commons.symbols = commons.symbols.checked_add(given_by(provided, command)?)?;
-                }
-                _ => return Some(commons),
-            }
-        }
-        Some(commons)
     }
 }
 
@@ -291,8 +168,8 @@ impl<'a> Here<'a> {
             return Err(Stop::NoMemory);
         };
         self.pass(kept, output.body.as_slice().len(), steps, end)?;
-        done.regions.free(region_name(output), end);
-        done.regions.free(load_region_name(output), load_end);
+        free(&mut done.regions, region_name(output), end);
+        free(&mut done.regions, load_region_name(output), load_end);
         done.sections.push(section)?;
         Ok(())
     }

@@ -2,17 +2,17 @@
 
 ghost use Rattle.std.specs.Prelude.{◌≡◌, ◌++◌, map, IfOk, OnOk};
 ghost use Rattle.ldmodel.specs.Lent.{data_of, region_of as region_numbers};
-ghost use Rattle.place.specs.Keyed.{KeyedPiece};
-ghost use Rattle.place.specs.Naming.{Naming};
+ghost use Rattle.ldnumbers.specs.Keyed.{KeyedPiece};
+ghost use Rattle.ldnumbers.specs.Naming.{Naming};
 ghost use Rattle.place.specs.Places.{AreOf};
-ghost use Rattle.place.specs.RegionTable.{region_of};
-ghost use Rattle.place.specs.SectionTable.{contents_of, keyed, keyed_piece};
+ghost use Rattle.ldnumbers.specs.RegionTable.{region_of};
+ghost use Rattle.ldnumbers.specs.SectionTable.{contents_of, keyed, keyed_piece};
 ghost use Rattle.place.specs.State.{layout_of};
-ghost use Rattle.place.specs.Wholes.{all_data_in, counts_in, data_in, placed_in, starts_in};
+ghost use Rattle.ldnumbers.specs.Wholes.{all_data_in, counts_in, data_in, placed_in, starts_in};
 
 use crate::placement::Placement;
-use crate::regions::Region;
-use crate::sections::{Closed, Contents, DataAt, PieceAt};
+use ldnumbers::regions::Region;
+use ldnumbers::sections::{Closed, Contents, DataAt, PieceAt};
 use crate::state::{Done, Here};
 use ldmodel::laid::{OutputIndex, Placed, PlacedData, PlacedRegion};
 use std::alloc::{AllocError, Global};

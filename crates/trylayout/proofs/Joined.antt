@@ -4,7 +4,7 @@ use Rattle.ldmodel.specs.declared.rows.Piece.{Piece}
 use Rattle.std.proofs.Math.ListN.{get_or-map}
 use Rattle.ldtree.specs.declared.statement.Statement.{Statement}
 use Rattle.place.specs.Kept.{IsKept}
-use Rattle.place.specs.Naming.{row_named, rows_named}
+use Rattle.ldnumbers.specs.Naming.{row_named, rows_named}
 use Rattle.place.specs.Outcomes.{IsGood}
 use Rattle.place.specs.Places.{Places}
 use Rattle.trylayout.specs.Unnamed.{SameBefore, unnamed}

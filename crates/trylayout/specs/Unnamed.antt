@@ -1,7 +1,7 @@
 -- Rows without names, and rows that are the same before a number.
 use Rattle.std.specs.Prelude.{◌≡◌, ℕ, ◌<◌, List, [], length, slice_index_or}
 use Rattle.ldmodel.specs.declared.rows.Piece.{Piece}
-use Rattle.place.specs.Naming.{Naming}
+use Rattle.ldnumbers.specs.Naming.{Naming}
 
 -- no layout turns on names
 abbrev pub unnamed : Naming

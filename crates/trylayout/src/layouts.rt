@@ -2,8 +2,8 @@
 
 ghost use Rattle.std.specs.Prelude.{◌≡◌, ◌<◌, [], map, slice_index_or, IfOk, IfSome};
 ghost use Rattle.place.specs.Kept.{IsKept};
-ghost use Rattle.place.specs.Naming.{rows_named};
-ghost use Rattle.place.specs.ProvidedTable.{provided_names};
+ghost use Rattle.ldnumbers.specs.Naming.{rows_named};
+ghost use Rattle.ldnumbers.specs.ProvidedTable.{provided_names};
 ghost use Rattle.trylayout.specs.Unnamed.{SameBefore, unnamed};
 
 use elfobj::section::{SectionIndex, SectionKind};

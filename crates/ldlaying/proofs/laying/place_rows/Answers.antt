@@ -1,7 +1,7 @@
 use Rattle.std.proofs.Common.{◌≡◌, ◌∙◌, ap, sym, List}
 use Rattle.ldmodel.specs.Names.{provided}
 use Rattle.ldmodel.specs.declared.script_symbol.CommonIndex.{CommonIndex}
-use Rattle.place.specs.ProvidedTable.{provided_names}
+use Rattle.ldnumbers.specs.ProvidedTable.{provided_names}
 use Rattle.ldlaying.proofs.Layouts.{why_of_project}
 use Rattle.ldlaying.proofs.laying.place_rows.Goals as goal
 

@@ -1,8 +1,8 @@
 use Rattle.std.proofs.Common.{◌≡◌, drop, map}
 use Rattle.std.specs.List.{list_any}
 use Rattle.ldmodel.specs.SectionEnd.{is_in_file}
-use Rattle.place.specs.Keyed.{piece_at}
-use Rattle.place.specs.SectionTable.{keyed_piece}
+use Rattle.ldnumbers.specs.Keyed.{piece_at}
+use Rattle.ldnumbers.specs.SectionTable.{keyed_piece}
 use Rattle.place.proofs.end.any_in_file.Given as goal
 
 abbrev pub ghost-is_in_file : goal.ghost-is_in_file

@@ -3,8 +3,8 @@ use Rattle.std.specs.Prelude.{bit_and}
 use Rattle.std.specs.List.{list_any}
 use Rattle.ldmodel.specs.Layout.{PlacedPiece}
 use Rattle.ldmodel.specs.SectionEnd.{is_empty}
-use Rattle.place.specs.Keyed.{piece_at}
-use Rattle.place.specs.SectionTable.{keyed_piece}
+use Rattle.ldnumbers.specs.Keyed.{piece_at}
+use Rattle.ldnumbers.specs.SectionTable.{keyed_piece}
 use Rattle.place.proofs.end.any_with_flag.Given as goal
 
 abbrev pub invariant-loop-at : goal.invariant-loop-at

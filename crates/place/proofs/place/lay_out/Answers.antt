@@ -7,8 +7,8 @@ use Rattle.place.proofs.Comes.{by_option, for_some, nothing_comes, script_comes}
 use Rattle.place.proofs.Counting.{resumes_within}
 use Rattle.place.proofs.place.lay_out.Goals as goal
 use Rattle.place.specs.Kept.{IsKept}
-use Rattle.place.specs.Naming.{rows_named}
-use Rattle.place.specs.ProvidedTable.{provided_names}
+use Rattle.ldnumbers.specs.Naming.{rows_named}
+use Rattle.ldnumbers.specs.ProvidedTable.{provided_names}
 use Rattle.place.specs.State.{layout_of}
 use Rattle.place.specs.declared.state.Done.{Done}
 

@@ -1,6 +1,6 @@
 use Rattle.std.proofs.Common.{◌≡◌, ◌++◌, drop, map}
 use Rattle.ldmodel.specs.Lent.{data_of}
-use Rattle.place.specs.Wholes.{data_in}
+use Rattle.ldnumbers.specs.Wholes.{data_in}
 use Rattle.place.proofs.whole.add_data.Given as goal
 
 abbrev pub invariant-loop-at : goal.invariant-loop-at

@@ -1,6 +1,6 @@
 use Rattle.std.proofs.Common.{◌≡◌, ◌++◌, drop, map}
-use Rattle.place.specs.Keyed.{KeyedPiece}
-use Rattle.place.specs.SectionTable.{keyed_piece}
+use Rattle.ldnumbers.specs.Keyed.{KeyedPiece}
+use Rattle.ldnumbers.specs.SectionTable.{keyed_piece}
 use Rattle.place.proofs.whole.add_placed.Given as goal
 
 abbrev pub invariant-loop-at : goal.invariant-loop-at

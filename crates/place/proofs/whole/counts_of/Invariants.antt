@@ -1,6 +1,6 @@
 use Rattle.std.proofs.Common.{◌≡◌, ◌++◌, drop, map}
-use Rattle.place.specs.SectionTable.{keyed}
-use Rattle.place.specs.Wholes.{counts_in}
+use Rattle.ldnumbers.specs.SectionTable.{keyed}
+use Rattle.ldnumbers.specs.Wholes.{counts_in}
 use Rattle.place.proofs.whole.counts_of.Given as goal
 
 abbrev pub invariant-loop-section : goal.invariant-loop-section

@@ -1,7 +1,7 @@
 use Rattle.std.proofs.Common.{◌≡◌, ◌++◌, drop, map}
 use Rattle.ldmodel.specs.Lent.{data_of}
-use Rattle.place.specs.SectionTable.{keyed}
-use Rattle.place.specs.Wholes.{all_data_in}
+use Rattle.ldnumbers.specs.SectionTable.{keyed}
+use Rattle.ldnumbers.specs.Wholes.{all_data_in}
 use Rattle.place.proofs.whole.data_commands_of.Given as goal
 
 abbrev pub invariant-loop-section : goal.invariant-loop-section

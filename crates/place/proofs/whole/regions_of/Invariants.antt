@@ -1,6 +1,6 @@
 use Rattle.std.proofs.Common.{◌≡◌, ◌++◌, drop, map}
 use Rattle.ldmodel.specs.Lent.{region_of as numbers}
-use Rattle.place.specs.RegionTable.{region_of}
+use Rattle.ldnumbers.specs.RegionTable.{region_of}
 use Rattle.place.proofs.whole.regions_of.Given as goal
 
 abbrev pub invariant-loop-region : goal.invariant-loop-region

@@ -6,8 +6,8 @@ use Rattle.place.proofs.Ending.{end_is, ends_there, joined, load_end_is}
 use Rattle.place.proofs.state.Here.end.Goals as goal
 use Rattle.place.specs.Ends.{ended_body}
 use Rattle.place.specs.Heads.{head_from}
-use Rattle.place.specs.Keyed.{section_of}
-use Rattle.place.specs.SectionTable.{keyed}
+use Rattle.ldnumbers.specs.Keyed.{section_of}
+use Rattle.ldnumbers.specs.SectionTable.{keyed}
 
 pub returns-in-Ok-clause-gives : goal.returns-in-Ok-clause-gives
 returns-in-Ok-clause-gives g c =
@@ -22,11 +22,11 @@ returns-in-Ok-clause-gives g c =
     ∙ ap (λ (t : Layout).
     Ok t) (joined g.naming c.args.self.now c.close-section.new.self c.args.done.now c.args.output.now
     (keyed c.close-section.result)
-    c.push.new.self c.free.new.self c.free-in-Ok.new.self c.max-end.result c.in-Ok.load_end
+    c.push.new.self c.free.new.regions c.free-in-Ok.new.regions c.max-end.result c.in-Ok.load_end
     c.close-section.ensures.dot c.close-section.ensures.dots c.close-section.ensures.inputs
     c.close-section.ensures.symbols
     (c.free.ensures ∙ ap (λ r. freed_from r c.max-end.result c.args.done.now.regions) c.region_name.ensures)
-    (c.free-in-Ok.ensures ∙ ap (λ r. freed_from r c.in-Ok.load_end c.free.new.self) c.load_region_name.ensures)
+    (c.free-in-Ok.ensures ∙ ap (λ r. freed_from r c.in-Ok.load_end c.free.new.regions) c.load_region_name.ensures)
     c.in_ok-push-in-Ok.ensures.pushed
     (there ∙ sym c.max-end.ensures) last))
 

@@ -1,10 +1,10 @@
 use Rattle.std.proofs.Common.{◌++◌, ◌+◌, List, length, refl, sym, ap, ◌∙◌}
 use Rattle.ldmodel.specs.SectionEnd.{freed_from}
 use Rattle.place.proofs.Taking.{layout_taken}
-use Rattle.place.specs.SectionTable.{keyed}
+use Rattle.ldnumbers.specs.SectionTable.{keyed}
 use Rattle.place.specs.State.{layout_of}
 use Rattle.ldtree.specs.declared.section.BodyStatement.{BodyStatement}
-use Rattle.place.specs.Steps.{inputs_in, symbols_in}
+use Rattle.ldnumbers.specs.Steps.{inputs_in, symbols_in}
 use Rattle.place.specs.Taken.{part_of}
 use Rattle.place.proofs.state.Here.take_section.Goals as goal
 
@@ -13,14 +13,14 @@ returns-clause-gives g c =
     layout_taken g.naming c.args.self.now.symbols.script c.args.kept c.args.provided.now c.args.row.now
     (layout_of g.naming c.args.self.now c.args.done.now) c.args.line c.args.output.now c.args.done.now.sections refl
     c.requires (keyed c.in_ok-section.section) c.pass.new.self
-    (record { sections = c.push.new.self; regions = c.free-2.new.self })
-    c.free.new.self c.free-2.new.self c.in-Some-checked_add.end c.in-Some-checked_add-2.load_end
+    (record { sections = c.push.new.self; regions = c.free-2.new.regions })
+    c.free.new.regions c.free-2.new.regions c.in-Some-checked_add.end c.in-Some-checked_add-2.load_end
     c.in_ok-section.ensures.taken c.in_ok-push.ensures.pushed c.in_ok-pass.ensures.script
     (c.in_ok-pass.ensures.dot ∙ c.in-Some-checked_add.ensures.1) (sym c.in_ok-pass.ensures.dot)
     c.in-Some-checked_add-2.ensures.1
     (c.free.ensures ∙ ap (λ r. freed_from r c.in-Some-checked_add.end c.args.done.now.regions) c.region_name.ensures)
     (c.free-2.ensures
-    ∙ ap (λ r. freed_from r c.in-Some-checked_add-2.load_end c.free.new.self) c.load_region_name.ensures)
+    ∙ ap (λ r. freed_from r c.in-Some-checked_add-2.load_end c.free.new.regions) c.load_region_name.ensures)
     refl
     (c.in_ok-pass.ensures.dots
     ∙ ap (λ (b : List BodyStatement). c.args.self.now.dots.items

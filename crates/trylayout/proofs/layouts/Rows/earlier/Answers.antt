@@ -1,7 +1,7 @@
 use Rattle.std.proofs.Common.{map, ap, subst}
 use Rattle.place.specs.Outcomes.{IsGood}
-use Rattle.place.specs.Naming.{rows_named}
-use Rattle.place.specs.ProvidedTable.{provided_names}
+use Rattle.ldnumbers.specs.Naming.{rows_named}
+use Rattle.ldnumbers.specs.ProvidedTable.{provided_names}
 use Rattle.trylayout.proofs.Joined.{kept_good}
 use Rattle.trylayout.specs.Unnamed.{unnamed}
 use Rattle.trylayout.proofs.layouts.Rows.earlier.Goals as goal

@@ -1,0 +1,7 @@
+use Rattle.ldnumbers.proofs.FoundSections.{no_sections}
+use Rattle.ldnumbers.proofs.sections.Sections.new.Goals as goal
+
+pub invariant_of-result : goal.invariant_of-result
+invariant_of-result c =
+    no_sections c.args.script.now c.new-2.result.items c.in_ok-differences.differences.items c.len.result
+    c.new-2.ensures.items (c.in_ok-differences.ensures.items_if_clones_equal (λ _ e. e))
