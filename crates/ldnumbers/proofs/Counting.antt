@@ -14,7 +14,8 @@ pub starts_push : (xs : List KeyedSection) (x : KeyedSection) → starts_in (xs 
     ++ map (λ (p : KeyedPiece). p.start) x.pieces
 starts_push [] x = append-nil (map (λ (p : KeyedPiece). p.start) x.pieces)
 starts_push (y ∷ ys) x = ap (λ l. map (λ (p : KeyedPiece). p.start) y.pieces ++ l) (starts_push ys x)
-    ∙ sym (append_assoc (map (λ (p : KeyedPiece). p.start) y.pieces) (starts_in ys) (map (λ (p : KeyedPiece). p.start) x.pieces))
+    ∙ sym (append_assoc (map (λ (p : KeyedPiece). p.start) y.pieces) (starts_in ys) (map (λ
+    (p : KeyedPiece). p.start) x.pieces))
 
 pub starts_grow : (xs : List KeyedSection) (x : KeyedSection) → length (starts_in (xs ++ x ∷ []))
     ≡ length (starts_in xs) + length x.pieces

@@ -176,7 +176,8 @@ module _ (script : List Statement) (xs : List KeyedSection) (x : KeyedSection) (
     -- a section that names a region
     pub pushed_in : (region : List ℕ) (j : ℕ) → x.region ≡ Some region → region_number script region ≡ Some j
         → j < length ds
-        → AreSectionsOf script (xs ++ x ∷ []) (set ds j (difference_of (section_of nameless x))) elsewhere more more_data
+        → AreSectionsOf script (xs ++ x ∷ []) (set ds j (difference_of
+        (section_of nameless x))) elsewhere more more_data
     pushed_in region j some number l = record {
       order = order_more;
       differences_of = λ name k e h.

@@ -1,6 +1,6 @@
-//! What a layout keeps under the numbers that a script gives its names: the commands of symbols and the symbols' values,
-//! the PROVIDEs in force, the output sections and the memory regions. Names are looked up by guesses that are compared, or
-//! in the script's own tables.
+//! What a layout keeps under the numbers that a script gives its names: the commands of symbols and the symbols'
+//! values, the PROVIDEs in force, the output sections and the memory regions. Names are looked up by guesses that are
+//! compared, or in the script's own tables.
 #![tactic(auto)]
 
 pub mod commands;

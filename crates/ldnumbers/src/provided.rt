@@ -6,8 +6,8 @@ ghost use Rattle.std.specs.Option.{option_map_or};
 ghost use Rattle.ldtree.specs.Numbered.{shown_commons};
 ghost use Rattle.ldnumbers.specs.ProvidedTable.{name_in, provided_names, Marks};
 
-use ldmodel::script_symbol::CommonIndex;
 use crate::commands::number_in;
+use ldmodel::script_symbol::CommonIndex;
 use ldscript::script::Script;
 use ldscript::tree::{Common, CommonAt};
 use std::alloc::{AllocError, Global};

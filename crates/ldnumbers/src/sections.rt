@@ -9,9 +9,9 @@ ghost use Rattle.ldnumbers.specs.SectionTable.{contents_of, keyed, difference_by
 ghost use Rattle.ldnumbers.specs.Tables.{AreInOrder};
 ghost use Rattle.ldnumbers.specs.Wholes.{all_data_in, starts_in};
 
+use crate::guesses::Guesses;
 use ldmodel::laid::Placed;
 use ldmodel::rows::Piece;
-use crate::guesses::Guesses;
 use ldscript::script::Script;
 use ldscript::tree::{OutputSection, Width};
 use std::alloc::{AllocError, Global};
@@ -100,7 +100,8 @@ impl<'a> Model for Sections<'a> {
 
     ghost view = { λ s. map keyed s.list.items };
 
-    ghost invariant = { λ s. AreSectionsOf s.script.now (map keyed s.list.items) s.differences.items s.elsewhere s.count s.data_count };
+    ghost invariant = { λ s.
+        AreSectionsOf s.script.now (map keyed s.list.items) s.differences.items s.elsewhere s.count s.data_count };
 }
 
 /// The number of the output section of a name, of which the guess is looked at first.
@@ -240,7 +241,7 @@ impl<'a> Sections<'a> {
                     self.list.push(section)?;
                     self.count = count;
                     self.data_count = data_count;
-                self.data_count = data_count;
+                    self.data_count = data_count;
                     self.differences[number] = difference;
                     Ok(())
                 }

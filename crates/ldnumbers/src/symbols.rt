@@ -3,8 +3,8 @@
 ghost use Rattle.std.specs.Prelude.{◌≡◌, [], ◌∷◌, ◌++◌, ◌≤◌, ℕ, None, length, IfOk, OnOk, slice_index_or};
 ghost use Rattle.ldnumbers.specs.SymbolTable.{named, value_of, AreFound, IsFound};
 
-use ldmodel::script_symbol::{CommonIndex, ScriptSymbol};
 use crate::commands::Commands;
+use ldmodel::script_symbol::{CommonIndex, ScriptSymbol};
 use ldscript::script::Script;
 use std::alloc::{AllocError, Global};
 use std::marker::Model;
@@ -145,7 +145,8 @@ impl<'a> Symbols<'a> {
     /// Gives a symbol a value. It is an error where memory ran out.
     pub fn assign(&mut self, name: &[u8], value: u64) -> Result<(), AllocError>
         ensures script { self.new.script ≡ self.old.script }
-        ensures given { OnOk result (named self.new ≡ named self.old ++ record { name = name.now; value = value } ∷ []) }
+        ensures given { OnOk result (named self.new ≡ named self.old
+            ++ record { name = name.now; value = value } ∷ []) }
     {
         let Some(number) = self.commands.number_or(self.next(), name) else {
             // it does not come to this: the name is one that the script gives a value

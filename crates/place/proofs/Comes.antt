@@ -325,7 +325,8 @@ module _ (provided : List (List ℕ)) (n : Naming) (i : Input) (script : List St
       → Coming n i script' t (λ rows. run (item_step rows provided) t xs)
   items_come script' t f same =
       subst (λ z. Coming n i z t (λ rows. run (item_step rows provided) t xs)) (sym same)
-      (next_comes (λ rs. item_step rs provided) (λ rs. item_on rs provided) (item_same provided) n i script s x xs t c f)
+      (next_comes (λ rs. item_step rs provided) (λ rs. item_on rs provided)
+      (item_same provided) n i script s x xs t c f)
 
 -- the statements of the script
 module _ (provided : List (List ℕ)) (n : Naming) (i : Input) (script : List Statement) (s : Layout)
@@ -402,6 +403,7 @@ script_comes n i script script' xs s provided p first m e k a begins l = let t :
         (subst (AreFound script) (sym a.symbols) k.placed.places.found);
   };
 }
+
 -- nothing is to come where nothing is taken over
 pub nothing_comes : (n : Naming) (i : Input) (script : List Statement) (s : Layout)
     (wanted : List (List Piece) → Result Layout Fault) → i.kept.first ≡ 0 → Coming n i script s wanted

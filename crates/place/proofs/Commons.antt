@@ -88,7 +88,8 @@ past rows provided (x ∷ xs) s u e =
     by_command x.command refl h.value h.first (past rows provided xs h.value u h.second)
   where
     counted : {d : ItemCommand} → x.command ≡ d
-        → Past provided s (x ∷ xs) (if_common d (suc (commons_first xs))) (with_given provided d (symbols_first provided xs))
+        → Past provided s (x ∷ xs) (if_common d (suc (commons_first xs))) (with_given provided d
+        (symbols_first provided xs))
         → Past provided s (x ∷ xs) (commons_first (x ∷ xs)) (symbols_first provided (x ∷ xs))
     counted same p =
         subst (λ d. Past provided s (x ∷ xs) (if_common d (suc (commons_first xs)))
@@ -114,7 +115,8 @@ same_layout n h d t a b c e f g = rw (a, b, c, e, f, g) refl
 
 module _ (provided : List (List ℕ)) (n : Naming) (i : Input) (old new : Here) (d : Done) (xs rest : List Item)
     (count symbols : ℕ)
-    (c : Coming n i old.symbols.script (layout_of n old d) (λ rows. run (item_step rows provided) (layout_of n old d) xs))
+    (c : Coming n i old.symbols.script (layout_of n old d) (λ rows. run (item_step rows provided)
+    (layout_of n old d) xs))
     (l : length (layout_of n old d).sections < i.kept.first)
     (many : count ≡ commons_first xs) (given : symbols ≡ symbols_first provided xs) (rest_is : rest ≡ drop count xs)
     (dot : new.dot ≡ old.dot)

@@ -51,14 +51,16 @@ longer_on xs ys zs n m a b = record {
 }
 
 -- a command of symbols changes nothing else
-assigned_leaves : {X : Type 0} (f : Layout → X) → ((s : Layout) (name : List ℕ) (x : ℕ) → f (with_symbol s name x) ≡ f s)
+assigned_leaves : {X : Type 0} (f : Layout → X) → ((s : Layout) (name : List ℕ) (x : ℕ) → f
+    (with_symbol s name x) ≡ f s)
     → (s : Layout) (line : ℕ) (a : Assignment) (t : Layout) → assigned s line a ≡ Ok t → f t ≡ f s
 assigned_leaves f same s line a t e =
     let h = chained (number s line a.value) (λ x. Ok (with_symbol s a.name x)) t e in
     let d = given_is (with_symbol s a.name h.value) t h.second in
     ap f (sym d) ∙ same s a.name h.value
 
-pub common_leaves : {X : Type 0} (f : Layout → X) → ((s : Layout) (name : List ℕ) (x : ℕ) → f (with_symbol s name x) ≡ f s)
+pub common_leaves : {X : Type 0} (f : Layout → X) → ((s : Layout) (name : List ℕ) (x : ℕ) → f
+    (with_symbol s name x) ≡ f s)
     → (provided : List (List ℕ)) (s : Layout) (line : ℕ) (c : Common) (t : Layout)
     → common_step provided s line c ≡ Ok t → f t ≡ f s
 unfolding common_step

@@ -38,7 +38,8 @@ after_first [] x ys = refl
 after_first (y ∷ xs) x ys = after_first xs x ys
 
 -- the part of a list that follows some of its first elements
-pub next_part : {X : Type 0} (xs more ys all : List X) (from count : ℕ) → ys ≡ xs ++ more → Begins ys all → from ≡ length xs
+pub next_part : {X : Type 0} (xs more ys all : List X) (from count : ℕ) → ys ≡ xs ++ more → Begins ys all
+    → from ≡ length xs
     → count ≡ length more → part_of all from count ≡ more
 next_part xs more ys all from count e b f c =
     let whole : all ≡ xs ++ (more ++ b.later) =

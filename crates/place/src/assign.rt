@@ -5,19 +5,14 @@ ghost use Rattle.ldmodel.specs.Assigning.{assigned, common_step};
 ghost use Rattle.ldnumbers.specs.Naming.{Naming};
 ghost use Rattle.place.specs.State.{layout_of, Gives};
 
-use ldnumbers::provided::Provided;
 use crate::state::{Done, Here};
 use crate::stop::Stop;
+use ldnumbers::provided::Provided;
 use ldscript::tree::{Assignment, Common};
 
 impl<'a> Here<'a> {
     /// `NAME = e`.
-    fn assign(
-        &mut self,
-        done: &Done<'a>,
-        line: u32,
-        a: &'a Assignment,
-    ) -> Result<(), Stop<'a>>
+    fn assign(&mut self, done: &Done<'a>, line: u32, a: &'a Assignment) -> Result<(), Stop<'a>>
         ghost naming: { Naming }
         ensures gives { Gives (assigned (layout_of naming self.old done.now) line a.now)
             (layout_of naming self.new done.now) result }

@@ -10,10 +10,10 @@ ghost use Rattle.place.specs.Counted.{Counted};
 ghost use Rattle.ldnumbers.specs.Naming.{Naming, piece_named, row_named};
 ghost use Rattle.place.specs.State.{body_of, Gives};
 
-use ldnumbers::sections::{DataAt, PieceAt};
 use crate::state::{Frame, Here};
 use crate::stop::Stop;
 use ldmodel::rows::Piece;
+use ldnumbers::sections::{DataAt, PieceAt};
 use ldscript::tree::{BodyCommand, BodyStatement, DotCommand, DotForm, Expr, Formula, Width};
 
 impl<'d, 'a> Frame<'d, 'a> {

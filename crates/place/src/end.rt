@@ -15,13 +15,13 @@ ghost use Rattle.ldnumbers.specs.SectionTable.{keyed, keyed_piece, Fits};
 ghost use Rattle.place.specs.State.{layout_of, Gives};
 
 use crate::head::{Head, region_name};
-use ldnumbers::regions::{Region, Regions};
-use ldnumbers::sections::{Closed, Contents, PieceAt};
 use crate::state::{Done, Here};
 use crate::stop::Stop;
 use elfdefs::constants::{SHF_EXECINSTR, SHF_WRITE};
 use elfobj::section::SectionKind;
 use ldmodel::laid::Placed;
+use ldnumbers::regions::{Region, Regions};
+use ldnumbers::sections::{Closed, Contents, PieceAt};
 use ldscript::tree::{Load, OutputSection};
 use std::alloc::Global;
 
@@ -135,8 +135,20 @@ impl<'a> Done<'a> {
             result }
     {
         let at = section.placed;
-        check_room(&self.regions, section, region_name(output), at.start, at.size)?;
-        check_room(&self.regions, section, load_region_name(output), at.load, at.load_size)?;
+        check_room(
+            &self.regions,
+            section,
+            region_name(output),
+            at.start,
+            at.size,
+        )?;
+        check_room(
+            &self.regions,
+            section,
+            load_region_name(output),
+            at.load,
+            at.load_size,
+        )?;
         match at.load.checked_add(at.load_size) {
             Some(end) => Ok(end),
             None => Err(Stop::PastAddressSpace { line }),

@@ -11,12 +11,12 @@ ghost use Rattle.place.specs.State.{layout_of, Gives};
 ghost use Rattle.place.specs.declared.stop.Stop.TheVariants.{NoMemory};
 
 use crate::kept::Kept;
-use ldnumbers::provided::Provided;
 use crate::state::{Done, Here};
 use crate::stop::Stop;
 use crate::taken::after;
-use ldnumbers::steps::{Commons, Steps};
 use ldmodel::rows::Piece;
+use ldnumbers::provided::Provided;
+use ldnumbers::steps::{Commons, Steps};
 use ldscript::tree::{Command, DotCommand, Item, ItemCommand, Statement};
 use std::alloc::Global;
 
@@ -109,14 +109,7 @@ impl<'i, 'a> Input<'i, 'a> {
                         output.get(),
                     )
                 } else {
-                    here.place_section(
-                        self.alloc,
-                        done,
-                        self.provided,
-                        row,
-                        line,
-                        output.get(),
-                    )
+                    here.place_section(self.alloc, done, self.provided, row, line, output.get())
                 }
             }
             ItemCommand::Discard(inputs) => {

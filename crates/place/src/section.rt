@@ -10,10 +10,10 @@ ghost use Rattle.place.specs.State.{body_from, layout_of, Gives};
 ghost use Rattle.place.specs.declared.stop.Stop.TheVariants.{NoMemory};
 
 use crate::head::Head;
-use ldnumbers::provided::Provided;
 use crate::state::{Done, Frame, Here};
 use crate::stop::Stop;
 use ldmodel::rows::Piece;
+use ldnumbers::provided::Provided;
 use ldscript::tree::OutputSection;
 use std::alloc::Global;
 

@@ -11,10 +11,10 @@ ghost use Rattle.place.specs.State.{layout_of};
 ghost use Rattle.ldnumbers.specs.Wholes.{all_data_in, counts_in, data_in, placed_in, starts_in};
 
 use crate::placement::Placement;
-use ldnumbers::regions::Region;
-use ldnumbers::sections::{Closed, Contents, DataAt, PieceAt};
 use crate::state::{Done, Here};
 use ldmodel::laid::{OutputIndex, Placed, PlacedData, PlacedRegion};
+use ldnumbers::regions::Region;
+use ldnumbers::sections::{Closed, Contents, DataAt, PieceAt};
 use std::alloc::{AllocError, Global};
 
 /// The numbers of the output sections.

@@ -54,7 +54,8 @@ place_statements-laid-requires g c =
     let d : Done = record { sections = c.in_ok-sections.sections; regions = c.new-regions.result } in
     by_option c.args.kept _ _ _ _ c.requires c.new-taken.ensures.some c.new-taken.ensures.none
     (λ k kept keeps.
-    script_comes g.naming _ c.args.script.now c.in_ok-here.here.symbols.script _ (layout_of g.naming c.in_ok-here.here d)
+    script_comes g.naming _ c.args.script.now c.in_ok-here.here.symbols.script _
+    (layout_of g.naming c.in_ok-here.here d)
     c.in_ok-provided.provided k.0.now k.1 c.in_ok-here.ensures.script c.statements.ensures.value
     (subst (λ ps. IsKept c.args.script.now (rows_named g.naming (map (λ v. v.items) c.args.rows.now)) ps k.0.now k.1)
     (sym c.in_ok-provided.ensures) kept)

@@ -11,7 +11,8 @@ invariant_of-self-in-None c =
     omega (arith, c.len.ensures, length-map c.self.inside.list.items keyed) in
     rw (c.in_ok-push-in-None.ensures.items, map-append keyed c.self.inside.list.items)
     (pushed_elsewhere c.self.inside.script.now (map keyed c.self.inside.list.items) (keyed c.args.section)
-    c.self.inside.differences.items c.self.inside.elsewhere c.self.inside.count c.in-Some-checked_add.count c.self.inside.data_count c.in-Some-checked_add-2.data_count
+    c.self.inside.differences.items c.self.inside.elsewhere c.self.inside.count c.in-Some-checked_add.count
+    c.self.inside.data_count c.in-Some-checked_add-2.data_count
     c.self.invariant
     (ap (section_number c.self.inside.script.now) (sym c.as_bytes.ensures)
     ∙ (sym c.in-Some.ensures ∙ ap Some last)) c.requires
@@ -26,7 +27,8 @@ invariant_of-self-in-Some-region_number c =
     omega (arith, c.len-in-Some-region_number.ensures) in
     rw (c.in_ok-push-in-Some-region_number.ensures.items, map-append keyed c.self.inside.list.items)
     (pushed_in c.self.inside.script.now (map keyed c.self.inside.list.items) (keyed c.args.section)
-    c.self.inside.differences.items c.self.inside.elsewhere c.self.inside.count c.in-Some-checked_add.count c.self.inside.data_count c.in-Some-checked_add-2.data_count
+    c.self.inside.differences.items c.self.inside.elsewhere c.self.inside.count c.in-Some-checked_add.count
+    c.self.inside.data_count c.in-Some-checked_add-2.data_count
     c.self.invariant
     (ap (section_number c.self.inside.script.now) (sym c.as_bytes.ensures)
     ∙ (sym c.in-Some.ensures ∙ ap Some last)) c.requires
