@@ -159,7 +159,7 @@ module _ (script : List Statement) (values : List (Option ℕ)) (xs : List Scrip
       rest (Some v) = refl
 
   -- the name had no value
-  values_more : k < length values → get_or values k None ≡ None
+  pub values_more : k < length values → get_or values k None ≡ None
       → AreValuesOf script (set values k (Some x.value)) (xs ++ x ∷ [])
   values_more l none = record { found = λ m. go m (bytes_eq x.name m) refl }
     where
@@ -175,7 +175,7 @@ module _ (script : List Statement) (values : List (Option ℕ)) (xs : List Scrip
           get_or-set_other values k j (Some x.value) None ne)
 
   -- the name had one, which stays
-  values_same : (v : ℕ) → get_or values k None ≡ Some v → AreValuesOf script values (xs ++ x ∷ [])
+  pub values_same : (v : ℕ) → get_or values k None ≡ Some v → AreValuesOf script values (xs ++ x ∷ [])
   values_same v some = record { found = λ m. go m (bytes_eq x.name m) refl }
     where
       go : (m : List ℕ) (b : Bool) → bytes_eq x.name m ≡ b → entry_under values (symbol_number script m)
