@@ -241,7 +241,6 @@ impl<'a> Sections<'a> {
                     self.list.push(section)?;
                     self.count = count;
                     self.data_count = data_count;
-                    self.data_count = data_count;
                     self.differences[number] = difference;
                     Ok(())
                 }

@@ -13,9 +13,9 @@ use Rattle.ldmodel.specs.Rows.{Piece}
 use Rattle.ldmodel.specs.SectionEnd.{find_region, freed_from, load_region, placed_section, section_end, with_room}
 use Rattle.ldmodel.specs.SectionEnd.{with_section}
 use Rattle.ldmodel.specs.SectionHead.{Head, head_of}
+use Rattle.ldnumbers.specs.Steps.{data_in, inputs_in, symbols_in}
 use Rattle.place.proofs.Ending.{chained}
 use Rattle.place.proofs.Grows.{Grown, Longer, body_grows, given_is, the_piece}
-use Rattle.ldnumbers.specs.Steps.{data_in, inputs_in, symbols_in}
 
 -- the numbers of a list go on
 pub enumerate_more : {X : Type 0} (k : ℕ) (xs ys : List X) → enumerate_from k (xs ++ ys)

@@ -26,6 +26,9 @@ use Rattle.ldmodel.specs.Lent.{data_of, numbered, placed_of, starts_of, symbol_o
 use Rattle.ldmodel.specs.Placement.{command_step, free_dot_step, item_command_step, item_step, next_row}
 use Rattle.ldmodel.specs.Placement.{placement, region_step, section_step, statement_step, with_region}
 use Rattle.ldmodel.specs.Rows.{Piece}
+use Rattle.ldnumbers.specs.Steps.{symbols_given, symbols_in}
+use Rattle.ldnumbers.specs.Naming.{Naming}
+use Rattle.ldnumbers.specs.SymbolTable.{AreFound}
 use Rattle.place.proofs.Adding.{enumerate_more, section_grows, step_same}
 use Rattle.place.proofs.Ending.{chained}
 use Rattle.place.proofs.Grows.{Longer, common_adds, common_keeps, common_leaves, given_is}
@@ -33,10 +36,7 @@ use Rattle.place.specs.Coming.{Coming}
 use Rattle.place.specs.Inputs.{rows_of}
 use Rattle.place.specs.Kept.{IsKept}
 use Rattle.place.specs.Leads.{Begins, Keeps, Leads, counts_of, data_in}
-use Rattle.ldnumbers.specs.Steps.{symbols_given, symbols_in}
-use Rattle.ldnumbers.specs.Naming.{Naming}
 use Rattle.place.specs.Places.{Places}
-use Rattle.ldnumbers.specs.SymbolTable.{AreFound}
 use Rattle.place.specs.declared.kept.Kept.{Kept}
 use Rattle.place.specs.declared.script.Input.{Input}
 

@@ -13,6 +13,9 @@ use Rattle.ldmodel.specs.Layout.{Layout, noted}
 use Rattle.ldmodel.specs.Lent.{symbol_of}
 use Rattle.ldmodel.specs.Placement.{item_command_step, item_step}
 use Rattle.ldmodel.specs.Rows.{Piece}
+use Rattle.ldnumbers.specs.Naming.{Naming}
+use Rattle.ldnumbers.specs.Keyed.{section_of}
+use Rattle.ldnumbers.specs.Steps.{commons_first, if_common, symbols_first, symbols_given, with_given}
 use Rattle.place.proofs.Comes.{begins_on, items_on}
 use Rattle.place.proofs.Ending.{chained}
 use Rattle.place.proofs.Grows.{Longer, common_adds, common_keeps, common_leaves, longer_none, longer_on, longer_one}
@@ -20,10 +23,7 @@ use Rattle.place.proofs.Taking.{mapped_part, next_part}
 use Rattle.place.specs.Coming.{Coming}
 use Rattle.place.specs.Inputs.{rows_of}
 use Rattle.place.specs.Leads.{Leads}
-use Rattle.ldnumbers.specs.Naming.{Naming}
 use Rattle.place.specs.State.{layout_of}
-use Rattle.ldnumbers.specs.Keyed.{section_of}
-use Rattle.ldnumbers.specs.Steps.{commons_first, if_common, symbols_first, symbols_given, with_given}
 use Rattle.place.specs.Taken.{part_of}
 use Rattle.place.specs.declared.script.Input.{Input}
 use Rattle.place.specs.declared.state.Done.{Done}

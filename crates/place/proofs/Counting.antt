@@ -2,8 +2,8 @@
 use Rattle.std.proofs.Common.{◌≡◌, ℕ, zero, suc, ◌+◌, ◌≤◌, ◌<◌, max, List, [], ◌∷◌, length, get_or, map}
 use Rattle.std.proofs.Common.{Result, Ok, Err, OnOk, refl, ap, ◌∙◌, arith}
 use Rattle.ldmodel.specs.declared.rows.Piece.{Piece}
-use Rattle.place.specs.Counted.{Resumes, entries, left_after}
 use Rattle.ldnumbers.specs.Keyed.{KeyedSection}
+use Rattle.place.specs.Counted.{Resumes, entries, left_after}
 use Rattle.place.specs.declared.script.Input.{Input}
 use Rattle.place.specs.declared.state.Here.{Here}
 use Rattle.place.specs.declared.stop.Stop.{Stop}

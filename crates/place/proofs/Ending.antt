@@ -10,12 +10,12 @@ use Rattle.ldmodel.specs.Fault.{PastAddressSpace}
 use Rattle.ldmodel.specs.Layout.{PlacedSection, address, region_named}
 use Rattle.ldmodel.specs.SectionEnd.{placed_section, section_end, with_section, with_room, load_region}
 use Rattle.ldmodel.specs.SectionHead.{Head}
+use Rattle.ldnumbers.specs.Keyed.{KeyedSection, section_of}
+use Rattle.ldnumbers.specs.Naming.{Naming}
 use Rattle.place.specs.Ends.{body_alone, ended_body, load_end}
 use Rattle.std.proofs.lemmas.List.{map-append}
 use Rattle.ldmodel.specs.Layout.{MemoryRegion}
 use Rattle.ldmodel.specs.SectionEnd.{freed_from}
-use Rattle.ldnumbers.specs.Keyed.{KeyedSection, section_of}
-use Rattle.ldnumbers.specs.Naming.{Naming}
 use Rattle.ldmodel.specs.declared.rows.Piece as rows
 use Rattle.place.specs.State.{body_from, layout_of}
 use Rattle.place.specs.declared.state.Done.{Done}

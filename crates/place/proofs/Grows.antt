@@ -24,8 +24,8 @@ use Rattle.ldmodel.specs.Chain.{and_then, run}
 use Rattle.ldmodel.specs.Fault.{Fault, MovedBack}
 use Rattle.ldmodel.specs.Layout.{Layout, address, PlacedPiece, PlacedData, number, noted, with_symbol}
 use Rattle.ldmodel.specs.Rows.{Piece}
-use Rattle.place.proofs.Ending.{address_is, chained}
 use Rattle.ldnumbers.specs.Steps.{data_in, data_of, inputs_in, inputs_of, symbols_given, symbols_in, symbols_of}
+use Rattle.place.proofs.Ending.{address_is, chained}
 
 -- a state that is given is that of the result
 pub given_is : {X : Type 0} (s t : X) → ◌≡◌ {A = Result X Fault} (Ok s) (Ok t) → s ≡ t

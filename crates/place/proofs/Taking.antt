@@ -17,17 +17,17 @@ use Rattle.ldmodel.specs.declared.laid.Placed.{Placed}
 use Rattle.ldmodel.specs.declared.laid.PlacedData as code_data
 use Rattle.ldmodel.specs.declared.rows.Piece as rows
 use Rattle.ldmodel.specs.declared.script_symbol.ScriptSymbol as code
+use Rattle.ldnumbers.specs.Keyed.{KeyedSection, data_at, piece_at, section_of}
+use Rattle.ldnumbers.specs.Naming.{Naming, piece_named, row_named}
+use Rattle.ldnumbers.specs.SectionTable.{taken_pieces}
+use Rattle.ldnumbers.specs.Steps.{data_in as data_steps, inputs_in, symbols_in}
+use Rattle.ldnumbers.specs.Wholes.{all_data_in, starts_in}
 use Rattle.place.proofs.Adding.{SectionGrown, enumerate_more, section_grows}
 use Rattle.place.proofs.Grows.{the_piece}
 use Rattle.place.proofs.Wholes.{data_whole, starts_whole}
-use Rattle.ldnumbers.specs.Keyed.{KeyedSection, data_at, piece_at, section_of}
 use Rattle.place.specs.Leads.{Begins, Leads, counts_of, data_in}
-use Rattle.ldnumbers.specs.Naming.{Naming, piece_named, row_named}
-use Rattle.ldnumbers.specs.SectionTable.{taken_pieces}
 use Rattle.place.specs.State.{layout_of}
-use Rattle.ldnumbers.specs.Steps.{data_in as data_steps, inputs_in, symbols_in}
 use Rattle.place.specs.Taken.{IsTaken, data_at_of, part_of}
-use Rattle.ldnumbers.specs.Wholes.{all_data_in, starts_in}
 use Rattle.place.specs.declared.kept.Kept.{Kept}
 use Rattle.place.specs.declared.state.Done.{Done}
 use Rattle.place.specs.declared.state.Here.{Here}

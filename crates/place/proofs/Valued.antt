@@ -5,9 +5,9 @@ use Rattle.ldmodel.specs.Layout.{number, value_at, scope_of}
 use Rattle.ldmodel.specs.Value.{Scope, value}
 use Rattle.ldvalue.specs.Outcomes.{outcome_of}
 use Rattle.ldvalue.specs.declared.value.ValueFault as code
-use Rattle.place.proofs.Naming.{same_scope}
 use Rattle.ldnumbers.specs.Naming.{Naming}
 use Rattle.ldnumbers.specs.SectionTable.{nameless}
+use Rattle.place.proofs.Naming.{same_scope}
 use Rattle.place.specs.State.{layout_of}
 use Rattle.place.specs.declared.state.Done.{Done}
 use Rattle.place.specs.declared.state.Here.{Here}

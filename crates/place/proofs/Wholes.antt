@@ -2,19 +2,19 @@
 use Rattle.std.proofs.Common.{◌≡◌, ℕ, zero, suc, arith, ◌+◌, List, [], ◌∷◌, ◌++◌, map, refl, sym, ap, ◌∙◌, ◌<◌, length}
 use Rattle.std.proofs.Common.{get_or, drop, append_assoc, take, min}
 use Rattle.std.proofs.lemmas.List.{drop_more, length-map}
-use Rattle.ldnumbers.specs.SectionTable.{contents_of, keyed, taken_pieces}
 use Rattle.ldmodel.specs.declared.rows.Piece.{Piece}
 use Rattle.ldmodel.specs.Layout.{PlacedSection}
-use Rattle.ldnumbers.specs.declared.sections.Closed.{Closed}
 use Rattle.std.specs.Prelude.{flat_map}
 use Rattle.std.specs.List.{enumerate_from}
 use Rattle.ldmodel.specs.Layout.{PlacedPiece}
 use Rattle.ldmodel.specs.Lent.{placed_of, starts_of, numbered}
+use Rattle.ldnumbers.specs.SectionTable.{contents_of, keyed, taken_pieces}
+use Rattle.ldnumbers.specs.declared.sections.Closed.{Closed}
 use Rattle.ldnumbers.specs.Keyed.{KeyedPiece, KeyedSection, section_of, piece_at}
 use Rattle.ldnumbers.specs.Naming.{Naming}
-use Rattle.place.specs.Places.{Ends}
 use Rattle.ldnumbers.specs.SectionTable.{Ends as KeyedEnds}
 use Rattle.ldnumbers.specs.Wholes.{counts_in, placed_in, starts_in, data_in, all_data_in}
+use Rattle.place.specs.Places.{Ends}
 
 pub placed_whole : (n : Naming) (xs : List KeyedSection) → placed_in xs ≡ map placed_of (map (section_of n) xs)
 placed_whole n [] = refl

@@ -4,9 +4,9 @@ use Rattle.ldtree.specs.declared.statement.Statement.{Statement}
 use Rattle.ldmodel.specs.Fault.{Fault}
 use Rattle.ldmodel.specs.Layout.{Layout}
 use Rattle.ldmodel.specs.Rows.{Piece}
+use Rattle.ldnumbers.specs.Naming.{Naming}
 use Rattle.place.specs.Inputs.{rows_of}
 use Rattle.place.specs.Leads.{Leads}
-use Rattle.ldnumbers.specs.Naming.{Naming}
 use Rattle.place.specs.declared.script.Input.{Input}
 
 -- with earlier rows, the same before the number, it comes to a layout with which the kept one begins

@@ -1,4 +1,4 @@
--- An earlier layout whose starts may be taken over.
+-- An earlier layout that may be taken over.
 use Rattle.std.specs.Prelude.{◌≡◌, ℕ, ◌<◌, List, [], slice_index_or}
 use Rattle.ldtree.specs.declared.statement.Statement.{Statement}
 use Rattle.ldmodel.specs.Rows.{Piece}

@@ -5,8 +5,8 @@ use Rattle.ldtree.specs.declared.statement.Statement.{Statement}
 use Rattle.ldmodel.specs.Fault.{Fault}
 use Rattle.ldmodel.specs.Layout.{Layout, PlacedSection}
 use Rattle.ldmodel.specs.Lent.{NumberedData, data_of, numbered, placed_of, starts_of, symbol_of}
-use Rattle.place.specs.Places.{Places}
 use Rattle.ldnumbers.specs.SymbolTable.{AreFound}
+use Rattle.place.specs.Places.{Places}
 use Rattle.place.specs.declared.kept.Kept.{Kept}
 
 -- all of a placement, before the row of a number

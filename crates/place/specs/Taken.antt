@@ -7,8 +7,8 @@ use Rattle.ldnumbers.specs.Keyed.{KeyedSection}
 use Rattle.ldnumbers.specs.SectionTable.{taken_pieces}
 use Rattle.ldnumbers.specs.Steps.{data_in}
 use Rattle.ldnumbers.specs.Wholes.{all_data_in, starts_in}
-use Rattle.place.specs.declared.kept.Kept.{Kept}
 use Rattle.ldnumbers.specs.declared.sections.DataAt.{DataAt}
+use Rattle.place.specs.declared.kept.Kept.{Kept}
 
 abbrev pub data_at_of : PlacedData → DataAt
 data_at_of d = record { start = d.start; width = d.width; value = d.value }

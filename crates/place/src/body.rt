@@ -6,8 +6,8 @@ ghost use Rattle.ldexpr.specs.Expressions.{expr_of};
 ghost use Rattle.ldmodel.specs.Body.{advanced, body_command_step, body_step, data_step, input_step, moved};
 ghost use Rattle.ldmodel.specs.Body.{piece_placed, pieces_placed, set_to};
 ghost use Rattle.ldmodel.specs.Chain.{run};
-ghost use Rattle.place.specs.Counted.{Counted};
 ghost use Rattle.ldnumbers.specs.Naming.{Naming, piece_named, row_named};
+ghost use Rattle.place.specs.Counted.{Counted};
 ghost use Rattle.place.specs.State.{body_of, Gives};
 
 use crate::state::{Frame, Here};

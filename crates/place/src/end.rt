@@ -6,12 +6,12 @@ ghost use Rattle.std.specs.Option.{option_copied, option_and_then};
 ghost use Rattle.ldmodel.specs.Layout.{PlacedPiece, region_named};
 ghost use Rattle.ldmodel.specs.SectionEnd.{freed_from, has_file_bytes, has_flag, is_empty, is_in_file, is_within};
 ghost use Rattle.ldmodel.specs.SectionEnd.{load_region, placed_section, section_end, with_room};
-ghost use Rattle.place.specs.Ends.{body_alone, ended_body, load_end};
-ghost use Rattle.place.specs.Heads.{head_from, Yields};
 ghost use Rattle.ldnumbers.specs.Keyed.{piece_at, section_of};
 ghost use Rattle.ldnumbers.specs.Naming.{Naming};
 ghost use Rattle.ldnumbers.specs.RegionTable.{region_of};
 ghost use Rattle.ldnumbers.specs.SectionTable.{keyed, keyed_piece, Fits};
+ghost use Rattle.place.specs.Ends.{body_alone, ended_body, load_end};
+ghost use Rattle.place.specs.Heads.{head_from, Yields};
 ghost use Rattle.place.specs.State.{layout_of, Gives};
 
 use crate::head::{Head, region_name};

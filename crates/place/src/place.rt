@@ -1,12 +1,12 @@
 //! The layout of a script.
 
 ghost use Rattle.std.specs.Prelude.{◌≡◌, [], map, IfErr, IfOk, IfSome};
+ghost use Rattle.ldnumbers.specs.Naming.{Naming, rows_named};
+ghost use Rattle.ldnumbers.specs.ProvidedTable.{provided_names};
 ghost use Rattle.place.specs.Counted.{CountsPieces, entries};
 ghost use Rattle.place.specs.Kept.{IsKept};
-ghost use Rattle.ldnumbers.specs.Naming.{Naming, rows_named};
 ghost use Rattle.place.specs.Outcomes.{IsGood, IsWhy, Stops};
 ghost use Rattle.place.specs.Places.{IsPlacement};
-ghost use Rattle.ldnumbers.specs.ProvidedTable.{provided_names};
 
 use crate::fault::{PlaceFault, reported};
 use crate::kept::Kept;
@@ -117,10 +117,10 @@ fn lay_out(
 ///
 /// `rows` has one row for each output section, in the order of the script, `provided` the PROVIDEs that are in force.
 /// With `kept`, an earlier placement of the script, in which the same PROVIDEs were in force, and the number of the
-/// first row that differs from the earlier ones, what stands before that row is taken over: where its pieces start, and
-/// the values that the statements of SECTIONS and of the top level give symbols. Heads of output sections, the
-/// statements of their bodies and the ends of memory regions are evaluated anew. So the layout is the same with and
-/// without `kept`. The meter counts the pieces that were placed anew.
+/// first row that differs from the earlier ones, the output sections before that row are taken over whole, and with
+/// them the assignments and PROVIDEs of SECTIONS that stand before them: nothing of these is evaluated. Memory regions
+/// end where the sections that are taken over do. So the layout is the same with and without `kept`. The meter counts
+/// the pieces that were placed anew.
 ///
 /// What the pieces' objects and sections are called does not matter: the contract holds with any names.
 ///

@@ -3,10 +3,10 @@
 ghost use Rattle.std.specs.Prelude.{◌≡◌, ◌≤◌, ◌<◌, ◌+◌, [], map, slice_index_or, length, IfErr, IfOk, OnOk};
 ghost use Rattle.ldmodel.specs.Chain.{run};
 ghost use Rattle.ldmodel.specs.Placement.{free_dot_step, item_command_step, item_step, statement_step};
+ghost use Rattle.ldnumbers.specs.Naming.{Naming};
 ghost use Rattle.place.specs.Counted.{Resumes, entries};
 ghost use Rattle.place.specs.Coming.{Coming};
 ghost use Rattle.place.specs.Inputs.{rows_of};
-ghost use Rattle.ldnumbers.specs.Naming.{Naming};
 ghost use Rattle.place.specs.State.{layout_of, Gives};
 ghost use Rattle.place.specs.declared.stop.Stop.TheVariants.{NoMemory};
 

@@ -4,8 +4,8 @@ ghost use Rattle.std.specs.Prelude.{◌≡◌, ◌≤◌, ◌+◌, [], length, O
 ghost use Rattle.ldmodel.specs.Body.{body_step};
 ghost use Rattle.ldmodel.specs.Chain.{run};
 ghost use Rattle.ldmodel.specs.Placement.{opened, section_step};
-ghost use Rattle.place.specs.Heads.{head_from};
 ghost use Rattle.ldnumbers.specs.Naming.{Naming, row_named};
+ghost use Rattle.place.specs.Heads.{head_from};
 ghost use Rattle.place.specs.State.{body_from, layout_of, Gives};
 ghost use Rattle.place.specs.declared.stop.Stop.TheVariants.{NoMemory};
 

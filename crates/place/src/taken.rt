@@ -2,12 +2,12 @@
 
 ghost use Rattle.std.specs.Prelude.{◌≡◌, ◌≤◌, ◌+◌, ◌++◌, length, map, drop, IfOk, IfSome, IfErr, OnOk};
 ghost use Rattle.ldmodel.specs.Placement.{section_step};
-ghost use Rattle.place.specs.Leads.{Leads};
 ghost use Rattle.ldnumbers.specs.Naming.{Naming, row_named};
 ghost use Rattle.ldnumbers.specs.SectionTable.{keyed, Fits};
-ghost use Rattle.place.specs.State.{layout_of, Gives};
 ghost use Rattle.ldnumbers.specs.Steps.{data_in};
 ghost use Rattle.ldnumbers.specs.SymbolTable.{AreFound};
+ghost use Rattle.place.specs.Leads.{Leads};
+ghost use Rattle.place.specs.State.{layout_of, Gives};
 ghost use Rattle.place.specs.Taken.{data_at_of, part_of, IsTaken};
 ghost use Rattle.place.specs.declared.stop.Stop.TheVariants.{NoMemory};
 

@@ -4,11 +4,11 @@ ghost use Rattle.std.specs.Prelude.{◌≡◌, ◌++◌, map, IfOk, OnOk};
 ghost use Rattle.ldmodel.specs.Lent.{data_of, region_of as region_numbers};
 ghost use Rattle.ldnumbers.specs.Keyed.{KeyedPiece};
 ghost use Rattle.ldnumbers.specs.Naming.{Naming};
-ghost use Rattle.place.specs.Places.{AreOf};
 ghost use Rattle.ldnumbers.specs.RegionTable.{region_of};
 ghost use Rattle.ldnumbers.specs.SectionTable.{contents_of, keyed, keyed_piece};
-ghost use Rattle.place.specs.State.{layout_of};
 ghost use Rattle.ldnumbers.specs.Wholes.{all_data_in, counts_in, data_in, placed_in, starts_in};
+ghost use Rattle.place.specs.Places.{AreOf};
+ghost use Rattle.place.specs.State.{layout_of};
 
 use crate::placement::Placement;
 use crate::state::{Done, Here};

@@ -1,7 +1,7 @@
 use Rattle.std.proofs.Common.{◌≡◌, ◌<◌, drop}
 use Rattle.ldmodel.specs.SectionHead.{widest}
-use Rattle.place.proofs.head.widest_of.Given as goal
 use Rattle.ldnumbers.specs.Naming.{row_named}
+use Rattle.place.proofs.head.widest_of.Given as goal
 
 abbrev pub invariant-loop-piece : goal.invariant-loop-piece
 invariant-loop-piece g l = record {

@@ -2,13 +2,13 @@ use Rattle.std.proofs.Common.{ℕ, List, map, sym, ap, ◌∙◌, inl, inr, refl
 use Rattle.ldtree.specs.declared.statement.Statement.{Statement}
 use Rattle.ldmodel.specs.Chain.{run}
 use Rattle.ldmodel.specs.Placement.{statement_step}
+use Rattle.ldnumbers.specs.Naming.{rows_named}
+use Rattle.ldnumbers.specs.ProvidedTable.{provided_names}
 use Rattle.place.proofs.Good.{begins, stops_at}
 use Rattle.place.proofs.Comes.{by_option, for_some, nothing_comes, script_comes}
 use Rattle.place.proofs.Counting.{resumes_within}
 use Rattle.place.proofs.place.lay_out.Goals as goal
 use Rattle.place.specs.Kept.{IsKept}
-use Rattle.ldnumbers.specs.Naming.{rows_named}
-use Rattle.ldnumbers.specs.ProvidedTable.{provided_names}
 use Rattle.place.specs.State.{layout_of}
 use Rattle.place.specs.declared.state.Done.{Done}
 

@@ -1,8 +1,8 @@
 use Rattle.std.proofs.Common.{map}
-use Rattle.place.proofs.Wholes.{starts_more}
-use Rattle.place.proofs.whole.starts_of.Goals as goal
 use Rattle.ldnumbers.specs.SectionTable.{keyed}
 use Rattle.ldnumbers.specs.Wholes.{starts_in}
+use Rattle.place.proofs.Wholes.{starts_more}
+use Rattle.place.proofs.whole.starts_of.Goals as goal
 
 pub loop-section-preserved : goal.loop-section-preserved
 loop-section-preserved c =

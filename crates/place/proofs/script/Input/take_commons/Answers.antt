@@ -1,7 +1,7 @@
 use Rattle.std.proofs.Common.{◌<◌, length, map, arith}
 use Rattle.std.proofs.lemmas.List.{length-map}
-use Rattle.place.proofs.Commons.{commons_come, commons_go}
 use Rattle.ldnumbers.specs.Keyed.{section_of}
+use Rattle.place.proofs.Commons.{commons_come, commons_go}
 use Rattle.place.proofs.script.Input.take_commons.Goals as goal
 
 pub returns-in-Some-after-clause-goes : goal.returns-in-Some-after-clause-goes

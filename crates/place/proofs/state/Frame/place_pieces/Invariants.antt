@@ -1,7 +1,7 @@
 use Rattle.std.proofs.Common.{◌≡◌, ◌-◌, drop, length}
 use Rattle.ldmodel.specs.Body.{pieces_placed}
-use Rattle.place.specs.Counted.{Counted}
 use Rattle.ldnumbers.specs.Naming.{row_named}
+use Rattle.place.specs.Counted.{Counted}
 use Rattle.place.specs.State.{body_of}
 use Rattle.place.proofs.state.Frame.place_pieces.Given as goal
 

@@ -2,12 +2,12 @@ use Rattle.std.proofs.Common.{ℕ, Ok, inl, inr, sym, ap, ◌∙◌}
 use Rattle.ldmodel.specs.Chain.{and_then}
 use Rattle.ldmodel.specs.Layout.{Layout, PlacedSection}
 use Rattle.ldmodel.specs.SectionEnd.{freed_from, with_section}
+use Rattle.ldnumbers.specs.Keyed.{section_of}
+use Rattle.ldnumbers.specs.SectionTable.{keyed}
 use Rattle.place.proofs.Ending.{end_is, ends_there, joined, load_end_is}
 use Rattle.place.proofs.state.Here.end.Goals as goal
 use Rattle.place.specs.Ends.{ended_body}
 use Rattle.place.specs.Heads.{head_from}
-use Rattle.ldnumbers.specs.Keyed.{section_of}
-use Rattle.ldnumbers.specs.SectionTable.{keyed}
 
 pub returns-in-Ok-clause-gives : goal.returns-in-Ok-clause-gives
 returns-in-Ok-clause-gives g c =

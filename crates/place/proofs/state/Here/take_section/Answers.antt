@@ -1,10 +1,10 @@
 use Rattle.std.proofs.Common.{◌++◌, ◌+◌, List, length, refl, sym, ap, ◌∙◌}
 use Rattle.ldmodel.specs.SectionEnd.{freed_from}
-use Rattle.place.proofs.Taking.{layout_taken}
 use Rattle.ldnumbers.specs.SectionTable.{keyed}
+use Rattle.ldnumbers.specs.Steps.{inputs_in, symbols_in}
+use Rattle.place.proofs.Taking.{layout_taken}
 use Rattle.place.specs.State.{layout_of}
 use Rattle.ldtree.specs.declared.section.BodyStatement.{BodyStatement}
-use Rattle.ldnumbers.specs.Steps.{inputs_in, symbols_in}
 use Rattle.place.specs.Taken.{part_of}
 use Rattle.place.proofs.state.Here.take_section.Goals as goal
 
