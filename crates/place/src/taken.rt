@@ -133,7 +133,7 @@ impl<'a> Here<'a> {
         Ok(())
     }
 
-    /// An output section, as it was in an earlier layout.
+    /// An output section, as it was in an earlier layout. Its line is for the contract alone: nothing stops here.
     pub fn take_section(
         &mut self,
         alloc: Global,
