@@ -12,17 +12,22 @@ use Rattle.std.proofs.lemmas.Bool.{eqb-true, eqb-false}
 use Rattle.std.proofs.lemmas.List.Elements.{filter-append, All-push}
 use Rattle.std.proofs.lemmas.Option.{slice_get-map, slice_get-get_or, slice_get_past}
 use Rattle.std.proofs.lemmas.Grind.{get_or-set_at}
+use Rattle.ldscript.specs.Script.{IsSound}
 use Rattle.ldtree.specs.Given.{section_number, region_number}
+use Rattle.ldtree.specs.declared.section.OutputSection.{OutputSection}
+use Rattle.ldtree.specs.declared.statement.Item.{Item}
 use Rattle.ldtree.specs.declared.statement.Statement.{Statement}
 use Rattle.ldmodel.specs.Layout.{PlacedSection}
 use Rattle.ldmodel.specs.SectionHead.{difference_in, difference_of, same_region}
 use Rattle.ldmodel.specs.declared.laid.Placed.{Placed}
 use Rattle.ldnumbers.proofs.Lists.{same_name, is_same_name}
 use Rattle.ldnumbers.proofs.Numbers.{sections_told, regions_told}
+use Rattle.ldnumbers.proofs.Ordered.{comes_after, next_number}
 use Rattle.ldnumbers.proofs.Tabled.{found_under}
 use Rattle.ldnumbers.proofs.Counting.{data_grow, starts_grow}
 use Rattle.ldnumbers.specs.Wholes.{all_data_in, starts_in}
 use Rattle.ldnumbers.specs.Keyed.{KeyedSection, section_of}
+use Rattle.ldnumbers.specs.Outputs.{ComeBefore, IsNext}
 use Rattle.ldnumbers.specs.SectionTable.{keyed, section_names, nameless, difference_by, AreSectionsOf, Fits}
 use Rattle.ldnumbers.specs.Tables.{AreInOrder}
 use Rattle.ldnumbers.specs.declared.sections.Closed.{Closed}
@@ -204,3 +209,19 @@ module _ (script : List Statement) (xs : List KeyedSection) (x : KeyedSection) (
             get_or-set_other ds j k (difference_of (section_of nameless x)) 0 ne
             ∙ (o.differences_of name k e h
             ∙ sym (difference_other xs x (Some name) (ap (λ r. same_region r (Some name)) some ∙ other)))
+
+-- one more output section, the next one of the script
+module _ (script : List Statement) (xs : List KeyedSection) (x : KeyedSection) (rest later : List Item)
+    (output : OutputSection) (sound : IsSound script) (c : ComeBefore script (section_names xs) rest)
+    (n : IsNext rest output later) (same : output.name ≡ x.name) where
+  pub pushed_number : section_number script x.name ≡ Some (length xs)
+  pushed_number =
+      ap (section_number script) (sym same)
+      ∙ (next_number script (section_names xs) rest later output sound c n
+      ∙ ap Some (length-map xs (λ (y : KeyedSection). y.name)))
+
+  pub pushed_before : ComeBefore script (section_names (xs ++ x ∷ [])) later
+  pushed_before =
+      comes_after script (section_names xs) (section_names (xs ++ x ∷ [])) rest later output c n
+      (map-append (λ (y : KeyedSection). y.name) xs (x ∷ [])
+      ∙ ap (λ m. section_names xs ++ m ∷ []) (sym same))

@@ -1,7 +1,7 @@
 -- Searches in lists.
 use Rattle.std.proofs.Common.{◌≡◌, ◌≢◌, ℕ, List, [], ◌∷◌, ◌++◌, map}
 use Rattle.std.proofs.Common.{find, Bool, true, false, cond, Option, Some, None, refl}
-use Rattle.std.specs.Prelude.{bytes_eq}
+use Rattle.std.specs.Prelude.{bytes_eq, not}
 use Rattle.std.specs.Option.{option_map}
 use Rattle.std.proofs.lemmas.Slice.Eq.{bytes_eq-Decides}
 
@@ -41,3 +41,10 @@ other_name a b n = go (bytes_eq a b) refl
     go : (c : Bool) → bytes_eq a b ≡ c → bytes_eq a b ≡ false
     go true e = absurd (n (same_name a b e))
     go false e = e
+
+pub same_name_told : (a b : List ℕ) → false ≡ not (bytes_eq a b) → a ≡ b
+same_name_told a b e = same_name a b (go (bytes_eq a b) e)
+  where
+    go : (c : Bool) → false ≡ not c → c ≡ true
+    go true h = refl
+    go false h = h

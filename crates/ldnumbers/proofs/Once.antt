@@ -7,6 +7,7 @@ use Rattle.std.specs.Option.{option_map}
 use Rattle.std.proofs.lemmas.List.{get_or_append_left, length-append}
 use Rattle.std.proofs.lemmas.Slice.Eq.{bytes_eq-Decides}
 use Rattle.ldnumbers.specs.Numbers.{AreCommandsOf, AreNumbered, gives, gives_at, number_of, symbol_number}
+use Rattle.ldscript.specs.Script.{IsSound}
 use Rattle.ldtree.specs.Given.{assigned_from, assigned_here, given_as, provided_from, provided_here}
 use Rattle.ldtree.specs.Mentions.{Clashes, Mention, SymbolGiven, in_body, in_body_command, in_common}
 use Rattle.ldtree.specs.Mentions.{in_item_command, in_items, in_load_head, in_load_tail, in_optional, in_region_name}
@@ -98,23 +99,23 @@ in_script [] = no_more
 in_script (s ∷ ss) = both (in_top s.line s.command) (in_script ss)
 
 -- nothing of some mentions clashes with what stands before it
-abbrev NoClash : List Mention → List Mention → Type 0
+abbrev pub NoClash : List Mention → List Mention → Type 0
 NoClash before ms =
     (more : List Mention) (m : Mention) (after : List Mention) → ms ≡ more ++ m ∷ after → Clashes (before ++ more) m → ⊥
 
-shift : (before : List Mention) (m : Mention) (ms : List Mention) → NoClash before (m ∷ ms)
+pub shift : (before : List Mention) (m : Mention) (ms : List Mention) → NoClash before (m ∷ ms)
     → NoClash (before ++ m ∷ []) ms
 shift before m ms h more x after e clash =
     h (m ∷ more) x after (ap (λ l. m ∷ l) e) (subst (λ l. Clashes l x) (append_assoc before (m ∷ []) more) clash)
 
-stays_in : {X : Type 0} (xs ys : List X) (x : X) → Contains xs x → Contains (xs ++ ys) x
+pub stays_in : {X : Type 0} (xs ys : List X) (x : X) → Contains xs x → Contains (xs ++ ys) x
 stays_in xs ys x c = (
   c.0,
   omega (arith, c.1, length-append xs ys),
   get_or_append_left xs ys x c.0 c.1 ∙ c.2,
 )
 
-last_in : {X : Type 0} (xs : List X) (x : X) → Contains (xs ++ x ∷ []) x
+pub last_in : {X : Type 0} (xs : List X) (x : X) → Contains (xs ++ x ∷ []) x
 last_in [] x = (0, omega arith, refl)
 last_in (y ∷ ys) x = let c = last_in ys x in (suc c.0, omega (arith, c.1), c.2)
 
@@ -236,18 +237,20 @@ number_is from n (c ∷ cs) (suc k) o e = go (gives c.command n) refl (number_is
         (unprovided_by from n c.command (provided_from (suc from) cs n) f)
         ∙ (later ∙ ap Some more))
 
+pub no_clash_in : (script : List Statement) → IsSound script → NoClash [] (mentions script)
+no_clash_in script sound = λ more m after f clash. sound.no_clash (record {
+  before = more;
+  mention = m;
+  after = after;
+  place = f;
+  clash = clash;
+})
+
 -- a command that gives a symbol its value is the one that is found by the symbol's name
 found_by_name : (script : List Statement) (commands : List CommonAt) (k : ℕ) (n : List ℕ)
     → AreCommandsOf script commands → gives_at commands k n ≡ true → symbol_number script n ≡ Some k
 found_by_name script commands k n c e =
-    let none : NoClash [] (mentions script) =
-    λ more m after f clash. c.sound.no_clash (record {
-      before = more;
-      mention = m;
-      after = after;
-      place = f;
-      clash = clash;
-    }) in
+    let none = no_clash_in script c.sound in
     let from_none : 0 + k ≡ k = omega arith in
     number_is 0 n (common_commands script) k (all_once [] (in_script script) none)
     (ap (λ cs. gives_at cs k n) (sym c.all) ∙ e) ∙ ap Some from_none

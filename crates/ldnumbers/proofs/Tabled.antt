@@ -1,20 +1,18 @@
 -- Tables under the numbers of names find what a search by name does.
 use Rattle.std.proofs.Common.{◌≡◌, ◌≢◌, ℕ, zero, suc, ◌+◌, ◌<◌, List, [], ◌∷◌, ◌++◌, length, get_or, set, map}
-use Rattle.std.proofs.Common.{find, Bool, true, false, cond, Option, Some, None, refl, sym, ap, subst, ◌∙◌, arith, ◌==◌}
+use Rattle.std.proofs.Common.{find, Bool, true, false, cond, Option, Some, None, refl, sym, ap, ◌∙◌, arith, ◌==◌}
 use Rattle.std.specs.Prelude.{slice_get, bytes_eq}
 use Rattle.std.specs.Option.{option_map, option_and_then}
 use Rattle.std.proofs.lemmas.Bool.{eqb-true, eq-eqb}
-use Rattle.std.proofs.lemmas.List.{get_or-set_other, map-append}
+use Rattle.std.proofs.lemmas.List.{get_or-set_other}
 use Rattle.std.proofs.lemmas.Grind.{get_or-set_at}
 use Rattle.ldtree.specs.declared.statement.Statement.{Statement}
 use Rattle.ldmodel.specs.Layout.{ScriptSymbol, MemoryRegion}
-use Rattle.ldmodel.specs.Lent.{symbol_of}
-use Rattle.ldmodel.specs.declared.script_symbol.ScriptSymbol as code
 use Rattle.ldmodel.specs.SectionEnd.{freed_from}
 use Rattle.ldnumbers.proofs.Lists.{find-append, or_else, same_name, is_same_name, other_name}
 use Rattle.ldnumbers.proofs.Numbers.{Tells, symbols_told}
 use Rattle.ldnumbers.specs.RegionTable.{region_names}
-use Rattle.ldnumbers.specs.SymbolTable.{named, value_of, AreFound, AreTabled, AreValuesOf, IsFound, Numbered}
+use Rattle.ldnumbers.specs.SymbolTable.{value_of, AreValuesOf}
 use Rattle.ldnumbers.specs.Tables.{symbol_number, entry_under, AreInOrder}
 
 -- names whose numbers follow one another from one on
@@ -186,53 +184,6 @@ module _ (script : List Statement) (values : List (Option ℕ)) (xs : List Scrip
           let before = ap (value_of xs) (sym same) ∙ (here_before ∙ some) in
           ap (entry_under values) number ∙ (some ∙ sym (value_more xs x m ∙ rw before refl))
       go m false e = elsewhere values m e (λ j ne. refl)
-
--- a table that is made longer by entries without a value says the same
-values_longer : (script : List Statement) (values longer : List (Option ℕ)) (xs : List ScriptSymbol)
-    → AreValuesOf script values xs → ((k : ℕ) → get_or longer k None ≡ get_or values k None)
-    → AreValuesOf script longer xs
-values_longer script values longer xs tabled same = record { found = λ m. go (symbol_number script m) ∙ tabled.found m }
-  where
-    go : (o : Option ℕ) → entry_under longer o ≡ entry_under values o
-    go None = refl
-    go (Some k) = same k
-
-found_more : (script : List Statement) (xs : List code.ScriptSymbol) (x : code.ScriptSymbol) → AreFound script xs
-    → IsFound script x → AreFound script (xs ++ x ∷ [])
-found_more script [] x f h zero d l = h
-found_more script [] x f h (suc k) d l = absurd (omega (arith, l))
-found_more script (y ∷ ys) x f h zero d l = f 0 d (omega arith)
-found_more script (y ∷ ys) x f h (suc k) d l =
-    found_more script ys x (λ j e m. f (suc j) e (omega (arith, m))) h k d (omega (arith, l))
-
--- one more symbol, in a table that was made longer for it
-module _ (s : Numbered) (values longer : List (Option ℕ)) (x : code.ScriptSymbol) (list : List code.ScriptSymbol)
-    (tabled : AreTabled s values) (same : (k : ℕ) → get_or longer k None ≡ get_or values k None)
-    (known : IsFound s.script x) (pushed : list ≡ s.list ++ x ∷ []) where
-  all_found : AreFound s.script list
-  all_found = subst (AreFound s.script) (sym pushed) (found_more s.script s.list x tabled.found known)
-
-  all_named : map (symbol_of s.script) list ≡ named s ++ symbol_of s.script x ∷ []
-  all_named = ap (map (symbol_of s.script)) pushed ∙ map-append (symbol_of s.script) s.list (x ∷ [])
-
-  before : AreValuesOf s.script longer (named s)
-  before = values_longer s.script values longer (named s) tabled.values_of same
-
-  pub tabled_more : x.command.0 < length longer → get_or longer x.command.0 None ≡ None
-      → AreTabled (record { script = s.script; list = list }) (set longer x.command.0 (Some x.value))
-  tabled_more l none = record {
-    found = all_found;
-    values_of = subst (AreValuesOf s.script (set longer x.command.0 (Some x.value))) (sym all_named)
-        (values_more s.script longer (named s) (symbol_of s.script x) x.command.0 known before l none);
-  }
-
-  pub tabled_same : (v : ℕ) → get_or longer x.command.0 None ≡ Some v
-      → AreTabled (record { script = s.script; list = list }) longer
-  tabled_same v some = record {
-    found = all_found;
-    values_of = subst (AreValuesOf s.script longer) (sym all_named)
-        (values_same s.script longer (named s) (symbol_of s.script x) x.command.0 known before v some);
-  }
 
 -- what stands at a place, whatever is given for a place past the end
 pub at_place : {X : Type 0} (xs : List X) (k : ℕ) (r o d : X) → r ≡ get_or xs k r → r ≡ o → k < length xs

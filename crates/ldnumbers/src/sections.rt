@@ -10,10 +10,11 @@ ghost use Rattle.ldnumbers.specs.Tables.{AreInOrder};
 ghost use Rattle.ldnumbers.specs.Wholes.{all_data_in, starts_in};
 
 use crate::guesses::Guesses;
+use crate::outputs::{first_items, next_output};
 use ldmodel::laid::Placed;
 use ldmodel::rows::Piece;
 use ldscript::script::Script;
-use ldscript::tree::{OutputSection, Width};
+use ldscript::tree::{Item, OutputSection, Width};
 use std::alloc::{AllocError, Global};
 use std::marker::Model;
 
@@ -82,6 +83,8 @@ pub struct Closed<'a> {
 #[derive(Drop)]
 pub struct Sections<'a> {
     script: &'a Script,
+    /// The statements of SECTIONS after the last of them.
+    rest: &'a [Item],
     list: Vec<Closed<'a>>,
     count: usize,
     data_count: usize,
@@ -96,12 +99,14 @@ impl<'a> Model for Sections<'a> {
 
     ghost Value = { List KeyedSection };
 
-    ghost use Rattle.ldnumbers.specs.SectionTable.{keyed, AreSectionsOf};
+    ghost use Rattle.ldnumbers.specs.Outputs.{ComeBefore};
+    ghost use Rattle.ldnumbers.specs.SectionTable.{keyed, section_names, AreSectionsOf};
 
     ghost view = { λ s. map keyed s.list.items };
 
     ghost invariant = { λ s.
-        AreSectionsOf s.script.now (map keyed s.list.items) s.differences.items s.elsewhere s.count s.data_count };
+        AreSectionsOf s.script.now (map keyed s.list.items) s.differences.items s.elsewhere s.count s.data_count
+        × ComeBefore s.script.now (section_names (map keyed s.list.items)) s.rest.now };
 }
 
 /// The number of the output section of a name, of which the guess is looked at first.
@@ -129,6 +134,7 @@ impl<'a> Sections<'a> {
         let guesses = Guesses::new(alloc, count)?;
         Ok(Sections {
             script,
+            rest: first_items(script.statements()),
             list: Vec::new(alloc),
             count: 0,
             data_count: 0,
@@ -209,15 +215,18 @@ impl<'a> Sections<'a> {
         requires { Fits (keyed section) }
         ensures pushed { OnOk result (self.new ≡ self.old ++ keyed section.entry ∷ []) }
     {
-        // it does not come to an error here but for memory: a script has each of its output sections once, in the order
-        // of their numbers, and declares the regions that they name
-        let Some(place) = self.script.section_number(section.output.name.as_bytes()) else {
+        // what the numbers follow from is known of the script's statements
+        let _statements = self.script.statements();
+        // it does not come to an error here but for memory: a layout goes through the output sections of a script in
+        // their order, and the script declares the regions that they name
+        let Some((next, rest)) = next_output(self.rest) else {
             return Err(AllocError);
         };
-        if place != self.list.len() {
+        if next.name.as_bytes() != section.output.name.as_bytes() {
             return Err(AllocError);
         }
-        self.guesses.put(section.output.name.as_bytes(), place);
+        self.guesses
+            .put(section.output.name.as_bytes(), self.list.len());
         let difference = section.placed.start.wrapping_sub(section.placed.load);
         let Some(count) = self.count.checked_add(section.contents.len()) else {
             return Err(AllocError);
@@ -228,6 +237,7 @@ impl<'a> Sections<'a> {
         match &section.output.region {
             None => {
                 self.list.push(section)?;
+                self.rest = rest;
                 self.count = count;
                 self.data_count = data_count;
                 self.elsewhere = difference;
@@ -239,6 +249,7 @@ impl<'a> Sections<'a> {
                         return Err(AllocError);
                     }
                     self.list.push(section)?;
+                    self.rest = rest;
                     self.count = count;
                     self.data_count = data_count;
                     self.differences[number] = difference;

@@ -113,19 +113,23 @@ impl Commons {
         ensures items { IfSome result (λ c. c.items ≡ commons_first items.now) }
         ensures symbols { IfSome result (λ c. c.symbols ≡ symbols_first provided.now items.now) }
     {
-        let mut commons = Commons {
-            items: 0,
-            symbols: 0,
-        };
-        for item in items {
-            match &item.command {
+        let mut symbols: usize = 0;
+        for number in 0..items.len() {
+            match &items[number].command {
                 ItemCommand::Common(command) => {
-                    commons.items = commons.items.checked_add(1)?;
-                    commons.symbols = commons.symbols.checked_add(given_by(provided, command)?)?;
+                    symbols = symbols.checked_add(given_by(provided, command)?)?;
                 }
-                _ => return Some(commons),
+                _ => {
+                    return Some(Commons {
+                        items: number,
+                        symbols,
+                    });
+                }
             }
         }
-        Some(commons)
+        Some(Commons {
+            items: items.len(),
+            symbols,
+        })
     }
 }

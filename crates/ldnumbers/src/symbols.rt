@@ -1,7 +1,7 @@
 //! The symbols that a script has given values so far.
 
-ghost use Rattle.std.specs.Prelude.{◌≡◌, [], ◌∷◌, ◌++◌, ◌≤◌, ℕ, None, length, IfOk, OnOk, slice_index_or};
-ghost use Rattle.ldnumbers.specs.SymbolTable.{named, value_of, AreFound, IsFound};
+ghost use Rattle.std.specs.Prelude.{◌≡◌, [], ◌∷◌, ◌++◌, length, IfOk, OnOk};
+ghost use Rattle.ldnumbers.specs.SymbolTable.{named, risen, value_of, value_under, AreFound, IsFound, Rises};
 
 use crate::commands::Commands;
 use ldmodel::script_symbol::{CommonIndex, ScriptSymbol};
@@ -10,12 +10,13 @@ use std::alloc::{AllocError, Global};
 use std::marker::Model;
 
 /// The symbols that a script has given values so far, in the order of the text, under the numbers of the commands that
-/// give them. A look-up takes the time of one among the script's commands.
+/// give them. A look-up takes the time of one among the script's commands, and of one among these.
 #[derive(Drop)]
 pub struct Symbols<'a> {
     commands: Commands<'a>,
     list: Vec<ScriptSymbol>,
-    values: Vec<Option<u64>>,
+    /// The number of the command after the one that gave a symbol its value last.
+    next: usize,
 }
 
 impl<'a> Model for Symbols<'a> {
@@ -27,38 +28,57 @@ impl<'a> Model for Symbols<'a> {
 
     ghost coded = { Prim.hlevel (codes, formula.the_row.coded) };
 
-    ghost use Rattle.ldnumbers.specs.SymbolTable.{AreTabled};
+    ghost use Rattle.ldnumbers.specs.SymbolTable.{AreInTurn};
 
     ghost view = { λ s. record { script = s.commands; list = s.list.items } };
 
-    ghost invariant = { λ s. AreTabled (record { script = s.commands; list = s.list.items }) s.values.items };
+    ghost invariant = { λ s. AreInTurn (record { script = s.commands; list = s.list.items }) s.next };
 }
 
-/// Makes the table one of at least this many entries.
-fn lengthen(values: &mut Vec<Option<u64>>, count: usize) -> Result<(), AllocError>
-    ensures same { (k : ℕ) → slice_index_or values.new.items k None ≡ slice_index_or values.old.items k None }
-    ensures long { OnOk result (count ≤ length values.new.items) }
+/// The value of the symbol that the command of a number gives. The place of that number is looked at first: a symbol is
+/// there, as long as each command gives one.
+fn value_given(list: &[ScriptSymbol], number: usize) -> Option<u64>
+    requires { Rises list.now }
+    ensures { result ≡ value_under list.now number }
 {
-    if values.len() < count {
-        values.resize(count, None)
-    } else {
-        Ok(())
+    if let Some(symbol) = list.get(number) {
+        if symbol.command.0 as usize == number {
+            return Some(symbol.value);
+        }
+    }
+    match list.binary_search_by_key(&number, |symbol| symbol.command.0 as usize) {
+        Ok(place) => Some(list[place].value),
+        Err(_) => None,
     }
 }
 
+/// The number of the command after the last of these, as long as their numbers rise from one on.
+fn after_all(next: usize, symbols: &[ScriptSymbol]) -> Option<usize>
+    ensures { result ≡ risen next symbols.now }
+{
+    let mut next = next;
+    for symbol in symbols {
+        let number = symbol.command.0 as usize;
+        if number < next {
+            return None;
+        }
+        next = number + 1;
+    }
+    Some(next)
+}
+
 impl<'a> Symbols<'a> {
-    /// No symbol of this script, and room in the table for all.
+    /// No symbol of this script, and room in the list for all.
     pub fn new(alloc: Global, script: &'a Script) -> Result<Symbols<'a>, AllocError>
         ensures script { IfOk result (λ s. s.script ≡ script.now) }
         ensures none { IfOk result (λ s. s.list ≡ []) }
     {
         let commands = Commands::new(alloc, script)?;
-        let values = vec![in alloc; None; commands.listed()]?;
-        let list = Vec::with_capacity(alloc, values.len())?;
+        let list = Vec::with_capacity(alloc, commands.listed())?;
         Ok(Symbols {
             commands,
             list,
-            values,
+            next: 0,
         })
     }
 
@@ -72,12 +92,11 @@ impl<'a> Symbols<'a> {
         ensures none { IfOk result (λ s. s.list ≡ []) }
     {
         let commands = Commands::unlisted(alloc, script)?;
-        let values = vec![in alloc; None; count]?;
         let list = Vec::with_capacity(alloc, count)?;
         Ok(Symbols {
             commands,
             list,
-            values,
+            next: 0,
         })
     }
 
@@ -101,33 +120,23 @@ impl<'a> Symbols<'a> {
         ensures { result ≡ value_of (named self.now) name.now }
     {
         let number = self.commands.number(name)?;
-        *self.values.get(number)?
-    }
-
-    /// The number of the command after the one that gave a symbol its value last.
-    fn next(&self) -> usize {
-        match self.list.last() {
-            Some(symbol) => symbol.command.0 as usize + 1,
-            None => 0,
-        }
+        value_given(&self.list, number)
     }
 
     /// One more symbol. It is an error where memory ran out.
-    pub fn push(&mut self, symbol: ScriptSymbol) -> Result<(), AllocError>
+    fn push(&mut self, symbol: ScriptSymbol) -> Result<(), AllocError>
         requires { IsFound self.now.script symbol }
         ensures script { self.new.script ≡ self.old.script }
         ensures pushed { OnOk result (self.new.list ≡ self.old.list ++ symbol ∷ []) }
     {
         let number = symbol.command.0 as usize;
-        lengthen(&mut self.values, number + 1)?;
-        self.list.push(symbol)?;
-        match self.values[number] {
-            None => {
-                self.values[number] = Some(symbol.value);
-                Ok(())
-            }
-            Some(_) => Ok(()),
+        if number < self.next {
+            // it does not come to this: a layout goes through the commands in their order
+            return Err(AllocError);
         }
+        self.list.push(symbol)?;
+        self.next = number + 1;
+        Ok(())
     }
 
     /// More symbols. It is an error where memory ran out.
@@ -136,9 +145,12 @@ impl<'a> Symbols<'a> {
         ensures script { self.new.script ≡ self.old.script }
         ensures pushed { OnOk result (self.new.list ≡ self.old.list ++ symbols.now) }
     {
-        for symbol in symbols {
-            self.push(*symbol)?;
-        }
+        let Some(next) = after_all(self.next, symbols) else {
+            // it does not come to this: symbols that are taken over stand in the order of their commands
+            return Err(AllocError);
+        };
+        self.list.extend_from_slice(symbols)?;
+        self.next = next;
         Ok(())
     }
 
@@ -148,7 +160,7 @@ impl<'a> Symbols<'a> {
         ensures given { OnOk result (named self.new ≡ named self.old
             ++ record { name = name.now; value = value } ∷ []) }
     {
-        let Some(number) = self.commands.number_or(self.next(), name) else {
+        let Some(number) = self.commands.number_or(self.next, name) else {
             // it does not come to this: the name is one that the script gives a value
             return Err(AllocError);
         };

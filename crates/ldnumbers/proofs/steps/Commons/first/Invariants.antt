@@ -2,8 +2,8 @@ use Rattle.std.proofs.Common.{◌≡◌, ◌+◌, drop}
 use Rattle.ldnumbers.specs.Steps.{commons_first, symbols_first}
 use Rattle.ldnumbers.proofs.steps.Commons.first.Given as goal
 
-abbrev pub invariant-loop-item : goal.invariant-loop-item
-invariant-loop-item l = record {
-  items : commons_first l.items ≡ l.commons.items + commons_first (drop l.item-index l.items);
-  symbols : symbols_first l.provided l.items ≡ l.commons.symbols + symbols_first l.provided (drop l.item-index l.items);
+abbrev pub invariant-loop-number : goal.invariant-loop-number
+invariant-loop-number l = record {
+  items : commons_first l.items ≡ l.number + commons_first (drop l.number l.items);
+  symbols : symbols_first l.provided l.items ≡ l.symbols + symbols_first l.provided (drop l.number l.items);
 }
