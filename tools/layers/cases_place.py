@@ -48,6 +48,7 @@ class Wanted:
 
     def __init__(self, stream):
         self.stream, self.lines = stream, []
+        self.rows = []
 
     def lay_out(self, title, text, pieces=(), provided=(), by_hand=None, first=None):
         """A case: pieces are (output section, input statement, kind, flags, size, alignment). With `first` an earlier
@@ -65,6 +66,11 @@ class Wanted:
         for section, statement, kind, flags, size, alignment in pieces:
             self.stream.line("piece", section, statement, kind, hex(flags), hex(size), alignment)
             rows[section].append(RowEntry(statement, Piece(0, "o", 1, False, ".s", kind, flags, size, max(1, alignment), b"")))
+        if first is not None:
+            self.stream.line("changed", 1, 0)
+            changed = next((k for k, row in enumerate(rows) if row != self.rows[k]), len(rows))
+            self.lines.append(f"row {changed} changed first")
+        self.rows = rows
         commands = numbers(script)
         for name in provided:
             self.stream.line("provided", next(k for k, c in enumerate(commands)

@@ -74,6 +74,19 @@ fn joined(
     Ok(list)
 }
 
+/// The number of the first row that is not the earlier one of that number, or how many rows there are.
+fn first_changed(earlier: &[Vec<Piece>], rows: &[Vec<Piece>]) -> usize {
+    for number in 0..rows.len() {
+        let Some(row) = earlier.get(number) else {
+            return number;
+        };
+        if row.as_slice() != rows[number].as_slice() {
+            return number;
+        }
+    }
+    rows.len()
+}
+
 /// What the layer keeps between commands.
 #[derive(Drop)]
 pub struct Rows {
@@ -209,6 +222,25 @@ impl Rows {
         writeln!(out, "{} placed", meter.pieces())?;
         Ok(true)
     }
+
+    /// `changed TIMES FIRST`
+    fn compare<W: Write>(
+        &self,
+        alloc: Global,
+        mut words: Words<'_>,
+        out: &mut W,
+    ) -> io::Result<bool> {
+        let (Some(times), Some(first)) = (words.short(), words.size()) else {
+            return Ok(false);
+        };
+        let earlier = joined(alloc, first, &self.rows, &self.last)?;
+        let mut changed = 0;
+        for _ in 0..times {
+            changed = first_changed(&earlier, &self.rows);
+        }
+        writeln!(out, "row {changed} changed first")?;
+        Ok(true)
+    }
 }
 
 /// A fault, with numbers in place of names.
@@ -304,6 +336,8 @@ impl Layer for Rows {
             Ok(true)
         } else if word == b"repeat".as_slice() || word == b"again".as_slice() {
             self.repeat(alloc, state, command.words, out)
+        } else if word == b"changed".as_slice() {
+            self.compare(alloc, command.words, out)
         } else {
             Ok(false)
         }

@@ -33,6 +33,9 @@
 //!                                                          were last laid out
 //!     repeat TIMES                                         lays out that often, and prints how many pieces were placed
 //!     again TIMES FIRST                                    the same with such a placement kept, which is made once
+//!     changed TIMES FIRST                                  compares the rows that often with the earlier ones of such
+//!                                                          a placement, and prints the number of the first that
+//!                                                          differs, or how many there are
 //!
 //! `layer segments` is for the crates `ldsegments` (segments, the length of the image) and `ldoverlap` (output sections
 //! that meet):
