@@ -1,7 +1,7 @@
 -- Symbols whose commands come in turn are found by the numbers of these.
-use Rattle.std.proofs.Common.{◌≡◌, ◌≢◌, ℕ, zero, suc, ◌+◌, ◌<◌, ◌≤◌, List, [], ◌∷◌, ◌++◌, length, get_or, map, find}
+use Rattle.std.proofs.Common.{◌≡◌, ◌≢◌, ℕ, zero, suc, ◌+◌, ◌-◌, ◌<◌, ◌≤◌, List, [], ◌∷◌, ◌++◌, length, get_or, map, find}
 use Rattle.std.proofs.Common.{Bool, true, false, cond, Option, Some, None, Ok, Err, refl, sym, ap, ◌∙◌, arith, ◌==◌}
-use Rattle.std.proofs.Common.{inl, inr, drop, subst}
+use Rattle.std.proofs.Common.{inl, inr, drop, subst, take}
 use Rattle.std.specs.Prelude.{bytes_eq, nat_lt, slice_get}
 use Rattle.std.specs.List.{All}
 use Rattle.std.specs.List.Sorted.{IsBinarySearchResult, IsNonDecreasingBy}
@@ -10,8 +10,7 @@ use Rattle.std.specs.Ordering.{nat_cmp, ordering_index}
 use Rattle.std.proofs.lemmas.Bool.{cases_lt, eq-eqb, eqb-true, le-ltb, ltb-false}
 use Rattle.std.proofs.lemmas.Bool.Decides.{nat_tests}
 use Rattle.std.proofs.lemmas.Cmp.{ranked}
-use Rattle.std.proofs.lemmas.List.{drop_more, get_or_default}
-use Rattle.std.proofs.Math.ListN.{drop_of_length-le}
+use Rattle.std.proofs.lemmas.List.{get_or_default, take-append-drop}
 use Rattle.std.proofs.lemmas.List.Elements.{All-append, All-cons, All-nil}
 use Rattle.ldtree.specs.declared.statement.Statement.{Statement}
 use Rattle.ldmodel.specs.Layout.{ScriptSymbol}
@@ -172,33 +171,44 @@ value_by_name script (x ∷ xs) found name =
             let yes = is_same_name called name same in absurd (let no : ⊥ = cc in no)
         split false q = later ∙ ap (option_and_then (value_under xs)) f
 
--- the next symbol, and what follows it
-module _ (next : ℕ) (xs : List code.ScriptSymbol) (i : ℕ) (d : code.ScriptSymbol) where
-  pub risen_on : i < length xs → next ≤ (get_or xs i d).command.0 → risen next (drop i xs)
-      ≡ risen ((get_or xs i d).command.0 + 1) (drop (i + 1) xs)
-  risen_on l h = ap (risen next) (drop_more xs i d l) ∙ rw (le-ltb (get_or xs i d).command.0 next h) refl
+-- the first ones
+pub rises_first : (xs : List code.ScriptSymbol) (k : ℕ) → Rises xs → Rises (take k xs)
+rises_first xs k up =
+    go (risen 0 (take k xs)) refl
+    (sym (risen_append 0 (take k xs) (drop k xs)) ∙ (ap (risen 0) (take-append-drop k xs) ∙ up.is))
+  where
+    go : (o : Option ℕ) → risen 0 (take k xs) ≡ o → option_and_then (λ m. risen m (drop k xs)) o ≡ Some up.next
+        → Rises (take k xs)
+    go None e h = absurd (let no : ⊥ = cc in no)
+    go (Some m) e h = record { next = m; is = e }
 
-  pub risen_back : i < length xs → (get_or xs i d).command.0 < next → risen next (drop i xs) ≡ None
-  risen_back l h =
-      let e : nat_lt (get_or xs i d).command.0 next ≡ true = grind (arith, nat_tests, h) in
-      ap (risen next) (drop_more xs i d l) ∙ rw e refl
+-- the number after the last one
+risen_last : (n : ℕ) (xs : List code.ScriptSymbol) (m i : ℕ) (x : code.ScriptSymbol) → risen n xs ≡ Some m
+    → length xs ≡ suc i → Some x ≡ slice_get xs i → m ≡ x.command.0 + 1
+risen_last n [] m i x r l at = absurd (omega (arith, l))
+risen_last n (y ∷ []) m zero x r l at = let f = (first n y [] m r).later in let same : x ≡ y = cc in cc
+risen_last n (y ∷ []) m (suc i) x r l at = absurd (omega (arith, l))
+risen_last n (y ∷ z ∷ zs) m zero x r l at = absurd (omega (arith, l))
+risen_last n (y ∷ z ∷ zs) m (suc i) x r l at =
+    risen_last (y.command.0 + 1) (z ∷ zs) m i x (first n y (z ∷ zs) m r).later (omega (arith, l)) at
 
-pub risen_whole : (next : ℕ) (xs : List code.ScriptSymbol) (i : ℕ) → length xs ≤ i → risen next (drop i xs) ≡ Some next
-risen_whole next xs i l = ap (risen next) (drop_of_length-le xs l)
+pub last_risen : (xs : List code.ScriptSymbol) (x : code.ScriptSymbol) → Rises xs
+    → Some x ≡ slice_get xs (length xs - 1) → risen 0 xs ≡ Some (x.command.0 + 1)
+last_risen [] x up at = absurd (let no : ⊥ = cc in no)
+last_risen (y ∷ ys) x up at =
+    let i : length (y ∷ ys) - 1 ≡ length ys = omega arith in
+    up.is
+    ∙ ap Some (risen_last 0 (y ∷ ys) up.next (length ys) x up.is (omega arith) (at ∙ ap (slice_get (y ∷ ys)) i))
 
--- more symbols
-pub turns_on : (s : Numbered) (next : ℕ) (ys list : List code.ScriptSymbol) (m : ℕ) → AreInTurn s next
-    → AreFound s.script ys → risen next ys ≡ Some m → list ≡ s.list ++ ys
-    → AreInTurn (record { script = s.script; list = list }) m
-turns_on s next ys list m a f r e = record {
-  found = subst (AreFound s.script) (sym e) (All-append (IsFound s.script) s.list ys a.found f);
-  turns = ap (risen 0) e
-      ∙ (risen_append 0 s.list ys ∙ (ap (option_and_then (λ n. risen n ys)) a.turns ∙ r));
-}
-
+-- one more symbol
 pub turns_more : (s : Numbered) (next : ℕ) (x : code.ScriptSymbol) (list : List code.ScriptSymbol)
     → AreInTurn s next → IsFound s.script x → next ≤ x.command.0 → list ≡ s.list ++ x ∷ []
     → AreInTurn (record { script = s.script; list = list }) (x.command.0 + 1)
-turns_more s next x list a f l e =
-    turns_on s next (x ∷ []) list (x.command.0 + 1) a (All-cons (IsFound s.script) x [] f (All-nil (IsFound s.script)))
-    (rw (le-ltb x.command.0 next l) refl) e
+turns_more s next x list a f l e = record {
+  found = subst (AreFound s.script) (sym e)
+      (All-append (IsFound s.script) s.list (x ∷ []) a.found
+      (All-cons (IsFound s.script) x [] f (All-nil (IsFound s.script))));
+  turns = ap (risen 0) e
+      ∙ (risen_append 0 s.list (x ∷ [])
+      ∙ (ap (option_and_then (λ n. risen n (x ∷ []))) a.turns ∙ rw (le-ltb x.command.0 next l) refl));
+}

@@ -9,4 +9,3 @@ pub mod ProvidedTable
 pub mod Wholes
 pub mod SectionTable
 pub mod Outputs
-pub mod Steps

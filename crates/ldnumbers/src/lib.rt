@@ -10,5 +10,4 @@ mod outputs;
 pub mod provided;
 pub mod regions;
 pub mod sections;
-pub mod steps;
 pub mod symbols;

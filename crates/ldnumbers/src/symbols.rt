@@ -1,6 +1,6 @@
 //! The symbols that a script has given values so far.
 
-ghost use Rattle.std.specs.Prelude.{◌≡◌, [], ◌∷◌, ◌++◌, length, IfOk, OnOk};
+ghost use Rattle.std.specs.Prelude.{◌≡◌, [], ◌∷◌, ◌++◌, length, take, IfOk, OnOk, Some};
 ghost use Rattle.ldnumbers.specs.SymbolTable.{named, risen, value_of, value_under, AreFound, IsFound, Rises};
 
 use crate::commands::Commands;
@@ -52,19 +52,15 @@ fn value_given(list: &[ScriptSymbol], number: usize) -> Option<u64>
     }
 }
 
-/// The number of the command after the last of these, as long as their numbers rise from one on.
-fn after_all(next: usize, symbols: &[ScriptSymbol]) -> Option<usize>
-    ensures { result ≡ risen next symbols.now }
+/// The number of the command after that of the last of these, or 0 for none.
+fn after_last(symbols: &[ScriptSymbol]) -> usize
+    requires { Rises symbols.now }
+    ensures { risen 0 symbols.now ≡ Some result }
 {
-    let mut next = next;
-    for symbol in symbols {
-        let number = symbol.command.0 as usize;
-        if number < next {
-            return None;
-        }
-        next = number + 1;
+    match symbols.last() {
+        Some(symbol) => symbol.command.0 as usize + 1,
+        None => 0,
     }
-    Some(next)
 }
 
 impl<'a> Symbols<'a> {
@@ -111,6 +107,7 @@ impl<'a> Symbols<'a> {
     pub fn into_list(self) -> Vec<ScriptSymbol>
         ensures list { result.items ≡ self.entry.list }
         ensures found { AreFound self.entry.script result.items }
+        ensures rises { Rises result.items }
     {
         self.list
     }
@@ -139,18 +136,26 @@ impl<'a> Symbols<'a> {
         Ok(())
     }
 
-    /// More symbols. It is an error where memory ran out.
-    pub fn extend(&mut self, symbols: &[ScriptSymbol]) -> Result<(), AllocError>
-        requires { AreFound self.now.script symbols.now }
+    /// The first of these symbols, as many as the count says, in place of all so far. It is an error where memory ran
+    /// out.
+    pub fn take_over(
+        &mut self,
+        symbols: &[ScriptSymbol],
+        count: usize,
+    ) -> Result<(), AllocError>
+        requires found { AreFound self.now.script symbols.now }
+        requires rises { Rises symbols.now }
         ensures script { self.new.script ≡ self.old.script }
-        ensures pushed { OnOk result (self.new.list ≡ self.old.list ++ symbols.now) }
+        ensures taken { OnOk result (self.new.list ≡ take count symbols.now) }
     {
-        let Some(next) = after_all(self.next, symbols) else {
-            // it does not come to this: symbols that are taken over stand in the order of their commands
+        let Some(first) = symbols.get(..count) else {
+            // it does not come to this: an earlier layout has no fewer
             return Err(AllocError);
         };
-        self.list.extend_from_slice(symbols)?;
-        self.next = next;
+        self.list.clear();
+        self.next = 0;
+        self.list.extend_from_slice(first)?;
+        self.next = after_last(first);
         Ok(())
     }
 

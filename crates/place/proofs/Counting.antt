@@ -1,6 +1,6 @@
 -- The entries of rows, and how many are placed anew.
-use Rattle.std.proofs.Common.{◌≡◌, ℕ, zero, suc, ◌+◌, ◌≤◌, ◌<◌, max, List, [], ◌∷◌, length, get_or, map}
-use Rattle.std.proofs.Common.{Result, Ok, Err, OnOk, refl, ap, ◌∙◌, arith}
+use Rattle.std.proofs.Common.{◌≡◌, ℕ, zero, suc, ◌+◌, ◌≤◌, max, List, [], ◌∷◌, length, get_or, map}
+use Rattle.std.proofs.Common.{Result, Ok, Err, OnOk, refl, ap, arith}
 use Rattle.ldmodel.specs.declared.rows.Piece.{Piece}
 use Rattle.ldnumbers.specs.Keyed.{KeyedSection}
 use Rattle.place.specs.Counted.{Resumes, entries, left_after}
@@ -35,28 +35,16 @@ placed_resumes (Ok u) i old new before after row one few same past =
     let long : length row ≡ length (get_or rows (length before) []) = ap length same in
     omega (arith, here, later, more, few, long)
 
--- one more that is taken over
-pub taken_resumes : {T : Type 0} (r : Result T Stop) (i : Input) (old new : Here) (before after : List KeyedSection)
-    → OnOk r (length after ≡ length before + 1) → new.anew ≡ old.anew → length before < i.kept.first
-    → OnOk r (Resumes i old new before after)
-unfolding left_after
-taken_resumes (Err e) i old new before after one same l = tt
-taken_resumes (Ok u) i old new before after one same l =
-    let rows : List (List Piece) = map (λ v. v.items) i.rows.now in
-    let a : max i.kept.first (length after) ≡ max i.kept.first (length before) = omega (arith, l, one) in
-    let b : entries (max i.kept.first (length after)) rows ≡ entries (max i.kept.first (length before)) rows =
-    ap (λ k. entries k rows) a in
-    omega (arith, b, same)
+-- no more entries are left further on
+pub entries_fewer : (k : ℕ) (rows : List (List Piece)) → entries k rows ≤ entries 0 rows
+entries_fewer k [] = omega arith
+entries_fewer zero (row ∷ rows) = omega arith
+entries_fewer (suc k) (row ∷ rows) = let h = entries_fewer k rows in omega (arith, h)
 
--- so at most the entries of the rows from the number on are placed anew
-pub resumes_within : (i : Input) (old new : Here) (before after : List KeyedSection) (first : ℕ)
-    (rows : List (List Piece))
-    → Resumes i old new before after → i.kept.first ≡ first → map (λ v. v.items) i.rows.now ≡ rows → old.anew ≡ 0
-    → before ≡ [] → new.anew ≤ entries first rows
+-- what is left after no more output sections than are taken over, and after all
+pub left_at_first : (i : Input) (sections : List KeyedSection) → length sections ≤ i.kept.first
+    → left_after i sections ≡ entries i.kept.first (map (λ v. v.items) i.rows.now)
 unfolding left_after
-resumes_within i old new before after first rows r number same at_first none =
-    let n : length before ≡ 0 = ap length none in
-    let m : max i.kept.first (length before) ≡ first = omega (arith, n, number) in
-    let e : entries (max i.kept.first (length before)) (map (λ v. v.items) i.rows.now) ≡ entries first rows =
-    ap (λ k. entries k (map (λ v. v.items) i.rows.now)) m ∙ ap (entries first) same in
-    omega (arith, r, e, at_first)
+left_at_first i sections few =
+    let m : max i.kept.first (length sections) ≡ i.kept.first = omega (arith, few) in
+    ap (λ k. entries k (map (λ v. v.items) i.rows.now)) m

@@ -15,6 +15,7 @@ use Rattle.place.specs.declared.stop.Stop.TheVariants as stop
 use Rattle.ldtree.specs.Numbering.{OutputSectionAt, output_sections}
 use Rattle.ldtree.specs.declared.statement.Statement.{Statement}
 use Rattle.ldmodel.specs.FaultCode.{fault_of}
+use Rattle.ldmodel.specs.Layout.{nothing_placed}
 use Rattle.ldmodel.specs.Options.{default_options}
 use Rattle.ldmodel.specs.Overlaps.{overlaps}
 use Rattle.ldmodel.specs.Project.{Project}
@@ -40,6 +41,7 @@ module _ (script : List Statement) (rows : List (List Piece)) (provided : List (
     layout = i.layout;
     placed = i.placed;
     places = i.places;
+    boundaries = i.boundaries;
     apart = sym (met alone (λ k. k) refl) ∙ ap (map (fault_of alone (λ k. k))) none;
   }
 
@@ -56,12 +58,17 @@ module _ (script : List Statement) (rows : List (List Piece)) (provided : List (
       emptied (g ∷ gs) e = absurd (let no : ⊥ = cc in no)
 
 -- where a layout begins
+pub nothing_there : (n : Naming) (h : Here) (d : Done) → h.dot ≡ 0 → h.dots.items ≡ [] → h.inputs ≡ 0
+    → h.symbols.list ≡ [] → d.sections ≡ [] → d.regions ≡ [] → layout_of n h d ≡ nothing_placed
+nothing_there n h d a b c e f g = rw (a, b, c, e, f, g) refl
+
 pub begins : (n : Naming) (h : Here) (d : Done) (rows : List (List Piece)) (provided : List (List ℕ))
     (script : List Statement)
     → h.dot ≡ 0 → h.dots.items ≡ [] → h.inputs ≡ 0 → h.symbols.list ≡ [] → d.sections ≡ [] → d.regions ≡ []
     → run (statement_step rows provided) (layout_of n h d) script ≡ placement script rows provided
 unfolding placement
-begins n h d rows provided script a b c e f g = rw (a, b, c, e, f, g) refl
+begins n h d rows provided script a b c e f g =
+    ap (λ s. run (statement_step rows provided) s script) (nothing_there n h d a b c e f g)
 
 pub stops_at : (script : List Statement) (rows : List (List Piece)) (provided : List (List ℕ)) (s : Stop)
     (r : PlaceFault)

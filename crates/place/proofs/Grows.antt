@@ -1,10 +1,10 @@
 -- What a step of a layout leaves as it was, and what it adds to.
-use Rattle.std.proofs.Common.{◌≡◌, ℕ, ◌+◌, ◌≤◌, List, [], ◌∷◌, ◌++◌, length, map, Bool, true, false, cond, Option}
-use Rattle.std.proofs.Common.{Some, None, arith, refl, length-append}
+use Rattle.std.proofs.Common.{◌≡◌, ℕ, ◌+◌, ◌≤◌, List, [], ◌∷◌, ◌++◌, map, Bool, true, false, cond, Option}
+use Rattle.std.proofs.Common.{Some, None, arith, refl}
 use Rattle.std.proofs.Common.{Result, Ok, Err, sym, ap, subst, ◌∙◌, nat_lt, append_assoc}
 use Rattle.std.specs.List.{list_any}
 use Rattle.std.specs.Prelude.{bytes_eq, ◌==◌}
-use Rattle.std.proofs.lemmas.List.{append-nil, map-append}
+use Rattle.std.proofs.lemmas.List.{map-append}
 use Rattle.byteorder.specs.Endian.{little_bytes}
 use Rattle.ldexpr.specs.Expressions as expression
 use Rattle.ldexpr.specs.Expressions.{Expr}
@@ -22,33 +22,15 @@ use Rattle.ldmodel.specs.Body.{Body, advanced, body_command_step, body_step, inp
 use Rattle.ldmodel.specs.Body.{piece_placed, piece_start, pieces_placed, set_to, with_data, with_dot}
 use Rattle.ldmodel.specs.Chain.{and_then, run}
 use Rattle.ldmodel.specs.Fault.{Fault, MovedBack}
-use Rattle.ldmodel.specs.Layout.{Layout, address, PlacedPiece, PlacedData, number, noted, with_symbol}
+use Rattle.ldmodel.specs.Layout.{Layout, address, PlacedPiece, number, noted, with_symbol}
 use Rattle.ldmodel.specs.Rows.{Piece}
-use Rattle.ldnumbers.specs.Steps.{data_in, data_of, inputs_in, inputs_of, symbols_given, symbols_in, symbols_of}
+use Rattle.place.proofs.Beginning.{begins_on, begins_one, begins_same}
 use Rattle.place.proofs.Ending.{address_is, chained}
+use Rattle.place.specs.Leads.{Begins}
 
 -- a state that is given is that of the result
 pub given_is : {X : Type 0} (s t : X) → ◌≡◌ {A = Result X Fault} (Ok s) (Ok t) → s ≡ t
 given_is s t e = cc
-
--- a list, and this many more
-pub record Longer {X : Type 0} (xs ys : List X) (n : ℕ) : Type 0 where
-  pub more : List X
-  pub is : ys ≡ xs ++ more
-  pub long : length more ≡ n
-
-pub longer_none : {X : Type 0} (xs ys : List X) → ys ≡ xs → Longer xs ys 0
-longer_none xs ys e = record { more = []; is = e ∙ sym (append-nil xs); long = refl }
-
-pub longer_one : {X : Type 0} (xs : List X) (x : X) (ys : List X) → ys ≡ xs ++ x ∷ [] → Longer xs ys 1
-longer_one xs x ys e = record { more = x ∷ []; is = e; long = refl }
-
-pub longer_on : {X : Type 0} (xs ys zs : List X) (n m : ℕ) → Longer xs ys n → Longer ys zs m → Longer xs zs (n + m)
-longer_on xs ys zs n m a b = record {
-  more = a.more ++ b.more;
-  is = b.is ∙ (ap (λ l. l ++ b.more) a.is ∙ append_assoc xs a.more b.more);
-  long = let e = length-append a.more b.more in omega (arith, e, a.long, b.long);
-}
 
 -- a command of symbols changes nothing else
 assigned_leaves : {X : Type 0} (f : Layout → X) → ((s : Layout) (name : List ℕ) (x : ℕ) → f
@@ -78,151 +60,138 @@ common_keeps provided s line c t e = common_leaves (λ (u : Layout). u.sections)
 
 -- an assignment adds a symbol
 assigned_adds : (s : Layout) (line : ℕ) (a : Assignment) (t : Layout) → assigned s line a ≡ Ok t
-    → Longer s.symbols t.symbols 1
+    → Begins s.symbols t.symbols
 assigned_adds s line a t e =
     let h = chained (number s line a.value) (λ x. Ok (with_symbol s a.name x)) t e in
     let d = given_is (with_symbol s a.name h.value) t h.second in
-    longer_one s.symbols (record { name = a.name; value = h.value }) t.symbols (ap (λ (u : Layout). u.symbols) (sym d))
+    begins_one s.symbols (record { name = a.name; value = h.value }) t.symbols (ap (λ (u : Layout). u.symbols) (sym d))
 
 pub common_adds : (provided : List (List ℕ)) (s : Layout) (line : ℕ) (c : Common) (t : Layout)
-    → common_step provided s line c ≡ Ok t → Longer s.symbols t.symbols (symbols_given provided c)
+    → common_step provided s line c ≡ Ok t → Begins s.symbols t.symbols
 unfolding common_step
 common_adds provided s line (common.Assign a) t e = assigned_adds s line a t e
 common_adds provided s line (common.Provide a) t e = go (list_any (bytes_eq a.name) provided) e
   where
-    go : (b : Bool) → cond b (assigned s line a) (Ok s) ≡ Ok t → Longer s.symbols t.symbols (cond b 1 0)
+    go : (b : Bool) → cond b (assigned s line a) (Ok s) ≡ Ok t → Begins s.symbols t.symbols
     go true h = assigned_adds s line a t h
-    go false h = longer_none s.symbols t.symbols (ap (λ (u : Layout). u.symbols) (sym (given_is s t h)))
+    go false h = begins_same s.symbols t.symbols (ap (λ (u : Layout). u.symbols) (sym (given_is s t h)))
 common_adds provided s line (common.Assert a) t e =
-    longer_none s.symbols t.symbols (ap (λ (u : Layout). u.symbols) (sym (given_is s t e)))
+    begins_same s.symbols t.symbols (ap (λ (u : Layout). u.symbols) (sym (given_is s t e)))
 
 abbrev pub the_piece : PlacedPiece → Piece
 the_piece x = x.piece
 
 -- a body goes on: it takes entries from the front of the row, keeps the output sections that are complete and the
--- regions, and adds this many values of `.`, input statements, symbols and data commands
-pub record Grown (b c : Body) (dots inputs symbols data_commands : ℕ) : Type 0 where
+-- regions, and adds to the values of `.` and the symbols
+pub record Grown (b c : Body) : Type 0 where
   pub row : map the_piece c.pieces ++ c.rest ≡ map the_piece b.pieces ++ b.rest
   pub dot : b.layout.dot ≤ c.layout.dot
   pub sections : c.layout.sections ≡ b.layout.sections
   pub regions : c.layout.regions ≡ b.layout.regions
-  pub inputs_are : c.layout.inputs ≡ b.layout.inputs + inputs
-  pub dots_are : Longer b.layout.dots c.layout.dots dots
-  pub symbols_are : Longer b.layout.symbols c.layout.symbols symbols
-  pub data_are : Longer b.data_commands c.data_commands data_commands
+  pub dots_are : Begins b.layout.dots c.layout.dots
+  pub symbols_are : Begins b.layout.symbols c.layout.symbols
 
-grown_none : (b : Body) → Grown b b 0 0 0 0
+grown_none : (b : Body) → Grown b b
 grown_none b = record {
   row = refl;
   dot = omega arith;
   sections = refl;
   regions = refl;
-  inputs_are = omega arith;
-  dots_are = longer_none b.layout.dots b.layout.dots refl;
-  symbols_are = longer_none b.layout.symbols b.layout.symbols refl;
-  data_are = longer_none b.data_commands b.data_commands refl;
+  dots_are = begins_same b.layout.dots b.layout.dots refl;
+  symbols_are = begins_same b.layout.symbols b.layout.symbols refl;
 }
 
-pub grown_on : (b c e : Body) (a i y d a' i' y' d' : ℕ) → Grown b c a i y d → Grown c e a' i' y' d'
-    → Grown b e (a + a') (i + i') (y + y') (d + d')
-grown_on b c e a i y d a' i' y' d' g h = record {
+pub grown_on : (b c e : Body) → Grown b c → Grown c e → Grown b e
+grown_on b c e g h = record {
   row = h.row ∙ g.row;
   dot = omega (arith, g.dot, h.dot);
   sections = h.sections ∙ g.sections;
   regions = h.regions ∙ g.regions;
-  inputs_are = omega (arith, g.inputs_are, h.inputs_are);
-  dots_are = longer_on b.layout.dots c.layout.dots e.layout.dots a a' g.dots_are h.dots_are;
-  symbols_are = longer_on b.layout.symbols c.layout.symbols e.layout.symbols y y' g.symbols_are h.symbols_are;
-  data_are = longer_on b.data_commands c.data_commands e.data_commands d d' g.data_are h.data_are;
+  dots_are = begins_on b.layout.dots c.layout.dots e.layout.dots g.dots_are h.dots_are;
+  symbols_are = begins_on b.layout.symbols c.layout.symbols e.layout.symbols g.symbols_are h.symbols_are;
 }
 
-grown_given : (b c : Body) → ◌≡◌ {A = Result Body Fault} (Ok b) (Ok c) → Grown b c 0 0 0 0
-grown_given b c e = subst (λ u. Grown b u 0 0 0 0) (given_is b c e) (grown_none b)
+grown_given : (b c : Body) → ◌≡◌ {A = Result Body Fault} (Ok b) (Ok c) → Grown b c
+grown_given b c e = subst (Grown b) (given_is b c e) (grown_none b)
 
 -- `.` goes on
-grown_dot : (b : Body) (x : ℕ) → b.layout.dot ≤ x → Grown b (with_dot b x) 0 0 0 0
+grown_dot : (b : Body) (x : ℕ) → b.layout.dot ≤ x → Grown b (with_dot b x)
 grown_dot b x l = record {
   row = refl;
   dot = l;
   sections = refl;
   regions = refl;
-  inputs_are = omega arith;
-  dots_are = longer_none b.layout.dots b.layout.dots refl;
-  symbols_are = longer_none b.layout.symbols b.layout.symbols refl;
-  data_are = longer_none b.data_commands b.data_commands refl;
+  dots_are = begins_same b.layout.dots b.layout.dots refl;
+  symbols_are = begins_same b.layout.symbols b.layout.symbols refl;
 }
 
 piece_grows : (line : ℕ) (b : Body) (p : Piece) (rest : List Piece) (c : Body) → b.rest ≡ p ∷ rest
     → piece_placed line b p rest ≡ Ok c
-    → Grown b c 0 0 0 0 × (c.rest ≡ rest)
+    → Grown b c × (c.rest ≡ rest)
 unfolding piece_placed
 piece_grows line b p rest c r e =
     let h = chained (address line (piece_start b.layout.dot p + p.size)) _ c e in
     let end = address_is line (piece_start b.layout.dot p + p.size) h.value h.first in
     let x : PlacedPiece = record { start = piece_start b.layout.dot p; piece = p } in
     let d = given_is (record (with_dot b h.value) { rest = rest; pieces = b.pieces ++ x ∷ [] }) c h.second in (
-      subst (λ u. Grown b u 0 0 0 0) d (record {
+      subst (Grown b) d (record {
         row = ap (λ l. l ++ rest) (map-append the_piece b.pieces (x ∷ []))
             ∙ (append_assoc (map the_piece b.pieces) (p ∷ []) rest ∙ ap (λ l. map the_piece b.pieces ++ l) (sym r));
         dot = omega (arith, end);
         sections = refl;
         regions = refl;
-        inputs_are = omega arith;
-        dots_are = longer_none b.layout.dots b.layout.dots refl;
-        symbols_are = longer_none b.layout.symbols b.layout.symbols refl;
-        data_are = longer_none b.data_commands b.data_commands refl;
+        dots_are = begins_same b.layout.dots b.layout.dots refl;
+        symbols_are = begins_same b.layout.symbols b.layout.symbols refl;
       }),
       ap (λ (u : Body). u.rest) (sym d),
     )
 
 pieces_grow : (line n : ℕ) (ps : List Piece) (b c : Body) → b.rest ≡ ps → pieces_placed line n b ps ≡ Ok c
-    → Grown b c 0 0 0 0
+    → Grown b c
 unfolding pieces_placed
 pieces_grow line n [] b c r e = grown_given b c e
 pieces_grow line n (p ∷ ps) b c r e = go (p.statement == n) e (λ d. pieces_grow line n ps d c)
   where
     go : (t : Bool) → cond t (and_then (piece_placed line b p ps) (λ d. pieces_placed line n d ps)) (Ok b) ≡ Ok c
-        → ((d : Body) → d.rest ≡ ps → pieces_placed line n d ps ≡ Ok c → Grown d c 0 0 0 0) → Grown b c 0 0 0 0
+        → ((d : Body) → d.rest ≡ ps → pieces_placed line n d ps ≡ Ok c → Grown d c) → Grown b c
     go true k more =
         let h = chained (piece_placed line b p ps) (λ d. pieces_placed line n d ps) c k in
         let one = piece_grows line b p ps h.value r h.first in
-        grown_on b h.value c 0 0 0 0 0 0 0 0 one.0 (more h.value one.1 h.second)
+        grown_on b h.value c one.0 (more h.value one.1 h.second)
     go false k more = grown_given b c k
 
-input_grows : (line : ℕ) (b c : Body) → input_step line b ≡ Ok c → Grown b c 0 1 0 0
+input_grows : (line : ℕ) (b c : Body) → input_step line b ≡ Ok c → Grown b c
 input_grows line b c e =
     let h = chained (pieces_placed line b.layout.inputs b b.rest) _ c e in
     let d = given_is (record h.value { layout = record h.value.layout { inputs = b.layout.inputs + 1 } }) c h.second in
     let g = pieces_grow line b.layout.inputs b.rest b h.value refl h.first in
-    subst (λ u. Grown b u 0 1 0 0) d (record {
+    subst (Grown b) d (record {
       row = g.row;
       dot = g.dot;
       sections = g.sections;
       regions = g.regions;
-      inputs_are = refl;
       dots_are = g.dots_are;
       symbols_are = g.symbols_are;
-      data_are = g.data_are;
     })
 
-moved_grows : (line to : ℕ) (b c : Body) → moved line b to ≡ Ok c → Grown b c 0 0 0 0
+moved_grows : (line to : ℕ) (b c : Body) → moved line b to ≡ Ok c → Grown b c
 moved_grows line to b c e = go (nat_lt to b.layout.dot) refl e
   where
     go : (t : Bool) → nat_lt to b.layout.dot ≡ t
         → cond t (Err (MovedBack line)) (and_then (address line to) (λ x. Ok (with_dot b x))) ≡ Ok c
-        → Grown b c 0 0 0 0
+        → Grown b c
     go true l k = absurd (let no : ⊥ = cc in no)
     go false l k =
         let h = chained (address line to) (λ x. Ok (with_dot b x)) c k in
         let d = given_is (with_dot b h.value) c h.second in
         let end = address_is line to h.value h.first in
-        subst (λ u. Grown b u 0 0 0 0) d (grown_dot b h.value (grind (arith, end, l)))
+        subst (Grown b) d (grown_dot b h.value (grind (arith, end, l)))
 
-advanced_grows : (line : ℕ) (x : Expr) (b c : Body) → advanced line b x ≡ Ok c → Grown b c 0 0 0 0
+advanced_grows : (line : ℕ) (x : Expr) (b c : Body) → advanced line b x ≡ Ok c → Grown b c
 advanced_grows line x b c e = let h = chained (number b.layout line x) (λ y. moved line b (b.layout.dot + y)) c e in
     moved_grows line (b.layout.dot + h.value) b c h.second
 
-set_grows : (line : ℕ) (f : Option DotForm) (b c : Body) → set_to line b f ≡ Ok c → Grown b c 0 0 0 0
+set_grows : (line : ℕ) (f : Option DotForm) (b c : Body) → set_to line b f ≡ Ok c → Grown b c
 set_grows line (Some (Advance x)) b c e = advanced_grows line x b c e
 set_grows line (Some (Align x)) b c e = let h =
     chained (number b.layout line (expression.AlignDot x)) (λ y. moved line b y) c e in
@@ -234,47 +203,41 @@ set_grows line None b c e = grown_given b c e
 
 data_grows : (line w : ℕ) (bytes : List ℕ) (b c : Body)
     → and_then (address line (b.layout.dot + w)) (λ end. Ok (with_dot (with_data b bytes) end)) ≡ Ok c
-    → Grown b c 0 0 0 1
+    → Grown b c
 data_grows line w bytes b c e =
     let k = chained (address line (b.layout.dot + w)) (λ end. Ok (with_dot (with_data b bytes) end)) c e in
     let end = address_is line (b.layout.dot + w) k.value k.first in
     let d = given_is (with_dot (with_data b bytes) k.value) c k.second in
-    let x : PlacedData = record { start = b.layout.dot; bytes = bytes } in
-    subst (λ u. Grown b u 0 0 0 1) d (record {
+    subst (Grown b) d (record {
       row = refl;
       dot = omega (arith, end);
       sections = refl;
       regions = refl;
-      inputs_are = omega arith;
-      dots_are = longer_none b.layout.dots b.layout.dots refl;
-      symbols_are = longer_none b.layout.symbols b.layout.symbols refl;
-      data_are = longer_one b.data_commands x (b.data_commands ++ x ∷ []) refl;
+      dots_are = begins_same b.layout.dots b.layout.dots refl;
+      symbols_are = begins_same b.layout.symbols b.layout.symbols refl;
     })
 
 common_grows : (provided : List (List ℕ)) (line : ℕ) (x : Common) (b : Body) (s : Layout)
     → common_step provided b.layout line x ≡ Ok s
-    → Grown b (record b { layout = s }) 0 0 (symbols_given provided x) 0
+    → Grown b (record b { layout = s })
 common_grows provided line x b s e = record {
   row = refl;
   dot = let h = common_leaves (λ (u : Layout). u.dot) (λ u n v. refl) provided b.layout line x s e in omega (arith, h);
   sections = common_keeps provided b.layout line x s e;
   regions = common_leaves (λ (u : Layout). u.regions) (λ u n v. refl) provided b.layout line x s e;
-  inputs_are = let h = common_leaves (λ (u : Layout). u.inputs) (λ u n v. refl) provided b.layout line x s e in
-      omega (arith, h);
-  dots_are = longer_none b.layout.dots s.dots
+  dots_are = begins_same b.layout.dots s.dots
       (common_leaves (λ (u : Layout). u.dots) (λ u n v. refl) provided b.layout line x s e);
   symbols_are = common_adds provided b.layout line x s e;
-  data_are = longer_none b.data_commands b.data_commands refl;
 }
 
 command_grows : (provided : List (List ℕ)) (line : ℕ) (x : BodyCommand) (b c : Body)
-    → body_command_step provided line b x ≡ Ok c → Grown b c 0 (inputs_of x) (symbols_of provided x) (data_of x)
+    → body_command_step provided line b x ≡ Ok c → Grown b c
 unfolding body_command_step
 command_grows provided line (body.Dot (Set x)) b c e = set_grows line (dot_form x) b c e
 command_grows provided line (body.Dot (Add x)) b c e = advanced_grows line x b c e
 command_grows provided line (body.Common x) b c e =
     let h = chained (common_step provided b.layout line x) (λ s. Ok (record b { layout = s })) c e in
-    subst (λ u. Grown b u 0 0 (symbols_given provided x) 0) (given_is (record b { layout = h.value }) c h.second)
+    subst (Grown b) (given_is (record b { layout = h.value }) c h.second)
     (common_grows provided line x b h.value h.first)
 command_grows provided line (body.Data w x) b c e =
     let h = chained (number b.layout line x) _ c e in
@@ -282,7 +245,7 @@ command_grows provided line (body.Data w x) b c e =
 command_grows provided line (body.Input i) b c e = input_grows line b c e
 
 statement_grows : (provided : List (List ℕ)) (x : BodyStatement) (b c : Body) → body_step provided b x ≡ Ok c
-    → Grown b c 1 (inputs_of x.command) (symbols_of provided x.command) (data_of x.command)
+    → Grown b c
 statement_grows provided x b c e =
     let h = command_grows provided x.line x.command (record b { layout = noted b.layout }) c e in
     record {
@@ -290,21 +253,15 @@ statement_grows provided x b c e =
       dot = h.dot;
       sections = h.sections;
       regions = h.regions;
-      inputs_are = h.inputs_are;
-      dots_are = longer_on b.layout.dots (noted b.layout).dots c.layout.dots 1 0
-          (longer_one b.layout.dots b.layout.dot (noted b.layout).dots refl) h.dots_are;
+      dots_are = begins_on b.layout.dots (noted b.layout).dots c.layout.dots
+          (begins_one b.layout.dots b.layout.dot (noted b.layout).dots refl) h.dots_are;
       symbols_are = h.symbols_are;
-      data_are = h.data_are;
     }
 
 pub body_grows : (provided : List (List ℕ)) (xs : List BodyStatement) (b c : Body) → run (body_step provided) b xs
-    ≡ Ok c → Grown b c (length xs) (inputs_in xs) (symbols_in provided xs) (data_in xs)
+    ≡ Ok c → Grown b c
 unfolding run
 body_grows provided [] b c e = grown_given b c e
 body_grows provided (x ∷ xs) b c e =
     let h = chained (body_step provided b x) (λ d. run (body_step provided) d xs) c e in
-    let e : 1 + length xs ≡ length (x ∷ xs) = omega arith in
-    subst (λ j. Grown b c j (inputs_in (x ∷ xs)) (symbols_in provided (x ∷ xs)) (data_in (x ∷ xs))) e
-    (grown_on b h.value c 1 (inputs_of x.command) (symbols_of provided x.command) (data_of x.command) (length xs)
-    (inputs_in xs) (symbols_in provided xs) (data_in xs)
-    (statement_grows provided x b h.value h.first) (body_grows provided xs h.value c h.second))
+    grown_on b h.value c (statement_grows provided x b h.value h.first) (body_grows provided xs h.value c h.second)

@@ -9,7 +9,14 @@ pub mod Outputs
 pub mod Reporting
 pub mod Good
 pub mod Counting
-pub mod Commons
 pub mod Adding
 pub mod Taking
-pub mod Comes
+pub mod Onward
+pub mod Beginning
+pub mod Runs
+pub mod Still
+pub mod InParts
+pub mod Resuming
+pub mod Noting
+pub mod Joining
+pub mod Keeping

@@ -1,36 +1,32 @@
 -- An output section that is taken over is the one that its statement makes.
-use Rattle.std.proofs.Common.{◌≡◌, ℕ, ◌+◌, List, [], ◌∷◌, ◌++◌, length, map, take, drop, Some, Ok}
-use Rattle.std.proofs.Common.{refl, sym, ap, ◌∙◌, arith, append_assoc}
+use Rattle.std.proofs.Common.{◌≡◌, ℕ, ◌+◌, List, [], ◌∷◌, ◌++◌, length, map, take, drop, Some}
+use Rattle.std.proofs.Common.{refl, sym, ap, ◌∙◌, arith, append_assoc, length-append}
 use Rattle.std.specs.List.{enumerate_from}
 use Rattle.std.specs.Prelude.{flat_map, slice_get}
 use Rattle.std.proofs.Math.Seq.{drop-append_seam, take-append_seam}
 use Rattle.std.proofs.lemmas.Grind.{flat_map-append}
-use Rattle.std.proofs.lemmas.List.{append-nil, drop-map, length-map, map-append, take-map}
+use Rattle.std.proofs.lemmas.List.{append-nil, length-map, map-append}
 use Rattle.ldtree.specs.declared.section.OutputSection.{OutputSection}
 use Rattle.ldtree.specs.declared.statement.Statement.{Statement}
-use Rattle.ldmodel.specs.Layout.{Layout, MemoryRegion, PlacedData, PlacedPiece, PlacedSection}
-use Rattle.ldmodel.specs.Lent.{NumberedData, data_of, numbered, placed_of, starts_of, symbol_of}
+use Rattle.ldmodel.specs.Layout.{Layout, PlacedData, PlacedPiece, PlacedSection}
+use Rattle.ldmodel.specs.Lent.{NumberedData, data_of, numbered, placed_of, starts_of}
 use Rattle.ldmodel.specs.Placement.{section_step}
 use Rattle.ldmodel.specs.Rows.{Piece}
-use Rattle.ldmodel.specs.SectionEnd.{freed_from, load_region}
 use Rattle.ldmodel.specs.declared.laid.Placed.{Placed}
 use Rattle.ldmodel.specs.declared.laid.PlacedData as code_data
 use Rattle.ldmodel.specs.declared.rows.Piece as rows
-use Rattle.ldmodel.specs.declared.script_symbol.ScriptSymbol as code
 use Rattle.ldnumbers.specs.Keyed.{KeyedSection, data_at, piece_at, section_of}
 use Rattle.ldnumbers.specs.Naming.{Naming, piece_named, row_named}
 use Rattle.ldnumbers.specs.SectionTable.{taken_pieces}
-use Rattle.ldnumbers.specs.Steps.{data_in as data_steps, inputs_in, symbols_in}
 use Rattle.ldnumbers.specs.Wholes.{all_data_in, starts_in}
 use Rattle.place.proofs.Adding.{SectionGrown, enumerate_more, section_grows}
+use Rattle.place.proofs.Beginning.{mapped_part}
 use Rattle.place.proofs.Grows.{the_piece}
 use Rattle.place.proofs.Wholes.{data_whole, starts_whole}
-use Rattle.place.specs.Leads.{Begins, Leads, counts_of, data_in}
-use Rattle.place.specs.State.{layout_of}
+use Rattle.place.specs.Boundaries.{data_in}
+use Rattle.place.specs.Leads.{Begins, Leads, counts_of}
 use Rattle.place.specs.Taken.{IsTaken, data_at_of, part_of}
 use Rattle.place.specs.declared.kept.Kept.{Kept}
-use Rattle.place.specs.declared.state.Done.{Done}
-use Rattle.place.specs.declared.state.Here.{Here}
 
 -- the one after the first ones of a list
 after_first : {X : Type 0} (xs : List X) (x : X) (ys : List X) → slice_get (xs ++ x ∷ ys) (length xs) ≡ Some x
@@ -38,7 +34,7 @@ after_first [] x ys = refl
 after_first (y ∷ xs) x ys = after_first xs x ys
 
 -- the part of a list that follows some of its first elements
-pub next_part : {X : Type 0} (xs more ys all : List X) (from count : ℕ) → ys ≡ xs ++ more → Begins ys all
+next_part : {X : Type 0} (xs more ys all : List X) (from count : ℕ) → ys ≡ xs ++ more → Begins ys all
     → from ≡ length xs
     → count ≡ length more → part_of all from count ≡ more
 next_part xs more ys all from count e b f c =
@@ -55,11 +51,6 @@ next_element xs x ys all from e b f =
     ap (slice_get all) f
     ∙ (ap (λ l. slice_get l (length xs)) (b.is ∙ (ap (λ l. l ++ b.later) e ∙ append_assoc xs (x ∷ []) b.later))
     ∙ after_first xs x b.later)
-
-pub mapped_part : {X Y : Type 0} (f : X → Y) (xs : List X) (from count : ℕ) → map f (part_of xs from count)
-    ≡ part_of (map f xs) from count
-mapped_part f xs from count =
-    sym (take-map f count (drop from xs)) ∙ ap (take count) (sym (drop-map f from xs))
 
 -- input sections by their starts, and their row
 by_starts : (n : Naming) (qs : List PlacedPiece) (row : List rows.Piece) (rest : List Piece)
@@ -89,10 +80,6 @@ plain_numbered k q = go q.data_commands
     go [] = refl
     go (d ∷ ds) = ap (λ l. d ∷ l) (go ds)
 
-numbered_long : (k : ℕ) (q : PlacedSection) → length (numbered (k, q)) ≡ length q.data_commands
-numbered_long k q =
-    length-map q.data_commands (λ (d : PlacedData). record { section = k; start = d.start; bytes = d.bytes })
-
 module _ (n : Naming) (script : List Statement) (k : Kept) (provided : List (List ℕ)) (row : List rows.Piece)
     (s : Layout) (line : ℕ) (o : OutputSection) (before : List KeyedSection)
     (sections : s.sections ≡ map (section_of n) before)
@@ -100,10 +87,10 @@ module _ (n : Naming) (script : List Statement) (k : Kept) (provided : List (Lis
   abbrev t : Layout
   t = l.layout
 
-  pub grown : SectionGrown provided (row_named n row) s o t
+  pub grown : SectionGrown (row_named n row) s o t
   grown = section_grows provided (row_named n row) s line o t l.comes
 
-  abbrev q : PlacedSection
+  abbrev pub q : PlacedSection
   q = grown.section
 
   many : length before ≡ length s.sections
@@ -135,92 +122,48 @@ module _ (n : Naming) (script : List Statement) (k : Kept) (provided : List (Lis
       (ap length (starts_whole n before ∙ ap (flat_map starts_of) (sym sections)))
       (e ∙ sym (length-map q.pieces (λ (x : PlacedPiece). x.start)))
 
-  data_are : map data_at (map data_at_of
-      (part_of k.data_commands.now (length (all_data_in 0 before)) (data_steps o.body))) ≡ q.data_commands
-  data_are =
-      let from : ℕ = length (all_data_in 0 before) in
-      let count : ℕ = data_steps o.body in
+  whole : data_in t.sections ≡ data_in s.sections ++ numbered (length s.sections, q)
+  whole =
       let last : enumerate_from 0 t.sections ≡ enumerate_from 0 s.sections ++ (length s.sections, q) ∷ [] =
       ap (enumerate_from 0) grown.added
       ∙ (enumerate_more 0 s.sections (q ∷ [])
       ∙ (let e : 0 + length s.sections ≡ length s.sections = omega arith in
       ap (λ j. enumerate_from 0 s.sections ++ (j, q) ∷ []) e)) in
-      let whole : data_in t.sections ≡ data_in s.sections ++ numbered (length s.sections, q) =
       ap (flat_map numbered) last
       ∙ (flat_map-append numbered (enumerate_from 0 s.sections) ((length s.sections, q) ∷ [])
-      ∙ ap (λ x. data_in s.sections ++ x) (append-nil (numbered (length s.sections, q)))) in
+      ∙ ap (λ x. data_in s.sections ++ x) (append-nil (numbered (length s.sections, q))))
+
+  before_long : length (all_data_in 0 before) ≡ length (data_in s.sections)
+  before_long = ap length (data_whole n 0 before ∙ ap data_in (sym sections))
+
+  -- as many data commands as come with the section
+  own_data : (count end : ℕ) → length (all_data_in 0 before) + count ≡ end → end ≡ length (data_in t.sections)
+      → count ≡ length (numbered (length s.sections, q))
+  own_data count end e f =
+      let g = ap length whole ∙ length-append (data_in s.sections) (numbered (length s.sections, q)) in
+      omega (arith, e, f, g, before_long)
+
+  data_are : (count : ℕ) → count ≡ length (numbered (length s.sections, q))
+      → map data_at (map data_at_of (part_of k.data_commands.now (length (all_data_in 0 before)) count))
+      ≡ q.data_commands
+  data_are count long =
+      let from : ℕ = length (all_data_in 0 before) in
       plain_data (part_of k.data_commands.now from count)
       ∙ (ap (map plain)
       (mapped_part data_of k.data_commands.now from count
       ∙ next_part (data_in s.sections) (numbered (length s.sections, q)) (data_in t.sections)
-      (map data_of k.data_commands.now) from count whole l.data_commands
-      (ap length (data_whole n 0 before ∙ ap data_in (sym sections)))
-      (sym (numbered_long (length s.sections) q ∙ grown.data_long)))
+      (map data_of k.data_commands.now) from count whole l.data_commands before_long long)
       ∙ plain_numbered (length s.sections) q)
 
-  -- the section
-  pub section_taken : (x : KeyedSection) → IsTaken k before row o x → section_of n x ≡ q
-  section_taken x i =
+  -- the section, whose numbers are those of the layout
+  pub section_taken : (x : KeyedSection) (end : ℕ) → IsTaken k before row o end x → end ≡ length (data_in t.sections)
+      → (section_of n x ≡ q) × (x.placed ≡ placed_of q)
+  section_taken x end i e =
       let p = placed_is x.placed i.placed in
       let m = count_is i.count i.counted in
       let ps : map (piece_at n) x.pieces ≡ q.pieces =
       ap (map (piece_at n)) (i.pieces ∙ ap (λ z. taken_pieces z row) (starts_are i.count m))
       ∙ by_starts n q.pieces row grown.rest grown.row_is in
-      let ds : map data_at x.data_commands ≡ q.data_commands = ap (map data_at) i.data_commands ∙ data_are in
-      rw (i.name ∙ sym grown.name, i.region ∙ sym grown.region, i.fill ∙ sym grown.fill, p, ps, ds) refl
-
-  pub dots_taken : (vs : List ℕ) → vs ≡ s.dots ++ part_of k.dots.now (length s.dots) (length o.body) → vs ≡ t.dots
-  dots_taken vs e =
-      e ∙ (ap (λ z. s.dots ++ z) (next_part s.dots grown.dots_are.more t.dots k.dots.now (length s.dots) (length o.body)
-      grown.dots_are.is l.dots refl (sym grown.dots_are.long)) ∙ sym grown.dots_are.is)
-
-  pub symbols_taken : (old new : List code.ScriptSymbol) → s.symbols ≡ map (symbol_of script) old
-      → new ≡ old ++ part_of k.symbols.now (length old) (symbols_in provided o.body)
-      → map (symbol_of script) new ≡ t.symbols
-  symbols_taken old new same e =
-      let count : ℕ = symbols_in provided o.body in
-      ap (map (symbol_of script)) e
-      ∙ (map-append (symbol_of script) old (part_of k.symbols.now (length old) count)
-      ∙ (ap (λ z. map (symbol_of script) old ++ z)
-      (mapped_part (symbol_of script) k.symbols.now (length old) count
-      ∙ next_part s.symbols grown.symbols_are.more t.symbols (map (symbol_of script) k.symbols.now) (length old) count
-      grown.symbols_are.is l.symbols (sym (ap length same ∙ length-map old (symbol_of script)))
-      (sym grown.symbols_are.long))
-      ∙ (ap (λ z. z ++ grown.symbols_are.more) (sym same) ∙ sym grown.symbols_are.is)))
-
-  -- the layout after it, part by part
-  pub layout_taken : (x : KeyedSection) (h : Here) (d : Done) (first second : List MemoryRegion) (end loaded : ℕ)
-      → IsTaken k before row o x → d.sections ≡ before ++ x ∷ [] → h.symbols.script ≡ script
-      → h.dot ≡ x.placed.start + x.placed.size → end ≡ h.dot → loaded ≡ x.placed.load + x.placed.load_size
-      → first ≡ freed_from o.region end s.regions → second ≡ freed_from (load_region o.load) loaded first
-      → d.regions ≡ second
-      → h.dots.items ≡ s.dots ++ part_of k.dots.now (length s.dots) (length o.body)
-      → h.inputs ≡ s.inputs + inputs_in o.body
-      → (old : List code.ScriptSymbol) → s.symbols ≡ map (symbol_of script) old
-      → h.symbols.list ≡ old ++ part_of k.symbols.now (length old) (symbols_in provided o.body)
-      → section_step provided (row_named n row) s line o ≡ Ok (layout_of n h d)
-  layout_taken x h d first second end loaded i pushed same dot ends loads a b c dots inputs old was symbols =
-      let z = section_taken x i in
-      let p = placed_is x.placed i.placed in
-      let start : x.placed.start ≡ q.start = ap (λ (y : Placed). y.start) p in
-      let size : x.placed.size ≡ q.size = ap (λ (y : Placed). y.size) p in
-      let load : x.placed.load ≡ q.load = ap (λ (y : Placed). y.load) p in
-      let load_size : x.placed.load_size ≡ q.load_size = ap (λ (y : Placed). y.load_size) p in
-      let dot_is : h.dot ≡ t.dot = omega (arith, dot, start, size, grown.dot) in
-      let end_is : end ≡ q.start + q.size = omega (arith, ends, dot, start, size) in
-      let loaded_is : loaded ≡ q.load + q.load_size = omega (arith, loads, load, load_size) in
-      let regions : d.regions ≡ t.regions =
-      c ∙ (b ∙ (ap (λ y. freed_from (load_region o.load) loaded y) a
-      ∙ (ap (λ y. freed_from (load_region o.load) y (freed_from o.region end s.regions)) loaded_is
-      ∙ (ap (λ y. freed_from (load_region o.load) (q.load + q.load_size) (freed_from o.region y s.regions)) end_is
-      ∙ sym grown.regions)))) in
-      let all : map (section_of n) d.sections ≡ t.sections =
-      ap (map (section_of n)) pushed
-      ∙ (map-append (section_of n) before (x ∷ [])
-      ∙ (ap (λ y. y ++ section_of n x ∷ []) (sym sections)
-      ∙ (ap (λ y. s.sections ++ y ∷ []) z ∙ sym grown.added))) in
-      let names : map (symbol_of h.symbols.script) h.symbols.list ≡ t.symbols =
-      ap (λ y. map (symbol_of y) h.symbols.list) same ∙ symbols_taken old h.symbols.list was symbols in
-      let whole : layout_of n h d ≡ t =
-      rw (dot_is, dots_taken h.dots.items dots, inputs ∙ sym grown.inputs, names, regions, all) refl in
-      l.comes ∙ ap Ok (sym whole)
+      let ds : map data_at x.data_commands ≡ q.data_commands =
+      ap (map data_at) i.data_commands ∙ data_are i.data_count (own_data i.data_count end i.data_counted e) in
+      (rw (i.name ∙ sym grown.name, i.region ∙ sym grown.region, i.fill ∙ sym grown.fill, p, ps, ds) refl, p)

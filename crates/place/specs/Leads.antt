@@ -1,11 +1,11 @@
 -- What is to come, told by an earlier layout.
 use Rattle.std.specs.Prelude.{◌≡◌, ℕ, List, ◌++◌, length, map, flat_map, Result, Ok}
-use Rattle.std.specs.List.{enumerate_from}
 use Rattle.ldtree.specs.declared.statement.Statement.{Statement}
 use Rattle.ldmodel.specs.Fault.{Fault}
 use Rattle.ldmodel.specs.Layout.{Layout, PlacedSection}
-use Rattle.ldmodel.specs.Lent.{NumberedData, data_of, numbered, placed_of, starts_of, symbol_of}
-use Rattle.ldnumbers.specs.SymbolTable.{AreFound}
+use Rattle.ldmodel.specs.Lent.{data_of, placed_of, starts_of, symbol_of}
+use Rattle.ldnumbers.specs.SymbolTable.{AreFound, Rises}
+use Rattle.place.specs.Boundaries.{data_in}
 use Rattle.place.specs.Places.{Places}
 use Rattle.place.specs.declared.kept.Kept.{Kept}
 
@@ -17,6 +17,7 @@ pub record Keeps (p : Places) (first : ℕ) (k : Kept) : Type 0 where
   pub data_commands : k.data_commands.now ≡ p.data_commands
   pub dots : k.dots.now ≡ p.dots
   pub symbols : k.symbols.now ≡ p.symbols
+  pub boundaries : k.boundaries.now ≡ p.boundaries
   pub first_is : k.first ≡ first
 
 -- a list begins with these
@@ -26,9 +27,6 @@ pub record Begins {X : Type 0} (xs ys : List X) : Type 0 where
 
 abbrev pub counts_of : List PlacedSection → List ℕ
 counts_of sections = map (λ (q : PlacedSection). length q.pieces) sections
-
-abbrev pub data_in : List PlacedSection → List NumberedData
-data_in sections = flat_map numbered (enumerate_from 0 sections)
 
 -- it comes to a layout with which the kept one begins; symbols are those of a script
 pub record Leads (script : List Statement) (k : Kept) (wanted : Result Layout Fault) : Type 0 where
@@ -41,3 +39,4 @@ pub record Leads (script : List Statement) (k : Kept) (wanted : Result Layout Fa
   pub dots : Begins layout.dots k.dots.now
   pub symbols : Begins layout.symbols (map (symbol_of script) k.symbols.now)
   pub found : AreFound script k.symbols.now
+  pub rises : Rises k.symbols.now

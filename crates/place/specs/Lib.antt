@@ -1,6 +1,8 @@
 -- What the layout of a script is, as the code holds it.
 pub mod State
 pub mod Inputs
+pub mod Parts
+pub mod Boundaries
 pub mod Places
 pub mod Outcomes
 pub mod Taken
@@ -9,4 +11,4 @@ pub mod Ends
 pub mod Counted
 pub mod Kept
 pub mod Leads
-pub mod Coming
+pub mod Earlier

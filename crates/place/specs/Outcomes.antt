@@ -3,12 +3,13 @@ use Rattle.std.specs.Prelude.{◌≡◌, ◌≢◌, ℕ, List, [], ⊤, map, Ok}
 use Rattle.ldtree.specs.declared.statement.Statement.{Statement}
 use Rattle.ldmodel.specs.Fault.{Fault}
 use Rattle.ldmodel.specs.FaultCode.{fault_of}
-use Rattle.ldmodel.specs.Layout.{Layout}
+use Rattle.ldmodel.specs.Layout.{Layout, nothing_placed}
 use Rattle.ldmodel.specs.Overlaps.{overlaps}
 use Rattle.ldmodel.specs.Placement.{placement}
 use Rattle.ldmodel.specs.Project.{Project}
 use Rattle.ldmodel.specs.Rows.{Piece}
 use Rattle.ldmodel.specs.declared.fault.Fault as code_fault
+use Rattle.place.specs.Boundaries.{AreBoundariesOf}
 use Rattle.place.specs.Places.{AreOf, IsFirstFault, Places, StandsFor}
 use Rattle.place.specs.declared.fault.PlaceFault.{PlaceFault}
 use Rattle.place.specs.declared.fault.PlaceFault.TheVariants.{First, Meeting, NoMemory}
@@ -31,6 +32,7 @@ pub record IsGood (script : List Statement) (rows : List (List Piece)) (provided
   pub layout : Layout
   pub placed : placement script rows provided ≡ Ok layout
   pub places : AreOf script layout p
+  pub boundaries : AreBoundariesOf rows provided nothing_placed script p.boundaries
   pub apart : overlaps layout.sections ≡ []
 
 -- there is a layout, but output sections meet, and these are all the faults of it

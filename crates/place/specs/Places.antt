@@ -4,7 +4,7 @@ use Rattle.std.specs.List.{All, enumerate_from}
 use Rattle.ldtree.specs.declared.statement.Statement.{Statement}
 use Rattle.ldmodel.specs.Fault.{Fault}
 use Rattle.ldmodel.specs.FaultCode.{fault_of}
-use Rattle.ldmodel.specs.Layout.{Layout, PlacedSection}
+use Rattle.ldmodel.specs.Layout.{Layout, PlacedSection, nothing_placed}
 use Rattle.ldmodel.specs.Lent.{data_of, numbered, placed_of, region_of, starts_of, symbol_of}
 use Rattle.ldmodel.specs.Placement.{placement}
 use Rattle.ldmodel.specs.Project.{Project}
@@ -14,7 +14,9 @@ use Rattle.ldmodel.specs.declared.laid.Placed.{Placed}
 use Rattle.ldmodel.specs.declared.laid.PlacedData.{PlacedData}
 use Rattle.ldmodel.specs.declared.laid.PlacedRegion.{PlacedRegion}
 use Rattle.ldmodel.specs.declared.script_symbol.ScriptSymbol.{ScriptSymbol}
-use Rattle.ldnumbers.specs.SymbolTable.{AreFound}
+use Rattle.ldnumbers.specs.SymbolTable.{AreFound, Rises}
+use Rattle.place.specs.Boundaries.{AreBoundariesOf}
+use Rattle.place.specs.declared.boundary.Boundary.{Boundary}
 
 -- what a placement has, part by part
 pub record Places : Type 0 where
@@ -25,12 +27,13 @@ pub record Places : Type 0 where
   pub dots : List ℕ
   pub symbols : List ScriptSymbol
   pub regions : List PlacedRegion
+  pub boundaries : List Boundary
 
 -- the end of each output section is an address
 abbrev pub Ends : List Placed → Type 0
 Ends sections = All (λ (q : Placed). q.start + q.size < 2 ^ 64) sections
 
--- they are those of the layout of a script, and its symbols are found under the numbers of their commands
+-- they are those of the layout of a script, and its symbols are found under the numbers of their commands, which rise
 pub record AreOf (script : List Statement) (s : Layout) (p : Places) : Type 0 where
   pub sections : p.sections ≡ map placed_of s.sections
   pub counts : p.counts ≡ map (λ (q : PlacedSection). length q.pieces) s.sections
@@ -39,14 +42,17 @@ pub record AreOf (script : List Statement) (s : Layout) (p : Places) : Type 0 wh
   pub dots : p.dots ≡ s.dots
   pub symbols : map (symbol_of script) p.symbols ≡ s.symbols
   pub found : AreFound script p.symbols
+  pub rises : Rises p.symbols
   pub regions : p.regions ≡ map region_of s.regions
 
--- the script with these rows, in which these PROVIDEs are in force, has a layout, and these are its places
+-- the script with these rows, in which these PROVIDEs are in force, has a layout, and these are its places, with where
+-- it had come to after each output section
 pub record IsPlacement (script : List Statement) (rows : List (List Piece)) (provided : List (List ℕ)) (p : Places)
     : Type 0 where
   pub layout : Layout
   pub placed : placement script rows provided ≡ Ok layout
   pub places : AreOf script layout p
+  pub boundaries : AreBoundariesOf rows provided nothing_placed script p.boundaries
 
 -- a fault of the code stands for one of the definition, whatever project has the script
 abbrev pub StandsFor : List Statement → code_fault.Fault → Fault → Type 0

@@ -1,8 +1,9 @@
 //! What is kept of an earlier layout.
 
-ghost use Rattle.std.specs.Prelude.{◌≡◌, IfSome, IfNone};
+ghost use Rattle.std.specs.Prelude.{◌≡◌, take, IfSome, IfNone};
 ghost use Rattle.place.specs.Leads.{Keeps};
 
+use crate::boundary::Boundary;
 use crate::placement::Placement;
 use ldmodel::laid::{Placed, PlacedData};
 use ldmodel::script_symbol::ScriptSymbol;
@@ -22,6 +23,8 @@ pub(crate) struct Kept<'k> {
     pub dots: &'k [u64],
     /// The symbols.
     pub symbols: &'k [ScriptSymbol],
+    /// Where it had come to after each output section.
+    pub boundaries: &'k [Boundary],
     /// The number of the output section before which it is taken over.
     pub first: usize,
 }
@@ -42,6 +45,7 @@ impl<'k> Kept<'k> {
                     data_commands: laid.data_commands,
                     dots: laid.dots,
                     symbols: laid.symbols,
+                    boundaries: placement.boundaries(),
                     first,
                 }
             }
@@ -52,8 +56,20 @@ impl<'k> Kept<'k> {
                 data_commands: &[],
                 dots: &[],
                 symbols: &[],
+                boundaries: &[],
                 first: 0,
             },
+        }
+    }
+
+    /// The boundaries after the output sections that are taken over.
+    pub fn boundaries_before(&self) -> &'k [Boundary]
+        ensures { result.now ≡ take self.now.first self.now.boundaries.now }
+    {
+        match self.boundaries.get(..self.first) {
+            Some(boundaries) => boundaries,
+            // all of them, where no row differs and the number is past the last one
+            None => self.boundaries,
         }
     }
 }

@@ -3,11 +3,14 @@
 
 mod assign;
 mod body;
+mod boundary;
 mod end;
 pub mod fault;
 mod head;
+mod items;
 mod kept;
 mod memory;
+mod parts;
 pub mod place;
 pub mod placement;
 mod ready;

@@ -6,6 +6,7 @@ ghost use Rattle.ldmodel.specs.Layout.{Layout};
 ghost use Rattle.ldmodel.specs.Lent.{IsLaid};
 ghost use Rattle.place.specs.Places.{AreOf, Ends};
 
+use crate::boundary::Boundary;
 use ldmodel::laid::{Laid, Placed, PlacedData, PlacedRegion};
 use ldmodel::script_symbol::ScriptSymbol;
 use std::marker::Model;
@@ -21,6 +22,7 @@ pub struct Placement {
     pub(crate) dots: Vec<u64>,
     pub(crate) symbols: Vec<ScriptSymbol>,
     pub(crate) regions: Vec<PlacedRegion>,
+    pub(crate) boundaries: Vec<Boundary>,
 }
 
 impl Model for Placement {
@@ -39,6 +41,7 @@ impl Model for Placement {
       dots = p.dots.items;
       symbols = p.symbols.items;
       regions = p.regions.items;
+      boundaries = p.boundaries.items;
     } };
 
     ghost invariant = { λ p. Ends p.sections.items };
@@ -78,6 +81,13 @@ impl Placement {
         ensures { result.now ≡ self.now.counts }
     {
         &self.counts
+    }
+
+    /// Where the layout had come to after each output section.
+    pub(crate) fn boundaries(&self) -> &[Boundary]
+        ensures { result.now ≡ self.now.boundaries }
+    {
+        &self.boundaries
     }
 
     /// Where the input sections start, row by row.

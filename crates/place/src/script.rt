@@ -1,23 +1,23 @@
 //! The statements of a script.
 
-ghost use Rattle.std.specs.Prelude.{◌≡◌, ◌≤◌, ◌<◌, ◌+◌, [], map, slice_index_or, length, IfErr, IfOk, OnOk};
+ghost use Rattle.std.specs.Prelude.{◌≡◌, ◌≤◌, ◌<◌, ◌+◌, [], map, OnOk, IfOk};
 ghost use Rattle.ldmodel.specs.Chain.{run};
-ghost use Rattle.ldmodel.specs.Placement.{free_dot_step, item_command_step, item_step, statement_step};
+ghost use Rattle.ldmodel.specs.Placement.{statement_step};
 ghost use Rattle.ldnumbers.specs.Naming.{Naming};
-ghost use Rattle.place.specs.Counted.{Resumes, entries};
-ghost use Rattle.place.specs.Coming.{Coming};
+ghost use Rattle.place.specs.Boundaries.{AreBoundariesOf};
+ghost use Rattle.place.specs.Counted.{entries};
+ghost use Rattle.place.specs.Earlier.{EarlierScript};
 ghost use Rattle.place.specs.Inputs.{rows_of};
 ghost use Rattle.place.specs.State.{layout_of, Gives};
-ghost use Rattle.place.specs.declared.stop.Stop.TheVariants.{NoMemory};
 
+use crate::boundary::Boundary;
 use crate::kept::Kept;
+use crate::parts::Parts;
 use crate::state::{Done, Here};
 use crate::stop::Stop;
-use crate::taken::after;
 use ldmodel::rows::Piece;
 use ldnumbers::provided::Provided;
-use ldnumbers::steps::{Commons, Steps};
-use ldscript::tree::{Command, DotCommand, Item, ItemCommand, Statement};
+use ldscript::tree::{Command, Statement};
 use std::alloc::Global;
 
 /// What a layout is made from, beside the script.
@@ -33,198 +33,8 @@ pub(crate) struct Input<'i, 'a> {
     pub kept: Kept<'a>,
 }
 
-fn row_at(rows: &[Vec<Piece>], section: usize) -> &[Piece]
-    ensures { result.now ≡ slice_index_or (map (λ v. v.items) rows.now) section [] }
-{
-    match rows.get(section) {
-        Some(row) => row,
-        None => &[],
-    }
-}
-
-impl<'a> Here<'a> {
-    /// `. = e` and `. += e` outside output sections.
-    fn move_freely(
-        &mut self,
-        done: &Done<'a>,
-        line: u32,
-        command: &'a DotCommand,
-    ) -> Result<(), Stop<'a>>
-        ghost naming: { Naming }
-        ensures anew { self.new.anew ≡ self.old.anew }
-        ensures script { self.new.symbols.script ≡ self.old.symbols.script }
-        ensures gives { Gives (free_dot_step (layout_of naming self.old done.now) line command.now)
-            (layout_of naming self.new done.now) result }
-    {
-        match command {
-            DotCommand::Set(to) => {
-                self.dot = self.formula(done, line, to)?;
-                Ok(())
-            }
-            DotCommand::Add(by) => {
-                let by = self.formula(done, line, by)?;
-                self.dot = self.dot.wrapping_add(by);
-                Ok(())
-            }
-        }
-    }
-}
-
 impl<'i, 'a> Input<'i, 'a> {
-    #[tactic(auto, unfolding(ldmodel::specs::Placement::item_command_step), using(crate::proofs::Rows::next_row_is, crate::proofs::Counting::entries_more))]
-    fn place_command(
-        &self,
-        here: &mut Here<'a>,
-        done: &mut Done<'a>,
-        line: u32,
-        command: &'a ItemCommand,
-    ) -> Result<(), Stop<'a>>
-        ghost naming: { Naming }
-        requires { Coming naming self.now here.now.symbols.script (layout_of naming here.now done.now) (λ rows.
-            item_command_step rows self.now.provided.now line (layout_of naming here.now done.now) command.now) }
-        ensures script { here.new.symbols.script ≡ here.old.symbols.script }
-        ensures anew { here.new.anew ≤ here.old.anew + entries (length done.old.sections)
-            (map (λ v. v.items) self.now.rows.now) }
-        ensures left { OnOk result
-            (here.new.anew + entries (length done.new.sections) (map (λ v. v.items) self.now.rows.now) ≤ here.old.anew
-            + entries (length done.old.sections) (map (λ v. v.items) self.now.rows.now)) }
-        ensures resumed { OnOk result (Resumes self.now here.old here.new done.old.sections done.new.sections) }
-        ensures gives { Gives
-            (item_command_step (rows_of naming self.now) self.now.provided.now line
-            (layout_of naming here.old done.old) command.now) (layout_of naming here.new done.new) result }
-    {
-        match command {
-            ItemCommand::Dot(command) => here.move_freely(done, line, command),
-            ItemCommand::Common(command) => here.common(done, self.provided, line, command),
-            ItemCommand::Section(output) => {
-                let row = row_at(self.rows, done.sections.len());
-                if done.sections.len() < self.kept.first {
-                    here.take_section(
-                        self.alloc,
-                        done,
-                        self.provided,
-                        row,
-                        self.kept,
-                        line,
-                        output.get(),
-                    )
-                } else {
-                    here.place_section(self.alloc, done, self.provided, row, line, output.get())
-                }
-            }
-            ItemCommand::Discard(inputs) => {
-                let Some(next) = here.inputs.checked_add(inputs.as_slice().len() as u64) else {
-                    // it does not come to this: no script has 2^64 input statements
-                    return Err(Stop::NoMemory);
-                };
-                here.inputs = next;
-                Ok(())
-            }
-        }
-    }
-
-    /// A statement of SECTIONS.
-    fn place_item(
-        &self,
-        here: &mut Here<'a>,
-        done: &mut Done<'a>,
-        item: &'a Item,
-    ) -> Result<(), Stop<'a>>
-        ghost naming: { Naming }
-        requires { Coming naming self.now here.now.symbols.script (layout_of naming here.now done.now) (λ rows.
-            item_step rows self.now.provided.now (layout_of naming here.now done.now) item.now) }
-        ensures script { here.new.symbols.script ≡ here.old.symbols.script }
-        ensures anew { here.new.anew ≤ here.old.anew + entries (length done.old.sections)
-            (map (λ v. v.items) self.now.rows.now) }
-        ensures left { OnOk result
-            (here.new.anew + entries (length done.new.sections) (map (λ v. v.items) self.now.rows.now) ≤ here.old.anew
-            + entries (length done.old.sections) (map (λ v. v.items) self.now.rows.now)) }
-        ensures resumed { OnOk result (Resumes self.now here.old here.new done.old.sections done.new.sections) }
-        ensures gives { Gives
-            (item_step (rows_of naming self.now) self.now.provided.now (layout_of naming here.old done.old) item.now)
-            (layout_of naming here.new done.new) result }
-    {
-        here.dots.push(here.dot)?;
-        self.place_command(here, done, item.line, &item.command)
-    }
-
-    /// The commands of symbols that these statements of SECTIONS begin with, as they were in the earlier layout, as
-    /// long as all is taken over. It gives the statements after them.
-    fn take_commons(
-        &self,
-        here: &mut Here<'a>,
-        done: &Done<'a>,
-        items: &'a [Item],
-    ) -> Result<&'a [Item], Stop<'a>>
-        ghost naming: { Naming }
-        requires { Coming naming self.now here.now.symbols.script (layout_of naming here.now done.now) (λ rows.
-            run (item_step rows self.now.provided.now) (layout_of naming here.now done.now) items.now) }
-        ensures script { here.new.symbols.script ≡ here.old.symbols.script }
-        ensures anew { here.new.anew ≡ here.old.anew }
-        ensures fewer { IfOk result (λ rest. length rest.now ≤ length items.now) }
-        ensures goes { IfOk result (λ rest.
-            run (item_step (rows_of naming self.now) self.now.provided.now) (layout_of naming here.old done.now)
-            items.now
-            ≡ run (item_step (rows_of naming self.now) self.now.provided.now) (layout_of naming here.new done.now)
-            rest.now) }
-        ensures comes { IfOk result (λ rest.
-            Coming naming self.now here.new.symbols.script (layout_of naming here.new done.now) (λ rows.
-            run (item_step rows self.now.provided.now) (layout_of naming here.new done.now) rest.now)) }
-        ensures refused { IfErr result (λ f. f ≡ NoMemory) }
-    {
-        if done.sections.len() >= self.kept.first {
-            return Ok(items);
-        }
-        // it does not come to an error here but for memory: the names are those that the script gives values
-        let Some(commons) = Commons::first(self.provided, items) else {
-            return Err(Stop::NoMemory);
-        };
-        let steps = Steps {
-            inputs: 0,
-            symbols: commons.symbols,
-            data_commands: 0,
-        };
-        here.pass(self.kept, commons.items, steps, here.dot)?;
-        match after(items, commons.items) {
-            Some(rest) => Ok(rest),
-            None => Err(Stop::NoMemory),
-        }
-    }
-
-    /// The statements of SECTIONS.
-    #[tactic(auto, unfolding(ldmodel::specs::Chain::run))]
-    fn place_items(
-        &self,
-        here: &mut Here<'a>,
-        done: &mut Done<'a>,
-        items: &'a [Item],
-    ) -> Result<(), Stop<'a>>
-        ghost naming: { Naming }
-        requires { Coming naming self.now here.now.symbols.script (layout_of naming here.now done.now) (λ rows.
-            run (item_step rows self.now.provided.now) (layout_of naming here.now done.now) items.now) }
-        ensures script { here.new.symbols.script ≡ here.old.symbols.script }
-        ensures anew { here.new.anew ≤ here.old.anew + entries (length done.old.sections)
-            (map (λ v. v.items) self.now.rows.now) }
-        ensures left { OnOk result
-            (here.new.anew + entries (length done.new.sections) (map (λ v. v.items) self.now.rows.now) ≤ here.old.anew
-            + entries (length done.old.sections) (map (λ v. v.items) self.now.rows.now)) }
-        ensures resumed { OnOk result (Resumes self.now here.old here.new done.old.sections done.new.sections) }
-        ensures gives { Gives
-            (run (item_step (rows_of naming self.now) self.now.provided.now) (layout_of naming here.old done.old)
-            items.now) (layout_of naming here.new done.new) result }
-    {
-        let mut rest = items;
-        while !rest.is_empty() {
-            rest = self.take_commons(here, done, rest)?;
-            if let Some((item, later)) = rest.split_first() {
-                self.place_item(here, done, item)?;
-                rest = later;
-            }
-        }
-        Ok(())
-    }
-
-    /// A statement of the script.
+    /// A statement outside SECTIONS.
     #[tactic(auto, unfolding(ldmodel::specs::Placement::command_step))]
     fn place_statement(
         &self,
@@ -233,15 +43,9 @@ impl<'i, 'a> Input<'i, 'a> {
         statement: &'a Statement,
     ) -> Result<(), Stop<'a>>
         ghost naming: { Naming }
-        requires { Coming naming self.now here.now.symbols.script (layout_of naming here.now done.now) (λ rows.
-            statement_step rows self.now.provided.now (layout_of naming here.now done.now) statement.now) }
         ensures script { here.new.symbols.script ≡ here.old.symbols.script }
-        ensures anew { here.new.anew ≤ here.old.anew + entries (length done.old.sections)
-            (map (λ v. v.items) self.now.rows.now) }
-        ensures left { OnOk result
-            (here.new.anew + entries (length done.new.sections) (map (λ v. v.items) self.now.rows.now) ≤ here.old.anew
-            + entries (length done.old.sections) (map (λ v. v.items) self.now.rows.now)) }
-        ensures resumed { OnOk result (Resumes self.now here.old here.new done.old.sections done.new.sections) }
+        ensures anew { here.new.anew ≡ here.old.anew }
+        ensures sections { done.new.sections ≡ done.old.sections }
         ensures gives { Gives
             (statement_step (rows_of naming self.now) self.now.provided.now (layout_of naming here.old done.old)
             statement.now) (layout_of naming here.new done.new) result }
@@ -249,31 +53,26 @@ impl<'i, 'a> Input<'i, 'a> {
         match &statement.command {
             Command::Entry(_) => Ok(()),
             Command::Memory(regions) => here.declare_all(done, regions.as_slice()),
-            Command::Sections(items) => self.place_items(here, done, items.as_slice()),
+            // it does not come to this: a script has one SECTIONS
+            Command::Sections(_) => Err(Stop::NoMemory),
             Command::Common(command) => {
                 here.common(done, self.provided, statement.line, command)
             }
         }
     }
 
-    /// The statements of the script.
+    /// The statements before SECTIONS, or those after it.
     #[tactic(auto, unfolding(ldmodel::specs::Chain::run))]
-    pub fn place_statements(
+    fn place_statements(
         &self,
         here: &mut Here<'a>,
         done: &mut Done<'a>,
         statements: &'a [Statement],
     ) -> Result<(), Stop<'a>>
         ghost naming: { Naming }
-        requires { Coming naming self.now here.now.symbols.script (layout_of naming here.now done.now) (λ rows.
-            run (statement_step rows self.now.provided.now) (layout_of naming here.now done.now) statements.now) }
         ensures script { here.new.symbols.script ≡ here.old.symbols.script }
-        ensures anew { here.new.anew ≤ here.old.anew + entries (length done.old.sections)
-            (map (λ v. v.items) self.now.rows.now) }
-        ensures left { OnOk result
-            (here.new.anew + entries (length done.new.sections) (map (λ v. v.items) self.now.rows.now) ≤ here.old.anew
-            + entries (length done.old.sections) (map (λ v. v.items) self.now.rows.now)) }
-        ensures resumed { OnOk result (Resumes self.now here.old here.new done.old.sections done.new.sections) }
+        ensures anew { here.new.anew ≡ here.old.anew }
+        ensures sections { done.new.sections ≡ done.old.sections }
         ensures gives { Gives
             (run (statement_step (rows_of naming self.now) self.now.provided.now) (layout_of naming here.old done.old)
             statements.now) (layout_of naming here.new done.new) result }
@@ -282,5 +81,35 @@ impl<'i, 'a> Input<'i, 'a> {
             self.place_statement(here, done, statement)?;
         }
         Ok(())
+    }
+
+    /// All statements of a script: those before SECTIONS, those of it, and those after it. It gives where the layout had
+    /// come to after each output section.
+    pub fn place_script(
+        &self,
+        here: &mut Here<'a>,
+        done: &mut Done<'a>,
+        statements: &'a [Statement],
+    ) -> Result<Vec<Boundary>, Stop<'a>>
+        ghost naming: { Naming }
+        requires none { done.now.sections ≡ [] }
+        requires earlier { 0 < self.now.kept.first → EarlierScript naming self.now here.now.symbols.script
+            (layout_of naming here.now done.now) statements.now }
+        ensures script { here.new.symbols.script ≡ here.old.symbols.script }
+        ensures anew { here.new.anew ≤ here.old.anew + entries 0 (map (λ v. v.items) self.now.rows.now) }
+        ensures resumed { OnOk result (here.new.anew ≤ here.old.anew
+            + entries self.now.kept.first (map (λ v. v.items) self.now.rows.now)) }
+        ensures gives { Gives
+            (run (statement_step (rows_of naming self.now) self.now.provided.now) (layout_of naming here.old done.old)
+            statements.now) (layout_of naming here.new done.new) result }
+        ensures boundaries { IfOk result (λ bs.
+            AreBoundariesOf (rows_of naming self.now) self.now.provided.now (layout_of naming here.old done.old)
+            statements.now bs.items) }
+    {
+        let parts = Parts::of(statements);
+        self.place_statements(here, done, parts.before)?;
+        let boundaries = self.place_items(here, done, parts.items)?;
+        self.place_statements(here, done, parts.after)?;
+        Ok(boundaries)
     }
 }

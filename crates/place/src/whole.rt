@@ -10,6 +10,7 @@ ghost use Rattle.ldnumbers.specs.Wholes.{all_data_in, counts_in, data_in, placed
 ghost use Rattle.place.specs.Places.{AreOf};
 ghost use Rattle.place.specs.State.{layout_of};
 
+use crate::boundary::Boundary;
 use crate::placement::Placement;
 use crate::state::{Done, Here};
 use ldmodel::laid::{OutputIndex, Placed, PlacedData, PlacedRegion};
@@ -127,11 +128,17 @@ fn regions_of(alloc: Global, regions: &[Region<'_>]) -> Result<Vec<PlacedRegion>
     Ok(list)
 }
 
-/// The whole of a layout.
+/// The whole of a layout, with where it had come to after each output section.
 #[tactic(auto, using(crate::proofs::Wholes::placed_whole, crate::proofs::Wholes::counts_whole, crate::proofs::Wholes::starts_whole, crate::proofs::Wholes::data_whole))]
-pub(crate) fn whole(alloc: Global, here: Here<'_>, done: &Done<'_>) -> Result<Placement, AllocError>
+pub(crate) fn whole(
+    alloc: Global,
+    here: Here<'_>,
+    done: &Done<'_>,
+    boundaries: Vec<Boundary>,
+) -> Result<Placement, AllocError>
     ghost naming: { Naming }
-    ensures { IfOk result (λ p. AreOf here.entry.symbols.script (layout_of naming here.entry done.now) p) }
+    ensures places { IfOk result (λ p. AreOf here.entry.symbols.script (layout_of naming here.entry done.now) p) }
+    ensures boundaries { IfOk result (λ p. p.boundaries ≡ boundaries.items) }
 {
     let sections = done.sections.as_slice();
     let placed = numbers_of(alloc, sections)?;
@@ -147,5 +154,6 @@ pub(crate) fn whole(alloc: Global, here: Here<'_>, done: &Done<'_>) -> Result<Pl
         dots: here.dots,
         symbols: here.symbols.into_list(),
         regions,
+        boundaries,
     })
 }

@@ -15,7 +15,12 @@ pub kept_good : (script : List Statement) (earlier present now lent : List (List
     → IsGood script (rows_named unnamed lent) numbers p → IsKept script (rows_named unnamed present) numbers p first
 kept_good script earlier present now lent numbers p first a b same good = record {
   earlier = rows_named unnamed lent;
-  placed = record { layout = good.layout; placed = good.placed; places = good.places };
+  placed = record {
+    layout = good.layout;
+    placed = good.placed;
+    places = good.places;
+    boundaries = good.boundaries;
+  };
   same = λ k l. get_or-map (row_named unnamed) lent k []
       ∙ (ap (row_named unnamed) (ap (λ xs. get_or xs k []) a ∙ (same k l ∙ ap (λ xs. get_or xs k []) b))
       ∙ sym (get_or-map (row_named unnamed) present k []));

@@ -1,17 +1,12 @@
 use Rattle.std.proofs.Common.{get_or, [], map, ap, ◌∙◌, arith}
-use Rattle.place.proofs.Counting.{placed_resumes, taken_resumes}
+use Rattle.place.proofs.Counting.{placed_resumes}
 use Rattle.place.proofs.script.Input.place_command.Goals as goal
-
-pub returns-then-len-self-clause-resumed : goal.returns-then-len-self-clause-resumed
-returns-then-len-self-clause-resumed g c =
-    taken_resumes c.take_section.result c.args.self.now c.args.here.now c.take_section.new.self c.args.done.now.sections
-    c.take_section.new.done.sections c.take_section.ensures.one c.take_section.ensures.anew
-    (omega (arith, c.len-in-Section.ensures, c.if-len-self.true))
 
 pub returns-else-len-self-clause-resumed : goal.returns-else-len-self-clause-resumed
 returns-else-len-self-clause-resumed g c =
     placed_resumes c.place_section.result c.args.self.now c.args.here.now c.place_section.new.self
     c.args.done.now.sections c.place_section.new.done.sections c.row_at-row.result.now c.place_section.ensures.one
     c.place_section.ensures.anew
-    (c.row_at-row.ensures ∙ ap (λ k. get_or (map (λ v. v.items) c.args.self.now.rows.now) k []) c.len.ensures)
-    (omega (arith, c.len-in-Section.ensures, c.if-len-self.false))
+    (c.row_at-row.ensures ∙ ap (λ k. get_or (map (λ v. v.items) c.args.self.now.rows.now) k [])
+    c.len-in-Section.ensures)
+    (omega (arith, c.len.ensures, c.if-len-self.false))

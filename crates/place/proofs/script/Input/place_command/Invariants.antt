@@ -6,8 +6,5 @@ ghost-move_freely g a = g.naming
 abbrev pub ghost-common : goal.ghost-common
 ghost-common g a = g.naming
 
-abbrev pub ghost-take_section : goal.ghost-take_section
-ghost-take_section g a = g.naming
-
 abbrev pub ghost-place_section : goal.ghost-place_section
 ghost-place_section g a = g.naming

@@ -1,8 +1,6 @@
-use Rattle.std.proofs.Common.{◌≡◌, ◌+◌, ◌≤◌, drop, length, map}
+use Rattle.std.proofs.Common.{◌≡◌, drop}
 use Rattle.ldmodel.specs.Chain.{run}
 use Rattle.ldmodel.specs.Placement.{statement_step}
-use Rattle.place.specs.Coming.{Coming}
-use Rattle.place.specs.Counted.{Resumes, entries}
 use Rattle.place.specs.Inputs.{rows_of}
 use Rattle.place.specs.State.{layout_of}
 use Rattle.place.proofs.script.Input.place_statements.Given as goal
@@ -16,11 +14,7 @@ invariant-loop-statement g l = record {
       l.statements
       ≡ run (statement_step (rows_of g.naming l.self) l.self.provided.now) (layout_of g.naming l.here l.done)
       (drop l.statement-index l.statements);
-  anew : l.here.anew + entries (length l.done.sections) (map (λ v. v.items) l.self.rows.now)
-      ≤ l.fn.here.anew + entries (length l.fn.done.sections) (map (λ v. v.items) l.self.rows.now);
   script : l.here.symbols.script ≡ l.fn.here.symbols.script;
-  coming : Coming g.naming l.self l.here.symbols.script (layout_of g.naming l.here l.done) (λ rows.
-      run (statement_step rows l.self.provided.now) (layout_of g.naming l.here l.done)
-      (drop l.statement-index l.statements));
-  resumed : Resumes l.self l.fn.here l.here l.fn.done.sections l.done.sections;
+  anew : l.here.anew ≡ l.fn.here.anew;
+  sections : l.done.sections ≡ l.fn.done.sections;
 }

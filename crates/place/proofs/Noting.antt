@@ -1,0 +1,98 @@
+-- Where a layout has come to is noted after each output section.
+use Rattle.std.proofs.Common.{◌≡◌, ℕ, zero, suc, ◌+◌, ◌≤◌, ◌<◌, List, [], ◌∷◌, ◌++◌, length, take, get_or, ◌⊎◌}
+use Rattle.std.proofs.Common.{Result, Ok, Err, Some, inl, inr, refl, sym, ap, subst, ◌∙◌, arith, length-append}
+use Rattle.std.specs.Prelude.{slice_get}
+use Rattle.std.proofs.lemmas.List.{length-map}
+use Rattle.std.proofs.lemmas.Option.{slice_get_read}
+use Rattle.ldtree.specs.declared.statement.Item.{Item}
+use Rattle.ldmodel.specs.Chain.{run}
+use Rattle.ldmodel.specs.Layout.{Layout}
+use Rattle.ldmodel.specs.Placement.{item_step}
+use Rattle.ldmodel.specs.Rows.{Piece}
+use Rattle.ldnumbers.specs.Keyed.{section_of}
+use Rattle.ldnumbers.specs.Naming.{Naming}
+use Rattle.place.proofs.Onward.{fewer, item_on}
+use Rattle.place.proofs.Runs.{run_more, run_stops}
+use Rattle.place.specs.Boundaries.{AreNoted, IsAt, IsBoundary}
+use Rattle.place.specs.State.{layout_of, fault_of, Gives}
+use Rattle.place.specs.declared.boundary.Boundary.{Boundary}
+use Rattle.place.specs.declared.state.Done.{Done}
+use Rattle.place.specs.declared.state.Here.{Here}
+use Rattle.place.specs.declared.stop.Stop.{Stop}
+use Rattle.place.specs.declared.stop.Stop.TheVariants as stop
+
+-- an element of a list with one more
+among_more : {X : Type 0} (xs : List X) (x : X) (k : ℕ) (y : X) → slice_get (xs ++ x ∷ []) k ≡ Some y
+    → (slice_get xs k ≡ Some y) ⊎ ((k ≡ length xs) × (x ≡ y))
+among_more [] x zero y e = inr (refl, let same : x ≡ y = cc in same)
+among_more [] x (suc k) y e = absurd (let no : ⊥ = cc in no)
+among_more (z ∷ zs) x zero y e = inl e
+among_more (z ∷ zs) x (suc k) y e = elim (among_more zs x k y e) [
+  | inl h ↦ inl h
+  | inr h ↦ inr (ap suc h.0, h.1)
+]
+
+module _ (n : Naming) (rows : List (List Piece)) (provided : List (List ℕ)) (start : Layout) (items : List Item)
+    (h : Here) (d : Done) (k : ℕ) (x : Item)
+    (comes : run (item_step rows provided) start (take k items) ≡ Ok (layout_of n h d))
+    (l : k < length items) (at : x ≡ get_or items k x) where
+  there : slice_get items k ≡ Some x
+  there = slice_get_read items (length items) k x refl l at
+
+  -- where a statement stops, all do
+  pub stops_there : {T : Type 0} (s : Layout) (f : Stop) (r : Result T Stop)
+      → (item_step rows provided (layout_of n h d) x ≡ Err (fault_of f)) ⊎ (f ≡ stop.NoMemory) → r ≡ Err f
+      → Gives (run (item_step rows provided) start items) s r
+  stops_there s f r (inl e) is =
+      subst (Gives (run (item_step rows provided) start items) s) (sym is)
+      (inl (run_stops (item_step rows provided) items k x start (layout_of n h d) (fault_of f) comes there e))
+  stops_there s f r (inr m) is = subst (Gives (run (item_step rows provided) start items) s) (sym is) (inr m)
+
+  module _ (h' : Here) (d' : Done) (step : item_step rows provided (layout_of n h d) x ≡ Ok (layout_of n h' d')) where
+    pub comes_on : run (item_step rows provided) start (take (k + 1) items) ≡ Ok (layout_of n h' d')
+    comes_on =
+        let e : suc k ≡ k + 1 = omega arith in
+        ap (λ j. run (item_step rows provided) start (take j items)) (sym e)
+        ∙ run_more (item_step rows provided) items k x start (layout_of n h d) (layout_of n h' d') comes there step
+
+    no_fewer : length d.sections ≤ length d'.sections
+    no_fewer =
+        let a = fewer (layout_of n h d) (layout_of n h' d')
+        (item_on rows provided (layout_of n h d) x (layout_of n h' d') step) in
+        let b = length-map d.sections (section_of n) in
+        let c = length-map d'.sections (section_of n) in
+        omega (arith, a, b, c)
+
+    -- no output section was placed
+    pub noted_still : (bs : List Boundary) → AreNoted rows provided start items bs (length d.sections)
+        → length d'.sections ≤ length bs → AreNoted rows provided start items bs (length d'.sections)
+    noted_still bs a few = record {
+      all = a.all;
+      many = let m = a.many in let f = no_fewer in omega (arith, m, f, few);
+    }
+
+    -- one was
+    pub noted_more : (bs more : List Boundary) (b : Boundary) → AreNoted rows provided start items bs (length d.sections)
+        → length bs < length d'.sections → length d'.sections ≤ length d.sections + 1
+        → b.items ≡ k + 1 → IsAt b (layout_of n h' d') → more ≡ bs ++ b ∷ []
+        → AreNoted rows provided start items more (length d'.sections)
+    noted_more bs more b a some one items_is is e = record {
+      all = λ j y there'. elim (among_more bs b j y (ap (λ z. slice_get z j) (sym e) ∙ there')) [
+        | inl old ↦ a.all j y old
+        | inr new ↦ subst (λ z. IsBoundary rows provided start items z j) new.1 (record {
+          place = k;
+          items_is = let m = items_is in omega (arith, m);
+          item = x;
+          there = there;
+          before = layout_of n h d;
+          comes = comes;
+          many = let m = a.many in let q = new.0 in length-map d.sections (section_of n) ∙ omega (arith, m, q);
+          after = layout_of n h' d';
+          step = step;
+          one = let m = a.many in let q = new.0 in
+              length-map d'.sections (section_of n) ∙ omega (arith, m, q, some, one);
+          at = is;
+        })
+      ];
+      many = let m = a.many in let f = ap length e ∙ length-append bs (b ∷ []) in omega (arith, m, f, some, one);
+    }

@@ -1,0 +1,102 @@
+use Rattle.std.proofs.Common.{◌≡◌, rules, Err, List, sym, ap, ◌∙◌, subst}
+use Rattle.ldtree.specs.declared.statement.Item.{Item}
+use Rattle.ldmodel.specs.Chain.{run}
+use Rattle.ldmodel.specs.Placement.{item_step, statement_step}
+use Rattle.place.proofs.Joining.{after_goes, before_stops, earlier_items, items_stop, stops_so}
+use Rattle.place.specs.Boundaries.{AreBoundaries}
+use Rattle.place.specs.Inputs.{rows_of}
+use Rattle.place.specs.State.{fault_of, layout_of}
+use Rattle.place.proofs.script.Input.place_script.Goals as goal
+
+pub returns-in_err-place_statements-clause-gives : goal.returns-in_err-place_statements-clause-gives
+returns-in_err-place_statements-clause-gives g c =
+    let is : c.from_residual.result ≡ Err c.in_err-place_statements.field-0.0 = search rules in
+    stops_so
+    (run (statement_step (rows_of g.naming c.args.self.now) c.args.self.now.provided.now)
+    (layout_of g.naming c.args.here.now c.args.done.now) c.of-parts.result.before.now) _ _ c.from_residual.result
+    c.in_err-place_statements.field-0.0 c.in_err-place_statements.ensures.gives
+    (λ e. before_stops (rows_of g.naming c.args.self.now) c.args.self.now.provided.now c.args.statements.now
+    (layout_of g.naming c.args.here.now c.args.done.now) (fault_of c.in_err-place_statements.field-0.0)
+    (ap (run (statement_step (rows_of g.naming c.args.self.now) c.args.self.now.provided.now)
+    (layout_of g.naming c.args.here.now c.args.done.now)) (sym c.of-parts.ensures.before) ∙ e)) is
+
+pub place_items-requires : goal.place_items-requires
+place_items-requires g c = (
+  c.place_statements.ensures.sections ∙ c.requires.0,
+  λ some. earlier_items g.naming c.args.self.now c.args.here.now.symbols.script
+      c.place_statements.new.here.symbols.script (layout_of g.naming c.args.here.now c.args.done.now)
+      (layout_of g.naming c.place_statements.new.here c.place_statements.new.done) c.args.statements.now
+      c.of-parts.result.items.now c.place_statements.ensures.script c.of-parts.ensures.items
+      (ap (run (statement_step (rows_of g.naming c.args.self.now) c.args.self.now.provided.now)
+      (layout_of g.naming c.args.here.now c.args.done.now)) (sym c.of-parts.ensures.before)
+      ∙ c.in_ok-place_statements.ensures.gives) (c.requires.1 some),
+)
+
+pub returns-in_err-boundaries-clause-gives : goal.returns-in_err-boundaries-clause-gives
+returns-in_err-boundaries-clause-gives g c =
+    let is : c.from_residual-in_err-boundaries.result ≡ Err c.in_err-boundaries.field-0.0 = search rules in
+    stops_so
+    (run (item_step (rows_of g.naming c.args.self.now) c.args.self.now.provided.now)
+    (layout_of g.naming c.place_statements.new.here c.place_statements.new.done) c.of-parts.result.items.now) _ _
+    c.from_residual-in_err-boundaries.result c.in_err-boundaries.field-0.0 c.in_err-boundaries.ensures.gives
+    (λ e. items_stop (rows_of g.naming c.args.self.now) c.args.self.now.provided.now c.args.statements.now
+    (layout_of g.naming c.args.here.now c.args.done.now)
+    (layout_of g.naming c.place_statements.new.here c.place_statements.new.done)
+    (fault_of c.in_err-boundaries.field-0.0)
+    (ap (run (statement_step (rows_of g.naming c.args.self.now) c.args.self.now.provided.now)
+    (layout_of g.naming c.args.here.now c.args.done.now)) (sym c.of-parts.ensures.before)
+    ∙ c.in_ok-place_statements.ensures.gives)
+    (ap (run (item_step (rows_of g.naming c.args.self.now) c.args.self.now.provided.now)
+    (layout_of g.naming c.place_statements.new.here c.place_statements.new.done)) (sym c.of-parts.ensures.items) ∙ e))
+    is
+
+pub returns-in_err-place_statements-2-clause-gives : goal.returns-in_err-place_statements-2-clause-gives
+returns-in_err-place_statements-2-clause-gives g c =
+    let is : c.from_residual-in_err-place_statements-2.result ≡ Err c.in_err-place_statements-2.field-0.0 = search rules
+    in
+    stops_so
+    (run (statement_step (rows_of g.naming c.args.self.now) c.args.self.now.provided.now)
+    (layout_of g.naming c.place_items.new.here c.place_items.new.done) c.of-parts.result.after.now) _ _
+    c.from_residual-in_err-place_statements-2.result c.in_err-place_statements-2.field-0.0
+    c.in_err-place_statements-2.ensures.gives
+    (λ e.
+    after_goes (rows_of g.naming c.args.self.now) c.args.self.now.provided.now c.args.statements.now
+    (layout_of g.naming c.args.here.now c.args.done.now)
+    (layout_of g.naming c.place_statements.new.here c.place_statements.new.done)
+    (layout_of g.naming c.place_items.new.here c.place_items.new.done)
+    (ap (run (statement_step (rows_of g.naming c.args.self.now) c.args.self.now.provided.now)
+    (layout_of g.naming c.args.here.now c.args.done.now)) (sym c.of-parts.ensures.before)
+    ∙ c.in_ok-place_statements.ensures.gives)
+    (ap (run (item_step (rows_of g.naming c.args.self.now) c.args.self.now.provided.now)
+    (layout_of g.naming c.place_statements.new.here c.place_statements.new.done)) (sym c.of-parts.ensures.items)
+    ∙ c.in_ok-boundaries.ensures.gives)
+    ∙ (ap (run (statement_step (rows_of g.naming c.args.self.now) c.args.self.now.provided.now)
+    (layout_of g.naming c.place_items.new.here c.place_items.new.done)) (sym c.of-parts.ensures.after)
+    ∙ e)) is
+
+pub returns-clause-gives : goal.returns-clause-gives
+returns-clause-gives g c =
+    after_goes (rows_of g.naming c.args.self.now) c.args.self.now.provided.now c.args.statements.now
+    (layout_of g.naming c.args.here.now c.args.done.now)
+    (layout_of g.naming c.place_statements.new.here c.place_statements.new.done)
+    (layout_of g.naming c.place_items.new.here c.place_items.new.done)
+    (ap (run (statement_step (rows_of g.naming c.args.self.now) c.args.self.now.provided.now)
+    (layout_of g.naming c.args.here.now c.args.done.now)) (sym c.of-parts.ensures.before)
+    ∙ c.in_ok-place_statements.ensures.gives)
+    (ap (run (item_step (rows_of g.naming c.args.self.now) c.args.self.now.provided.now)
+    (layout_of g.naming c.place_statements.new.here c.place_statements.new.done)) (sym c.of-parts.ensures.items)
+    ∙ c.in_ok-boundaries.ensures.gives)
+    ∙ (ap (run (statement_step (rows_of g.naming c.args.self.now) c.args.self.now.provided.now)
+    (layout_of g.naming c.place_items.new.here c.place_items.new.done)) (sym c.of-parts.ensures.after)
+    ∙ c.in_ok-place_statements-2.ensures.gives)
+
+pub returns-clause-boundaries : goal.returns-clause-boundaries
+returns-clause-boundaries g c = record {
+  start = layout_of g.naming c.place_statements.new.here c.place_statements.new.done;
+  comes = ap (run (statement_step (rows_of g.naming c.args.self.now) c.args.self.now.provided.now)
+      (layout_of g.naming c.args.here.now c.args.done.now)) (sym c.of-parts.ensures.before)
+      ∙ c.in_ok-place_statements.ensures.gives;
+  all = subst (λ (items : List Item). AreBoundaries (rows_of g.naming c.args.self.now) c.args.self.now.provided.now
+      (layout_of g.naming c.place_statements.new.here c.place_statements.new.done) items
+      c.in_ok-boundaries.boundaries.items) c.of-parts.ensures.items c.in_ok-boundaries.ensures.boundaries;
+}

@@ -1,0 +1,10 @@
+use Rattle.place.proofs.Resuming.{Reached}
+use Rattle.place.specs.Earlier.{Earlier}
+use Rattle.place.specs.State.{layout_of}
+use Rattle.place.proofs.script.Input.resume.Given as goal
+
+abbrev pub invariant-loop-boundary : goal.invariant-loop-boundary
+invariant-loop-boundary g l = record {
+  reached : (e : Earlier g.naming l.self l.fn.here.symbols.script (layout_of g.naming l.fn.here l.fn.done) l.items)
+      → Reached g.naming l.self (layout_of g.naming l.fn.here l.fn.done) l.items e.rows l.done l.boundary-index;
+}

@@ -1,0 +1,175 @@
+//! The statements of SECTIONS.
+
+ghost use Rattle.std.specs.Prelude.{◌≡◌, ◌≤◌, ◌<◌, ◌+◌, [], map, slice_index_or, length, IfOk, OnOk};
+ghost use Rattle.ldmodel.specs.Chain.{run};
+ghost use Rattle.ldmodel.specs.Placement.{free_dot_step, item_command_step, item_step};
+ghost use Rattle.ldnumbers.specs.Naming.{Naming};
+ghost use Rattle.place.specs.Boundaries.{AreBoundaries, IsAt};
+ghost use Rattle.place.specs.Counted.{Resumes, entries};
+ghost use Rattle.place.specs.Earlier.{Earlier};
+ghost use Rattle.place.specs.Inputs.{rows_of};
+ghost use Rattle.place.specs.State.{layout_of, Gives};
+
+use crate::boundary::Boundary;
+use crate::script::Input;
+use crate::state::{Done, Here};
+use crate::stop::Stop;
+use ldmodel::rows::Piece;
+use ldscript::tree::{DotCommand, Item, ItemCommand};
+
+/// The row of the output section of a number.
+pub(crate) fn row_at(rows: &[Vec<Piece>], section: usize) -> &[Piece]
+    ensures { result.now ≡ slice_index_or (map (λ v. v.items) rows.now) section [] }
+{
+    match rows.get(section) {
+        Some(row) => row,
+        None => &[],
+    }
+}
+
+impl<'a> Here<'a> {
+    /// `. = e` and `. += e` outside output sections.
+    fn move_freely(
+        &mut self,
+        done: &Done<'a>,
+        line: u32,
+        command: &'a DotCommand,
+    ) -> Result<(), Stop<'a>>
+        ghost naming: { Naming }
+        ensures anew { self.new.anew ≡ self.old.anew }
+        ensures script { self.new.symbols.script ≡ self.old.symbols.script }
+        ensures gives { Gives (free_dot_step (layout_of naming self.old done.now) line command.now)
+            (layout_of naming self.new done.now) result }
+    {
+        match command {
+            DotCommand::Set(to) => {
+                self.dot = self.formula(done, line, to)?;
+                Ok(())
+            }
+            DotCommand::Add(by) => {
+                let by = self.formula(done, line, by)?;
+                self.dot = self.dot.wrapping_add(by);
+                Ok(())
+            }
+        }
+    }
+
+    /// Where the layout has come to, after this many statements of SECTIONS.
+    fn boundary(&self, done: &Done<'a>, items: usize) -> Boundary
+        ghost naming: { Naming }
+        ensures items { result.items ≡ items }
+        ensures at { IsAt result (layout_of naming self.now done.now) }
+    {
+        Boundary {
+            items,
+            dot: self.dot,
+            dots: self.dots.len(),
+            inputs: self.inputs,
+            symbols: self.symbols.len(),
+            data_commands: done.sections.data_count(),
+        }
+    }
+}
+
+impl<'i, 'a> Input<'i, 'a> {
+    #[tactic(auto, unfolding(ldmodel::specs::Placement::item_command_step), using(crate::proofs::Rows::next_row_is, crate::proofs::Counting::entries_more))]
+    fn place_command(
+        &self,
+        here: &mut Here<'a>,
+        done: &mut Done<'a>,
+        line: u32,
+        command: &'a ItemCommand,
+    ) -> Result<(), Stop<'a>>
+        ghost naming: { Naming }
+        ensures script { here.new.symbols.script ≡ here.old.symbols.script }
+        ensures anew { here.new.anew ≤ here.old.anew + entries (length done.old.sections)
+            (map (λ v. v.items) self.now.rows.now) }
+        ensures left { OnOk result
+            (here.new.anew + entries (length done.new.sections) (map (λ v. v.items) self.now.rows.now) ≤ here.old.anew
+            + entries (length done.old.sections) (map (λ v. v.items) self.now.rows.now)) }
+        ensures resumed { OnOk result (Resumes self.now here.old here.new done.old.sections done.new.sections) }
+        ensures few { OnOk result (length done.new.sections ≤ length done.old.sections + 1) }
+        ensures gives { Gives
+            (item_command_step (rows_of naming self.now) self.now.provided.now line
+            (layout_of naming here.old done.old) command.now) (layout_of naming here.new done.new) result }
+    {
+        match command {
+            ItemCommand::Dot(command) => here.move_freely(done, line, command),
+            ItemCommand::Common(command) => here.common(done, self.provided, line, command),
+            ItemCommand::Section(output) => {
+                if done.sections.len() < self.kept.first {
+                    // it does not come to this: these are taken over
+                    return Err(Stop::NoMemory);
+                }
+                let row = row_at(self.rows, done.sections.len());
+                here.place_section(self.alloc, done, self.provided, row, line, output.get())
+            }
+            ItemCommand::Discard(inputs) => {
+                let Some(next) = here.inputs.checked_add(inputs.as_slice().len() as u64) else {
+                    // it does not come to this: no script has 2^64 input statements
+                    return Err(Stop::NoMemory);
+                };
+                here.inputs = next;
+                Ok(())
+            }
+        }
+    }
+
+    /// A statement of SECTIONS.
+    fn place_item(
+        &self,
+        here: &mut Here<'a>,
+        done: &mut Done<'a>,
+        item: &'a Item,
+    ) -> Result<(), Stop<'a>>
+        ghost naming: { Naming }
+        ensures script { here.new.symbols.script ≡ here.old.symbols.script }
+        ensures anew { here.new.anew ≤ here.old.anew + entries (length done.old.sections)
+            (map (λ v. v.items) self.now.rows.now) }
+        ensures left { OnOk result
+            (here.new.anew + entries (length done.new.sections) (map (λ v. v.items) self.now.rows.now) ≤ here.old.anew
+            + entries (length done.old.sections) (map (λ v. v.items) self.now.rows.now)) }
+        ensures resumed { OnOk result (Resumes self.now here.old here.new done.old.sections done.new.sections) }
+        ensures few { OnOk result (length done.new.sections ≤ length done.old.sections + 1) }
+        ensures gives { Gives
+            (item_step (rows_of naming self.now) self.now.provided.now (layout_of naming here.old done.old) item.now)
+            (layout_of naming here.new done.new) result }
+    {
+        here.dots.push(here.dot)?;
+        self.place_command(here, done, item.line, &item.command)
+    }
+
+    /// The statements of SECTIONS, of which the first ones are taken over. It gives where the layout had come to after
+    /// each output section.
+    pub fn place_items(
+        &self,
+        here: &mut Here<'a>,
+        done: &mut Done<'a>,
+        items: &'a [Item],
+    ) -> Result<Vec<Boundary>, Stop<'a>>
+        ghost naming: { Naming }
+        requires none { done.now.sections ≡ [] }
+        requires earlier { 0 < self.now.kept.first → Earlier naming self.now here.now.symbols.script
+            (layout_of naming here.now done.now) items.now }
+        ensures script { here.new.symbols.script ≡ here.old.symbols.script }
+        ensures anew { here.new.anew ≤ here.old.anew + entries 0 (map (λ v. v.items) self.now.rows.now) }
+        ensures resumed { OnOk result (here.new.anew ≤ here.old.anew
+            + entries self.now.kept.first (map (λ v. v.items) self.now.rows.now)) }
+        ensures gives { Gives
+            (run (item_step (rows_of naming self.now) self.now.provided.now) (layout_of naming here.old done.old)
+            items.now) (layout_of naming here.new done.new) result }
+        ensures boundaries { IfOk result (λ bs.
+            AreBoundaries (rows_of naming self.now) self.now.provided.now (layout_of naming here.old done.old)
+            items.now bs.items) }
+    {
+        let resumed = self.resume(here, done, items)?;
+        let mut boundaries = resumed.boundaries;
+        for number in resumed.passed..items.len() {
+            self.place_item(here, done, &items[number])?;
+            if done.sections.len() > boundaries.len() {
+                boundaries.push(here.boundary(done, number + 1))?;
+            }
+        }
+        Ok(boundaries)
+    }
+}
