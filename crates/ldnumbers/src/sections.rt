@@ -124,6 +124,15 @@ fn number_of(script: &Script, list: &[Closed<'_>], guesses: &Guesses, name: &[u8
     script.section_number(name)
 }
 
+/// Notes the number of an output section that was placed in this layout. One that is taken over is seldom looked up, and
+/// is found in the script's table then.
+fn note(guesses: &mut Guesses, section: &Closed<'_>, number: usize) {
+    match &section.contents {
+        Contents::Placed(_) => guesses.put(section.output.name.as_bytes(), number),
+        Contents::Taken { .. } => {}
+    }
+}
+
 impl<'a> Sections<'a> {
     /// No output section of this script, which has about this many.
     pub fn new(alloc: Global, script: &'a Script, count: usize) -> Result<Sections<'a>, AllocError>
@@ -132,10 +141,11 @@ impl<'a> Sections<'a> {
         let regions = script.regions(alloc)?;
         let differences = vec![in alloc; 0; regions.len()]?;
         let guesses = Guesses::new(alloc, count)?;
+        let list = Vec::with_capacity(alloc, count)?;
         Ok(Sections {
             script,
             rest: first_items(script.statements()),
-            list: Vec::new(alloc),
+            list,
             count: 0,
             data_count: 0,
             differences,
@@ -225,8 +235,7 @@ impl<'a> Sections<'a> {
         if next.name.as_bytes() != section.output.name.as_bytes() {
             return Err(AllocError);
         }
-        self.guesses
-            .put(section.output.name.as_bytes(), self.list.len());
+        note(&mut self.guesses, &section, self.list.len());
         let difference = section.placed.start.wrapping_sub(section.placed.load);
         let Some(count) = self.count.checked_add(section.contents.len()) else {
             return Err(AllocError);

@@ -138,11 +138,7 @@ impl<'a> Symbols<'a> {
 
     /// The first of these symbols, as many as the count says, in place of all so far. It is an error where memory ran
     /// out.
-    pub fn take_over(
-        &mut self,
-        symbols: &[ScriptSymbol],
-        count: usize,
-    ) -> Result<(), AllocError>
+    pub fn take_over(&mut self, symbols: &[ScriptSymbol], count: usize) -> Result<(), AllocError>
         requires found { AreFound self.now.script symbols.now }
         requires rises { Rises symbols.now }
         ensures script { self.new.script ≡ self.old.script }

@@ -165,9 +165,9 @@ impl<'i, 'a> Input<'i, 'a> {
             return Err(Stop::NoMemory);
         };
         let row = row_at(self.rows, done.sections.len());
-        let section =
-            self.kept
-                .section(self.alloc, done, row, output, boundary.data_commands)?;
+        let section = self
+            .kept
+            .section(self.alloc, done, row, output, boundary.data_commands)?;
         let at = section.placed;
         let Some(end) = at.start.checked_add(at.size) else {
             return Err(Stop::NoMemory);

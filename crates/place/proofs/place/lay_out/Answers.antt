@@ -44,7 +44,7 @@ returns-in-Ok-clause-resumed g c =
     (λ k keeps kept. inr (
       c.place_script-laid.new.here.anew,
       (let e = ap (λ j. entries j (map (λ v. v.items) c.args.rows.now)) keeps.first_is in
-      omega (arith, e, c.in-Ok.ensures.resumed, c.in_ok-here.ensures.anew)),
+          omega (arith, e, c.in-Ok.ensures.resumed, c.in_ok-here.ensures.anew)),
       c.raise.ensures,
     ))
 

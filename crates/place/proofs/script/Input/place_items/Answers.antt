@@ -42,9 +42,9 @@ loop-number-preserved g c = record {
       elim c.if-len.branch [
         | then-len+in_ok-push w ↦
             noted_more g.naming (rows_of g.naming c.args.self.now) c.args.self.now.provided.now
-      (layout_of g.naming c.args.here.now c.args.done.now) c.args.items.now c.loop-number.here c.loop-number.done
-      c.loop-number.number c.index-items-number.result c.loop-number.invariant.here c.loop-number-test.true
-      c.index-items-number.is c.place_item.new.here c.place_item.new.done c.in_ok-place_item.ensures.gives
+            (layout_of g.naming c.args.here.now c.args.done.now) c.args.items.now c.loop-number.here c.loop-number.done
+            c.loop-number.number c.index-items-number.result c.loop-number.invariant.here c.loop-number-test.true
+            c.index-items-number.is c.place_item.new.here c.place_item.new.done c.in_ok-place_item.ensures.gives
             c.loop-number.boundaries.items c.if-len.boundaries.items w.boundary.result c.loop-number.invariant.noted
             (omega (arith, many, w.if-len.true, c.len.ensures)) c.in_ok-place_item.ensures.few w.boundary.ensures.items
             w.boundary.ensures.at
@@ -54,9 +54,9 @@ loop-number-preserved g c = record {
             (layout_of g.naming c.args.here.now c.args.done.now) c.args.items.now v.items
             (length c.place_item.new.done.sections)) (sym w.boundaries-is)
             (noted_still g.naming (rows_of g.naming c.args.self.now) c.args.self.now.provided.now
-      (layout_of g.naming c.args.here.now c.args.done.now) c.args.items.now c.loop-number.here c.loop-number.done
-      c.loop-number.number c.index-items-number.result c.loop-number.invariant.here c.loop-number-test.true
-      c.index-items-number.is c.place_item.new.here c.place_item.new.done c.in_ok-place_item.ensures.gives
+            (layout_of g.naming c.args.here.now c.args.done.now) c.args.items.now c.loop-number.here c.loop-number.done
+            c.loop-number.number c.index-items-number.result c.loop-number.invariant.here c.loop-number-test.true
+            c.index-items-number.is c.place_item.new.here c.place_item.new.done c.in_ok-place_item.ensures.gives
             c.loop-number.boundaries.items c.loop-number.invariant.noted
             (omega (arith, many, w.if-len.false, c.len.ensures)))
       ];
