@@ -124,8 +124,8 @@ fn number_of(script: &Script, list: &[Closed<'_>], guesses: &Guesses, name: &[u8
     script.section_number(name)
 }
 
-/// Notes the number of an output section that was placed in this layout. One that is taken over is seldom looked up, and
-/// is found in the script's table then.
+/// Notes the number of an output section that was placed in this layout. One that is taken over is seldom looked up,
+/// and is found in the script's table then.
 fn note(guesses: &mut Guesses, section: &Closed<'_>, number: usize) {
     match &section.contents {
         Contents::Placed(_) => guesses.put(section.output.name.as_bytes(), number),

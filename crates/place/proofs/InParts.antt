@@ -57,7 +57,8 @@ module _ (rows : List (List Piece)) (provided : List (List ℕ)) where
       ≡ whole s (if_sections c (λ items. []) (record { line = line; command = c } ∷ before_sections xs))
       (if_sections c (λ items. items) (items_within xs)) (if_sections c (λ items. xs) (after_sections xs))
   first_in_parts line (top.Sections items) xs s later = inside line items xs s
-  first_in_parts line (top.Entry name) xs s later = outside (record { line = line; command = top.Entry name }) xs s later
+  first_in_parts line (top.Entry name) xs s later =
+      outside (record { line = line; command = top.Entry name }) xs s later
   first_in_parts line (top.Memory regions) xs s later =
       outside (record { line = line; command = top.Memory regions }) xs s later
   first_in_parts line (top.Common c) xs s later = outside (record { line = line; command = top.Common c }) xs s later
@@ -98,7 +99,8 @@ module _ (rows earlier : List (List Piece)) (provided : List (List ℕ)) where
   command_same line (top.Common c) xs s later =
       first_same (record { line = line; command = top.Common c }) xs s refl later
 
-  pub before_same : (script : List Statement) (s : Layout) → run (statement_step rows provided) s (before_sections script)
+  pub before_same : (script : List Statement) (s : Layout)
+      → run (statement_step rows provided) s (before_sections script)
       ≡ run (statement_step earlier provided) s (before_sections script)
   before_same [] s = nothing_same s
   before_same (x ∷ xs) s = command_same x.line x.command (before_sections xs) s (before_same xs)

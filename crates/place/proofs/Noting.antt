@@ -72,7 +72,8 @@ module _ (n : Naming) (rows : List (List Piece)) (provided : List (List ℕ)) (s
     }
 
     -- one was
-    pub noted_more : (bs more : List Boundary) (b : Boundary) → AreNoted rows provided start items bs (length d.sections)
+    pub noted_more : (bs more : List Boundary) (b : Boundary)
+        → AreNoted rows provided start items bs (length d.sections)
         → length bs < length d'.sections → length d'.sections ≤ length d.sections + 1
         → b.items ≡ k + 1 → IsAt b (layout_of n h' d') → more ≡ bs ++ b ∷ []
         → AreNoted rows provided start items more (length d'.sections)

@@ -1,5 +1,6 @@
 -- A layout that takes over the first output sections of an earlier one comes to where that one had come to after them.
-use Rattle.std.proofs.Common.{◌≡◌, ℕ, zero, suc, ◌+◌, ◌-◌, ◌≤◌, ◌<◌, List, [], ◌∷◌, ◌++◌, length, map, take, drop, get_or}
+use Rattle.std.proofs.Common.{◌≡◌, ℕ, zero, suc, ◌+◌, ◌-◌, ◌≤◌, ◌<◌, List, [], ◌∷◌, ◌++◌, length, map, take, drop}
+use Rattle.std.proofs.Common.{get_or}
 use Rattle.std.proofs.Common.{Result, Ok, Some, refl, sym, ap, subst, ◌∙◌, arith, length-append}
 use Rattle.std.specs.Prelude.{slice_get}
 use Rattle.std.proofs.Math.ListN.{get_or-map}
@@ -60,8 +61,8 @@ items_same provided first earlier rows [] s t a e l = e
 items_same provided first earlier rows (x ∷ xs) s t a e l =
     let h = chained (item_step earlier provided s x) (λ u. run (item_step earlier provided) u xs) t e in
     let f = fewer h.value t (items_on earlier provided xs h.value t h.second) in
-    let one = command_same provided first earlier rows x.line (noted s) x.command h.value a h.first (omega (arith, f, l))
-    in
+    let one = command_same provided first earlier rows x.line (noted s) x.command h.value a h.first
+    (omega (arith, f, l)) in
     let more = items_same provided first earlier rows xs h.value t a h.second l in
     rw one more
 

@@ -23,8 +23,8 @@ data_at_of d = record { start = d.start; width = d.width; value = d.value }
 abbrev pub part_of : {X : Type 0} → List X → ℕ → ℕ → List X
 part_of xs from count = take count (drop from xs)
 
--- it is the next one of the kept layout, after these; its input sections are entries of the row, and there are this many
--- data commands with its own
+-- it is the next one of the kept layout, after these; its input sections are entries of the row, and there are this
+-- many data commands with its own
 pub record IsTaken (k : Kept) (before : List KeyedSection) (row : List Piece) (o : OutputSection) (data_end : ℕ)
     (x : KeyedSection) : Type 0 where
   pub name : x.name ≡ o.name

@@ -83,8 +83,8 @@ impl<'i, 'a> Input<'i, 'a> {
         Ok(())
     }
 
-    /// All statements of a script: those before SECTIONS, those of it, and those after it. It gives where the layout had
-    /// come to after each output section.
+    /// All statements of a script: those before SECTIONS, those of it, and those after it. It gives where the layout
+    /// had come to after each output section.
     pub fn place_script(
         &self,
         here: &mut Here<'a>,

@@ -181,8 +181,8 @@ impl<'i, 'a> Input<'i, 'a> {
         Ok(())
     }
 
-    /// Takes over the output sections before the first whose row differs, with all statements of SECTIONS up to the last
-    /// of them. It is an error where memory ran out.
+    /// Takes over the output sections before the first whose row differs, with all statements of SECTIONS up to the
+    /// last of them. It is an error where memory ran out.
     pub fn resume(
         &self,
         here: &mut Here<'a>,

@@ -64,7 +64,8 @@ returns-clause-noted g c =
     subst (λ bs. AreNoted (rows_of g.naming c.args.self.now) c.args.self.now.provided.now
     (layout_of g.naming c.args.here.now c.args.done.now) c.args.items.now bs (length c.loop-boundary.done.sections))
     (sym c.in_ok-copy_of.ensures)
-    (all_noted g.naming c.args.self.now c.args.here.now.symbols.script (layout_of g.naming c.args.here.now c.args.done.now)
+    (all_noted g.naming c.args.self.now c.args.here.now.symbols.script
+    (layout_of g.naming c.args.here.now c.args.done.now)
     c.args.items.now c.requires.1 c.boundaries_before-boundaries.result.now c.boundaries_before-boundaries.ensures
     c.in-Some.last.now c.in-Some.ensures.value c.loop-boundary.done
     (λ e. subst (Reached g.naming c.args.self.now (layout_of g.naming c.args.here.now c.args.done.now) c.args.items.now
