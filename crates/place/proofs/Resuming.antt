@@ -85,7 +85,7 @@ boundary_same provided first earlier rows items s b k a l i = record {
   at = i.at;
 }
 
--- so many output sections are taken over, as earlier rows had them
+-- this many output sections are taken over, as earlier rows had them
 pub record Reached (n : Naming) (i : Input) (s : Layout) (items : List Item) (rows : List (List Piece)) (d : Done)
     (count : ℕ) : Type 0 where
   pub place : ℕ
