@@ -42,6 +42,7 @@ module _ (script : List Statement) (rows : List (List Piece)) (provided : List (
     placed = i.placed;
     places = i.places;
     boundaries = i.boundaries;
+    many = i.many;
     apart = sym (met alone (λ k. k) refl) ∙ ap (map (fault_of alone (λ k. k))) none;
   }
 

@@ -53,6 +53,7 @@ pub record IsPlacement (script : List Statement) (rows : List (List Piece)) (pro
   pub placed : placement script rows provided ≡ Ok layout
   pub places : AreOf script layout p
   pub boundaries : AreBoundariesOf rows provided nothing_placed script p.boundaries
+  pub many : length p.boundaries ≡ length layout.sections
 
 -- a fault of the code stands for one of the definition, whatever project has the script
 abbrev pub StandsFor : List Statement → code_fault.Fault → Fault → Type 0

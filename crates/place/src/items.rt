@@ -161,6 +161,7 @@ impl<'i, 'a> Input<'i, 'a> {
         ensures boundaries { IfOk result (λ bs.
             AreBoundaries (rows_of naming self.now) self.now.provided.now (layout_of naming here.old done.old)
             items.now bs.items) }
+        ensures many { IfOk result (λ bs. length bs.items ≡ length done.new.sections) }
     {
         let resumed = self.resume(here, done, items)?;
         let mut boundaries = resumed.boundaries;

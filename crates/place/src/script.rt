@@ -1,6 +1,6 @@
 //! The statements of a script.
 
-ghost use Rattle.std.specs.Prelude.{◌≡◌, ◌≤◌, ◌<◌, ◌+◌, [], map, OnOk, IfOk};
+ghost use Rattle.std.specs.Prelude.{◌≡◌, ◌≤◌, ◌<◌, ◌+◌, [], length, map, OnOk, IfOk};
 ghost use Rattle.ldmodel.specs.Chain.{run};
 ghost use Rattle.ldmodel.specs.Placement.{statement_step};
 ghost use Rattle.ldnumbers.specs.Naming.{Naming};
@@ -105,6 +105,7 @@ impl<'i, 'a> Input<'i, 'a> {
         ensures boundaries { IfOk result (λ bs.
             AreBoundariesOf (rows_of naming self.now) self.now.provided.now (layout_of naming here.old done.old)
             statements.now bs.items) }
+        ensures many { IfOk result (λ bs. length bs.items ≡ length done.new.sections) }
     {
         let parts = Parts::of(statements);
         self.place_statements(here, done, parts.before)?;

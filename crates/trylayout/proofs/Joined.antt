@@ -20,6 +20,7 @@ kept_good script earlier present now lent numbers p first a b same good = record
     placed = good.placed;
     places = good.places;
     boundaries = good.boundaries;
+    many = good.many;
   };
   same = λ k l. get_or-map (row_named unnamed) lent k []
       ∙ (ap (row_named unnamed) (ap (λ xs. get_or xs k []) a ∙ (same k l ∙ ap (λ xs. get_or xs k []) b))
