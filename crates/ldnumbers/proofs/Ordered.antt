@@ -1,10 +1,8 @@
 -- The output sections of a script in which nothing is named twice stand under their numbers.
-use Rattle.std.proofs.Common.{◌≡◌, ◌∙◌, sym, refl, ap, subst, ℕ, suc, ◌+◌, ◌<◌, List, [], ◌∷◌, ◌++◌, append_assoc}
-use Rattle.std.proofs.Common.{append-nil, Bool, true, false, bytes_eq, arith, Some, length}
-use Rattle.std.proofs.Common.{drop, get_or}
+use Rattle.std.proofs.Common.{◌≡◌, ◌∙◌, sym, refl, ap, subst, ℕ, zero, suc, ◌+◌, List, [], ◌∷◌, ◌++◌, append_assoc}
+use Rattle.std.proofs.Common.{append-nil, Bool, true, false, bytes_eq, arith, Some}
 use Rattle.std.specs.List.{Contains}
-use Rattle.std.specs.Prelude.{⊤}
-use Rattle.std.proofs.lemmas.List.{drop_more, length-map, map-append}
+use Rattle.std.specs.Prelude.{⊤, slice_get}
 use Rattle.ldscript.specs.Script.{IsSound}
 use Rattle.ldtree.specs.Given.{section_from, section_number}
 use Rattle.ldtree.specs.Mentions.{Mention, SectionNamed, in_item_command, in_items, in_top_command, mentions}
@@ -18,7 +16,7 @@ use Rattle.ldtree.specs.declared.statement.ItemCommand.TheVariants as item
 use Rattle.ldtree.specs.declared.statement.Statement.{Statement}
 use Rattle.ldnumbers.proofs.Lists.{is_same_name, same_name}
 use Rattle.ldnumbers.proofs.Once.{NoClash, last_in, no_clash_in, shift, stays_in}
-use Rattle.ldnumbers.specs.Outputs.{AreFirst, ComeBefore, IsNext, name_of_output}
+use Rattle.ldnumbers.specs.Outputs.{IsOutput}
 
 -- output sections, in the order in which a script names them, among its other mentions
 data Named : List OutputSectionAt → List Mention → Type 0 where
@@ -108,62 +106,30 @@ all_once before (named {s = s} {ms = ms} r) h =
       all_once (before ++ SectionNamed s.name ∷ []) r later,
     )
 
-unnamed_at : (n : List ℕ) (ss : List OutputSectionAt) (x : OutputSectionAt) (more : List OutputSectionAt)
-    → Unnamed n (ss ++ x ∷ more) → bytes_eq x.section.name n ≡ false
-unnamed_at n [] x more u = u.0
-unnamed_at n (s ∷ ss) x more u = unnamed_at n ss x more u.1
+unnamed_at : (n : List ℕ) (ss : List OutputSectionAt) (k : ℕ) (x : OutputSectionAt) → Unnamed n ss
+    → slice_get ss k ≡ Some x → bytes_eq x.section.name n ≡ false
+unnamed_at n [] k x u e = absurd (let no : ⊥ = cc in no)
+unnamed_at n (s ∷ ss) zero x u e =
+    let same : s ≡ x = cc in
+    sym (ap (λ (y : OutputSectionAt). bytes_eq y.section.name n) same) ∙ u.0
+unnamed_at n (s ∷ ss) (suc k) x u e = unnamed_at n ss k x u.1 e
 
-number_is : (from : ℕ) (ss : List OutputSectionAt) (x : OutputSectionAt) (more : List OutputSectionAt)
-    → Once (ss ++ x ∷ more) → section_from from (ss ++ x ∷ more) x.section.name ≡ Some (from + length ss)
-number_is from [] x more o =
+number_is : (from : ℕ) (ss : List OutputSectionAt) (k : ℕ) (x : OutputSectionAt) → Once ss → slice_get ss k ≡ Some x
+    → section_from from ss x.section.name ≡ Some (from + k)
+number_is from [] k x o e = absurd (let no : ⊥ = cc in no)
+number_is from (s ∷ ss) zero x o e =
     let here : from ≡ from + 0 = omega arith in
-    rw (is_same_name x.section.name x.section.name refl) (ap Some here)
-number_is from (s ∷ ss) x more o =
-    let more_is : suc from + length ss ≡ from + suc (length ss) = omega arith in
-    rw (unnamed_at s.section.name ss x more o.0) (number_is (suc from) ss x more o.1 ∙ ap Some more_is)
+    let same : s ≡ x = cc in
+    let name = ap (λ (y : OutputSectionAt). y.section.name) (sym same) in
+    rw (is_same_name x.section.name s.section.name name) (ap Some here)
+number_is from (s ∷ ss) (suc k) x o e =
+    let more_is : suc from + k ≡ from + suc k = omega arith in
+    rw (unnamed_at s.section.name ss k x o.0 e) (number_is (suc from) ss k x o.1 e ∙ ap Some more_is)
 
--- the next output section stands under its number
-pub next_number : (script : List Statement) (names : List (List ℕ)) (rest later : List Item) (output : OutputSection)
-    → IsSound script → ComeBefore script names rest → IsNext rest output later
-    → section_number script output.name ≡ Some (length names)
-next_number script names rest later output sound c n =
-    let x : OutputSectionAt = record { line = n.line; section = output } in
-    let all : output_sections script ≡ c.before ++ x ∷ (sections_in later ++ c.later) =
-    c.all ∙ ap (λ l. c.before ++ (l ++ c.later)) n.is in
-    let once : Once (output_sections script) = all_once [] (in_script script) (no_clash_in script sound) in
-    let long : length c.before ≡ length names = sym (ap length c.named ∙ length-map c.before name_of_output) in
-    ap (λ l. section_from 0 l output.name) all
-    ∙ (number_is 0 c.before x (sections_in later ++ c.later) (subst Once all once) ∙ ap Some (from_none c.before long))
-  where
-    from_none : (xs : List OutputSectionAt) → length xs ≡ length names → 0 + length xs ≡ length names
-    from_none xs e = omega (arith, e)
-
-pub comes_after : (script : List Statement) (names more : List (List ℕ)) (rest later : List Item)
-    (output : OutputSection) → ComeBefore script names rest → IsNext rest output later
-    → more ≡ names ++ output.name ∷ [] → ComeBefore script more later
-comes_after script names more rest later output c n e =
-    let x : OutputSectionAt = record { line = n.line; section = output } in
-    record {
-      before = c.before ++ x ∷ [];
-      later = c.later;
-      all = c.all
-          ∙ (ap (λ l. c.before ++ (l ++ c.later)) n.is
-          ∙ sym (append_assoc c.before (x ∷ []) (sections_in later ++ c.later)));
-      named = e
-          ∙ (ap (λ l. l ++ output.name ∷ []) c.named
-          ∙ sym (map-append name_of_output c.before (x ∷ [])));
-    }
-
-pub none_before : (script : List Statement) (first : List Item) → AreFirst script first → ComeBefore script [] first
-none_before script first f = record { before = []; later = f.later; all = f.all; named = refl }
-
--- the statements of SECTIONS, from one on
-pub sections_from : (xs : List Item) (i : ℕ) (x : Item) → i < length xs → x ≡ get_or xs i x → sections_in (drop i xs)
-    ≡ sections_of x.line x.command ++ sections_in (drop (i + 1) xs)
-sections_from xs i x l at = ap sections_in (drop_more xs i x l ∙ ap (λ y. y ∷ drop (i + 1) xs) (sym at))
-
-pub outputs_from : (ss : List Statement) (i : ℕ) (s : Statement) → i < length ss → s ≡ get_or ss i s
-    → output_sections (drop i ss) ≡ sections_in (items_of s.command) ++ output_sections (drop (i + 1) ss)
-outputs_from ss i s l at =
-    ap output_sections (drop_more ss i s l ∙ ap (λ y. y ∷ drop (i + 1) ss) (sym at))
-    ∙ sections_append (items_of s.command) (items (drop (i + 1) ss))
+-- an output section stands under its number
+pub output_number : (script : List Statement) (k : ℕ) (output : OutputSection) → IsSound script
+    → IsOutput script k output → section_number script output.name ≡ Some k
+output_number script k output sound i =
+    let from_none : 0 + k ≡ k = omega arith in
+    number_is 0 (output_sections script) k (record { line = i.line; section = output })
+    (all_once [] (in_script script) (no_clash_in script sound)) i.is ∙ ap Some from_none

@@ -4,6 +4,7 @@ use Rattle.byteorder.specs.Endian.{little_bytes}
 use Rattle.ldtree.specs.Widths.{byte_count}
 use Rattle.ldmodel.specs.Layout.{PlacedPiece, PlacedSection, PlacedData}
 use Rattle.ldmodel.specs.declared.laid.Placed.{Placed}
+use Rattle.ldmodel.specs.declared.laid.PlacedData as laid
 use Rattle.ldmodel.specs.declared.rows.Piece as rows
 use Rattle.ldnumbers.specs.Naming.{Naming, piece_named}
 use Rattle.ldnumbers.specs.declared.sections.DataAt.{DataAt}
@@ -24,6 +25,10 @@ pub record KeyedSection : Type 0 where
 
 abbrev pub piece_at : Naming → KeyedPiece → PlacedPiece
 piece_at n x = record { start = x.start; piece = piece_named n x.piece }
+
+-- a data command of an earlier layout
+abbrev pub data_at_of : laid.PlacedData → DataAt
+data_at_of d = record { start = d.start; width = d.width; value = d.value }
 
 abbrev pub data_at : DataAt → PlacedData
 data_at d = record { start = d.start; bytes = little_bytes (byte_count d.width) d.value }

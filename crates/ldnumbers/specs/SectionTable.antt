@@ -1,17 +1,17 @@
 -- The table of the output sections in their places.
-use Rattle.std.specs.Prelude.{◌≡◌, ℕ, ◌+◌, ◌^◌, ◌<◌, List, [], ◌∷◌, length, map, Option, Some, None, slice_index}
+use Rattle.std.specs.Prelude.{◌≡◌, ℕ, ◌+◌, ◌^◌, ◌<◌, List, [], ◌∷◌, ◌++◌, length, map, Option, Some, None}
+use Rattle.std.specs.Prelude.{⊤, slice_index}
 use Rattle.std.specs.List.{All}
 use Rattle.ldtree.specs.Given.{section_number, region_number}
 use Rattle.ldtree.specs.declared.statement.Statement.{Statement}
 use Rattle.ldmodel.specs.SectionHead.{difference_in}
-use Rattle.ldnumbers.specs.Keyed.{KeyedPiece, KeyedSection, section_of}
+use Rattle.ldnumbers.specs.Keyed.{KeyedPiece, KeyedSection, data_at_of, section_of}
 use Rattle.ldnumbers.specs.Naming.{Naming}
 use Rattle.ldnumbers.specs.Tables.{AreInOrder}
 use Rattle.ldnumbers.specs.Wholes.{all_data_in, starts_in}
 use Rattle.ldnumbers.specs.declared.sections.Closed.{Closed}
-use Rattle.ldnumbers.specs.declared.sections.Contents.{Contents}
-use Rattle.ldnumbers.specs.declared.sections.Contents.TheVariants as contents
 use Rattle.ldnumbers.specs.declared.sections.PieceAt.{PieceAt}
+use Rattle.ldnumbers.specs.declared.sections.Taken.{Taken}
 use Rattle.ldmodel.specs.declared.rows.Piece as rows
 
 abbrev pub keyed_piece : PieceAt → KeyedPiece
@@ -23,19 +23,36 @@ taken_pieces [] ps = []
 taken_pieces (x ∷ xs) [] = []
 taken_pieces (x ∷ xs) (p ∷ ps) = record { start = x; piece = p } ∷ taken_pieces xs ps
 
-abbrev pub contents_of : Contents → List KeyedPiece
-contents_of (contents.Placed pieces) = map keyed_piece pieces.items
-contents_of (contents.Taken starts row) = taken_pieces starts.now row.now
-
+-- one that was placed in this layout
 abbrev pub keyed : Closed → KeyedSection
 keyed x = record {
   name = x.output.now.name;
   region = x.output.now.region;
   fill = x.output.now.fill;
   placed = x.placed;
-  pieces = contents_of x.contents;
+  pieces = map keyed_piece x.pieces.items;
   data_commands = x.data_commands.items;
 }
+
+-- one that is taken over
+abbrev pub keyed_taken : Taken → KeyedSection
+keyed_taken x = record {
+  name = x.output.now.name;
+  region = x.output.now.region;
+  fill = x.output.now.fill;
+  placed = x.placed.now;
+  pieces = taken_pieces x.starts.now x.row.now;
+  data_commands = map data_at_of x.data_commands.now;
+}
+
+-- those that are taken over, and then those that were placed
+abbrev pub both : List Taken → List Closed → List KeyedSection
+both taken placed = map keyed_taken taken ++ map keyed placed
+
+-- output sections of a script
+pub record Outputs : Type 0 where
+  pub script : List Statement
+  pub list : List KeyedSection
 
 abbrev pub section_names : List KeyedSection → List (List ℕ)
 section_names sections = map (λ (x : KeyedSection). x.name) sections
@@ -53,6 +70,13 @@ Fits x = x.placed.start + x.placed.size < 2 ^ 64
 
 abbrev pub Ends : List KeyedSection → Type 0
 Ends sections = All (λ (x : KeyedSection). Fits x) sections
+
+-- the difference of a region is kept at a place of the table, that of no region elsewhere
+abbrev pub IsKeptAt : List Statement → ℕ → Option (List ℕ) → Option ℕ → Type 0
+IsKeptAt script count None None = ⊤
+IsKeptAt script count None (Some k) = ⊥
+IsKeptAt script count (Some name) None = ⊥
+IsKeptAt script count (Some name) (Some k) = (region_number script name ≡ Some k) × (k < count)
 
 -- the sections stand under their numbers, their ends are addresses, the differences under those of their regions, and
 -- their input sections and data commands are counted

@@ -6,7 +6,6 @@
 pub mod commands;
 pub mod guesses;
 pub mod named;
-mod outputs;
 pub mod provided;
 pub mod regions;
 pub mod sections;

@@ -1,20 +1,21 @@
 //! The output sections that are in their places.
 
-ghost use Rattle.std.specs.Prelude.{◌≡◌, [], ◌∷◌, ◌++◌, length, map, IfOk, OnOk, IfSome, find};
-ghost use Rattle.std.specs.Prelude.{bytes_eq, option_map};
+ghost use Rattle.std.specs.Prelude.{◌≡◌, ◌+◌, [], ◌∷◌, ◌++◌, length, IfOk, OnOk, IfSome, find};
+ghost use Rattle.std.specs.Prelude.{bytes_eq, option_map, slice_get};
 ghost use Rattle.std.specs.Option.{option_copied};
 ghost use Rattle.ldtree.specs.Given.{section_number};
 ghost use Rattle.ldnumbers.specs.Keyed.{KeyedSection};
-ghost use Rattle.ldnumbers.specs.SectionTable.{contents_of, keyed, difference_by, section_names, Ends, Fits};
+ghost use Rattle.ldnumbers.specs.Outputs.{IsOutput};
+ghost use Rattle.ldnumbers.specs.SectionTable.{both, keyed, keyed_taken, difference_by, section_names, taken_pieces};
+ghost use Rattle.ldnumbers.specs.SectionTable.{Ends, Fits, IsKeptAt};
 ghost use Rattle.ldnumbers.specs.Tables.{AreInOrder};
 ghost use Rattle.ldnumbers.specs.Wholes.{all_data_in, starts_in};
 
 use crate::guesses::Guesses;
-use crate::outputs::{first_items, next_output};
-use ldmodel::laid::Placed;
+use ldmodel::laid::{Placed, PlacedData};
 use ldmodel::rows::Piece;
 use ldscript::script::Script;
-use ldscript::tree::{Item, OutputSection, Width};
+use ldscript::tree::{OutputSection, Width};
 use std::alloc::{AllocError, Global};
 use std::marker::Model;
 
@@ -38,34 +39,7 @@ pub struct DataAt {
     pub value: u64,
 }
 
-/// The input sections of an output section, in their places.
-#[derive(Drop)]
-pub enum Contents<'a> {
-    /// They were placed in this layout.
-    Placed(Vec<PieceAt<'a>>),
-    /// They are the first entries of the row, and start where they did in an earlier layout.
-    Taken {
-        /// Where they start.
-        starts: &'a [u64],
-        /// The row.
-        row: &'a [Piece],
-    },
-}
-
-impl<'a> Contents<'a> {
-    /// How many there are.
-    #[tactic(auto, using(crate::proofs::Counting::taken_length))]
-    pub fn len(&self) -> usize
-        ensures { result ≡ length (contents_of self.now) }
-    {
-        match self {
-            Contents::Placed(pieces) => pieces.len(),
-            Contents::Taken { starts, row } => starts.len().min(row.len()),
-        }
-    }
-}
-
-/// An output section in its place.
+/// An output section that was placed in this layout.
 #[derive(Drop)]
 pub struct Closed<'a> {
     /// What the script says of it.
@@ -73,9 +47,34 @@ pub struct Closed<'a> {
     /// Its numbers.
     pub placed: Placed,
     /// Its input sections.
-    pub contents: Contents<'a>,
+    pub pieces: Vec<PieceAt<'a>>,
     /// Its data commands.
     pub data_commands: Vec<DataAt>,
+}
+
+/// An output section that is taken over from an earlier layout. Its input sections are the first entries of its row.
+#[derive(Clone, Copy)]
+pub struct Taken<'a> {
+    /// What the script says of it.
+    pub output: &'a OutputSection,
+    /// Its numbers.
+    pub placed: &'a Placed,
+    /// Where its input sections start.
+    pub starts: &'a [u64],
+    /// Its row.
+    pub row: &'a [Piece],
+    /// Its data commands.
+    pub data_commands: &'a [PlacedData],
+}
+
+impl<'a> Taken<'a> {
+    /// How many input sections it has.
+    #[tactic(auto, using(crate::proofs::Counting::taken_length))]
+    pub fn len(&self) -> usize
+        ensures { result ≡ length (taken_pieces self.now.starts.now self.now.row.now) }
+    {
+        self.starts.len().min(self.row.len())
+    }
 }
 
 /// The output sections that are in their places, in the order of the text, and for each memory region how far the last
@@ -83,68 +82,118 @@ pub struct Closed<'a> {
 #[derive(Drop)]
 pub struct Sections<'a> {
     script: &'a Script,
-    /// The statements of SECTIONS after the last of them.
-    rest: &'a [Item],
+    /// Those that are taken over, which come first.
+    taken: Vec<Taken<'a>>,
     list: Vec<Closed<'a>>,
     count: usize,
     data_count: usize,
     differences: Vec<u64>,
     elsewhere: u64,
+    /// Guesses at the places of names in the list.
     guesses: Guesses,
 }
 
 impl<'a> Model for Sections<'a> {
-    ghost use Rattle.std.specs.Prelude.{List, map};
-    ghost use Rattle.ldnumbers.specs.Keyed.{KeyedSection};
+    ghost use Rattle.ldnumbers.specs.SectionTable.{Outputs};
+    ghost use Rattle.std.specs.Coded.{codes};
+    ghost use Rattle.ldtree.specs.contracts.formula.Formula as formula;
 
-    ghost Value = { List KeyedSection };
+    ghost Value = { Outputs };
 
-    ghost use Rattle.ldnumbers.specs.Outputs.{ComeBefore};
-    ghost use Rattle.ldnumbers.specs.SectionTable.{keyed, section_names, AreSectionsOf};
+    ghost coded = { Prim.hlevel (codes, formula.the_row.coded) };
 
-    ghost view = { λ s. map keyed s.list.items };
+    ghost use Rattle.ldnumbers.specs.SectionTable.{both, AreSectionsOf};
+
+    ghost view = { λ s. record { script = s.script.now; list = both s.taken.items s.list.items } };
 
     ghost invariant = { λ s.
-        AreSectionsOf s.script.now (map keyed s.list.items) s.differences.items s.elsewhere s.count s.data_count
-        × ComeBefore s.script.now (section_names (map keyed s.list.items)) s.rest.now };
+        AreSectionsOf s.script.now (both s.taken.items s.list.items) s.differences.items s.elsewhere s.count
+        s.data_count };
 }
 
 /// The number of the output section of a name, of which the guess is looked at first.
-fn number_of(script: &Script, list: &[Closed<'_>], guesses: &Guesses, name: &[u8]) -> Option<usize>
-    requires { AreInOrder (section_number script.now) (section_names (map keyed list.now)) }
+fn number_of(
+    script: &Script,
+    taken: &[Taken<'_>],
+    list: &[Closed<'_>],
+    guesses: &Guesses,
+    name: &[u8],
+) -> Option<usize>
+    requires { AreInOrder (section_number script.now) (section_names (both taken.now list.now)) }
     ensures { result ≡ section_number script.now name.now }
 {
-    if let Some(number) = guesses.number(name) {
-        if let Some(guessed) = list.get(number) {
+    if let Some(place) = guesses.number(name) {
+        if let Some(guessed) = list.get(place) {
             if guessed.output.name.as_bytes() == name {
-                return Some(number);
+                return Some(taken.len() + place);
             }
         }
     }
     script.section_number(name)
 }
 
-/// Notes the number of an output section that was placed in this layout. One that is taken over is seldom looked up,
-/// and is found in the script's table then.
-fn note(guesses: &mut Guesses, section: &Closed<'_>, number: usize) {
-    match &section.contents {
-        Contents::Placed(_) => guesses.put(section.output.name.as_bytes(), number),
-        Contents::Taken { .. } => {}
+/// The numbers of the output section of this number, if there is one.
+fn placed_at(taken: &[Taken<'_>], list: &[Closed<'_>], number: usize) -> Option<Placed>
+    ensures { result ≡ option_map (λ (x : KeyedSection). x.placed) (slice_get (both taken.now list.now) number) }
+{
+    match number.checked_sub(taken.len()) {
+        Some(place) => match list.get(place) {
+            Some(section) => Some(section.placed),
+            None => None,
+        },
+        None => Some(*taken[number].placed),
+    }
+}
+
+/// Where the difference of an output section is kept in a table of this many, by its region: nowhere for one that names
+/// none. It is an error where the script does not declare the region.
+fn kept_at(
+    script: &Script,
+    count: usize,
+    output: &OutputSection,
+) -> Result<Option<usize>, AllocError>
+    ensures { IfOk result (λ p. IsKeptAt script.now count output.now.region p) }
+{
+    match &output.region {
+        None => Ok(None),
+        Some(region) => match script.region_number(region.as_bytes()) {
+            Some(number) if number < count => Ok(Some(number)),
+            // it does not come to this: the script declares the regions that it names
+            Some(_) | None => Err(AllocError),
+        },
+    }
+}
+
+/// The sum of two counts of what is in memory, for which there is room in a count.
+fn sum(count: usize, more: usize) -> Result<usize, AllocError>
+    ensures { IfOk result (λ n. n ≡ count + more) }
+{
+    match count.checked_add(more) {
+        Some(sum) => Ok(sum),
+        None => Err(AllocError),
     }
 }
 
 impl<'a> Sections<'a> {
-    /// No output section of this script, which has about this many.
-    pub fn new(alloc: Global, script: &'a Script, count: usize) -> Result<Sections<'a>, AllocError>
-        ensures { IfOk result (λ s. s ≡ []) }
+    /// No output section of this script, which has about this many, of which so many will be taken over.
+    pub fn new(
+        alloc: Global,
+        script: &'a Script,
+        count: usize,
+        taken: usize,
+    ) -> Result<Sections<'a>, AllocError>
+        ensures script { IfOk result (λ s. s.script ≡ script.now) }
+        ensures none { IfOk result (λ s. s.list ≡ []) }
     {
         let regions = script.regions(alloc)?;
         let differences = vec![in alloc; 0; regions.len()]?;
-        let guesses = Guesses::new(alloc, count)?;
-        let list = Vec::with_capacity(alloc, count)?;
+        let placed = count.saturating_sub(taken);
+        let guesses = Guesses::new(alloc, placed)?;
+        let list = Vec::with_capacity(alloc, placed)?;
+        let taken = Vec::with_capacity(alloc, taken.min(count))?;
         Ok(Sections {
             script,
-            rest: first_items(script.statements()),
+            taken,
             list,
             count: 0,
             data_count: 0,
@@ -154,31 +203,31 @@ impl<'a> Sections<'a> {
         })
     }
 
-    /// All of them.
-    pub fn as_slice(&self) -> &[Closed<'a>]
-        ensures all { map keyed result.now ≡ self.now }
-        ensures ends { Ends self.now }
+    /// All of them: those that are taken over, and then those that were placed.
+    pub fn parts(&self) -> (&[Taken<'a>], &[Closed<'a>])
+        ensures all { both result.0.now result.1.now ≡ self.now.list }
+        ensures ends { Ends self.now.list }
     {
-        &self.list
+        (&self.taken, &self.list)
     }
 
     /// How many there are.
     pub fn len(&self) -> usize
-        ensures { result ≡ length self.now }
+        ensures { result ≡ length self.now.list }
     {
-        self.list.len()
+        self.taken.len() + self.list.len()
     }
 
     /// How many input sections are in them.
     pub fn count(&self) -> usize
-        ensures { result ≡ length (starts_in self.now) }
+        ensures { result ≡ length (starts_in self.now.list) }
     {
         self.count
     }
 
     /// How many data commands are in them.
     pub fn data_count(&self) -> usize
-        ensures { result ≡ length (all_data_in 0 self.now) }
+        ensures { result ≡ length (all_data_in 0 self.now.list) }
     {
         self.data_count
     }
@@ -186,16 +235,10 @@ impl<'a> Sections<'a> {
     /// The numbers of the output section of a name.
     pub fn placed(&self, name: &[u8]) -> Option<Placed>
         ensures { result ≡ option_map (λ (x : KeyedSection).
-            x.placed) (find (λ (x : KeyedSection). bytes_eq x.name name.now) self.now) }
+            x.placed) (find (λ (x : KeyedSection). bytes_eq x.name name.now) self.now.list) }
     {
-        match number_of(self.script, &self.list, &self.guesses, name) {
-            Some(number) => {
-                if number < self.list.len() {
-                    Some(self.list[number].placed)
-                } else {
-                    None
-                }
-            }
+        match number_of(self.script, &self.taken, &self.list, &self.guesses, name) {
+            Some(number) => placed_at(&self.taken, &self.list, number),
             None => None,
         }
     }
@@ -203,7 +246,7 @@ impl<'a> Sections<'a> {
     /// How far the last output section of a region starts from where it is loaded, modulo 2^64; `None` for a region
     /// that the script does not declare. Output sections that name no region count as one region.
     pub fn difference(&self, region: Option<&[u8]>) -> Option<u64>
-        ensures { IfSome result (λ d. d ≡ difference_by self.now (option_copied region.entry)) }
+        ensures { IfSome result (λ d. d ≡ difference_by self.now.list (option_copied region.entry)) }
     {
         match region {
             None => Some(self.elsewhere),
@@ -220,52 +263,54 @@ impl<'a> Sections<'a> {
         }
     }
 
-    /// One more output section. It is an error where memory ran out.
+    /// The next output section of the script, that was placed in this layout. It is an error where memory ran out.
     pub fn push(&mut self, section: Closed<'a>) -> Result<(), AllocError>
-        requires { Fits (keyed section) }
-        ensures pushed { OnOk result (self.new ≡ self.old ++ keyed section.entry ∷ []) }
+        requires fits { Fits (keyed section) }
+        requires next { IsOutput self.now.script (length self.now.list) section.output.now }
+        ensures script { self.new.script ≡ self.old.script }
+        ensures pushed { OnOk result (self.new.list ≡ self.old.list ++ keyed section.entry ∷ []) }
     {
         // what the numbers follow from is known of the script's statements
         let _statements = self.script.statements();
-        // it does not come to an error here but for memory: a layout goes through the output sections of a script in
-        // their order, and the script declares the regions that they name
-        let Some((next, rest)) = next_output(self.rest) else {
-            return Err(AllocError);
-        };
-        if next.name.as_bytes() != section.output.name.as_bytes() {
-            return Err(AllocError);
-        }
-        note(&mut self.guesses, &section, self.list.len());
+        let kept_at = kept_at(self.script, self.differences.len(), section.output)?;
         let difference = section.placed.start.wrapping_sub(section.placed.load);
-        let Some(count) = self.count.checked_add(section.contents.len()) else {
-            return Err(AllocError);
-        };
-        let Some(data_count) = self.data_count.checked_add(section.data_commands.len()) else {
-            return Err(AllocError);
-        };
-        match &section.output.region {
-            None => {
-                self.list.push(section)?;
-                self.rest = rest;
-                self.count = count;
-                self.data_count = data_count;
-                self.elsewhere = difference;
-                Ok(())
-            }
-            Some(region) => match self.script.region_number(region.as_bytes()) {
-                Some(number) => {
-                    if number >= self.differences.len() {
-                        return Err(AllocError);
-                    }
-                    self.list.push(section)?;
-                    self.rest = rest;
-                    self.count = count;
-                    self.data_count = data_count;
-                    self.differences[number] = difference;
-                    Ok(())
-                }
-                None => Err(AllocError),
-            },
+        let count = sum(self.count, section.pieces.len())?;
+        let data_count = sum(self.data_count, section.data_commands.len())?;
+        self.guesses
+            .put(section.output.name.as_bytes(), self.list.len());
+        self.list.push(section)?;
+        self.count = count;
+        self.data_count = data_count;
+        match kept_at {
+            None => self.elsewhere = difference,
+            Some(number) => self.differences[number] = difference,
         }
+        Ok(())
+    }
+
+    /// The next output section of the script, that is taken over. It is an error where memory ran out.
+    pub fn take(&mut self, section: Taken<'a>) -> Result<(), AllocError>
+        requires fits { Fits (keyed_taken section) }
+        requires next { IsOutput self.now.script (length self.now.list) section.output.now }
+        ensures script { self.new.script ≡ self.old.script }
+        ensures taken { OnOk result (self.new.list ≡ self.old.list ++ keyed_taken section.entry ∷ []) }
+    {
+        let _statements = self.script.statements();
+        if !self.list.is_empty() {
+            // it does not come to this: the first ones are taken over
+            return Err(AllocError);
+        }
+        let kept_at = kept_at(self.script, self.differences.len(), section.output)?;
+        let difference = section.placed.start.wrapping_sub(section.placed.load);
+        let count = sum(self.count, section.len())?;
+        let data_count = sum(self.data_count, section.data_commands.len())?;
+        self.taken.push(section)?;
+        self.count = count;
+        self.data_count = data_count;
+        match kept_at {
+            None => self.elsewhere = difference,
+            Some(number) => self.differences[number] = difference,
+        }
+        Ok(())
     }
 }

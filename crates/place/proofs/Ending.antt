@@ -12,6 +12,7 @@ use Rattle.ldmodel.specs.SectionEnd.{placed_section, section_end, with_section, 
 use Rattle.ldmodel.specs.SectionHead.{Head}
 use Rattle.ldnumbers.specs.Keyed.{KeyedSection, section_of}
 use Rattle.ldnumbers.specs.Naming.{Naming}
+use Rattle.ldnumbers.specs.SectionTable.{Outputs}
 use Rattle.place.specs.Ends.{body_alone, ended_body, load_end}
 use Rattle.std.proofs.lemmas.List.{map-append}
 use Rattle.ldmodel.specs.Layout.{MemoryRegion}
@@ -81,16 +82,16 @@ load_end_is line o d q x e =
     address_is line (q.load + q.load_size) x b.second
 
 -- the layout after a section, part by part
-pub joined : (n : Naming) (h t : Here) (d : Done) (o : OutputSection) (x : KeyedSection) (sections : List KeyedSection)
+pub joined : (n : Naming) (h t : Here) (d : Done) (o : OutputSection) (x : KeyedSection) (sections : Outputs)
     (first second : List MemoryRegion) (end loaded : ℕ)
     → t.dot ≡ h.dot → t.dots.items ≡ h.dots.items → t.inputs ≡ h.inputs → t.symbols ≡ h.symbols
-    → first ≡ freed_from o.region end d.regions → second ≡ freed_from (load_region o.load) loaded first → sections
-    ≡ d.sections ++ x ∷ []
+    → first ≡ freed_from o.region end d.regions → second ≡ freed_from (load_region o.load) loaded first → sections.list
+    ≡ d.sections.list ++ x ∷ []
     → x.placed.start + x.placed.size ≡ end → loaded ≡ x.placed.load + x.placed.load_size
     → with_section (layout_of n h d) o (section_of n x)
     ≡ layout_of n t (record { sections = sections; regions = second })
 joined n h t d o x sections first second end loaded a b c e f g s i j =
-    rw (a, b, c, e, s, map-append (section_of n) d.sections (x ∷ []), g, f, j, i) refl
+    rw (a, b, c, e, s, map-append (section_of n) d.sections.list (x ∷ []), g, f, j, i) refl
 
 -- no end turns on where the section starts or on what is left of its row
 pub end_alone : (n : Naming) (h : Here) (d : Done) (line : ℕ) (o : OutputSection) (head : Head) (start : ℕ)

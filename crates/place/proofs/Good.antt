@@ -60,12 +60,12 @@ module _ (script : List Statement) (rows : List (List Piece)) (provided : List (
 
 -- where a layout begins
 pub nothing_there : (n : Naming) (h : Here) (d : Done) → h.dot ≡ 0 → h.dots.items ≡ [] → h.inputs ≡ 0
-    → h.symbols.list ≡ [] → d.sections ≡ [] → d.regions ≡ [] → layout_of n h d ≡ nothing_placed
+    → h.symbols.list ≡ [] → d.sections.list ≡ [] → d.regions ≡ [] → layout_of n h d ≡ nothing_placed
 nothing_there n h d a b c e f g = rw (a, b, c, e, f, g) refl
 
 pub begins : (n : Naming) (h : Here) (d : Done) (rows : List (List Piece)) (provided : List (List ℕ))
     (script : List Statement)
-    → h.dot ≡ 0 → h.dots.items ≡ [] → h.inputs ≡ 0 → h.symbols.list ≡ [] → d.sections ≡ [] → d.regions ≡ []
+    → h.dot ≡ 0 → h.dots.items ≡ [] → h.inputs ≡ 0 → h.symbols.list ≡ [] → d.sections.list ≡ [] → d.regions ≡ []
     → run (statement_step rows provided) (layout_of n h d) script ≡ placement script rows provided
 unfolding placement
 begins n h d rows provided script a b c e f g =

@@ -6,6 +6,7 @@ pub mod Rows
 pub mod Wholes
 pub mod Grows
 pub mod Outputs
+pub mod Following
 pub mod Reporting
 pub mod Good
 pub mod Counting

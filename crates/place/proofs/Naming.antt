@@ -44,4 +44,4 @@ same_scope n m h d =
       region =
           (scope_of (layout_of n h d)).region;
     })
-    (fun_ext (λ name. sym (numbers_found n d.sections name) ∙ numbers_found m d.sections name))
+    (fun_ext (λ name. sym (numbers_found n d.sections.list name) ∙ numbers_found m d.sections.list name))

@@ -1,19 +1,23 @@
--- Where a layout has come to is noted after each output section.
+-- Where a layout has come to is noted before each output section.
 use Rattle.std.proofs.Common.{◌≡◌, ℕ, zero, suc, ◌+◌, ◌≤◌, ◌<◌, List, [], ◌∷◌, ◌++◌, length, take, get_or, ◌⊎◌}
 use Rattle.std.proofs.Common.{Result, Ok, Err, Some, inl, inr, refl, sym, ap, subst, ◌∙◌, arith, length-append}
+use Rattle.std.specs.Option.{option_map_or}
 use Rattle.std.specs.Prelude.{slice_get}
-use Rattle.std.proofs.lemmas.List.{length-map}
+use Rattle.std.proofs.lemmas.List.{length-map, take_all}
 use Rattle.std.proofs.lemmas.Option.{slice_get_read}
+use Rattle.ldtree.specs.Numbering.{sections_of}
 use Rattle.ldtree.specs.declared.statement.Item.{Item}
+use Rattle.ldtree.specs.declared.statement.Statement.{Statement}
 use Rattle.ldmodel.specs.Chain.{run}
 use Rattle.ldmodel.specs.Layout.{Layout}
 use Rattle.ldmodel.specs.Placement.{item_step}
 use Rattle.ldmodel.specs.Rows.{Piece}
 use Rattle.ldnumbers.specs.Keyed.{section_of}
 use Rattle.ldnumbers.specs.Naming.{Naming}
-use Rattle.place.proofs.Onward.{fewer, item_on}
+use Rattle.place.proofs.Following.{grown_by, next_at}
 use Rattle.place.proofs.Runs.{run_more, run_stops}
-use Rattle.place.specs.Boundaries.{AreNoted, IsAt, IsBoundary}
+use Rattle.place.specs.Boundaries.{AreNoted, IsAt, IsBoundary, sections_at}
+use Rattle.place.specs.Next.{AreFirst, IsNext}
 use Rattle.place.specs.State.{layout_of, fault_of, Gives}
 use Rattle.place.specs.declared.boundary.Boundary.{Boundary}
 use Rattle.place.specs.declared.state.Done.{Done}
@@ -55,45 +59,48 @@ module _ (n : Naming) (rows : List (List Piece)) (provided : List (List ℕ)) (s
         ap (λ j. run (item_step rows provided) start (take j items)) (sym e)
         ∙ run_more (item_step rows provided) items k x start (layout_of n h d) (layout_of n h' d') comes there step
 
-    no_fewer : length d.sections ≤ length d'.sections
-    no_fewer =
-        let a = fewer (layout_of n h d) (layout_of n h' d')
-        (item_on rows provided (layout_of n h d) x (layout_of n h' d') step) in
-        let b = length-map d.sections (section_of n) in
-        let c = length-map d'.sections (section_of n) in
-        omega (arith, a, b, c)
+    -- as many output sections are placed as the statement is
+    pub more_by : length d'.sections.list ≡ length d.sections.list + length (sections_of x.line x.command)
+    more_by =
+        let g = grown_by rows provided (layout_of n h d) (layout_of n h' d') x step in
+        let b = length-map d.sections.list (section_of n) in
+        let c = length-map d'.sections.list (section_of n) in
+        omega (arith, g, b, c)
 
-    -- no output section was placed
-    pub noted_still : (bs : List Boundary) → AreNoted rows provided start items bs (length d.sections)
-        → length d'.sections ≤ length bs → AreNoted rows provided start items bs (length d'.sections)
-    noted_still bs a few = record {
-      all = a.all;
-      many = let m = a.many in let f = no_fewer in omega (arith, m, f, few);
-    }
+  -- the statement is the next output section, if it is one
+  pub is_next : (script : List Statement) → start.sections ≡ [] → AreFirst script items
+      → IsNext script (length d.sections.list) x.command
+  is_next script none first =
+      subst (λ m. IsNext script m x.command) (length-map d.sections.list (section_of n))
+      (next_at rows provided script items start none first k (layout_of n h d) comes x there)
 
-    -- one was
-    pub noted_more : (bs more : List Boundary) (b : Boundary)
-        → AreNoted rows provided start items bs (length d.sections)
-        → length bs < length d'.sections → length d'.sections ≤ length d.sections + 1
-        → b.items ≡ k + 1 → IsAt b (layout_of n h' d') → more ≡ bs ++ b ∷ []
-        → AreNoted rows provided start items more (length d'.sections)
-    noted_more bs more b a some one items_is is e = record {
-      all = λ j y there'. elim (among_more bs b j y (ap (λ z. slice_get z j) (sym e) ∙ there')) [
-        | inl old ↦ a.all j y old
-        | inr new ↦ subst (λ z. IsBoundary rows provided start items z j) new.1 (record {
-          place = k;
-          items_is = let m = items_is in omega (arith, m);
-          item = x;
-          there = there;
-          before = layout_of n h d;
-          comes = comes;
-          many = let m = a.many in let q = new.0 in length-map d.sections (section_of n) ∙ omega (arith, m, q);
-          after = layout_of n h' d';
-          step = step;
-          one = let m = a.many in let q = new.0 in
-              length-map d'.sections (section_of n) ∙ omega (arith, m, q, some, one);
-          at = is;
-        })
-      ];
-      many = let m = a.many in let f = ap length e ∙ length-append bs (b ∷ []) in omega (arith, m, f, some, one);
-    }
+  -- where it stands
+  pub stands_at : sections_at items k ≡ sections_of x.line x.command
+  stands_at = ap (λ o. option_map_or (λ (y : Item). sections_of y.line y.command) o []) there
+
+-- where all statements have come to
+pub all_there : (n : Naming) (rows : List (List Piece)) (provided : List (List ℕ)) (start : Layout) (items : List Item)
+    (h : Here) (d : Done) (k : ℕ) → run (item_step rows provided) start (take k items) ≡ Ok (layout_of n h d)
+    → length items ≤ k → run (item_step rows provided) start (take (length items) items) ≡ Ok (layout_of n h d)
+all_there n rows provided start items h d k comes l =
+    ap (run (item_step rows provided) start) (take_all (length items) items (omega arith) ∙ sym (take_all k items l)) ∙ comes
+
+-- one boundary more
+pub noted_more : (n : Naming) (rows : List (List Piece)) (provided : List (List ℕ)) (start : Layout) (items : List Item)
+    (h : Here) (d : Done) (k : ℕ) → run (item_step rows provided) start (take k items) ≡ Ok (layout_of n h d)
+    → (bs more : List Boundary) (b : Boundary) → AreNoted rows provided start items bs (length d.sections.list)
+    → b.items ≡ k → IsAt b (layout_of n h d) → (length (sections_at items k) ≡ 1) ⊎ (k ≡ length items)
+    → more ≡ bs ++ b ∷ [] → AreNoted rows provided start items more (length d.sections.list + 1)
+noted_more n rows provided start items h d k comes bs more b a items_is is next e = record {
+  all = λ j y there'. elim (among_more bs b j y (ap (λ z. slice_get z j) (sym e) ∙ there')) [
+    | inl old ↦ a.all j y old
+    | inr new ↦ subst (λ z. IsBoundary rows provided start items z j) new.1 (record {
+      state = layout_of n h d;
+      comes = ap (λ z. run (item_step rows provided) start (take z items)) items_is ∙ comes;
+      many = let m = a.many in let q = new.0 in length-map d.sections.list (section_of n) ∙ omega (arith, m, q);
+      at = is;
+      next = subst (λ z. (length (sections_at items z) ≡ 1) ⊎ (z ≡ length items)) (sym items_is) next;
+    })
+  ];
+  many = let m = a.many in let f = ap length e ∙ length-append bs (b ∷ []) in omega (arith, m, f);
+}

@@ -119,7 +119,7 @@ command_names rows provided line s (top.Sections xs) t e = items_names rows prov
 command_names rows provided line s (top.Common c) t e =
     unnamed t.sections s.sections (common_keeps provided s line c t e)
 
-sections_of_both : (xs ys : List Item) → sections_in (xs ++ ys) ≡ sections_in xs ++ sections_in ys
+pub sections_of_both : (xs ys : List Item) → sections_in (xs ++ ys) ≡ sections_in xs ++ sections_in ys
 sections_of_both [] ys = refl
 sections_of_both (x ∷ xs) ys = ap (λ l. sections_of x.line x.command ++ l) (sections_of_both xs ys)
     ∙ sym (append_assoc (sections_of x.line x.command) (sections_in xs) (sections_in ys))

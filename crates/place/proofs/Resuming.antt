@@ -1,17 +1,16 @@
 -- A layout that takes over the first output sections of an earlier one comes to where that one had come to after them.
-use Rattle.std.proofs.Common.{◌≡◌, ℕ, zero, suc, ◌+◌, ◌-◌, ◌≤◌, ◌<◌, List, [], ◌∷◌, ◌++◌, length, map, take, drop}
+use Rattle.std.proofs.Common.{◌≡◌, ℕ, zero, suc, ◌+◌, ◌≤◌, ◌<◌, List, [], ◌∷◌, ◌++◌, length, map, take, drop}
 use Rattle.std.proofs.Common.{get_or}
-use Rattle.std.proofs.Common.{Result, Ok, Some, refl, sym, ap, subst, ◌∙◌, arith, length-append}
+use Rattle.std.proofs.Common.{Ok, Some, refl, sym, ap, subst, ◌∙◌, arith, length-append}
 use Rattle.std.specs.Prelude.{slice_get}
 use Rattle.std.proofs.Math.ListN.{get_or-map}
-use Rattle.std.proofs.lemmas.List.{length-map, map-append, take-map}
+use Rattle.std.proofs.lemmas.List.{length-map, length-take, map-append, take-map}
 use Rattle.ldtree.specs.declared.section.OutputSection.{OutputSection}
 use Rattle.ldtree.specs.declared.statement.Item.{Item}
 use Rattle.ldtree.specs.declared.statement.ItemCommand.{ItemCommand}
 use Rattle.ldtree.specs.declared.statement.ItemCommand.TheVariants as item
 use Rattle.ldtree.specs.declared.statement.Statement.{Statement}
 use Rattle.ldmodel.specs.Chain.{run}
-use Rattle.ldmodel.specs.Fault.{Fault}
 use Rattle.ldmodel.specs.Layout.{Layout, noted}
 use Rattle.ldmodel.specs.Lent.{symbol_of}
 use Rattle.ldmodel.specs.Placement.{item_command_step, item_step, next_row, section_step}
@@ -24,15 +23,17 @@ use Rattle.ldnumbers.specs.Naming.{Naming, row_named}
 use Rattle.place.proofs.Adding.{section_grows}
 use Rattle.place.proofs.Beginning.{first_part}
 use Rattle.place.proofs.Ending.{chained}
+use Rattle.place.proofs.Following.{next_at}
 use Rattle.place.proofs.Grows.{given_is}
 use Rattle.place.proofs.Onward.{fewer, items_on, leads_before}
-use Rattle.place.proofs.Runs.{run_more, run_none, run_rest}
+use Rattle.place.proofs.Runs.{drop_at, run_first, run_more, run_none, run_rest}
 use Rattle.place.proofs.Still.{still_two}
 use Rattle.place.proofs.Taking.{grown, section_taken}
 use Rattle.place.specs.Boundaries.{data_in, AreNoted, IsBoundary}
 use Rattle.place.specs.Earlier.{Earlier, Same}
 use Rattle.place.specs.Inputs.{rows_of}
 use Rattle.place.specs.Leads.{Begins, Leads}
+use Rattle.place.specs.Next.{AreFirst, IsNextAt}
 use Rattle.place.specs.State.{layout_of}
 use Rattle.place.specs.Taken.{Takes}
 use Rattle.place.specs.declared.boundary.Boundary.{Boundary}
@@ -67,22 +68,15 @@ items_same provided first earlier rows (x ∷ xs) s t a e l =
     rw one more
 
 boundary_same : (provided : List (List ℕ)) (first : ℕ) (earlier rows : List (List Piece)) (items : List Item)
-    (s : Layout) (b : Boundary) (k : ℕ) → Same first earlier rows → k < first
+    (s : Layout) (b : Boundary) (k : ℕ) → Same first earlier rows → k ≤ first
     → IsBoundary earlier provided s items b k → IsBoundary rows provided s items b k
 boundary_same provided first earlier rows items s b k a l i = record {
-  place = i.place;
-  items_is = i.items_is;
-  item = i.item;
-  there = i.there;
-  before = i.before;
-  comes = items_same provided first earlier rows (take i.place items) s i.before a i.comes
+  state = i.state;
+  comes = items_same provided first earlier rows (take b.items items) s i.state a i.comes
       (let m = i.many in omega (arith, m, l));
   many = i.many;
-  after = i.after;
-  step = command_same provided first earlier rows i.item.line (noted i.before) i.item.command i.after a i.step
-      (let m = i.one in omega (arith, m, l));
-  one = i.one;
   at = i.at;
+  next = i.next;
 }
 
 -- this many output sections are taken over, as earlier rows had them
@@ -91,12 +85,12 @@ pub record Reached (n : Naming) (i : Input) (s : Layout) (items : List Item) (ro
   pub place : ℕ
   pub state : Layout
   pub comes : run (item_step rows i.provided.now) s (take place items) ≡ Ok state
-  pub sections : map (section_of n) d.sections ≡ state.sections
+  pub sections : map (section_of n) d.sections.list ≡ state.sections
   pub regions : d.regions ≡ state.regions
-  pub many : length d.sections ≡ count
+  pub many : length d.sections.list ≡ count
 
 pub none_reached : (n : Naming) (i : Input) (h : Here) (items : List Item) (rows : List (List Piece)) (d : Done)
-    → d.sections ≡ [] → Reached n i (layout_of n h d) items rows d 0
+    → d.sections.list ≡ [] → Reached n i (layout_of n h d) items rows d 0
 none_reached n i h items rows d none = record {
   place = 0;
   state = layout_of n h d;
@@ -113,104 +107,128 @@ unfolding item_command_step
 step_is rows provided s t x line o same e = sym (ap (item_step rows provided s) same) ∙ e
 
 module _ (n : Naming) (i : Input) (script : List Statement) (s : Layout) (items : List Item)
-    (e : Earlier n i script s items) (b : Boundary) (k : ℕ) (there : slice_get i.kept.boundaries.now k ≡ Some b)
-    (l : k < i.kept.first) where
+    (e : Earlier n i script s items) (b : Boundary) (k : ℕ) (there : slice_get i.kept.boundaries.now k ≡ Some b) where
   abbrev at : IsBoundary e.rows i.provided.now s items b k
   at = e.boundaries k b there
 
-  after_comes : run (item_step e.rows i.provided.now) s (take (suc at.place) items) ≡ Ok at.after
-  after_comes =
-      run_more (item_step e.rows i.provided.now) items at.place at.item s at.before at.after at.comes at.there at.step
+  goes : run (item_step e.rows i.provided.now) at.state (drop b.items items) ≡ Ok e.leads.layout
+  goes = run_rest (item_step e.rows i.provided.now) items b.items s at.state e.leads.layout at.comes e.leads.comes
 
-  after_leads : (r : Result Layout Fault) → r ≡ Ok at.after → Leads script i.kept r
-  after_leads r f =
-      leads_before script i.kept at.after e.leads.layout r (run (item_step e.rows i.provided.now) s items)
-      (items_on e.rows i.provided.now (drop (suc at.place) items) at.after e.leads.layout
-      (run_rest (item_step e.rows i.provided.now) items (suc at.place) s at.after e.leads.layout after_comes
-      e.leads.comes)) f e.leads refl
+  state_leads : Leads script i.kept (Ok at.state)
+  state_leads =
+      leads_before script i.kept at.state e.leads.layout (Ok at.state) (run (item_step e.rows i.provided.now) s items)
+      (items_on e.rows i.provided.now (drop b.items items) at.state e.leads.layout goes) refl e.leads refl
 
-  -- one more
-  pub reached_on : (old new : Done) → Reached n i s items e.rows old k → Takes i items b old new
+  -- one more, the data commands of which end at the next boundary
+  pub reached_on : (next : Boundary) → slice_get i.kept.boundaries.now (k + 1) ≡ Some next → k < i.kept.first
+      → (old new : Done) → Reached n i s items e.rows old k → Takes i items b next old new
       → Reached n i s items e.rows new (k + 1)
-  reached_on old new r t =
+  reached_on next there_next l old new r t =
       let provided : List (List ℕ) = i.provided.now in
-      let before : Layout = at.before in
-      let line : ℕ = t.ends.line in
+      let before : Layout = at.state in
+      let line : ℕ = t.at.line in
       let o : OutputSection = t.output in
-      let row : List rows.Piece = get_or (map (λ v. v.items) i.rows.now) (length old.sections) [] in
-      let places : t.ends.place ≡ at.place =
-      (let x = t.ends.count_is in let y = at.items_is in omega (arith, x, y)) in
-      let same_item : at.item ≡ record { line = line; command = item.Section o } =
-      (let x = at.there in let y = ap (slice_get items) (sym places) ∙ t.ends.there in cc) in
+      let x : Item = record { line = line; command = item.Section o } in
+      let row : List rows.Piece = get_or (map (λ v. v.items) i.rows.now) (length old.sections.list) [] in
       let long : length r.state.sections ≡ length before.sections =
-      (let x = ap length r.sections in let y = length-map old.sections (section_of n) in
-      let z = r.many in let w = at.many in omega (arith, x, y, z, w)) in
-      let two = still_two e.rows provided items s r.place at.place r.state before r.comes at.comes long in
+      (let p = ap length r.sections in let q = length-map old.sections.list (section_of n) in
+      let z = r.many in let w = at.many in omega (arith, p, q, z, w)) in
+      let two = still_two e.rows provided items s r.place b.items r.state before r.comes at.comes long in
+      let h = chained (item_step e.rows provided before x)
+      (λ u. run (item_step e.rows provided) u (drop (suc b.items) items)) e.leads.layout
+      (sym (run_first (item_step e.rows provided) x (drop (suc b.items) items) before)
+      ∙ (ap (run (item_step e.rows provided) before) (sym (drop_at items b.items x t.at.there)) ∙ goes)) in
+      let after : Layout = h.value in
+      let comes : run (item_step e.rows provided) s (take (suc b.items) items) ≡ Ok after =
+      run_more (item_step e.rows provided) items b.items x s before after at.comes t.at.there h.first in
       let row_is : next_row e.rows before ≡ row_named n row =
       ap (λ j. get_or e.rows j []) at.many
       ∙ (e.same k l
       ∙ (get_or-map (row_named n) (map (λ v. v.items) i.rows.now) k []
       ∙ ap (λ j. row_named n (get_or (map (λ v. v.items) i.rows.now) j [])) (sym r.many))) in
-      let step : section_step provided (row_named n row) (noted before) line o ≡ Ok at.after =
+      let step : section_step provided (row_named n row) (noted before) line o ≡ Ok after =
       ap (λ z. section_step provided z (noted before) line o) (sym row_is)
-      ∙ step_is e.rows provided before at.after at.item line o same_item at.step in
-      let leads = after_leads (section_step provided (row_named n row) (noted before) line o) step in
-      let same : leads.layout ≡ at.after = given_is leads.layout at.after (sym leads.comes ∙ step) in
-      let sections : before.sections ≡ map (section_of n) old.sections = sym (r.sections ∙ two.0) in
-      let g = grown n script i.kept provided row (noted before) line o old.sections sections leads in
-      let x = section_taken n script i.kept provided row (noted before) line o old.sections sections leads t.section
-      b.data_commands t.taken (at.at.data_commands ∙ ap (λ (u : Layout). length (data_in u.sections)) (sym same)) in
+      ∙ step_is e.rows provided before after x line o refl h.first in
+      let leads = leads_before script i.kept after e.leads.layout
+      (section_step provided (row_named n row) (noted before) line o)
+      (run (item_step e.rows provided) s items)
+      (items_on e.rows provided (drop (suc b.items) items) after e.leads.layout h.second) step e.leads refl in
+      let same : leads.layout ≡ after = given_is leads.layout after (sym leads.comes ∙ step) in
+      let sections : before.sections ≡ map (section_of n) old.sections.list = sym (r.sections ∙ two.0) in
+      let g = grown n script i.kept provided row (noted before) line o old.sections.list sections leads in
+      let at_next = e.boundaries (k + 1) next there_next in
+      let added : after.sections ≡ before.sections ++ g.section ∷ [] =
+      ap (λ (u : Layout). u.sections) (sym same) ∙ g.added in
+      let next_long : length after.sections ≡ length at_next.state.sections =
+      (let p = ap length added ∙ length-append before.sections (g.section ∷ []) in
+      let z = at.many in let w = at_next.many in omega (arith, p, z, w)) in
+      let next_two = still_two e.rows provided items s (suc b.items) next.items after at_next.state comes at_next.comes
+      next_long in
+      let end : next.data_commands ≡ length (data_in leads.layout.sections) =
+      at_next.at.data_commands
+      ∙ (ap (λ z. length (data_in z)) (sym next_two.0)
+      ∙ ap (λ (u : Layout). length (data_in u.sections)) (sym same)) in
+      let y = section_taken n script i.kept provided row (noted before) line o old.sections.list sections leads t.section
+      next.data_commands t.taken end in
       record {
-        place = suc at.place;
-        state = at.after;
-        comes = after_comes;
+        place = suc b.items;
+        state = after;
+        comes = comes;
         sections = ap (map (section_of n)) t.pushed
-            ∙ (map-append (section_of n) old.sections (t.section ∷ [])
+            ∙ (map-append (section_of n) old.sections.list (t.section ∷ [])
             ∙ (ap (λ z. z ++ section_of n t.section ∷ []) (sym sections)
-            ∙ (ap (λ z. before.sections ++ z ∷ []) x.0 ∙ (sym g.added ∙ ap (λ (u : Layout). u.sections) same))));
+            ∙ (ap (λ z. before.sections ++ z ∷ []) y.0 ∙ sym added)));
         regions = t.regions
             ∙ (ap (λ (p : Placed). freed_from (load_region o.load) (p.load + p.load_size)
-            (freed_from o.region (p.start + p.size) old.regions)) x.1
+            (freed_from o.region (p.start + p.size) old.regions)) y.1
             ∙ (ap (λ z. freed_from (load_region o.load) (g.section.load + g.section.load_size)
             (freed_from o.region (g.section.start + g.section.size) z)) (r.regions ∙ two.1)
             ∙ (sym g.regions ∙ ap (λ (u : Layout). u.regions) same)));
-        many = let m = ap length t.pushed ∙ length-append old.sections (t.section ∷ []) in let z = r.many in
+        many = let m = ap length t.pushed ∙ length-append old.sections.list (t.section ∷ []) in let z = r.many in
             omega (arith, m, z);
       }
 
   -- where the earlier layout had come to
-  after_is : (h : Here) (d : Done) → Reached n i s items e.rows d (suc k) → h.symbols.script ≡ script → h.dot ≡ b.dot
+  state_is : (h : Here) (d : Done) → Reached n i s items e.rows d k → h.symbols.script ≡ script → h.dot ≡ b.dot
       → h.dots.items ≡ take b.dots i.kept.dots.now → h.inputs ≡ b.inputs
-      → h.symbols.list ≡ take b.symbols i.kept.symbols.now → layout_of n h d ≡ at.after
-  after_is h d r same dot dots inputs symbols =
-      let leads = after_leads (item_step e.rows i.provided.now at.before at.item) at.step in
-      let ended : leads.layout ≡ at.after = given_is leads.layout at.after (sym leads.comes ∙ at.step) in
-      let long : length r.state.sections ≡ length at.after.sections =
-      (let x = ap length r.sections in let y = length-map d.sections (section_of n) in
-      let z = r.many in let w = at.one in omega (arith, x, y, z, w)) in
-      let two = still_two e.rows i.provided.now items s r.place (suc at.place) r.state at.after r.comes after_comes long
-      in
-      let dots_are : h.dots.items ≡ at.after.dots =
-      dots ∙ first_part at.after.dots i.kept.dots.now b.dots
+      → h.symbols.list ≡ take b.symbols i.kept.symbols.now → layout_of n h d ≡ at.state
+  state_is h d r same dot dots inputs symbols =
+      let long : length r.state.sections ≡ length at.state.sections =
+      (let x = ap length r.sections in let y = length-map d.sections.list (section_of n) in
+      let z = r.many in let w = at.many in omega (arith, x, y, z, w)) in
+      let two = still_two e.rows i.provided.now items s r.place b.items r.state at.state r.comes at.comes long in
+      let leads = state_leads in
+      let ended : leads.layout ≡ at.state = given_is leads.layout at.state (sym leads.comes) in
+      let dots_are : h.dots.items ≡ at.state.dots =
+      dots ∙ first_part at.state.dots i.kept.dots.now b.dots
       (subst (λ (u : Layout). Begins u.dots i.kept.dots.now) ended leads.dots) at.at.dots in
-      let names : map (symbol_of h.symbols.script) h.symbols.list ≡ at.after.symbols =
+      let names : map (symbol_of h.symbols.script) h.symbols.list ≡ at.state.symbols =
       ap (λ z. map (symbol_of z) h.symbols.list) same
       ∙ (ap (map (symbol_of script)) symbols
       ∙ (sym (take-map (symbol_of script) b.symbols i.kept.symbols.now)
-      ∙ first_part at.after.symbols (map (symbol_of script) i.kept.symbols.now) b.symbols
+      ∙ first_part at.state.symbols (map (symbol_of script) i.kept.symbols.now) b.symbols
       (subst (λ (u : Layout). Begins u.symbols (map (symbol_of script) i.kept.symbols.now)) ended leads.symbols)
       at.at.symbols)) in
       rw (dot ∙ at.at.dot, dots_are, inputs ∙ at.at.inputs, names, r.regions ∙ two.1, r.sections ∙ two.0) refl
 
-  pub goes_on : (h : Here) (d : Done) → Reached n i s items e.rows d (suc k) → h.symbols.script ≡ script
+  pub goes_on : (h : Here) (d : Done) → k ≤ i.kept.first → Reached n i s items e.rows d k → h.symbols.script ≡ script
       → h.dot ≡ b.dot → h.dots.items ≡ take b.dots i.kept.dots.now → h.inputs ≡ b.inputs
       → h.symbols.list ≡ take b.symbols i.kept.symbols.now
       → run (item_step (rows_of n i) i.provided.now) s (take b.items items) ≡ Ok (layout_of n h d)
-  goes_on h d r same dot dots inputs symbols =
-      ap (λ j. run (item_step (rows_of n i) i.provided.now) s (take j items)) at.items_is
-      ∙ (items_same i.provided.now i.kept.first e.rows (rows_of n i) (take (suc at.place) items) s at.after e.same
-      after_comes (let m = at.one in omega (arith, m, l))
-      ∙ ap Ok (sym (after_is h d r same dot dots inputs symbols)))
+  goes_on h d l r same dot dots inputs symbols =
+      items_same i.provided.now i.kept.first e.rows (rows_of n i) (take b.items items) s at.state e.same
+      at.comes (let m = at.many in omega (arith, m, l))
+      ∙ ap Ok (sym (state_is h d r same dot dots inputs symbols))
+
+  -- the statement there is the next output section of the script, if it is one
+  pub taken_next : (outputs : List Statement) → s.sections ≡ [] → AreFirst outputs items → (d : Done)
+      → Reached n i s items e.rows d k → d.sections.script ≡ outputs
+      → IsNextAt d.sections.script (length d.sections.list) items b.items
+  taken_next outputs none first d r same =
+      let long : length at.state.sections ≡ length d.sections.list = at.many ∙ sym r.many in
+      subst (λ z. IsNextAt z (length d.sections.list) items b.items) (sym same)
+      (subst (λ z. IsNextAt outputs z items b.items) long
+      (next_at e.rows i.provided.now outputs items s none first b.items at.state at.comes))
 
 -- the first ones of a list
 pub among_first : {X : Type 0} (m : ℕ) (xs : List X) (k : ℕ) (x : X) → slice_get (take m xs) k ≡ Some x
@@ -220,47 +238,19 @@ among_first (suc m) [] k x e = absurd (let no : ⊥ = cc in no)
 among_first (suc m) (y ∷ ys) zero x e = (omega arith, e)
 among_first (suc m) (y ∷ ys) (suc k) x e = let h = among_first m ys k x e in (omega (arith, h.0), h.1)
 
-pub last_there : {X : Type 0} (xs : List X) (x : X) → Some x ≡ slice_get xs (length xs - 1) → length xs
-    ≡ suc (length xs - 1)
-last_there [] x e = absurd (let no : ⊥ = cc in no)
-last_there (y ∷ ys) x e = omega arith
-
--- the boundaries of the output sections that are taken over
+-- what is taken over up to a boundary
 module _ (n : Naming) (i : Input) (script : List Statement) (s : Layout) (items : List Item)
-    (earlier : 0 < i.kept.first → Earlier n i script s items) (boundaries : List Boundary)
-    (taken : boundaries ≡ take i.kept.first i.kept.boundaries.now) (b : Boundary)
-    (last : Some b ≡ slice_get boundaries (length boundaries - 1)) (d : Done)
-    (reached : (e : Earlier n i script s items) → Reached n i s items e.rows d (length boundaries)) where
-  abbrev k : ℕ
-  k = length boundaries - 1
-
-  long : length boundaries ≡ suc k
-  long = last_there boundaries b last
-
-  there : (k < i.kept.first) × (slice_get i.kept.boundaries.now k ≡ Some b)
-  there = among_first i.kept.first i.kept.boundaries.now k b (ap (λ z. slice_get z k) (sym taken) ∙ sym last)
-
-  e : Earlier n i script s items
-  e = earlier (let l = there.0 in omega (arith, l))
-
-  pub few : length d.sections ≤ i.kept.first
-  few =
-      let l = there.0 in
-      let m = (reached e).many in
-      let z = long in
-      omega (arith, l, m, z)
-
-  pub resumed : (h : Here) → h.symbols.script ≡ script → h.dot ≡ b.dot
-      → h.dots.items ≡ take b.dots i.kept.dots.now → h.inputs ≡ b.inputs
-      → h.symbols.list ≡ take b.symbols i.kept.symbols.now
-      → run (item_step (rows_of n i) i.provided.now) s (take b.items items) ≡ Ok (layout_of n h d)
-  resumed h =
-      goes_on n i script s items e b k there.1 there.0 h d (subst (Reached n i s items e.rows d) long (reached e))
-
-  pub all_noted : AreNoted (rows_of n i) i.provided.now s items boundaries (length d.sections)
-  all_noted = record {
+    (e : Earlier n i script s items) (count : ℕ) (few : count ≤ i.kept.first) where
+  pub all_noted : (boundaries : List Boundary) (complete : ℕ) → boundaries ≡ take count i.kept.boundaries.now
+      → count < length i.kept.boundaries.now → complete ≡ count
+      → AreNoted (rows_of n i) i.provided.now s items boundaries complete
+  all_noted boundaries complete taken l done = record {
     all = λ j x at.
-        let h = among_first i.kept.first i.kept.boundaries.now j x (ap (λ z. slice_get z j) (sym taken) ∙ at) in
-        boundary_same i.provided.now i.kept.first e.rows (rows_of n i) items s x j e.same h.0 (e.boundaries j x h.1);
-    many = sym (reached e).many;
+        let h = among_first count i.kept.boundaries.now j x (ap (λ z. slice_get z j) (sym taken) ∙ at) in
+        boundary_same i.provided.now i.kept.first e.rows (rows_of n i) items s x j e.same
+        (let m = h.0 in omega (arith, m, few)) (e.boundaries j x h.1);
+    many =
+        let m = length-take count i.kept.boundaries.now in
+        let f = ap length taken in
+        omega (arith, m, f, l, done);
   }

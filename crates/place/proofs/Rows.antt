@@ -11,7 +11,7 @@ use Rattle.place.specs.declared.state.Done.{Done}
 use Rattle.place.specs.declared.state.Here.{Here}
 
 pub next_row_is : (n : Naming) (rows : List (List code.Piece)) (h : Here) (d : Done)
-    → next_row (rows_named n rows) (layout_of n h d) ≡ row_named n (get_or rows (length d.sections) [])
+    → next_row (rows_named n rows) (layout_of n h d) ≡ row_named n (get_or rows (length d.sections.list) [])
 next_row_is n rows h d =
-    ap (λ k. get_or (rows_named n rows) k []) (length-map d.sections (section_of n))
-    ∙ get_or-map (row_named n) rows (length d.sections) []
+    ap (λ k. get_or (rows_named n rows) k []) (length-map d.sections.list (section_of n))
+    ∙ get_or-map (row_named n) rows (length d.sections.list) []

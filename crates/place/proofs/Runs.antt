@@ -33,7 +33,7 @@ module _ {X : Type 0} (step : Layout → X → Result Layout Fault) where
       go (Ok t) later = later t
       go (Err f) later = refl
 
-  run_first : (x : X) (xs : List X) (s : Layout) → run step s (x ∷ xs) ≡ and_then (step s x) (λ t. run step t xs)
+  pub run_first : (x : X) (xs : List X) (s : Layout) → run step s (x ∷ xs) ≡ and_then (step s x) (λ t. run step t xs)
   unfolding run
   run_first x xs s = refl
 

@@ -15,7 +15,7 @@ use Rattle.ldmodel.specs.Rows.{Piece}
 use Rattle.ldmodel.specs.declared.laid.Placed.{Placed}
 use Rattle.ldmodel.specs.declared.laid.PlacedData as code_data
 use Rattle.ldmodel.specs.declared.rows.Piece as rows
-use Rattle.ldnumbers.specs.Keyed.{KeyedSection, data_at, piece_at, section_of}
+use Rattle.ldnumbers.specs.Keyed.{KeyedSection, data_at, data_at_of, piece_at, section_of}
 use Rattle.ldnumbers.specs.Naming.{Naming, piece_named, row_named}
 use Rattle.ldnumbers.specs.SectionTable.{taken_pieces}
 use Rattle.ldnumbers.specs.Wholes.{all_data_in, starts_in}
@@ -25,11 +25,11 @@ use Rattle.place.proofs.Grows.{the_piece}
 use Rattle.place.proofs.Wholes.{data_whole, starts_whole}
 use Rattle.place.specs.Boundaries.{data_in}
 use Rattle.place.specs.Leads.{Begins, Leads, counts_of}
-use Rattle.place.specs.Taken.{IsTaken, data_at_of, part_of}
+use Rattle.place.specs.Taken.{IsTaken, part_of}
 use Rattle.place.specs.declared.kept.Kept.{Kept}
 
 -- the one after the first ones of a list
-after_first : {X : Type 0} (xs : List X) (x : X) (ys : List X) → slice_get (xs ++ x ∷ ys) (length xs) ≡ Some x
+pub after_first : {X : Type 0} (xs : List X) (x : X) (ys : List X) → slice_get (xs ++ x ∷ ys) (length xs) ≡ Some x
 after_first [] x ys = refl
 after_first (y ∷ xs) x ys = after_first xs x ys
 

@@ -1,6 +1,6 @@
 -- The parts of all output sections, by the layout that they stand for.
 use Rattle.std.proofs.Common.{◌≡◌, ℕ, zero, suc, arith, ◌+◌, List, [], ◌∷◌, ◌++◌, map, refl, sym, ap, ◌∙◌, ◌<◌, length}
-use Rattle.std.proofs.Common.{get_or, drop, append_assoc, take, min}
+use Rattle.std.proofs.Common.{get_or, drop, append_assoc, take}
 use Rattle.std.proofs.lemmas.List.{drop_more, length-map}
 use Rattle.ldmodel.specs.declared.rows.Piece.{Piece}
 use Rattle.ldmodel.specs.Layout.{PlacedSection}
@@ -8,8 +8,7 @@ use Rattle.std.specs.Prelude.{flat_map}
 use Rattle.std.specs.List.{enumerate_from}
 use Rattle.ldmodel.specs.Layout.{PlacedPiece}
 use Rattle.ldmodel.specs.Lent.{placed_of, starts_of, numbered}
-use Rattle.ldnumbers.specs.SectionTable.{contents_of, keyed, taken_pieces}
-use Rattle.ldnumbers.specs.declared.sections.Closed.{Closed}
+use Rattle.ldnumbers.specs.SectionTable.{taken_pieces}
 use Rattle.ldnumbers.specs.Keyed.{KeyedPiece, KeyedSection, section_of, piece_at}
 use Rattle.ldnumbers.specs.Naming.{Naming}
 use Rattle.ldnumbers.specs.SectionTable.{Ends as KeyedEnds}
@@ -29,13 +28,10 @@ counts_whole n (x ∷ xs) =
 
 -- input sections that are taken over
 pub taken_starts : (xs : List ℕ) (ps : List Piece) → map (λ (p : KeyedPiece). p.start) (taken_pieces xs ps)
-    ≡ take (min (length xs) (length ps)) xs
-taken_starts [] [] = refl
-taken_starts [] (p ∷ ps) = let e : min 0 (length (p ∷ ps)) ≡ 0 = omega arith in ap (λ k. take k []) (sym e)
-taken_starts (x ∷ xs) [] = let e : min (length (x ∷ xs)) 0 ≡ 0 = omega arith in ap (λ k. take k (x ∷ xs)) (sym e)
-taken_starts (x ∷ xs) (p ∷ ps) =
-    let e : min (length (x ∷ xs)) (length (p ∷ ps)) ≡ suc (min (length xs) (length ps)) = omega arith in
-    ap (λ l. x ∷ l) (taken_starts xs ps) ∙ ap (λ k. take k (x ∷ xs)) (sym e)
+    ≡ take (length (taken_pieces xs ps)) xs
+taken_starts [] ps = refl
+taken_starts (x ∷ xs) [] = refl
+taken_starts (x ∷ xs) (p ∷ ps) = ap (λ l. x ∷ l) (taken_starts xs ps)
 
 starts_whole_in : (n : Naming) (ps : List KeyedPiece) → map (λ (p : KeyedPiece). p.start) ps
     ≡ map (λ (p : PlacedPiece). p.start) (map (piece_at n) ps)
@@ -53,16 +49,17 @@ pub data_whole : (n : Naming) (k : ℕ) (xs : List KeyedSection) → all_data_in
 data_whole n k [] = refl
 data_whole n k (x ∷ xs) = ap (λ l. data_in k x.data_commands ++ l) (data_whole n (k + 1) xs)
 
--- one more section's starts
-pub starts_more : (xs : List Closed) (i : ℕ) (x : Closed) (all old new : List ℕ) → i < length xs → x ≡ get_or xs i x
-    → all ≡ old ++ starts_in (map keyed (drop i xs)) → new ≡ old
-    ++ map (λ (p : KeyedPiece). p.start) (contents_of x.contents) → all ≡ new
-    ++ starts_in (map keyed (drop (i + 1) xs))
-starts_more xs i x all old new l at h e =
+-- the starts of one more output section of a list
+pub starts_more : {X : Type 0} (key : X → KeyedSection) (from : List X → List KeyedSection)
+    → ((y : X) (ys : List X) → from (y ∷ ys) ≡ key y ∷ from ys)
+    → (xs : List X) (i : ℕ) (x : X) (all old new : List ℕ) → i < length xs → x ≡ get_or xs i x
+    → all ≡ old ++ starts_in (from (drop i xs)) → new ≡ old ++ map (λ (p : KeyedPiece). p.start) (key x).pieces
+    → all ≡ new ++ starts_in (from (drop (i + 1) xs))
+starts_more key from first xs i x all old new l at h e =
     let here : drop i xs ≡ x ∷ drop (i + 1) xs = drop_more xs i x l ∙ ap (λ y. y ∷ drop (i + 1) xs) (sym at) in
-    h ∙ (ap (λ ys. old ++ starts_in (map keyed ys)) here
-    ∙ (sym (append_assoc old (map (λ (p : KeyedPiece). p.start) (contents_of x.contents))
-    (starts_in (map keyed (drop (i + 1) xs)))) ∙ ap (λ ys. ys ++ starts_in (map keyed (drop (i + 1) xs))) (sym e)))
+    h ∙ (ap (λ ys. old ++ starts_in ys) (ap from here ∙ first x (drop (i + 1) xs))
+    ∙ (sym (append_assoc old (map (λ (p : KeyedPiece). p.start) (key x).pieces) (starts_in (from (drop (i + 1) xs))))
+    ∙ ap (λ ys. ys ++ starts_in (from (drop (i + 1) xs))) (sym e)))
 
 pub ends_whole : (xs : List KeyedSection) → KeyedEnds xs → Ends (placed_in xs)
 ends_whole [] h k d l = absurd (omega arith)

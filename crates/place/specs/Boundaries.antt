@@ -1,6 +1,8 @@
--- Where a layout had come to after its output sections.
-use Rattle.std.specs.Prelude.{◌≡◌, ℕ, suc, List, length, take, Some, Ok, slice_get, flat_map}
+-- Where a layout had come to before its output sections, and after the last statement of SECTIONS.
+use Rattle.std.specs.Prelude.{◌≡◌, ℕ, List, [], length, take, Ok, slice_get, Some, flat_map, ◌⊎◌}
 use Rattle.std.specs.List.{enumerate_from}
+use Rattle.std.specs.Option.{option_map_or}
+use Rattle.ldtree.specs.Numbering.{OutputSectionAt, sections_of}
 use Rattle.ldtree.specs.declared.statement.Item.{Item}
 use Rattle.ldtree.specs.declared.statement.Statement.{Statement}
 use Rattle.ldmodel.specs.Chain.{run}
@@ -23,23 +25,21 @@ pub record IsAt (b : Boundary) (s : Layout) : Type 0 where
   pub symbols : b.symbols ≡ length s.symbols
   pub data_commands : b.data_commands ≡ length (data_in s.sections)
 
--- the one after the output section of this number, where the statements of SECTIONS begin with a layout: its own
--- statement takes the layout before it to the one after it
+-- the statement at a place, as far as it is that of an output section
+abbrev pub sections_at : List Item → ℕ → List OutputSectionAt
+sections_at items place = option_map_or (λ (x : Item). sections_of x.line x.command) (slice_get items place) []
+
+-- the one before the output section of this number, or after all statements, where the statements of SECTIONS begin
+-- with a layout
 pub record IsBoundary (rows : List (List Piece)) (provided : List (List ℕ)) (start : Layout) (items : List Item)
     (b : Boundary) (number : ℕ) : Type 0 where
-  pub place : ℕ
-  pub items_is : b.items ≡ suc place
-  pub item : Item
-  pub there : slice_get items place ≡ Some item
-  pub before : Layout
-  pub comes : run (item_step rows provided) start (take place items) ≡ Ok before
-  pub many : length before.sections ≡ number
-  pub after : Layout
-  pub step : item_step rows provided before item ≡ Ok after
-  pub one : length after.sections ≡ suc number
-  pub at : IsAt b after
+  pub state : Layout
+  pub comes : run (item_step rows provided) start (take b.items items) ≡ Ok state
+  pub many : length state.sections ≡ number
+  pub at : IsAt b state
+  pub next : (length (sections_at items b.items) ≡ 1) ⊎ (b.items ≡ length items)
 
--- one after each output section from the first on
+-- those of as many output sections as there are, from the first on
 abbrev pub AreBoundaries : List (List Piece) → List (List ℕ) → Layout → List Item → List Boundary → Type 0
 AreBoundaries rows provided start items bs =
     (k : ℕ) (b : Boundary) → slice_get bs k ≡ Some b → IsBoundary rows provided start items b k

@@ -2,6 +2,7 @@
 pub mod State
 pub mod Inputs
 pub mod Parts
+pub mod Next
 pub mod Boundaries
 pub mod Places
 pub mod Outcomes

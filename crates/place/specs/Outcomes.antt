@@ -1,5 +1,5 @@
 -- What the layout of a script comes to.
-use Rattle.std.specs.Prelude.{◌≡◌, ◌≢◌, ℕ, List, [], ⊤, length, map, Ok}
+use Rattle.std.specs.Prelude.{◌≡◌, ◌≢◌, ℕ, ◌+◌, List, [], ⊤, length, map, Ok}
 use Rattle.ldtree.specs.declared.statement.Statement.{Statement}
 use Rattle.ldmodel.specs.Fault.{Fault}
 use Rattle.ldmodel.specs.FaultCode.{fault_of}
@@ -33,7 +33,7 @@ pub record IsGood (script : List Statement) (rows : List (List Piece)) (provided
   pub placed : placement script rows provided ≡ Ok layout
   pub places : AreOf script layout p
   pub boundaries : AreBoundariesOf rows provided nothing_placed script p.boundaries
-  pub many : length p.boundaries ≡ length layout.sections
+  pub many : length p.boundaries ≡ length layout.sections + 1
   pub apart : overlaps layout.sections ≡ []
 
 -- there is a layout, but output sections meet, and these are all the faults of it

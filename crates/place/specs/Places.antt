@@ -46,14 +46,14 @@ pub record AreOf (script : List Statement) (s : Layout) (p : Places) : Type 0 wh
   pub regions : p.regions ≡ map region_of s.regions
 
 -- the script with these rows, in which these PROVIDEs are in force, has a layout, and these are its places, with where
--- it had come to after each output section
+-- it had come to before each output section and after all statements of SECTIONS
 pub record IsPlacement (script : List Statement) (rows : List (List Piece)) (provided : List (List ℕ)) (p : Places)
     : Type 0 where
   pub layout : Layout
   pub placed : placement script rows provided ≡ Ok layout
   pub places : AreOf script layout p
   pub boundaries : AreBoundariesOf rows provided nothing_placed script p.boundaries
-  pub many : length p.boundaries ≡ length layout.sections
+  pub many : length p.boundaries ≡ length layout.sections + 1
 
 -- a fault of the code stands for one of the definition, whatever project has the script
 abbrev pub StandsFor : List Statement → code_fault.Fault → Fault → Type 0

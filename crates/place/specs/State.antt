@@ -22,7 +22,7 @@ layout_of n h d = record {
   inputs = h.inputs;
   symbols = named h.symbols;
   regions = d.regions;
-  sections = map (section_of n) d.sections;
+  sections = map (section_of n) d.sections.list;
 }
 
 -- a body that starts there, with this row

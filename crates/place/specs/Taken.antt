@@ -1,23 +1,18 @@
 -- An output section that is taken over from an earlier layout.
-use Rattle.std.specs.Prelude.{◌≡◌, ℕ, ◌+◌, suc, List, [], ◌∷◌, ◌++◌, length, map, take, drop, Some, slice_get}
+use Rattle.std.specs.Prelude.{◌≡◌, ℕ, ◌+◌, List, [], ◌∷◌, ◌++◌, length, map, take, drop, Some, slice_get}
 use Rattle.std.specs.Prelude.{slice_index_or}
 use Rattle.ldtree.specs.declared.section.OutputSection.{OutputSection}
 use Rattle.ldtree.specs.declared.statement.Item.{Item}
 use Rattle.ldtree.specs.declared.statement.ItemCommand.TheVariants.{Section}
 use Rattle.ldmodel.specs.SectionEnd.{freed_from, load_region}
-use Rattle.ldmodel.specs.declared.laid.PlacedData.{PlacedData}
 use Rattle.ldmodel.specs.declared.rows.Piece.{Piece}
-use Rattle.ldnumbers.specs.Keyed.{KeyedSection}
+use Rattle.ldnumbers.specs.Keyed.{KeyedSection, data_at_of}
 use Rattle.ldnumbers.specs.SectionTable.{taken_pieces}
 use Rattle.ldnumbers.specs.Wholes.{all_data_in, starts_in}
-use Rattle.ldnumbers.specs.declared.sections.DataAt.{DataAt}
 use Rattle.place.specs.declared.boundary.Boundary.{Boundary}
 use Rattle.place.specs.declared.kept.Kept.{Kept}
 use Rattle.place.specs.declared.script.Input.{Input}
 use Rattle.place.specs.declared.state.Done.{Done}
-
-abbrev pub data_at_of : PlacedData → DataAt
-data_at_of d = record { start = d.start; width = d.width; value = d.value }
 
 -- a part of a list
 abbrev pub part_of : {X : Type 0} → List X → ℕ → ℕ → List X
@@ -39,21 +34,20 @@ pub record IsTaken (k : Kept) (before : List KeyedSection) (row : List Piece) (o
   pub data_commands : x.data_commands
       ≡ map data_at_of (part_of k.data_commands.now (length (all_data_in 0 before)) data_count)
 
--- the last of this many statements is an output section
-pub record EndsWith (items : List Item) (count : ℕ) (o : OutputSection) : Type 0 where
-  pub place : ℕ
-  pub count_is : count ≡ suc place
+-- the statement at a place is an output section
+pub record IsSection (items : List Item) (place : ℕ) (o : OutputSection) : Type 0 where
   pub line : ℕ
   pub there : slice_get items place ≡ Some (record { line = line; command = Section o })
 
--- the output section before a boundary is taken over, and its regions go on at its ends
-pub record Takes (i : Input) (items : List Item) (b : Boundary) (old new : Done) : Type 0 where
+-- the output section at a boundary is taken over, with the data commands up to the next one, and its regions go on at
+-- its ends
+pub record Takes (i : Input) (items : List Item) (b next : Boundary) (old new : Done) : Type 0 where
   pub output : OutputSection
-  pub ends : EndsWith items b.items output
+  pub at : IsSection items b.items output
   pub section : KeyedSection
-  pub taken : IsTaken i.kept old.sections (slice_index_or (map (λ v. v.items) i.rows.now) (length old.sections) [])
-      output b.data_commands section
-  pub pushed : new.sections ≡ old.sections ++ section ∷ []
+  pub taken : IsTaken i.kept old.sections.list (slice_index_or (map (λ v. v.items) i.rows.now) (length old.sections.list) [])
+      output next.data_commands section
+  pub pushed : new.sections.list ≡ old.sections.list ++ section ∷ []
   pub regions : new.regions
       ≡ freed_from (load_region output.load) (section.placed.load + section.placed.load_size)
       (freed_from output.region (section.placed.start + section.placed.size) old.regions)

@@ -1,10 +1,10 @@
-//! Where a layout had come to after an output section.
+//! Where a layout had come to before an output section.
 
-/// Where a layout had come to right after an output section. With the numbers of the output sections up to it, this is
-/// all that the statements after it begin with.
+/// Where a layout had come to right before the statement of an output section, or after the last statement of SECTIONS.
+/// With the numbers of the output sections before it, this is all that the statements from there on begin with.
 #[derive(Clone, Copy)]
 pub(crate) struct Boundary {
-    /// How many statements of SECTIONS there are, the output section's own the last of them.
+    /// How many statements of SECTIONS come before it.
     pub items: usize,
     /// `.`, the location counter.
     pub dot: u64,

@@ -8,6 +8,7 @@ ghost use Rattle.ldmodel.specs.SectionEnd.{freed_from, has_file_bytes, has_flag,
 ghost use Rattle.ldmodel.specs.SectionEnd.{load_region, placed_section, section_end, with_room};
 ghost use Rattle.ldnumbers.specs.Keyed.{piece_at, section_of};
 ghost use Rattle.ldnumbers.specs.Naming.{Naming};
+ghost use Rattle.ldnumbers.specs.Outputs.{IsOutput};
 ghost use Rattle.ldnumbers.specs.RegionTable.{region_of};
 ghost use Rattle.ldnumbers.specs.SectionTable.{keyed, keyed_piece, Fits};
 ghost use Rattle.place.specs.Ends.{body_alone, ended_body, load_end};
@@ -21,7 +22,7 @@ use elfdefs::constants::{SHF_EXECINSTR, SHF_WRITE};
 use elfobj::section::SectionKind;
 use ldmodel::laid::Placed;
 use ldnumbers::regions::{Region, Regions};
-use ldnumbers::sections::{Closed, Contents, PieceAt};
+use ldnumbers::sections::{Closed, PieceAt};
 use ldscript::tree::{Load, OutputSection};
 use std::alloc::Global;
 
@@ -186,6 +187,7 @@ impl<'a> Here<'a> {
         ensures value { section_of naming (keyed result)
             ≡ placed_section output.now (head_from head) (body_alone naming self.old) }
         ensures fits { Fits (keyed result) }
+        ensures output { result.output.now ≡ output.now }
         ensures dot { self.new.dot ≡ self.old.dot }
         ensures dots { self.new.dots.items ≡ self.old.dots.items }
         ensures inputs { self.new.inputs ≡ self.old.inputs }
@@ -206,7 +208,7 @@ impl<'a> Here<'a> {
         Closed {
             output,
             placed,
-            contents: Contents::Placed(std::mem::replace(&mut self.pieces, Vec::new(alloc))),
+            pieces: std::mem::replace(&mut self.pieces, Vec::new(alloc)),
             data_commands: std::mem::replace(&mut self.data_commands, Vec::new(alloc)),
         }
     }
@@ -221,9 +223,11 @@ impl<'a> Here<'a> {
         head: Head,
     ) -> Result<(), Stop<'a>>
         ghost naming: { Naming }
+        requires next { IsOutput done.now.sections.script (length done.now.sections.list) output.now }
         ensures anew { self.new.anew ≡ self.old.anew }
         ensures script { self.new.symbols.script ≡ self.old.symbols.script }
-        ensures one { OnOk result (length done.new.sections ≡ length done.old.sections + 1) }
+        ensures outputs { done.new.sections.script ≡ done.old.sections.script }
+        ensures one { OnOk result (length done.new.sections.list ≡ length done.old.sections.list + 1) }
         ensures gives { Gives (section_end line output.now (head_from head) (ended_body naming self.old done.old))
             (layout_of naming self.new done.new) result }
     {

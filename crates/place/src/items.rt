@@ -1,6 +1,8 @@
 //! The statements of SECTIONS.
 
 ghost use Rattle.std.specs.Prelude.{◌≡◌, ◌≤◌, ◌<◌, ◌+◌, [], map, slice_index_or, length, IfOk, OnOk};
+ghost use Rattle.std.specs.Prelude.{if◌then◌else◌};
+ghost use Rattle.ldtree.specs.Numbering.{sections_of};
 ghost use Rattle.ldmodel.specs.Chain.{run};
 ghost use Rattle.ldmodel.specs.Placement.{free_dot_step, item_command_step, item_step};
 ghost use Rattle.ldnumbers.specs.Naming.{Naming};
@@ -8,6 +10,7 @@ ghost use Rattle.place.specs.Boundaries.{AreBoundaries, IsAt};
 ghost use Rattle.place.specs.Counted.{Resumes, entries};
 ghost use Rattle.place.specs.Earlier.{Earlier};
 ghost use Rattle.place.specs.Inputs.{rows_of};
+ghost use Rattle.place.specs.Next.{AreFirst, IsNext};
 ghost use Rattle.place.specs.State.{layout_of, Gives};
 
 use crate::boundary::Boundary;
@@ -25,6 +28,13 @@ pub(crate) fn row_at(rows: &[Vec<Piece>], section: usize) -> &[Piece]
         Some(row) => row,
         None => &[],
     }
+}
+
+/// Whether a statement of SECTIONS is an output section.
+fn is_output(item: &Item) -> bool
+    ensures { length (sections_of item.now.line item.now.command) ≡ (if result then 1 else 0) }
+{
+    matches!(&item.command, ItemCommand::Section(_))
 }
 
 impl<'a> Here<'a> {
@@ -81,14 +91,15 @@ impl<'i, 'a> Input<'i, 'a> {
         command: &'a ItemCommand,
     ) -> Result<(), Stop<'a>>
         ghost naming: { Naming }
+        requires next { IsNext done.now.sections.script (length done.now.sections.list) command.now }
         ensures script { here.new.symbols.script ≡ here.old.symbols.script }
-        ensures anew { here.new.anew ≤ here.old.anew + entries (length done.old.sections)
+        ensures anew { here.new.anew ≤ here.old.anew + entries (length done.old.sections.list)
             (map (λ v. v.items) self.now.rows.now) }
         ensures left { OnOk result
-            (here.new.anew + entries (length done.new.sections) (map (λ v. v.items) self.now.rows.now) ≤ here.old.anew
-            + entries (length done.old.sections) (map (λ v. v.items) self.now.rows.now)) }
-        ensures resumed { OnOk result (Resumes self.now here.old here.new done.old.sections done.new.sections) }
-        ensures few { OnOk result (length done.new.sections ≤ length done.old.sections + 1) }
+            (here.new.anew + entries (length done.new.sections.list) (map (λ v. v.items) self.now.rows.now) ≤ here.old.anew
+            + entries (length done.old.sections.list) (map (λ v. v.items) self.now.rows.now)) }
+        ensures resumed { OnOk result (Resumes self.now here.old here.new done.old.sections.list done.new.sections.list) }
+        ensures outputs { done.new.sections.script ≡ done.old.sections.script }
         ensures gives { Gives
             (item_command_step (rows_of naming self.now) self.now.provided.now line
             (layout_of naming here.old done.old) command.now) (layout_of naming here.new done.new) result }
@@ -123,14 +134,15 @@ impl<'i, 'a> Input<'i, 'a> {
         item: &'a Item,
     ) -> Result<(), Stop<'a>>
         ghost naming: { Naming }
+        requires next { IsNext done.now.sections.script (length done.now.sections.list) item.now.command }
         ensures script { here.new.symbols.script ≡ here.old.symbols.script }
-        ensures anew { here.new.anew ≤ here.old.anew + entries (length done.old.sections)
+        ensures anew { here.new.anew ≤ here.old.anew + entries (length done.old.sections.list)
             (map (λ v. v.items) self.now.rows.now) }
         ensures left { OnOk result
-            (here.new.anew + entries (length done.new.sections) (map (λ v. v.items) self.now.rows.now) ≤ here.old.anew
-            + entries (length done.old.sections) (map (λ v. v.items) self.now.rows.now)) }
-        ensures resumed { OnOk result (Resumes self.now here.old here.new done.old.sections done.new.sections) }
-        ensures few { OnOk result (length done.new.sections ≤ length done.old.sections + 1) }
+            (here.new.anew + entries (length done.new.sections.list) (map (λ v. v.items) self.now.rows.now) ≤ here.old.anew
+            + entries (length done.old.sections.list) (map (λ v. v.items) self.now.rows.now)) }
+        ensures resumed { OnOk result (Resumes self.now here.old here.new done.old.sections.list done.new.sections.list) }
+        ensures outputs { done.new.sections.script ≡ done.old.sections.script }
         ensures gives { Gives
             (item_step (rows_of naming self.now) self.now.provided.now (layout_of naming here.old done.old) item.now)
             (layout_of naming here.new done.new) result }
@@ -139,8 +151,8 @@ impl<'i, 'a> Input<'i, 'a> {
         self.place_command(here, done, item.line, &item.command)
     }
 
-    /// The statements of SECTIONS, of which the first ones are taken over. It gives where the layout had come to after
-    /// each output section.
+    /// The statements of SECTIONS, of which the first ones are taken over. It gives where the layout had come to before
+    /// each output section, and after all.
     pub fn place_items(
         &self,
         here: &mut Here<'a>,
@@ -148,7 +160,8 @@ impl<'i, 'a> Input<'i, 'a> {
         items: &'a [Item],
     ) -> Result<Vec<Boundary>, Stop<'a>>
         ghost naming: { Naming }
-        requires none { done.now.sections ≡ [] }
+        requires none { done.now.sections.list ≡ [] }
+        requires first { AreFirst done.now.sections.script items.now }
         requires earlier { 0 < self.now.kept.first → Earlier naming self.now here.now.symbols.script
             (layout_of naming here.now done.now) items.now }
         ensures script { here.new.symbols.script ≡ here.old.symbols.script }
@@ -161,16 +174,18 @@ impl<'i, 'a> Input<'i, 'a> {
         ensures boundaries { IfOk result (λ bs.
             AreBoundaries (rows_of naming self.now) self.now.provided.now (layout_of naming here.old done.old)
             items.now bs.items) }
-        ensures many { IfOk result (λ bs. length bs.items ≡ length done.new.sections) }
+        ensures many { IfOk result (λ bs. length bs.items ≡ length done.new.sections.list + 1) }
     {
         let resumed = self.resume(here, done, items)?;
         let mut boundaries = resumed.boundaries;
         for number in resumed.passed..items.len() {
-            self.place_item(here, done, &items[number])?;
-            if done.sections.len() > boundaries.len() {
-                boundaries.push(here.boundary(done, number + 1))?;
+            let item = &items[number];
+            if is_output(item) {
+                boundaries.push(here.boundary(done, number))?;
             }
+            self.place_item(here, done, item)?;
         }
+        boundaries.push(here.boundary(done, items.len()))?;
         Ok(boundaries)
     }
 }

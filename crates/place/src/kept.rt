@@ -1,6 +1,6 @@
 //! What is kept of an earlier layout.
 
-ghost use Rattle.std.specs.Prelude.{◌≡◌, take, IfSome, IfNone};
+ghost use Rattle.std.specs.Prelude.{◌≡◌, ◌≤◌, ◌<◌, length, IfSome, IfNone};
 ghost use Rattle.place.specs.Leads.{Keeps};
 
 use crate::boundary::Boundary;
@@ -23,7 +23,7 @@ pub(crate) struct Kept<'k> {
     pub dots: &'k [u64],
     /// The symbols.
     pub symbols: &'k [ScriptSymbol],
-    /// Where it had come to after each output section.
+    /// Where it had come to before each output section, and after all.
     pub boundaries: &'k [Boundary],
     /// The number of the output section before which it is taken over.
     pub first: usize,
@@ -62,14 +62,15 @@ impl<'k> Kept<'k> {
         }
     }
 
-    /// The boundaries after the output sections that are taken over.
-    pub fn boundaries_before(&self) -> &'k [Boundary]
-        ensures { result.now ≡ take self.now.first self.now.boundaries.now }
+    /// How many output sections are taken over, if there is an earlier layout: all before the first whose row differs.
+    pub fn count(&self) -> Option<usize>
+        ensures first { IfSome result (λ k. (0 < self.now.first) × (k ≤ self.now.first)) }
+        ensures boundary { IfSome result (λ k. k < length self.now.boundaries.now) }
     {
-        match self.boundaries.get(..self.first) {
-            Some(boundaries) => boundaries,
-            // all of them, where no row differs and the number is past the last one
-            None => self.boundaries,
+        if self.first == 0 {
+            return None;
         }
+        let last = self.boundaries.len().checked_sub(1)?;
+        Some(self.first.min(last))
     }
 }

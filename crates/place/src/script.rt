@@ -84,7 +84,7 @@ impl<'i, 'a> Input<'i, 'a> {
     }
 
     /// All statements of a script: those before SECTIONS, those of it, and those after it. It gives where the layout
-    /// had come to after each output section.
+    /// had come to before each output section, and after the last statement of SECTIONS.
     pub fn place_script(
         &self,
         here: &mut Here<'a>,
@@ -92,7 +92,8 @@ impl<'i, 'a> Input<'i, 'a> {
         statements: &'a [Statement],
     ) -> Result<Vec<Boundary>, Stop<'a>>
         ghost naming: { Naming }
-        requires none { done.now.sections ≡ [] }
+        requires none { done.now.sections.list ≡ [] }
+        requires all { done.now.sections.script ≡ statements.now }
         requires earlier { 0 < self.now.kept.first → EarlierScript naming self.now here.now.symbols.script
             (layout_of naming here.now done.now) statements.now }
         ensures script { here.new.symbols.script ≡ here.old.symbols.script }
@@ -105,7 +106,7 @@ impl<'i, 'a> Input<'i, 'a> {
         ensures boundaries { IfOk result (λ bs.
             AreBoundariesOf (rows_of naming self.now) self.now.provided.now (layout_of naming here.old done.old)
             statements.now bs.items) }
-        ensures many { IfOk result (λ bs. length bs.items ≡ length done.new.sections) }
+        ensures many { IfOk result (λ bs. length bs.items ≡ length done.new.sections.list + 1) }
     {
         let parts = Parts::of(statements);
         self.place_statements(here, done, parts.before)?;

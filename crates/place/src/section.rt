@@ -5,6 +5,7 @@ ghost use Rattle.ldmodel.specs.Body.{body_step};
 ghost use Rattle.ldmodel.specs.Chain.{run};
 ghost use Rattle.ldmodel.specs.Placement.{opened, section_step};
 ghost use Rattle.ldnumbers.specs.Naming.{Naming, row_named};
+ghost use Rattle.ldnumbers.specs.Outputs.{IsOutput};
 ghost use Rattle.place.specs.Heads.{head_from};
 ghost use Rattle.place.specs.State.{body_from, layout_of, Gives};
 ghost use Rattle.place.specs.declared.stop.Stop.TheVariants.{NoMemory};
@@ -77,9 +78,11 @@ impl<'a> Here<'a> {
         output: &'a OutputSection,
     ) -> Result<(), Stop<'a>>
         ghost naming: { Naming }
+        requires next { IsOutput done.now.sections.script (length done.now.sections.list) output.now }
         ensures script { self.new.symbols.script ≡ self.old.symbols.script }
+        ensures outputs { done.new.sections.script ≡ done.old.sections.script }
         ensures anew { self.new.anew ≤ self.old.anew + length row.now }
-        ensures one { OnOk result (length done.new.sections ≡ length done.old.sections + 1) }
+        ensures one { OnOk result (length done.new.sections.list ≡ length done.old.sections.list + 1) }
         ensures gives { Gives
             (section_step provided.now (row_named naming row.now) (layout_of naming self.old done.old) line output.now)
             (layout_of naming self.new done.new) result }

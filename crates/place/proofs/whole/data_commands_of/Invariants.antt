@@ -1,12 +1,19 @@
-use Rattle.std.proofs.Common.{◌≡◌, ◌++◌, drop, map}
+use Rattle.std.proofs.Common.{◌≡◌, ◌+◌, ◌++◌, drop, length, map}
 use Rattle.ldmodel.specs.Lent.{data_of}
-use Rattle.ldnumbers.specs.SectionTable.{keyed}
+use Rattle.ldnumbers.specs.SectionTable.{both, keyed}
 use Rattle.ldnumbers.specs.Wholes.{all_data_in}
 use Rattle.place.proofs.whole.data_commands_of.Given as goal
 
 abbrev pub invariant-loop-section : goal.invariant-loop-section
 invariant-loop-section l = record {
-  commands : all_data_in 0 (map keyed l.sections) ≡ map data_of l.list.items
-      ++ all_data_in l.number (map keyed (drop l.section-index l.sections));
+  commands : all_data_in 0 (both l.taken l.placed) ≡ map data_of l.list.items
+      ++ all_data_in l.number (both (drop l.section-index l.taken) l.placed);
   number : l.number ≡ l.section-index;
+}
+
+abbrev pub invariant-loop-section-2 : goal.invariant-loop-section-2
+invariant-loop-section-2 l = record {
+  commands : all_data_in 0 (both l.taken l.placed) ≡ map data_of l.list.items
+      ++ all_data_in l.number (map keyed (drop l.section-index l.placed));
+  number : l.number ≡ length l.taken + l.section-index;
 }

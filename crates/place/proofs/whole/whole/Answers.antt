@@ -6,5 +6,5 @@ use Rattle.place.specs.Places.{Ends}
 
 pub invariant_of-result : goal.invariant_of-result
 invariant_of-result g c =
-    subst Ends (sym (c.in_ok-placed.ensures ∙ ap placed_in c.as_slice-sections.ensures.all))
-    (ends_whole _ c.as_slice-sections.ensures.ends)
+    subst Ends (sym (c.in_ok-sections.ensures ∙ ap placed_in c.parts.ensures.all))
+    (ends_whole _ c.parts.ensures.ends)

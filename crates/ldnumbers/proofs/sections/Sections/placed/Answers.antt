@@ -1,28 +1,27 @@
-use Rattle.std.proofs.Common.{arith, length, ◌≤◌, ◌<◌, sym}
-use Rattle.ldnumbers.proofs.FoundSections.{section_there, section_past, section_unknown}
+use Rattle.std.proofs.Common.{ap, map, sym, ◌∙◌, ◌++◌}
+use Rattle.std.specs.Option.{option_map}
+use Rattle.std.specs.Prelude.{find, bytes_eq, slice_get}
+use Rattle.ldnumbers.proofs.FoundSections.{section_there, section_unknown}
+use Rattle.ldnumbers.specs.Keyed.{KeyedSection}
+use Rattle.ldnumbers.specs.SectionTable.{both, keyed, keyed_taken, Outputs}
 use Rattle.ldnumbers.proofs.sections.Sections.placed.Goals as goal
 
-pub returns-then-number-len : goal.returns-then-number-len
-returns-then-number-len c =
-    let l : c.in-Some.number < length c.self.inside.list.items = omega (arith, c.len.ensures) in
-    let f = section_there c.self.inside.script.now c.self.inside.list.items c.args.name.now
-    c.self.inside.differences.items c.self.inside.elsewhere c.self.inside.count c.self.inside.data_count
-    c.self.invariant.0 c.in-Some.number c.index.result.now
-    (sym c.in-Some.ensures) l c.index.ensures in
-    cc
-
-pub returns-else-number-len : goal.returns-else-number-len
-returns-else-number-len c =
-    let l : length c.self.inside.list.items ≤ c.in-Some.number = omega (arith, c.len.ensures) in
-    let f = section_past c.self.inside.script.now c.self.inside.list.items c.args.name.now
-    c.self.inside.differences.items c.self.inside.elsewhere c.self.inside.count c.self.inside.data_count
-    c.self.invariant.0 c.in-Some.number
-    (sym c.in-Some.ensures) l in
-    cc
+pub returns-in-Some : goal.returns-in-Some
+returns-in-Some c =
+    c.placed_at.ensures
+    ∙ (ap (λ ts. option_map (λ (x : KeyedSection). x.placed)
+    (slice_get (map keyed_taken ts ++ map keyed c.deref-in-Some-2.result.now) c.in-Some.number))
+    c.deref-in-Some.ensures.value
+    ∙ (ap (λ xs. option_map (λ (x : KeyedSection). x.placed)
+    (slice_get (both c.self.inside.taken.items xs) c.in-Some.number)) c.deref-in-Some-2.ensures.value
+    ∙ (sym (section_there c.self.inside.script.now (both c.self.inside.taken.items c.self.inside.list.items)
+    c.args.name.now c.self.invariant.order c.in-Some.number (sym c.in-Some.ensures))
+    ∙ ap (λ (v : Outputs). option_map (λ (x : KeyedSection). x.placed)
+    (find (λ (x : KeyedSection). bytes_eq x.name c.args.name.now) v.list)) c.self.view_is)))
 
 pub returns-in-None : goal.returns-in-None
 returns-in-None c =
-    let f = section_unknown c.self.inside.script.now c.self.inside.list.items c.args.name.now
-    c.self.inside.differences.items c.self.inside.elsewhere c.self.inside.count c.self.inside.data_count
-    c.self.invariant.0 (sym c.in-None.ensures) in
-    cc
+    sym (section_unknown c.self.inside.script.now (both c.self.inside.taken.items c.self.inside.list.items)
+    c.args.name.now c.self.invariant.order (sym c.in-None.ensures))
+    ∙ ap (λ (v : Outputs). option_map (λ (x : KeyedSection). x.placed)
+    (find (λ (x : KeyedSection). bytes_eq x.name c.args.name.now) v.list)) c.self.view_is

@@ -1,48 +1,27 @@
-use Rattle.std.proofs.Common.{arith, length, ◌<◌, sym, map, ap, ◌∙◌}
-use Rattle.std.proofs.lemmas.List.{map-append}
-use Rattle.ldtree.specs.Given.{region_number}
-use Rattle.ldnumbers.proofs.FoundSections.{pushed_before, pushed_elsewhere, pushed_in, pushed_number}
-use Rattle.ldnumbers.proofs.Lists.{same_name_told}
-use Rattle.ldnumbers.specs.SectionTable.{keyed}
+use Rattle.std.proofs.Common.{arith}
+use Rattle.std.proofs.lemmas.List.{length-map}
+use Rattle.ldnumbers.proofs.FoundSections.{both_pushed, next_number, pushed_elsewhere, pushed_in}
+use Rattle.ldnumbers.specs.SectionTable.{both, keyed, keyed_piece}
 use Rattle.ldnumbers.proofs.sections.Sections.push.Goals as goal
 
 pub invariant_of-self-in-None : goal.invariant_of-self-in-None
 invariant_of-self-in-None c =
-    let same = sym c.as_bytes.ensures
-    ∙ (same_name_told c.as_bytes.result.now c.as_bytes-2.result.now c.if-ne.ensures ∙ c.as_bytes-2.ensures) in
-    rw (c.in_ok-push-in-None.ensures.items, map-append keyed c.self.inside.list.items) (
-      pushed_elsewhere c.self.inside.script.now (map keyed c.self.inside.list.items) (keyed c.args.section)
-          c.self.inside.differences.items c.self.inside.elsewhere c.self.inside.count c.in-Some-checked_add.count
-          c.self.inside.data_count c.in-Some-checked_add-2.data_count c.self.invariant.0
-          (pushed_number c.self.inside.script.now (map keyed c.self.inside.list.items) (keyed c.args.section)
-          c.self.inside.rest.now c.in-Some.rest.now c.in-Some.next.now c.statements-statements.ensures.sound
-          c.self.invariant.1 c.in-Some.ensures same) c.requires
-          (omega (arith, c.in-Some-checked_add.ensures.1, c.len-2.ensures))
-          (omega (arith, c.in-Some-checked_add-2.ensures.1, c.len-3.ensures)) c.in-None.is,
-      pushed_before c.self.inside.script.now (map keyed c.self.inside.list.items) (keyed c.args.section)
-          c.self.inside.rest.now c.in-Some.rest.now c.in-Some.next.now c.statements-statements.ensures.sound
-          c.self.invariant.1 c.in-Some.ensures same,
-    )
+    rw (c.in_ok-push.ensures.items, both_pushed c.self.inside.taken.items c.self.inside.list.items c.args.section)
+    (pushed_elsewhere c.self.inside.script.now (both c.self.inside.taken.items c.self.inside.list.items)
+    (keyed c.args.section) c.self.inside.differences.items c.self.inside.elsewhere c.self.inside.count
+    c.in_ok-count.count c.self.inside.data_count c.in_ok-data_count.data_count c.self.invariant
+    (next_number c.self.inside.script.now (both c.self.inside.taken.items c.self.inside.list.items) c.args.self.now
+    c.args.section.output.now c.self.view_is c.statements-statements.ensures.sound c.requires.next) c.requires.fits
+    (omega (arith, c.in_ok-count.ensures, c.len-2.ensures, length-map c.args.section.pieces.items keyed_piece)) (omega (arith, c.in_ok-data_count.ensures, c.len-3.ensures))
+    c.len.result c.in_ok-kept_at.kept_at (omega (arith, c.len.ensures)) c.in-None.is c.in_ok-kept_at.ensures)
 
-pub invariant_of-self-in-Some-region_number : goal.invariant_of-self-in-Some-region_number
-invariant_of-self-in-Some-region_number c =
-    let same = sym c.as_bytes.ensures
-    ∙ (same_name_told c.as_bytes.result.now c.as_bytes-2.result.now c.if-ne.ensures ∙ c.as_bytes-2.ensures) in
-    let l : c.in-Some-region_number.number < length c.self.inside.differences.items =
-    omega (arith, c.len-in-Some-region_number.ensures) in
-    rw (c.in_ok-push-in-Some-region_number.ensures.items, map-append keyed c.self.inside.list.items) (
-      pushed_in c.self.inside.script.now (map keyed c.self.inside.list.items) (keyed c.args.section)
-          c.self.inside.differences.items c.self.inside.elsewhere c.self.inside.count c.in-Some-checked_add.count
-          c.self.inside.data_count c.in-Some-checked_add-2.data_count c.self.invariant.0
-          (pushed_number c.self.inside.script.now (map keyed c.self.inside.list.items) (keyed c.args.section)
-          c.self.inside.rest.now c.in-Some.rest.now c.in-Some.next.now c.statements-statements.ensures.sound
-          c.self.invariant.1 c.in-Some.ensures same) c.requires
-          (omega (arith, c.in-Some-checked_add.ensures.1, c.len-2.ensures))
-          (omega (arith, c.in-Some-checked_add-2.ensures.1, c.len-3.ensures))
-          c.in-Some-region.region c.in-Some-region_number.number c.in-Some-region.is
-          (ap (region_number c.self.inside.script.now) (sym c.as_bytes-in-Some-region.ensures)
-          ∙ sym c.in-Some-region_number.ensures) l,
-      pushed_before c.self.inside.script.now (map keyed c.self.inside.list.items) (keyed c.args.section)
-          c.self.inside.rest.now c.in-Some.rest.now c.in-Some.next.now c.statements-statements.ensures.sound
-          c.self.invariant.1 c.in-Some.ensures same,
-    )
+pub invariant_of-self-in-Some : goal.invariant_of-self-in-Some
+invariant_of-self-in-Some c =
+    rw (c.in_ok-push.ensures.items, both_pushed c.self.inside.taken.items c.self.inside.list.items c.args.section)
+    (pushed_in c.self.inside.script.now (both c.self.inside.taken.items c.self.inside.list.items)
+    (keyed c.args.section) c.self.inside.differences.items c.self.inside.elsewhere c.self.inside.count
+    c.in_ok-count.count c.self.inside.data_count c.in_ok-data_count.data_count c.self.invariant
+    (next_number c.self.inside.script.now (both c.self.inside.taken.items c.self.inside.list.items) c.args.self.now
+    c.args.section.output.now c.self.view_is c.statements-statements.ensures.sound c.requires.next) c.requires.fits
+    (omega (arith, c.in_ok-count.ensures, c.len-2.ensures, length-map c.args.section.pieces.items keyed_piece)) (omega (arith, c.in_ok-data_count.ensures, c.len-3.ensures))
+    c.in-Some.number c.len.result c.in_ok-kept_at.kept_at (omega (arith, c.len.ensures)) c.in-Some.is c.in_ok-kept_at.ensures)

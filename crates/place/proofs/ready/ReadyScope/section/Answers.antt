@@ -6,4 +6,4 @@ use Rattle.place.proofs.ready.ReadyScope.section.Goals as goal
 
 pub returns : goal.returns
 returns c = ap (option_map asked) c.placed.ensures
-    ∙ numbers_found nameless c.args.self.now.done.now.sections c.args.name.now
+    ∙ numbers_found nameless c.args.self.now.done.now.sections.list c.args.name.now

@@ -1,25 +1,37 @@
-use Rattle.std.proofs.Common.{◌≡◌, rules, Err, length, map, arith, ◌∙◌, ap, subst, sym, Vec, Global}
+use Rattle.std.proofs.Common.{◌≡◌, if◌then◌else◌, rules, Err, length, map, arith, ◌∙◌, ap, inl, inr, subst, sym, refl, Vec, Global}
+use Rattle.ldnumbers.specs.Keyed.{section_of}
 use Rattle.place.proofs.Counting.{entries_fewer, left_at_first}
-use Rattle.place.proofs.Noting.{comes_on, noted_more, noted_still, stops_there}
+use Rattle.place.proofs.Noting.{all_there, comes_on, is_next, more_by, noted_more, stands_at, stops_there}
 use Rattle.place.specs.Boundaries.{AreNoted}
 use Rattle.place.specs.Inputs.{rows_of}
+use Rattle.place.specs.Next.{IsNext}
 use Rattle.place.specs.State.{layout_of}
 use Rattle.place.specs.declared.boundary.Boundary.{Boundary}
 use Rattle.place.proofs.script.Input.place_items.Goals as goal
-use Rattle.place.proofs.script.Input.place_items.Goals.{then-len+in_ok-push, else-len}
+use Rattle.place.proofs.script.Input.place_items.Goals.{then-is_output+in_ok-push, else-is_output}
 
 pub loop-number-init : goal.loop-number-init
 loop-number-init g c = record {
   here = c.in_ok-resumed.ensures.here;
   noted = c.in_ok-resumed.ensures.noted;
+  outputs = c.resume.ensures.outputs;
   script = c.resume.ensures.script;
   anew =
-      let f = entries_fewer (length c.resume.new.done.sections) (map (λ v. v.items) c.args.self.now.rows.now) in
+      let f = entries_fewer (length c.resume.new.done.sections.list) (map (λ v. v.items) c.args.self.now.rows.now) in
       omega (arith, f, c.resume.ensures.anew);
   resumed =
-      let f = left_at_first c.args.self.now c.resume.new.done.sections c.in_ok-resumed.ensures.few in
+      let f = left_at_first c.args.self.now c.resume.new.done.sections.list c.in_ok-resumed.ensures.few in
       omega (arith, f, c.resume.ensures.anew);
 }
+
+pub place_item-requires : goal.place_item-requires
+place_item-requires g c =
+    subst (λ z. IsNext z (length c.loop-number.done.sections.list) c.index-items-number.result.command)
+    (sym c.loop-number.invariant.outputs)
+    (is_next g.naming (rows_of g.naming c.args.self.now) c.args.self.now.provided.now
+    (layout_of g.naming c.args.here.now c.args.done.now) c.args.items.now c.loop-number.here c.loop-number.done
+    c.loop-number.number c.index-items-number.result c.loop-number.invariant.here c.loop-number-test.true
+    c.index-items-number.is c.args.done.now.sections.script (ap (map (section_of g.naming)) c.requires.0) c.requires.1.0)
 
 pub returns-in_err-place_item-clause-gives : goal.returns-in_err-place_item-clause-gives
 returns-in_err-place_item-clause-gives g c =
@@ -38,29 +50,48 @@ loop-number-preserved g c = record {
       c.loop-number.number c.index-items-number.result c.loop-number.invariant.here c.loop-number-test.true
       c.index-items-number.is c.place_item.new.here c.place_item.new.done c.in_ok-place_item.ensures.gives;
   noted =
-      let many : c.len-in-loop-number.result ≡ length c.loop-number.boundaries.items = search rules in
-      elim c.if-len.branch [
-        | then-len+in_ok-push w ↦
-            noted_more g.naming (rows_of g.naming c.args.self.now) c.args.self.now.provided.now
+      let more = more_by g.naming (rows_of g.naming c.args.self.now) c.args.self.now.provided.now
+      (layout_of g.naming c.args.here.now c.args.done.now) c.args.items.now c.loop-number.here c.loop-number.done
+      c.loop-number.number c.index-items-number.result c.loop-number.invariant.here c.loop-number-test.true
+      c.index-items-number.is c.place_item.new.here c.place_item.new.done c.in_ok-place_item.ensures.gives in
+      elim c.if-is_output.branch [
+        | then-is_output+in_ok-push w ↦
+            let one = c.is_output.ensures ∙ ap (λ b. if b then 1 else 0) w.if-is_output.true in
+            subst (AreNoted (rows_of g.naming c.args.self.now) c.args.self.now.provided.now
+            (layout_of g.naming c.args.here.now c.args.done.now) c.args.items.now c.if-is_output.boundaries.items)
+            (omega (arith, more, one))
+            (noted_more g.naming (rows_of g.naming c.args.self.now) c.args.self.now.provided.now
+            (layout_of g.naming c.args.here.now c.args.done.now) c.args.items.now c.loop-number.here c.loop-number.done
+            c.loop-number.number c.loop-number.invariant.here c.loop-number.boundaries.items
+            c.if-is_output.boundaries.items w.boundary.result c.loop-number.invariant.noted
+            w.boundary.ensures.items w.boundary.ensures.at
+            (inl (ap length (stands_at g.naming (rows_of g.naming c.args.self.now) c.args.self.now.provided.now
             (layout_of g.naming c.args.here.now c.args.done.now) c.args.items.now c.loop-number.here c.loop-number.done
             c.loop-number.number c.index-items-number.result c.loop-number.invariant.here c.loop-number-test.true
-            c.index-items-number.is c.place_item.new.here c.place_item.new.done c.in_ok-place_item.ensures.gives
-            c.loop-number.boundaries.items c.if-len.boundaries.items w.boundary.result c.loop-number.invariant.noted
-            (omega (arith, many, w.if-len.true, c.len.ensures)) c.in_ok-place_item.ensures.few w.boundary.ensures.items
-            w.boundary.ensures.at
-            (ap (λ (v : Vec Boundary Global). v.items) w.boundaries-is ∙ w.in_ok-push.ensures.items)
-        | else-len w ↦
+            c.index-items-number.is) ∙ one))
+            (ap (λ (v : Vec Boundary Global). v.items) w.boundaries-is ∙ w.in_ok-push.ensures.items))
+        | else-is_output w ↦
+            let none = c.is_output.ensures ∙ ap (λ b. if b then 1 else 0) w.if-is_output.false in
             subst (λ (v : Vec Boundary Global). AreNoted (rows_of g.naming c.args.self.now) c.args.self.now.provided.now
             (layout_of g.naming c.args.here.now c.args.done.now) c.args.items.now v.items
-            (length c.place_item.new.done.sections)) (sym w.boundaries-is)
-            (noted_still g.naming (rows_of g.naming c.args.self.now) c.args.self.now.provided.now
-            (layout_of g.naming c.args.here.now c.args.done.now) c.args.items.now c.loop-number.here c.loop-number.done
-            c.loop-number.number c.index-items-number.result c.loop-number.invariant.here c.loop-number-test.true
-            c.index-items-number.is c.place_item.new.here c.place_item.new.done c.in_ok-place_item.ensures.gives
-            c.loop-number.boundaries.items c.loop-number.invariant.noted
-            (omega (arith, many, w.if-len.false, c.len.ensures)))
+            (length c.place_item.new.done.sections.list)) (sym w.boundaries-is)
+            (subst (AreNoted (rows_of g.naming c.args.self.now) c.args.self.now.provided.now
+            (layout_of g.naming c.args.here.now c.args.done.now) c.args.items.now c.loop-number.boundaries.items)
+            (omega (arith, more, none)) c.loop-number.invariant.noted)
       ];
+  outputs = c.place_item.ensures.outputs ∙ c.loop-number.invariant.outputs;
   script = c.place_item.ensures.script ∙ c.loop-number.invariant.script;
   anew = omega (arith, c.loop-number.invariant.anew, c.in_ok-place_item.ensures.left);
   resumed = omega (arith, c.loop-number.invariant.resumed, c.in_ok-place_item.ensures.resumed);
 }
+
+pub returns-clause-boundaries : goal.returns-clause-boundaries
+returns-clause-boundaries g c =
+    (noted_more g.naming (rows_of g.naming c.args.self.now) c.args.self.now.provided.now
+    (layout_of g.naming c.args.here.now c.args.done.now) c.args.items.now c.loop-number.here c.loop-number.done
+    (length c.args.items.now)
+    (all_there g.naming (rows_of g.naming c.args.self.now) c.args.self.now.provided.now
+    (layout_of g.naming c.args.here.now c.args.done.now) c.args.items.now c.loop-number.here c.loop-number.done
+    c.loop-number.number c.loop-number.invariant.here (omega (arith, c.loop-number-test.false)))
+    c.loop-number.boundaries.items c.push-2.new.self.items c.boundary-2.result c.loop-number.invariant.noted
+    (omega (arith, c.boundary-2.ensures.items)) c.boundary-2.ensures.at (inr refl) c.in_ok-push-2.ensures.items).all

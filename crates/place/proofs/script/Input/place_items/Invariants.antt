@@ -21,10 +21,11 @@ invariant-loop-number g l = record {
   here : run (item_step (rows_of g.naming l.self) l.self.provided.now) (layout_of g.naming l.fn.here l.fn.done)
       (take l.number l.items) ≡ Ok (layout_of g.naming l.here l.done);
   noted : AreNoted (rows_of g.naming l.self) l.self.provided.now (layout_of g.naming l.fn.here l.fn.done) l.items
-      l.boundaries.items (length l.done.sections);
+      l.boundaries.items (length l.done.sections.list);
+  outputs : l.done.sections.script ≡ l.fn.done.sections.script;
   script : l.here.symbols.script ≡ l.fn.here.symbols.script;
-  anew : l.here.anew + entries (length l.done.sections) (map (λ v. v.items) l.self.rows.now)
+  anew : l.here.anew + entries (length l.done.sections.list) (map (λ v. v.items) l.self.rows.now)
       ≤ l.fn.here.anew + entries 0 (map (λ v. v.items) l.self.rows.now);
-  resumed : l.here.anew + left_after l.self l.done.sections
+  resumed : l.here.anew + left_after l.self l.done.sections.list
       ≤ l.fn.here.anew + entries l.self.kept.first (map (λ v. v.items) l.self.rows.now);
 }

@@ -1,75 +1,98 @@
-use Rattle.std.proofs.Common.{◌≡◌, length, get_or, subst, sym, ap, ◌∙◌, arith}
-use Rattle.ldmodel.specs.Placement.{item_step}
+use Rattle.std.proofs.Common.{◌≡◌, ◌+◌, ◌<◌, length, map, get_or, rules, ap, ◌∙◌, arith, List, Some}
 use Rattle.std.specs.Prelude.{slice_get}
 use Rattle.std.proofs.lemmas.Option.{slice_get-get_or}
-use Rattle.place.proofs.Resuming.{Reached, all_noted, among_first, few, none_reached, reached_on, resumed}
+use Rattle.ldmodel.specs.Placement.{item_step}
+use Rattle.ldnumbers.specs.Keyed.{section_of}
+use Rattle.place.proofs.Resuming.{all_noted, goes_on, none_reached, reached_on, taken_next}
 use Rattle.place.proofs.Runs.{run_none}
-use Rattle.place.specs.Boundaries.{AreNoted}
 use Rattle.place.specs.Inputs.{rows_of}
 use Rattle.place.specs.State.{layout_of}
 use Rattle.place.specs.declared.boundary.Boundary.{Boundary}
 use Rattle.place.proofs.script.Input.resume.Goals as goal
+
+abbrev no_boundary : Boundary
+no_boundary = record { items = 0; dot = 0; dots = 0; inputs = 0; symbols = 0; data_commands = 0 }
 
 pub returns-in_default-clause-here : goal.returns-in_default-clause-here
 returns-in_default-clause-here g c =
     run_none (item_step (rows_of g.naming c.args.self.now) c.args.self.now.provided.now)
     (layout_of g.naming c.args.here.now c.args.done.now)
 
-pub loop-boundary-init : goal.loop-boundary-init
-loop-boundary-init g c = record {
+pub loop-number-init : goal.loop-number-init
+loop-number-init g c = record {
   reached = λ e. none_reached g.naming c.args.self.now c.args.here.now c.args.items.now e.rows c.args.done.now
       c.requires.0;
+  outputs = search rules;
 }
 
-pub loop-boundary-preserved : goal.loop-boundary-preserved
-loop-boundary-preserved g c = record {
+pub take_section-requires : goal.take_section-requires
+take_section-requires g c = record {
+  next =
+      let e = c.requires.1.1 c.in-Some.ensures.first.0 in
+      let bs : List Boundary = c.args.self.now.kept.boundaries.now in
+      let inside : c.loop-number.number < length bs =
+      (let b = c.in-Some.ensures.boundary in omega (arith, c.loop-number-test.true, b)) in
+      taken_next g.naming c.args.self.now c.args.here.now.symbols.script
+      (layout_of g.naming c.args.here.now c.args.done.now) c.args.items.now e
+      (get_or bs c.loop-number.number no_boundary) c.loop-number.number
+      (slice_get-get_or bs c.loop-number.number no_boundary inside)
+      c.args.done.now.sections.script
+      (ap (map (section_of g.naming)) c.requires.0) c.requires.1.0 c.loop-number.done
+      (c.loop-number.invariant.reached e) c.loop-number.invariant.outputs;
+}
+
+pub loop-number-preserved : goal.loop-number-preserved
+loop-number-preserved g c = record {
   reached = λ e.
-      let b : Boundary = get_or c.boundaries_before-boundaries.result.now c.loop-boundary.boundary-index _ in
-      let h = among_first c.args.self.now.kept.first c.args.self.now.kept.boundaries.now c.loop-boundary.boundary-index
-      b (ap (λ z. slice_get z c.loop-boundary.boundary-index) (sym c.boundaries_before-boundaries.ensures)
-      ∙ slice_get-get_or c.boundaries_before-boundaries.result.now c.loop-boundary.boundary-index _
-      c.loop-boundary-test.true) in
+      let bs : List Boundary = c.args.self.now.kept.boundaries.now in
+      let b = c.in-Some.ensures.boundary in
+      let f = c.in-Some.ensures.first.1 in
+      let inside : c.loop-number.number < length bs = omega (arith, c.loop-number-test.true, b) in
+      let inside_next : c.loop-number.number + 1 < length bs = omega (arith, c.loop-number-test.true, b) in
       reached_on g.naming c.args.self.now c.args.here.now.symbols.script
-      (layout_of g.naming c.args.here.now c.args.done.now) c.args.items.now e b c.loop-boundary.boundary-index h.1 h.0
-      c.loop-boundary.done c.take_section.new.done (c.loop-boundary.invariant.reached e)
+      (layout_of g.naming c.args.here.now c.args.done.now) c.args.items.now e
+      (get_or bs c.loop-number.number no_boundary) c.loop-number.number
+      (slice_get-get_or bs c.loop-number.number no_boundary inside)
+      (get_or bs (c.loop-number.number + 1) no_boundary)
+      (slice_get-get_or bs (c.loop-number.number + 1) no_boundary inside_next)
+      (omega (arith, c.loop-number-test.true, f))
+      c.loop-number.done c.take_section.new.done (c.loop-number.invariant.reached e)
       c.in_ok-take_section.ensures.takes;
+  outputs = c.in_ok-take_section.ensures.outputs ∙ c.loop-number.invariant.outputs;
 }
 
 pub returns-clause-few : goal.returns-clause-few
 returns-clause-few g c =
-    few g.naming c.args.self.now c.args.here.now.symbols.script (layout_of g.naming c.args.here.now c.args.done.now)
-    c.args.items.now c.requires.1 c.boundaries_before-boundaries.result.now c.boundaries_before-boundaries.ensures
-    c.in-Some.last.now c.in-Some.ensures.value c.loop-boundary.done
-    (λ e. subst (Reached g.naming c.args.self.now (layout_of g.naming c.args.here.now c.args.done.now) c.args.items.now
-    e.rows c.loop-boundary.done)
-    (let end : c.loop-boundary.boundary-index ≡ length c.boundaries_before-boundaries.result.now =
-    omega (arith, c.loop-boundary-test.false, c.loop-boundary.auto.boundary-index-end) in end)
-    (c.loop-boundary.invariant.reached e))
+    let r = c.loop-number.invariant.reached (c.requires.1.1 c.in-Some.ensures.first.0) in
+    let m = r.many in
+    let f = c.in-Some.ensures.first.1 in
+    omega (arith, m, f, c.loop-number-test.false, c.loop-number.auto.number-end)
 
 pub returns-clause-here : goal.returns-clause-here
 returns-clause-here g c =
-    resumed g.naming c.args.self.now c.args.here.now.symbols.script (layout_of g.naming c.args.here.now c.args.done.now)
-    c.args.items.now c.requires.1 c.boundaries_before-boundaries.result.now c.boundaries_before-boundaries.ensures
-    c.in-Some.last.now c.in-Some.ensures.value c.loop-boundary.done
-    (λ e. subst (Reached g.naming c.args.self.now (layout_of g.naming c.args.here.now c.args.done.now) c.args.items.now
-    e.rows c.loop-boundary.done)
-    (let end : c.loop-boundary.boundary-index ≡ length c.boundaries_before-boundaries.result.now =
-    omega (arith, c.loop-boundary-test.false, c.loop-boundary.auto.boundary-index-end) in end)
-    (c.loop-boundary.invariant.reached e))
-    c.go_on.new.self c.go_on.ensures.script c.in_ok-go_on.ensures.dot c.in_ok-go_on.ensures.dots
+    let e = c.requires.1.1 c.in-Some.ensures.first.0 in
+    let bs : List Boundary = c.args.self.now.kept.boundaries.now in
+    let end : c.loop-number.number ≡ c.in-Some.count =
+    omega (arith, c.loop-number-test.false, c.loop-number.auto.number-end) in
+    let f = c.in-Some.ensures.first.1 in
+    let b = c.in-Some.ensures.boundary in
+    let there : slice_get bs c.loop-number.number ≡ Some (get_or bs c.in-Some.count no_boundary) =
+    ap (slice_get bs) end ∙ slice_get-get_or bs c.in-Some.count no_boundary b in
+    goes_on g.naming c.args.self.now c.args.here.now.symbols.script
+    (layout_of g.naming c.args.here.now c.args.done.now) c.args.items.now e
+    (get_or bs c.in-Some.count no_boundary) c.loop-number.number there
+    c.go_on.new.self c.loop-number.done (omega (arith, end, f)) (c.loop-number.invariant.reached e)
+    c.go_on.ensures.script c.in_ok-go_on.ensures.dot c.in_ok-go_on.ensures.dots
     c.in_ok-go_on.ensures.inputs c.in_ok-go_on.ensures.symbols
 
 pub returns-clause-noted : goal.returns-clause-noted
 returns-clause-noted g c =
-    subst (λ bs. AreNoted (rows_of g.naming c.args.self.now) c.args.self.now.provided.now
-    (layout_of g.naming c.args.here.now c.args.done.now) c.args.items.now bs (length c.loop-boundary.done.sections))
-    (sym c.in_ok-copy_of.ensures)
-    (all_noted g.naming c.args.self.now c.args.here.now.symbols.script
-    (layout_of g.naming c.args.here.now c.args.done.now)
-    c.args.items.now c.requires.1 c.boundaries_before-boundaries.result.now c.boundaries_before-boundaries.ensures
-    c.in-Some.last.now c.in-Some.ensures.value c.loop-boundary.done
-    (λ e. subst (Reached g.naming c.args.self.now (layout_of g.naming c.args.here.now c.args.done.now) c.args.items.now
-    e.rows c.loop-boundary.done)
-    (let end : c.loop-boundary.boundary-index ≡ length c.boundaries_before-boundaries.result.now =
-    omega (arith, c.loop-boundary-test.false, c.loop-boundary.auto.boundary-index-end) in end)
-    (c.loop-boundary.invariant.reached e)))
+    let e = c.requires.1.1 c.in-Some.ensures.first.0 in
+    let r = c.loop-number.invariant.reached e in
+    let m = r.many in
+    let end : c.loop-number.number ≡ c.in-Some.count =
+    omega (arith, c.loop-number-test.false, c.loop-number.auto.number-end) in
+    all_noted g.naming c.args.self.now c.args.here.now.symbols.script
+    (layout_of g.naming c.args.here.now c.args.done.now) c.args.items.now e c.in-Some.count
+    c.in-Some.ensures.first.1 c.in_ok-copy_of.field-0.items (length c.loop-number.done.sections.list)
+    c.in_ok-copy_of.ensures c.in-Some.ensures.boundary (m ∙ end)

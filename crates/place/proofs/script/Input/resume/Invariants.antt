@@ -1,10 +1,12 @@
+use Rattle.std.proofs.Common.{◌≡◌}
 use Rattle.place.proofs.Resuming.{Reached}
 use Rattle.place.specs.Earlier.{Earlier}
 use Rattle.place.specs.State.{layout_of}
 use Rattle.place.proofs.script.Input.resume.Given as goal
 
-abbrev pub invariant-loop-boundary : goal.invariant-loop-boundary
-invariant-loop-boundary g l = record {
+abbrev pub invariant-loop-number : goal.invariant-loop-number
+invariant-loop-number g l = record {
   reached : (e : Earlier g.naming l.self l.fn.here.symbols.script (layout_of g.naming l.fn.here l.fn.done) l.items)
-      → Reached g.naming l.self (layout_of g.naming l.fn.here l.fn.done) l.items e.rows l.done l.boundary-index;
+      → Reached g.naming l.self (layout_of g.naming l.fn.here l.fn.done) l.items e.rows l.done l.number;
+  outputs : l.done.sections.script ≡ l.fn.done.sections.script;
 }

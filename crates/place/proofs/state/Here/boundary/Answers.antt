@@ -10,5 +10,5 @@ returns-clause-at g c = record {
   dots = search rules;
   inputs = refl;
   symbols = c.len-2.ensures ∙ sym (length-map c.args.self.now.symbols.list (symbol_of c.args.self.now.symbols.script));
-  data_commands = c.data_count.ensures ∙ ap length (data_whole g.naming 0 c.args.done.now.sections);
+  data_commands = c.data_count.ensures ∙ ap length (data_whole g.naming 0 c.args.done.now.sections.list);
 }

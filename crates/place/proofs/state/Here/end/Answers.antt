@@ -1,8 +1,9 @@
-use Rattle.std.proofs.Common.{ℕ, Ok, inl, inr, sym, ap, ◌∙◌}
+use Rattle.std.proofs.Common.{ℕ, Ok, inl, inr, sym, ap, subst, length, ◌∙◌}
 use Rattle.ldmodel.specs.Chain.{and_then}
 use Rattle.ldmodel.specs.Layout.{Layout, PlacedSection}
 use Rattle.ldmodel.specs.SectionEnd.{freed_from, with_section}
 use Rattle.ldnumbers.specs.Keyed.{section_of}
+use Rattle.ldnumbers.specs.Outputs.{IsOutput}
 use Rattle.ldnumbers.specs.SectionTable.{keyed}
 use Rattle.place.proofs.Ending.{end_is, ends_there, joined, load_end_is}
 use Rattle.place.proofs.state.Here.end.Goals as goal
@@ -40,3 +41,8 @@ returns-clause-gives g c =
       | inl h ↦ inl (e ∙ ap (λ r. and_then r (λ (_ : ℕ). Ok (with_section s c.args.output.now q))) h)
       | inr h ↦ inr h
     ]
+
+pub push-requires-clause-next : goal.push-requires-clause-next
+push-requires-clause-next g c =
+    subst (IsOutput c.args.done.now.sections.script (length c.args.done.now.sections.list))
+    (sym c.close-section.ensures.output) c.requires

@@ -1,7 +1,7 @@
 use Rattle.std.proofs.Common.{◌≡◌, ◌++◌, drop, map}
 use Rattle.ldnumbers.specs.Keyed.{KeyedPiece}
 use Rattle.ldnumbers.specs.SectionTable.{keyed_piece}
-use Rattle.place.proofs.whole.add_placed.Given as goal
+use Rattle.place.proofs.whole.add_starts.Given as goal
 
 abbrev pub invariant-loop-at : goal.invariant-loop-at
 invariant-loop-at l =
