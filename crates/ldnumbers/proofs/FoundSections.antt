@@ -22,16 +22,17 @@ use Rattle.ldmodel.specs.declared.laid.Placed.{Placed}
 use Rattle.ldnumbers.proofs.Lists.{same_name, is_same_name}
 use Rattle.ldnumbers.proofs.Numbers.{sections_told, regions_told}
 use Rattle.ldnumbers.proofs.Ordered.{output_number}
-use Rattle.ldnumbers.specs.Outputs.{IsOutput}
+use Rattle.ldnumbers.specs.Earlier.{EarlierOutputs}
+use Rattle.ldnumbers.specs.Outputs.{IsOutput, Outputs}
 use Rattle.ldnumbers.proofs.Tabled.{found_under}
 use Rattle.ldnumbers.proofs.Counting.{data_grow, starts_grow}
 use Rattle.ldnumbers.specs.Wholes.{all_data_in, starts_in}
 use Rattle.ldnumbers.specs.Keyed.{KeyedSection, section_of}
 use Rattle.ldnumbers.specs.SectionTable.{both, keyed, keyed_taken, section_names, nameless, difference_by}
-use Rattle.ldnumbers.specs.SectionTable.{AreSectionsOf, Fits, IsKeptAt, Outputs}
+use Rattle.ldnumbers.specs.SectionTable.{AreSectionsOf, Fits, IsKeptAt}
 use Rattle.ldnumbers.specs.Tables.{AreInOrder}
 use Rattle.ldnumbers.specs.declared.sections.Closed.{Closed}
-use Rattle.ldnumbers.specs.declared.sections.Taken.{Taken}
+use Rattle.ldnumbers.specs.declared.earlier.Taken.{Taken}
 
 abbrev placed_under : List KeyedSection → List ℕ → Option Placed
 placed_under xs name =
@@ -145,10 +146,10 @@ difference_other xs x region e =
     ) refl
 
 -- the number of the next one
-pub next_number : (script : List Statement) (xs : List KeyedSection) (v : Outputs) (output : OutputSection)
-    → record { script = script; list = xs } ≡ v → IsSound script → IsOutput v.script (length v.list) output
+pub next_number : (script : List Statement) (e : EarlierOutputs) (xs : List KeyedSection) (v : Outputs)
+    (output : OutputSection) → record { script = script; earlier = e; list = xs } ≡ v → IsSound script → IsOutput v.script (length v.list) output
     → section_number script output.name ≡ Some (length xs)
-next_number script xs v output e sound next =
+next_number script before xs v output e sound next =
     output_number script (length xs) output sound
     (subst (λ (w : Outputs). IsOutput w.script (length w.list) output) (sym e) next)
 

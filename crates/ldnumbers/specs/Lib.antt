@@ -8,4 +8,5 @@ pub mod RegionTable
 pub mod ProvidedTable
 pub mod Wholes
 pub mod SectionTable
+pub mod Earlier
 pub mod Outputs

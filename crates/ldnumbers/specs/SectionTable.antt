@@ -11,7 +11,7 @@ use Rattle.ldnumbers.specs.Tables.{AreInOrder}
 use Rattle.ldnumbers.specs.Wholes.{all_data_in, starts_in}
 use Rattle.ldnumbers.specs.declared.sections.Closed.{Closed}
 use Rattle.ldnumbers.specs.declared.sections.PieceAt.{PieceAt}
-use Rattle.ldnumbers.specs.declared.sections.Taken.{Taken}
+use Rattle.ldnumbers.specs.declared.earlier.Taken.{Taken}
 use Rattle.ldmodel.specs.declared.rows.Piece as rows
 
 abbrev pub keyed_piece : PieceAt → KeyedPiece
@@ -48,11 +48,6 @@ keyed_taken x = record {
 -- those that are taken over, and then those that were placed
 abbrev pub both : List Taken → List Closed → List KeyedSection
 both taken placed = map keyed_taken taken ++ map keyed placed
-
--- output sections of a script
-pub record Outputs : Type 0 where
-  pub script : List Statement
-  pub list : List KeyedSection
 
 abbrev pub section_names : List KeyedSection → List (List ℕ)
 section_names sections = map (λ (x : KeyedSection). x.name) sections

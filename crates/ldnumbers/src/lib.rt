@@ -4,6 +4,7 @@
 #![tactic(auto)]
 
 pub mod commands;
+pub mod earlier;
 pub mod guesses;
 pub mod named;
 pub mod provided;

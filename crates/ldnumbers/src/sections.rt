@@ -1,18 +1,20 @@
 //! The output sections that are in their places.
 
 ghost use Rattle.std.specs.Prelude.{◌≡◌, ◌+◌, [], ◌∷◌, ◌++◌, length, IfOk, OnOk, IfSome, find};
-ghost use Rattle.std.specs.Prelude.{bytes_eq, option_map, slice_get};
+ghost use Rattle.std.specs.Prelude.{bytes_eq, map, option_map, slice_get};
 ghost use Rattle.std.specs.Option.{option_copied};
 ghost use Rattle.ldtree.specs.Given.{section_number};
+ghost use Rattle.ldnumbers.specs.Earlier.{earlier_of, IsWithTaken};
 ghost use Rattle.ldnumbers.specs.Keyed.{KeyedSection};
 ghost use Rattle.ldnumbers.specs.Outputs.{IsOutput};
-ghost use Rattle.ldnumbers.specs.SectionTable.{both, keyed, keyed_taken, difference_by, section_names, taken_pieces};
+ghost use Rattle.ldnumbers.specs.SectionTable.{both, keyed, difference_by, section_names};
 ghost use Rattle.ldnumbers.specs.SectionTable.{Ends, Fits, IsKeptAt};
 ghost use Rattle.ldnumbers.specs.Tables.{AreInOrder};
-ghost use Rattle.ldnumbers.specs.Wholes.{all_data_in, starts_in};
+ghost use Rattle.ldnumbers.specs.Wholes.{all_data_in, counts_in, placed_in, starts_in};
 
+use crate::earlier::{Earlier, Taken, first};
 use crate::guesses::Guesses;
-use ldmodel::laid::{Placed, PlacedData};
+use ldmodel::laid::Placed;
 use ldmodel::rows::Piece;
 use ldscript::script::Script;
 use ldscript::tree::{OutputSection, Width};
@@ -52,38 +54,16 @@ pub struct Closed<'a> {
     pub data_commands: Vec<DataAt>,
 }
 
-/// An output section that is taken over from an earlier layout. Its input sections are the first entries of its row.
-#[derive(Clone, Copy)]
-pub struct Taken<'a> {
-    /// What the script says of it.
-    pub output: &'a OutputSection,
-    /// Its numbers.
-    pub placed: &'a Placed,
-    /// Where its input sections start.
-    pub starts: &'a [u64],
-    /// Its row.
-    pub row: &'a [Piece],
-    /// Its data commands.
-    pub data_commands: &'a [PlacedData],
-}
-
-impl<'a> Taken<'a> {
-    /// How many input sections it has.
-    #[tactic(auto, using(crate::proofs::Counting::taken_length))]
-    pub fn len(&self) -> usize
-        ensures { result ≡ length (taken_pieces self.now.starts.now self.now.row.now) }
-    {
-        self.starts.len().min(self.row.len())
-    }
-}
-
 /// The output sections that are in their places, in the order of the text, and for each memory region how far the last
 /// of those in it lies from where it is loaded.
 #[derive(Drop)]
 pub struct Sections<'a> {
     script: &'a Script,
-    /// Those that are taken over, which come first.
+    earlier: Earlier<'a>,
+    /// Those that are taken over from the earlier layout, which come first.
     taken: Vec<Taken<'a>>,
+    /// How many input sections are in these.
+    taken_count: usize,
     list: Vec<Closed<'a>>,
     count: usize,
     data_count: usize,
@@ -94,7 +74,7 @@ pub struct Sections<'a> {
 }
 
 impl<'a> Model for Sections<'a> {
-    ghost use Rattle.ldnumbers.specs.SectionTable.{Outputs};
+    ghost use Rattle.ldnumbers.specs.Outputs.{Outputs};
     ghost use Rattle.std.specs.Coded.{codes};
     ghost use Rattle.ldtree.specs.contracts.formula.Formula as formula;
 
@@ -102,13 +82,33 @@ impl<'a> Model for Sections<'a> {
 
     ghost coded = { Prim.hlevel (codes, formula.the_row.coded) };
 
+    ghost use Rattle.ldnumbers.specs.Earlier.{earlier_of, AreTaken};
     ghost use Rattle.ldnumbers.specs.SectionTable.{both, AreSectionsOf};
 
-    ghost view = { λ s. record { script = s.script.now; list = both s.taken.items s.list.items } };
+    ghost view = { λ s. record {
+      script = s.script.now;
+      earlier = earlier_of s.earlier;
+      list = both s.taken.items s.list.items;
+    } };
 
     ghost invariant = { λ s.
         AreSectionsOf s.script.now (both s.taken.items s.list.items) s.differences.items s.elsewhere s.count
-        s.data_count };
+        s.data_count × AreTaken (earlier_of s.earlier) s.taken.items s.taken_count };
+}
+
+/// Output sections in their places: those that are taken over from an earlier layout, and then those that were placed.
+#[derive(Clone, Copy)]
+pub struct Parts<'s, 'a> {
+    /// The numbers of those that are taken over.
+    pub sections: &'s [Placed],
+    /// How many input sections each of them has.
+    pub counts: &'s [usize],
+    /// Where these start, section by section.
+    pub starts: &'s [u64],
+    /// They themselves.
+    pub taken: &'s [Taken<'a>],
+    /// Those that were placed.
+    pub placed: &'s [Closed<'a>],
 }
 
 /// The number of the output section of a name, of which the guess is looked at first.
@@ -175,14 +175,17 @@ fn sum(count: usize, more: usize) -> Result<usize, AllocError>
 }
 
 impl<'a> Sections<'a> {
-    /// No output section of this script, which has about this many, of which so many will be taken over.
+    /// No output section of this script, which has about this many, of which so many will be taken over from an
+    /// earlier layout.
     pub fn new(
         alloc: Global,
         script: &'a Script,
         count: usize,
+        earlier: Earlier<'a>,
         taken: usize,
     ) -> Result<Sections<'a>, AllocError>
         ensures script { IfOk result (λ s. s.script ≡ script.now) }
+        ensures earlier { IfOk result (λ s. s.earlier ≡ earlier_of earlier.entry) }
         ensures none { IfOk result (λ s. s.list ≡ []) }
     {
         let regions = script.regions(alloc)?;
@@ -193,7 +196,9 @@ impl<'a> Sections<'a> {
         let taken = Vec::with_capacity(alloc, taken.min(count))?;
         Ok(Sections {
             script,
+            earlier,
             taken,
+            taken_count: 0,
             list,
             count: 0,
             data_count: 0,
@@ -203,12 +208,23 @@ impl<'a> Sections<'a> {
         })
     }
 
-    /// All of them: those that are taken over, and then those that were placed.
-    pub fn parts(&self) -> (&[Taken<'a>], &[Closed<'a>])
-        ensures all { both result.0.now result.1.now ≡ self.now.list }
+    /// All of them, in parts.
+    pub fn parts(&self) -> Parts<'_, 'a>
+        ensures all { both result.taken.now result.placed.now ≡ self.now.list }
+        ensures sections { placed_in self.now.list
+            ≡ result.sections.now ++ placed_in (map keyed result.placed.now) }
+        ensures counts { counts_in self.now.list ≡ result.counts.now ++ counts_in (map keyed result.placed.now) }
+        ensures starts { starts_in self.now.list ≡ result.starts.now ++ starts_in (map keyed result.placed.now) }
         ensures ends { Ends self.now.list }
     {
-        (&self.taken, &self.list)
+        let count = self.taken.len();
+        Parts {
+            sections: first(self.earlier.sections, count),
+            counts: first(self.earlier.counts, count),
+            starts: first(self.earlier.starts, self.taken_count),
+            taken: &self.taken,
+            placed: &self.list,
+        }
     }
 
     /// How many there are.
@@ -268,6 +284,7 @@ impl<'a> Sections<'a> {
         requires fits { Fits (keyed section) }
         requires next { IsOutput self.now.script (length self.now.list) section.output.now }
         ensures script { self.new.script ≡ self.old.script }
+        ensures earlier { self.new.earlier ≡ self.old.earlier }
         ensures pushed { OnOk result (self.new.list ≡ self.old.list ++ keyed section.entry ∷ []) }
     {
         // what the numbers follow from is known of the script's statements
@@ -288,25 +305,43 @@ impl<'a> Sections<'a> {
         Ok(())
     }
 
-    /// The next output section of the script, that is taken over. It is an error where memory ran out.
-    pub fn take(&mut self, section: Taken<'a>) -> Result<(), AllocError>
-        requires fits { Fits (keyed_taken section) }
-        requires next { IsOutput self.now.script (length self.now.list) section.output.now }
+    /// The next output section of the script, that is taken over. Its input sections are the first entries of its row,
+    /// and with its own data commands there are as many as `data_end`. It is an error where memory ran out.
+    pub fn take(
+        &mut self,
+        output: &'a OutputSection,
+        row: &'a [Piece],
+        data_end: usize,
+    ) -> Result<(), AllocError>
+        requires next { IsOutput self.now.script (length self.now.list) output.now }
         ensures script { self.new.script ≡ self.old.script }
-        ensures taken { OnOk result (self.new.list ≡ self.old.list ++ keyed_taken section.entry ∷ []) }
+        ensures earlier { self.new.earlier ≡ self.old.earlier }
+        ensures taken { OnOk result
+            (IsWithTaken self.old.earlier self.old.list row.now output.now data_end self.new.list) }
     {
         let _statements = self.script.statements();
+        // it does not come to an error here but for memory: the first ones are taken over, and the earlier layout has
+        // them
         if !self.list.is_empty() {
-            // it does not come to this: the first ones are taken over
             return Err(AllocError);
         }
-        let kept_at = kept_at(self.script, self.differences.len(), section.output)?;
+        let Some(commands) = self.earlier.data_between(self.data_count, data_end) else {
+            return Err(AllocError);
+        };
+        let number = self.taken.len();
+        let Some(section) = self
+            .earlier
+            .section(number, self.count, output, row, commands)
+        else {
+            return Err(AllocError);
+        };
+        let kept_at = kept_at(self.script, self.differences.len(), output)?;
         let difference = section.placed.start.wrapping_sub(section.placed.load);
-        let count = sum(self.count, section.len())?;
-        let data_count = sum(self.data_count, section.data_commands.len())?;
+        let count = sum(self.count, section.starts.len())?;
         self.taken.push(section)?;
+        self.taken_count = count;
         self.count = count;
-        self.data_count = data_count;
+        self.data_count = data_end;
         match kept_at {
             None => self.elsewhere = difference,
             Some(number) => self.differences[number] = difference,

@@ -12,7 +12,7 @@ use Rattle.ldmodel.specs.SectionEnd.{placed_section, section_end, with_section, 
 use Rattle.ldmodel.specs.SectionHead.{Head}
 use Rattle.ldnumbers.specs.Keyed.{KeyedSection, section_of}
 use Rattle.ldnumbers.specs.Naming.{Naming}
-use Rattle.ldnumbers.specs.SectionTable.{Outputs}
+use Rattle.ldnumbers.specs.Outputs.{Outputs}
 use Rattle.place.specs.Ends.{body_alone, ended_body, load_end}
 use Rattle.std.proofs.lemmas.List.{map-append}
 use Rattle.ldmodel.specs.Layout.{MemoryRegion}

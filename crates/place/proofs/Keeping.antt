@@ -41,12 +41,12 @@ kept_earlier n i script script' statements s p first same all none k a =
       leads = record {
         layout = k.placed.layout;
         comes = whole_run k.earlier i.provided.now script ∙ k.placed.placed;
-        sections = begins_same (map placed_of k.placed.layout.sections) i.kept.sections.now
+        sections = begins_same (map placed_of k.placed.layout.sections) i.kept.earlier.sections.now
             (a.sections ∙ k.placed.places.sections);
-        counts = begins_same (counts_of k.placed.layout.sections) i.kept.counts.now (a.counts ∙ k.placed.places.counts);
-        starts = begins_same (flat_map starts_of k.placed.layout.sections) i.kept.starts.now
+        counts = begins_same (counts_of k.placed.layout.sections) i.kept.earlier.counts.now (a.counts ∙ k.placed.places.counts);
+        starts = begins_same (flat_map starts_of k.placed.layout.sections) i.kept.earlier.starts.now
             (a.starts ∙ k.placed.places.starts);
-        data_commands = begins_same (data_in k.placed.layout.sections) (map data_of i.kept.data_commands.now)
+        data_commands = begins_same (data_in k.placed.layout.sections) (map data_of i.kept.earlier.data_commands.now)
             (ap (map data_of) a.data_commands ∙ k.placed.places.data_commands);
         dots = begins_same k.placed.layout.dots i.kept.dots.now (a.dots ∙ k.placed.places.dots);
         symbols = begins_same k.placed.layout.symbols (map (symbol_of script) i.kept.symbols.now)

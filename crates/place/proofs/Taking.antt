@@ -25,7 +25,7 @@ use Rattle.place.proofs.Grows.{the_piece}
 use Rattle.place.proofs.Wholes.{data_whole, starts_whole}
 use Rattle.place.specs.Boundaries.{data_in}
 use Rattle.place.specs.Leads.{Begins, Leads, counts_of}
-use Rattle.place.specs.Taken.{IsTaken, part_of}
+use Rattle.ldnumbers.specs.Earlier.{IsTaken, earlier_of, part_of}
 use Rattle.place.specs.declared.kept.Kept.{Kept}
 
 -- the one after the first ones of a list
@@ -96,24 +96,24 @@ module _ (n : Naming) (script : List Statement) (k : Kept) (provided : List (Lis
   many : length before ≡ length s.sections
   many = sym (ap length sections ∙ length-map before (section_of n))
 
-  placed_is : (p : Placed) → slice_get k.sections.now (length before) ≡ Some p → p ≡ placed_of q
+  placed_is : (p : Placed) → slice_get k.earlier.sections.now (length before) ≡ Some p → p ≡ placed_of q
   placed_is p e =
-      let at = next_element (map placed_of s.sections) (placed_of q) (map placed_of t.sections) k.sections.now
+      let at = next_element (map placed_of s.sections) (placed_of q) (map placed_of t.sections) k.earlier.sections.now
       (length before) (ap (map placed_of) grown.added ∙ map-append placed_of s.sections (q ∷ [])) l.sections
       (many ∙ sym (length-map s.sections placed_of)) in
       cc
 
-  count_is : (m : ℕ) → slice_get k.counts.now (length before) ≡ Some m → m ≡ length q.pieces
+  count_is : (m : ℕ) → slice_get k.earlier.counts.now (length before) ≡ Some m → m ≡ length q.pieces
   count_is m e =
-      let at = next_element (counts_of s.sections) (length q.pieces) (counts_of t.sections) k.counts.now
+      let at = next_element (counts_of s.sections) (length q.pieces) (counts_of t.sections) k.earlier.counts.now
       (length before) (ap counts_of grown.added
       ∙ map-append (λ (x : PlacedSection). length x.pieces) s.sections (q ∷ [])) l.counts
       (many ∙ sym (length-map s.sections (λ (x : PlacedSection). length x.pieces))) in
       cc
 
-  starts_are : (m : ℕ) → m ≡ length q.pieces → part_of k.starts.now (length (starts_in before)) m ≡ starts_of q
+  starts_are : (m : ℕ) → m ≡ length q.pieces → part_of k.earlier.starts.now (length (starts_in before)) m ≡ starts_of q
   starts_are m e =
-      next_part (flat_map starts_of s.sections) (starts_of q) (flat_map starts_of t.sections) k.starts.now
+      next_part (flat_map starts_of s.sections) (starts_of q) (flat_map starts_of t.sections) k.earlier.starts.now
       (length (starts_in before)) m
       (ap (flat_map starts_of) grown.added
       ∙ (flat_map-append starts_of s.sections (q ∷ [])
@@ -144,19 +144,19 @@ module _ (n : Naming) (script : List Statement) (k : Kept) (provided : List (Lis
       omega (arith, e, f, g, before_long)
 
   data_are : (count : ℕ) → count ≡ length (numbered (length s.sections, q))
-      → map data_at (map data_at_of (part_of k.data_commands.now (length (all_data_in 0 before)) count))
+      → map data_at (map data_at_of (part_of k.earlier.data_commands.now (length (all_data_in 0 before)) count))
       ≡ q.data_commands
   data_are count long =
       let from : ℕ = length (all_data_in 0 before) in
-      plain_data (part_of k.data_commands.now from count)
+      plain_data (part_of k.earlier.data_commands.now from count)
       ∙ (ap (map plain)
-      (mapped_part data_of k.data_commands.now from count
+      (mapped_part data_of k.earlier.data_commands.now from count
       ∙ next_part (data_in s.sections) (numbered (length s.sections, q)) (data_in t.sections)
-      (map data_of k.data_commands.now) from count whole l.data_commands before_long long)
+      (map data_of k.earlier.data_commands.now) from count whole l.data_commands before_long long)
       ∙ plain_numbered (length s.sections) q)
 
   -- the section, whose numbers are those of the layout
-  pub section_taken : (x : KeyedSection) (end : ℕ) → IsTaken k before row o end x → end ≡ length (data_in t.sections)
+  pub section_taken : (x : KeyedSection) (end : ℕ) → IsTaken (earlier_of k.earlier) before row o end x → end ≡ length (data_in t.sections)
       → (section_of n x ≡ q) × (x.placed ≡ placed_of q)
   section_taken x end i e =
       let p = placed_is x.placed i.placed in

@@ -1,14 +1,12 @@
 -- The parts of all output sections, by the layout that they stand for.
 use Rattle.std.proofs.Common.{◌≡◌, ℕ, zero, suc, arith, ◌+◌, List, [], ◌∷◌, ◌++◌, map, refl, sym, ap, ◌∙◌, ◌<◌, length}
-use Rattle.std.proofs.Common.{get_or, drop, append_assoc, take}
+use Rattle.std.proofs.Common.{get_or, drop, append_assoc}
 use Rattle.std.proofs.lemmas.List.{drop_more, length-map}
-use Rattle.ldmodel.specs.declared.rows.Piece.{Piece}
 use Rattle.ldmodel.specs.Layout.{PlacedSection}
 use Rattle.std.specs.Prelude.{flat_map}
 use Rattle.std.specs.List.{enumerate_from}
 use Rattle.ldmodel.specs.Layout.{PlacedPiece}
 use Rattle.ldmodel.specs.Lent.{placed_of, starts_of, numbered}
-use Rattle.ldnumbers.specs.SectionTable.{taken_pieces}
 use Rattle.ldnumbers.specs.Keyed.{KeyedPiece, KeyedSection, section_of, piece_at}
 use Rattle.ldnumbers.specs.Naming.{Naming}
 use Rattle.ldnumbers.specs.SectionTable.{Ends as KeyedEnds}
@@ -25,13 +23,6 @@ counts_whole n [] = refl
 counts_whole n (x ∷ xs) =
     ap (λ k. k ∷ counts_in xs) (sym (length-map x.pieces (piece_at n)))
     ∙ ap (λ l. length (map (piece_at n) x.pieces) ∷ l) (counts_whole n xs)
-
--- input sections that are taken over
-pub taken_starts : (xs : List ℕ) (ps : List Piece) → map (λ (p : KeyedPiece). p.start) (taken_pieces xs ps)
-    ≡ take (length (taken_pieces xs ps)) xs
-taken_starts [] ps = refl
-taken_starts (x ∷ xs) [] = refl
-taken_starts (x ∷ xs) (p ∷ ps) = ap (λ l. x ∷ l) (taken_starts xs ps)
 
 starts_whole_in : (n : Naming) (ps : List KeyedPiece) → map (λ (p : KeyedPiece). p.start) ps
     ≡ map (λ (p : PlacedPiece). p.start) (map (piece_at n) ps)

@@ -11,10 +11,10 @@ use Rattle.place.specs.declared.kept.Kept.{Kept}
 
 -- all of a placement, before the row of a number
 pub record Keeps (p : Places) (first : ℕ) (k : Kept) : Type 0 where
-  pub sections : k.sections.now ≡ p.sections
-  pub counts : k.counts.now ≡ p.counts
-  pub starts : k.starts.now ≡ p.starts
-  pub data_commands : k.data_commands.now ≡ p.data_commands
+  pub sections : k.earlier.sections.now ≡ p.sections
+  pub counts : k.earlier.counts.now ≡ p.counts
+  pub starts : k.earlier.starts.now ≡ p.starts
+  pub data_commands : k.earlier.data_commands.now ≡ p.data_commands
   pub dots : k.dots.now ≡ p.dots
   pub symbols : k.symbols.now ≡ p.symbols
   pub boundaries : k.boundaries.now ≡ p.boundaries
@@ -32,10 +32,10 @@ counts_of sections = map (λ (q : PlacedSection). length q.pieces) sections
 pub record Leads (script : List Statement) (k : Kept) (wanted : Result Layout Fault) : Type 0 where
   pub layout : Layout
   pub comes : wanted ≡ Ok layout
-  pub sections : Begins (map placed_of layout.sections) k.sections.now
-  pub counts : Begins (counts_of layout.sections) k.counts.now
-  pub starts : Begins (flat_map starts_of layout.sections) k.starts.now
-  pub data_commands : Begins (data_in layout.sections) (map data_of k.data_commands.now)
+  pub sections : Begins (map placed_of layout.sections) k.earlier.sections.now
+  pub counts : Begins (counts_of layout.sections) k.earlier.counts.now
+  pub starts : Begins (flat_map starts_of layout.sections) k.earlier.starts.now
+  pub data_commands : Begins (data_in layout.sections) (map data_of k.earlier.data_commands.now)
   pub dots : Begins layout.dots k.dots.now
   pub symbols : Begins layout.symbols (map (symbol_of script) k.symbols.now)
   pub found : AreFound script k.symbols.now

@@ -5,6 +5,7 @@ ghost use Rattle.std.specs.Prelude.{if◌then◌else◌};
 ghost use Rattle.ldtree.specs.Numbering.{sections_of};
 ghost use Rattle.ldmodel.specs.Chain.{run};
 ghost use Rattle.ldmodel.specs.Placement.{free_dot_step, item_command_step, item_step};
+ghost use Rattle.ldnumbers.specs.Earlier.{earlier_of};
 ghost use Rattle.ldnumbers.specs.Naming.{Naming};
 ghost use Rattle.place.specs.Boundaries.{AreBoundaries, IsAt};
 ghost use Rattle.place.specs.Counted.{Resumes, entries};
@@ -162,6 +163,7 @@ impl<'i, 'a> Input<'i, 'a> {
         ghost naming: { Naming }
         requires none { done.now.sections.list ≡ [] }
         requires first { AreFirst done.now.sections.script items.now }
+        requires kept { done.now.sections.earlier ≡ earlier_of self.now.kept.earlier }
         requires earlier { 0 < self.now.kept.first → Earlier naming self.now here.now.symbols.script
             (layout_of naming here.now done.now) items.now }
         ensures script { here.new.symbols.script ≡ here.old.symbols.script }

@@ -5,20 +5,14 @@ ghost use Rattle.place.specs.Leads.{Keeps};
 
 use crate::boundary::Boundary;
 use crate::placement::Placement;
-use ldmodel::laid::{Placed, PlacedData};
 use ldmodel::script_symbol::ScriptSymbol;
+use ldnumbers::earlier::Earlier;
 
 /// What is kept of an earlier layout, and how far it holds.
 #[derive(Clone, Copy)]
 pub(crate) struct Kept<'k> {
-    /// The numbers of the output sections.
-    pub sections: &'k [Placed],
-    /// How many input sections each of them has.
-    pub counts: &'k [usize],
-    /// Where these start, section by section.
-    pub starts: &'k [u64],
-    /// The data commands, section by section.
-    pub data_commands: &'k [PlacedData],
+    /// The output sections.
+    pub earlier: Earlier<'k>,
     /// `.` before each statement.
     pub dots: &'k [u64],
     /// The symbols.
@@ -39,10 +33,12 @@ impl<'k> Kept<'k> {
             Some((placement, first)) => {
                 let laid = placement.laid();
                 Kept {
-                    sections: laid.sections,
-                    counts: placement.counts(),
-                    starts: laid.starts,
-                    data_commands: laid.data_commands,
+                    earlier: Earlier {
+                        sections: laid.sections,
+                        counts: placement.counts(),
+                        starts: laid.starts,
+                        data_commands: laid.data_commands,
+                    },
                     dots: laid.dots,
                     symbols: laid.symbols,
                     boundaries: placement.boundaries(),
@@ -50,10 +46,12 @@ impl<'k> Kept<'k> {
                 }
             }
             None => Kept {
-                sections: &[],
-                counts: &[],
-                starts: &[],
-                data_commands: &[],
+                earlier: Earlier {
+                    sections: &[],
+                    counts: &[],
+                    starts: &[],
+                    data_commands: &[],
+                },
                 dots: &[],
                 symbols: &[],
                 boundaries: &[],

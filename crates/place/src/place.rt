@@ -96,7 +96,7 @@ fn lay_out(
     let provided = Provided::new(alloc, script, provided)?;
     let taken = Kept::new(kept);
     let mut here = nowhere(alloc, script, taken, rows.len())?;
-    let sections = Sections::new(alloc, script, rows.len(), taken.first)?;
+    let sections = Sections::new(alloc, script, rows.len(), taken.earlier, taken.first)?;
     let regions = Regions::new(alloc, script);
     let mut done = Done { sections, regions };
     let input = Input {

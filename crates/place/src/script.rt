@@ -3,6 +3,7 @@
 ghost use Rattle.std.specs.Prelude.{◌≡◌, ◌≤◌, ◌<◌, ◌+◌, [], length, map, OnOk, IfOk};
 ghost use Rattle.ldmodel.specs.Chain.{run};
 ghost use Rattle.ldmodel.specs.Placement.{statement_step};
+ghost use Rattle.ldnumbers.specs.Earlier.{earlier_of};
 ghost use Rattle.ldnumbers.specs.Naming.{Naming};
 ghost use Rattle.place.specs.Boundaries.{AreBoundariesOf};
 ghost use Rattle.place.specs.Counted.{entries};
@@ -94,6 +95,7 @@ impl<'i, 'a> Input<'i, 'a> {
         ghost naming: { Naming }
         requires none { done.now.sections.list ≡ [] }
         requires all { done.now.sections.script ≡ statements.now }
+        requires kept { done.now.sections.earlier ≡ earlier_of self.now.kept.earlier }
         requires earlier { 0 < self.now.kept.first → EarlierScript naming self.now here.now.symbols.script
             (layout_of naming here.now done.now) statements.now }
         ensures script { here.new.symbols.script ≡ here.old.symbols.script }

@@ -1,17 +1,17 @@
 //! Output sections that are taken over from an earlier layout.
 
-ghost use Rattle.std.specs.Prelude.{◌≡◌, ◌≤◌, ◌<◌, [], length, take, drop, IfOk, IfSome, IfErr, OnOk, Ok};
+ghost use Rattle.std.specs.Prelude.{◌≡◌, ◌≤◌, ◌<◌, [], length, take, IfOk, IfSome, IfErr, OnOk, Ok};
 ghost use Rattle.ldmodel.specs.Chain.{run};
 ghost use Rattle.ldmodel.specs.Placement.{item_step};
+ghost use Rattle.ldnumbers.specs.Earlier.{earlier_of};
 ghost use Rattle.ldnumbers.specs.Naming.{Naming};
-ghost use Rattle.ldnumbers.specs.SectionTable.{keyed_taken};
 ghost use Rattle.ldnumbers.specs.SymbolTable.{AreFound, Rises};
 ghost use Rattle.place.specs.Boundaries.{AreNoted};
 ghost use Rattle.place.specs.Earlier.{Earlier};
 ghost use Rattle.place.specs.Inputs.{rows_of};
 ghost use Rattle.place.specs.State.{layout_of};
 ghost use Rattle.place.specs.Next.{AreFirst, IsNextAt};
-ghost use Rattle.place.specs.Taken.{part_of, IsSection, IsTaken, Takes};
+ghost use Rattle.place.specs.Taken.{IsSection, Takes};
 ghost use Rattle.place.specs.declared.stop.Stop.TheVariants.{NoMemory};
 
 use crate::boundary::Boundary;
@@ -22,8 +22,6 @@ use crate::kept::Kept;
 use crate::script::Input;
 use crate::state::{Done, Here};
 use crate::stop::Stop;
-use ldmodel::rows::Piece;
-use ldnumbers::sections::Taken;
 use ldscript::tree::{Item, ItemCommand, OutputSection};
 use std::alloc::{AllocError, Global};
 
@@ -34,43 +32,6 @@ pub(crate) struct Resumed {
     pub passed: usize,
     /// Where the layout had come to before each of their output sections.
     pub boundaries: Vec<Boundary>,
-}
-
-/// The part of a list from a place on that has this many elements.
-fn part<T>(list: &[T], from: usize, count: usize) -> Option<&[T]>
-    ensures { IfSome result (λ x. x.now ≡ part_of list.now from count) }
-{
-    match list.get(from..) {
-        Some(rest) => rest.get(..count),
-        None => None,
-    }
-}
-
-impl<'a> Kept<'a> {
-    /// The next output section after these, whose input sections are in a row. With its own data commands there are as
-    /// many as `data_end`.
-    fn section(
-        &self,
-        done: &Done<'a>,
-        row: &'a [Piece],
-        output: &'a OutputSection,
-        data_end: usize,
-    ) -> Option<Taken<'a>>
-        ensures output { IfSome result (λ t. t.output.now ≡ output.now) }
-        ensures taken { IfSome result (λ t.
-            IsTaken self.now done.now.sections.list row.now output.now data_end (keyed_taken t)) }
-    {
-        let number = done.sections.len();
-        let count = *self.counts.get(number)?;
-        let data_count = data_end.checked_sub(done.sections.data_count())?;
-        Some(Taken {
-            output,
-            placed: self.sections.get(number)?,
-            starts: part(self.starts, done.sections.count(), count)?,
-            row,
-            data_commands: part(self.data_commands, done.sections.data_count(), data_count)?,
-        })
-    }
 }
 
 impl<'a> Here<'a> {
@@ -137,19 +98,20 @@ impl<'i, 'a> Input<'i, 'a> {
         next: Boundary,
     ) -> Result<(), Stop<'a>>
         requires next { IsNextAt done.now.sections.script (length done.now.sections.list) items.now at.items }
+        requires kept { done.now.sections.earlier ≡ earlier_of self.now.kept.earlier }
         ensures takes { OnOk result (Takes self.now items.now at next done.old done.new) }
         ensures outputs { done.new.sections.script ≡ done.old.sections.script }
+        ensures kept { done.new.sections.earlier ≡ done.old.sections.earlier }
         ensures refused { IfErr result (λ f. f ≡ NoMemory) }
     {
         // it does not come to an error here but for memory: the earlier layout has this output section
         let Some(output) = output_at(items, at.items) else {
             return Err(Stop::NoMemory);
         };
-        let row = row_at(self.rows, done.sections.len());
-        let Some(section) = self.kept.section(done, row, output, next.data_commands) else {
+        let number = done.sections.len();
+        let Some(placed) = self.kept.earlier.sections.get(number) else {
             return Err(Stop::NoMemory);
         };
-        let placed = section.placed;
         let Some(end) = placed.start.checked_add(placed.size) else {
             return Err(Stop::NoMemory);
         };
@@ -158,7 +120,8 @@ impl<'i, 'a> Input<'i, 'a> {
         };
         free(&mut done.regions, region_name(output), end);
         free(&mut done.regions, load_region_name(output), load_end);
-        done.sections.take(section)?;
+        let row = row_at(self.rows, number);
+        done.sections.take(output, row, next.data_commands)?;
         Ok(())
     }
 
@@ -173,6 +136,7 @@ impl<'i, 'a> Input<'i, 'a> {
         ghost naming: { Naming }
         requires none { done.now.sections.list ≡ [] }
         requires first { AreFirst done.now.sections.script items.now }
+        requires kept { done.now.sections.earlier ≡ earlier_of self.now.kept.earlier }
         requires earlier { 0 < self.now.kept.first → Earlier naming self.now here.now.symbols.script
             (layout_of naming here.now done.now) items.now }
         ensures script { here.new.symbols.script ≡ here.old.symbols.script }

@@ -5,7 +5,7 @@ ghost use Rattle.ldmodel.specs.Lent.{data_of, region_of as region_numbers};
 ghost use Rattle.ldnumbers.specs.Keyed.{KeyedPiece, data_at_of};
 ghost use Rattle.ldnumbers.specs.Naming.{Naming};
 ghost use Rattle.ldnumbers.specs.RegionTable.{region_of};
-ghost use Rattle.ldnumbers.specs.SectionTable.{both, keyed_piece, taken_pieces};
+ghost use Rattle.ldnumbers.specs.SectionTable.{both, keyed, keyed_piece};
 ghost use Rattle.ldnumbers.specs.Wholes.{all_data_in, counts_in, data_in, placed_in, starts_in};
 ghost use Rattle.place.specs.Places.{AreOf};
 ghost use Rattle.place.specs.State.{layout_of};
@@ -15,22 +15,16 @@ use crate::placement::Placement;
 use crate::state::{Done, Here};
 use ldmodel::laid::{OutputIndex, Placed, PlacedData, PlacedRegion};
 use ldnumbers::regions::Region;
-use ldnumbers::sections::{Closed, DataAt, PieceAt, Taken};
+use ldnumbers::sections::{DataAt, Parts, PieceAt};
 use std::alloc::{AllocError, Global};
 
 /// The numbers of the output sections.
-fn numbers_of(
-    alloc: Global,
-    taken: &[Taken<'_>],
-    placed: &[Closed<'_>],
-) -> Result<Vec<Placed>, AllocError>
-    ensures { IfOk result (λ v. v.items ≡ placed_in (both taken.now placed.now)) }
+fn numbers_of(alloc: Global, parts: Parts<'_, '_>) -> Result<Vec<Placed>, AllocError>
+    ensures { IfOk result (λ v. v.items ≡ parts.entry.sections.now ++ placed_in (map keyed parts.entry.placed.now)) }
 {
-    let mut list = Vec::with_capacity(alloc, taken.len() + placed.len())?;
-    for section in taken {
-        list.push(*section.placed)?;
-    }
-    for section in placed {
+    let mut list = Vec::with_capacity(alloc, parts.sections.len() + parts.placed.len())?;
+    list.extend_from_slice(parts.sections)?;
+    for section in parts.placed {
         list.push(section.placed)?;
     }
     Ok(list)
@@ -46,50 +40,25 @@ fn add_starts(list: &mut Vec<u64>, pieces: &[PieceAt<'_>]) -> Result<(), AllocEr
     Ok(())
 }
 
-#[tactic(auto, using(crate::proofs::Wholes::taken_starts))]
-fn add_taken_starts(list: &mut Vec<u64>, section: &Taken<'_>) -> Result<(), AllocError>
-    ensures { OnOk result (list.new.items ≡ list.old.items
-        ++ map (λ (x : KeyedPiece). x.start) (taken_pieces section.now.starts.now section.now.row.now)) }
-{
-    match section.starts.get(..section.len()) {
-        Some(starts) => list.extend_from_slice(starts),
-        // it does not come to this: there are no fewer starts
-        None => Err(AllocError),
-    }
-}
-
 /// Where the input sections start, row by row, of which there are this many.
-fn starts_of(
-    alloc: Global,
-    count: usize,
-    taken: &[Taken<'_>],
-    placed: &[Closed<'_>],
-) -> Result<Vec<u64>, AllocError>
-    ensures { IfOk result (λ v. v.items ≡ starts_in (both taken.now placed.now)) }
+fn starts_of(alloc: Global, count: usize, parts: Parts<'_, '_>) -> Result<Vec<u64>, AllocError>
+    ensures { IfOk result (λ v. v.items ≡ parts.entry.starts.now ++ starts_in (map keyed parts.entry.placed.now)) }
 {
     let mut list = Vec::with_capacity(alloc, count)?;
-    for section in taken {
-        add_taken_starts(&mut list, section)?;
-    }
-    for section in placed {
+    list.extend_from_slice(parts.starts)?;
+    for section in parts.placed {
         add_starts(&mut list, &section.pieces)?;
     }
     Ok(list)
 }
 
 /// How many input sections each output section has.
-fn counts_of(
-    alloc: Global,
-    taken: &[Taken<'_>],
-    placed: &[Closed<'_>],
-) -> Result<Vec<usize>, AllocError>
-    ensures { IfOk result (λ v. v.items ≡ counts_in (both taken.now placed.now)) }
+fn counts_of(alloc: Global, parts: Parts<'_, '_>) -> Result<Vec<usize>, AllocError>
+    ensures { IfOk result (λ v. v.items ≡ parts.entry.counts.now ++ counts_in (map keyed parts.entry.placed.now)) }
 {
-    let mut list = Vec::with_capacity(alloc, taken.len() + placed.len())?;
-    for section in taken {
-        list.push(section.len())?;
-    }
-    for section in placed {
+    let mut list = Vec::with_capacity(alloc, parts.counts.len() + parts.placed.len())?;
+    list.extend_from_slice(parts.counts)?;
+    for section in parts.placed {
         list.push(section.pieces.len())?;
     }
     Ok(list)
@@ -144,20 +113,16 @@ fn add_taken_data(
 }
 
 /// The data commands, section by section.
-fn data_commands_of(
-    alloc: Global,
-    taken: &[Taken<'_>],
-    placed: &[Closed<'_>],
-) -> Result<Vec<PlacedData>, AllocError>
-    ensures { IfOk result (λ v. map data_of v.items ≡ all_data_in 0 (both taken.now placed.now)) }
+fn data_commands_of(alloc: Global, parts: Parts<'_, '_>) -> Result<Vec<PlacedData>, AllocError>
+    ensures { IfOk result (λ v. map data_of v.items ≡ all_data_in 0 (both parts.entry.taken.now parts.entry.placed.now)) }
 {
     let mut list = Vec::new(alloc);
     let mut number: usize = 0;
-    for section in taken {
+    for section in parts.taken {
         add_taken_data(&mut list, index_of(number)?, section.data_commands)?;
         number += 1;
     }
-    for section in placed {
+    for section in parts.placed {
         add_data(&mut list, index_of(number)?, &section.data_commands)?;
         number += 1;
     }
@@ -190,11 +155,11 @@ pub(crate) fn whole(
     ensures places { IfOk result (λ p. AreOf here.entry.symbols.script (layout_of naming here.entry done.now) p) }
     ensures boundaries { IfOk result (λ p. p.boundaries ≡ boundaries.items) }
 {
-    let (taken, placed) = done.sections.parts();
-    let sections = numbers_of(alloc, taken, placed)?;
-    let counts = counts_of(alloc, taken, placed)?;
-    let starts = starts_of(alloc, done.sections.count(), taken, placed)?;
-    let data_commands = data_commands_of(alloc, taken, placed)?;
+    let parts = done.sections.parts();
+    let sections = numbers_of(alloc, parts)?;
+    let counts = counts_of(alloc, parts)?;
+    let starts = starts_of(alloc, done.sections.count(), parts)?;
+    let data_commands = data_commands_of(alloc, parts)?;
     let regions = regions_of(alloc, done.regions.as_slice())?;
     Ok(Placement {
         sections,

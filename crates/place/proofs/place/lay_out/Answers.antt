@@ -54,15 +54,18 @@ place_script-laid-requires g c =
       c.in_ok-sections.ensures.none,
       (
         c.in_ok-sections.ensures.script ∙ sym c.statements.ensures.value,
-        λ some. by_option c.args.kept _ _ _ _ c.requires c.new-taken.ensures.some c.new-taken.ensures.none
-            (λ k kept keeps.
-            kept_earlier g.naming _ c.args.script.now c.in_ok-here.here.symbols.script c.statements.result.now
-            (layout_of g.naming c.in_ok-here.here d) k.0.now k.1 c.in_ok-here.ensures.script c.statements.ensures.value
-            (nothing_there g.naming c.in_ok-here.here d c.in_ok-here.ensures.dot c.in_ok-here.ensures.dots
-            c.in_ok-here.ensures.inputs c.in_ok-here.ensures.symbols c.in_ok-sections.ensures.none c.new-regions.ensures)
-            (subst (λ ps. IsKept c.args.script.now (rows_named g.naming (map (λ v. v.items) c.args.rows.now)) ps k.0.now
-            k.1) (sym c.in_ok-provided.ensures) kept)
-            keeps)
-            (λ none. absurd (omega (arith, none, some))),
+        (
+          c.in_ok-sections.ensures.earlier,
+          λ some. by_option c.args.kept _ _ _ _ c.requires c.new-taken.ensures.some c.new-taken.ensures.none
+              (λ k kept keeps.
+              kept_earlier g.naming _ c.args.script.now c.in_ok-here.here.symbols.script c.statements.result.now
+              (layout_of g.naming c.in_ok-here.here d) k.0.now k.1 c.in_ok-here.ensures.script c.statements.ensures.value
+              (nothing_there g.naming c.in_ok-here.here d c.in_ok-here.ensures.dot c.in_ok-here.ensures.dots
+              c.in_ok-here.ensures.inputs c.in_ok-here.ensures.symbols c.in_ok-sections.ensures.none c.new-regions.ensures)
+              (subst (λ ps. IsKept c.args.script.now (rows_named g.naming (map (λ v. v.items) c.args.rows.now)) ps k.0.now
+              k.1) (sym c.in_ok-provided.ensures) kept)
+              keeps)
+              (λ none. absurd (omega (arith, none, some))),
+        ),
       ),
     )

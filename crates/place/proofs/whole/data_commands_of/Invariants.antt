@@ -6,14 +6,14 @@ use Rattle.place.proofs.whole.data_commands_of.Given as goal
 
 abbrev pub invariant-loop-section : goal.invariant-loop-section
 invariant-loop-section l = record {
-  commands : all_data_in 0 (both l.taken l.placed) ≡ map data_of l.list.items
-      ++ all_data_in l.number (both (drop l.section-index l.taken) l.placed);
+  commands : all_data_in 0 (both l.parts.taken.now l.parts.placed.now) ≡ map data_of l.list.items
+      ++ all_data_in l.number (both (drop l.section-index l.parts.taken.now) l.parts.placed.now);
   number : l.number ≡ l.section-index;
 }
 
 abbrev pub invariant-loop-section-2 : goal.invariant-loop-section-2
 invariant-loop-section-2 l = record {
-  commands : all_data_in 0 (both l.taken l.placed) ≡ map data_of l.list.items
-      ++ all_data_in l.number (map keyed (drop l.section-index l.placed));
-  number : l.number ≡ length l.taken + l.section-index;
+  commands : all_data_in 0 (both l.parts.taken.now l.parts.placed.now) ≡ map data_of l.list.items
+      ++ all_data_in l.number (map keyed (drop l.section-index l.parts.placed.now));
+  number : l.number ≡ length l.parts.taken.now + l.section-index;
 }

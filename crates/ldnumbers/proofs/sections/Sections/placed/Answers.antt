@@ -3,7 +3,8 @@ use Rattle.std.specs.Option.{option_map}
 use Rattle.std.specs.Prelude.{find, bytes_eq, slice_get}
 use Rattle.ldnumbers.proofs.FoundSections.{section_there, section_unknown}
 use Rattle.ldnumbers.specs.Keyed.{KeyedSection}
-use Rattle.ldnumbers.specs.SectionTable.{both, keyed, keyed_taken, Outputs}
+use Rattle.ldnumbers.specs.Outputs.{Outputs}
+use Rattle.ldnumbers.specs.SectionTable.{both, keyed, keyed_taken}
 use Rattle.ldnumbers.proofs.sections.Sections.placed.Goals as goal
 
 pub returns-in-Some : goal.returns-in-Some
@@ -15,13 +16,13 @@ returns-in-Some c =
     ∙ (ap (λ xs. option_map (λ (x : KeyedSection). x.placed)
     (slice_get (both c.self.inside.taken.items xs) c.in-Some.number)) c.deref-in-Some-2.ensures.value
     ∙ (sym (section_there c.self.inside.script.now (both c.self.inside.taken.items c.self.inside.list.items)
-    c.args.name.now c.self.invariant.order c.in-Some.number (sym c.in-Some.ensures))
+    c.args.name.now c.self.invariant.0.order c.in-Some.number (sym c.in-Some.ensures))
     ∙ ap (λ (v : Outputs). option_map (λ (x : KeyedSection). x.placed)
     (find (λ (x : KeyedSection). bytes_eq x.name c.args.name.now) v.list)) c.self.view_is)))
 
 pub returns-in-None : goal.returns-in-None
 returns-in-None c =
     sym (section_unknown c.self.inside.script.now (both c.self.inside.taken.items c.self.inside.list.items)
-    c.args.name.now c.self.invariant.order (sym c.in-None.ensures))
+    c.args.name.now c.self.invariant.0.order (sym c.in-None.ensures))
     ∙ ap (λ (v : Outputs). option_map (λ (x : KeyedSection). x.placed)
     (find (λ (x : KeyedSection). bytes_eq x.name c.args.name.now) v.list)) c.self.view_is

@@ -4,7 +4,7 @@ use Rattle.ldmodel.specs.Chain.{run}
 use Rattle.ldmodel.specs.Placement.{item_step, statement_step}
 use Rattle.place.proofs.Joining.{after_goes, before_stops, earlier_items, items_stop, stops_so}
 use Rattle.place.specs.Boundaries.{AreBoundaries}
-use Rattle.ldnumbers.specs.SectionTable.{Outputs}
+use Rattle.ldnumbers.specs.Outputs.{Outputs}
 use Rattle.place.proofs.Following.{are_first}
 use Rattle.place.specs.Inputs.{rows_of}
 use Rattle.place.specs.Next.{AreFirst}
@@ -30,13 +30,16 @@ place_items-requires g c = (
     subst (λ z. AreFirst z c.of-parts.result.items.now)
         (sym (ap (λ (z : Outputs). z.script) c.place_statements.ensures.sections ∙ c.requires.1.0))
         (subst (AreFirst c.args.statements.now) (sym c.of-parts.ensures.items) (are_first c.args.statements.now)),
-    λ some. earlier_items g.naming c.args.self.now c.args.here.now.symbols.script
-        c.place_statements.new.here.symbols.script (layout_of g.naming c.args.here.now c.args.done.now)
-        (layout_of g.naming c.place_statements.new.here c.place_statements.new.done) c.args.statements.now
-        c.of-parts.result.items.now c.place_statements.ensures.script c.of-parts.ensures.items
-        (ap (run (statement_step (rows_of g.naming c.args.self.now) c.args.self.now.provided.now)
-        (layout_of g.naming c.args.here.now c.args.done.now)) (sym c.of-parts.ensures.before)
-        ∙ c.in_ok-place_statements.ensures.gives) (c.requires.1.1 some),
+    (
+      ap (λ (z : Outputs). z.earlier) c.place_statements.ensures.sections ∙ c.requires.1.1.0,
+      λ some. earlier_items g.naming c.args.self.now c.args.here.now.symbols.script
+          c.place_statements.new.here.symbols.script (layout_of g.naming c.args.here.now c.args.done.now)
+          (layout_of g.naming c.place_statements.new.here c.place_statements.new.done) c.args.statements.now
+          c.of-parts.result.items.now c.place_statements.ensures.script c.of-parts.ensures.items
+          (ap (run (statement_step (rows_of g.naming c.args.self.now) c.args.self.now.provided.now)
+          (layout_of g.naming c.args.here.now c.args.done.now)) (sym c.of-parts.ensures.before)
+          ∙ c.in_ok-place_statements.ensures.gives) (c.requires.1.1.1 some),
+    ),
   ),
 )
 
