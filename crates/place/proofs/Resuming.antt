@@ -106,6 +106,14 @@ step_is : (rows : List (List Piece)) (provided : List (List ℕ)) (s t : Layout)
 unfolding item_command_step
 step_is rows provided s t x line o same e = sym (ap (item_step rows provided s) same) ∙ e
 
+-- the output section at a boundary, from a layout on, where the earlier layout had come to after it
+record Stepped (script : List Statement) (i : Input) (rows : List (List Piece)) (s : Layout) (items : List Item)
+    (b : Boundary) (row : List Piece) (state : Layout) (line : ℕ) (o : OutputSection) : Type 0 where
+  after : Layout
+  comes : run (item_step rows i.provided.now) s (take (suc b.items) items) ≡ Ok after
+  step : section_step i.provided.now row (noted state) line o ≡ Ok after
+  leads : Leads script i.kept (section_step i.provided.now row (noted state) line o)
+
 module _ (n : Naming) (i : Input) (script : List Statement) (s : Layout) (items : List Item)
     (e : Earlier n i script s items) (b : Boundary) (k : ℕ) (there : slice_get i.kept.boundaries.now k ≡ Some b) where
   abbrev at : IsBoundary e.rows i.provided.now s items b k
@@ -119,65 +127,84 @@ module _ (n : Naming) (i : Input) (script : List Statement) (s : Layout) (items 
       leads_before script i.kept at.state e.leads.layout (Ok at.state) (run (item_step e.rows i.provided.now) s items)
       (items_on e.rows i.provided.now (drop b.items items) at.state e.leads.layout goes) refl e.leads refl
 
+  -- the output section there, in its row
+  module _ (line : ℕ) (o : OutputSection)
+      (stands : slice_get items b.items ≡ Some (record { line = line; command = item.Section o })) (row : List Piece)
+      (row_is : next_row e.rows at.state ≡ row) where
+    stepped : Stepped script i e.rows s items b row at.state line o
+    stepped =
+        let provided : List (List ℕ) = i.provided.now in
+        let x : Item = record { line = line; command = item.Section o } in
+        let h = chained (item_step e.rows provided at.state x)
+        (λ u. run (item_step e.rows provided) u (drop (suc b.items) items)) e.leads.layout
+        (sym (run_first (item_step e.rows provided) x (drop (suc b.items) items) at.state)
+        ∙ (ap (run (item_step e.rows provided) at.state) (sym (drop_at items b.items x stands)) ∙ goes)) in
+        let step : section_step provided row (noted at.state) line o ≡ Ok h.value =
+        ap (λ z. section_step provided z (noted at.state) line o) (sym row_is)
+        ∙ step_is e.rows provided at.state h.value x line o refl h.first in
+        record {
+          after = h.value;
+          comes = run_more (item_step e.rows provided) items b.items x s at.state h.value at.comes stands h.first;
+          step = step;
+          leads = leads_before script i.kept h.value e.leads.layout (section_step provided row (noted at.state) line o)
+              (run (item_step e.rows provided) s items)
+              (items_on e.rows provided (drop (suc b.items) items) h.value e.leads.layout h.second) step e.leads refl;
+        }
+
+    -- its data commands end at the next boundary
+    module _ (next : Boundary) (there_next : slice_get i.kept.boundaries.now (k + 1) ≡ Some next) where
+      abbrev at_next : IsBoundary e.rows i.provided.now s items next (k + 1)
+      at_next = e.boundaries (k + 1) next there_next
+
+      next_sections : stepped.after.sections ≡ at_next.state.sections
+      next_sections =
+          let g = section_grows i.provided.now row (noted at.state) line o stepped.after stepped.step in
+          let long : length stepped.after.sections ≡ length at_next.state.sections =
+          (let p = ap length g.added ∙ length-append at.state.sections (g.section ∷ []) in
+          let z = at.many in let w = at_next.many in omega (arith, p, z, w)) in
+          let two = still_two e.rows i.provided.now items s (suc b.items) next.items stepped.after at_next.state
+          stepped.comes at_next.comes long in
+          two.0
+
+      data_end : next.data_commands ≡ length (data_in stepped.leads.layout.sections)
+      data_end =
+          at_next.at.data_commands
+          ∙ (ap (λ z. length (data_in z)) (sym next_sections)
+          ∙ ap (λ (u : Layout). length (data_in u.sections))
+          (sym (given_is stepped.leads.layout stepped.after (sym stepped.leads.comes ∙ stepped.step))))
+
   -- one more, the data commands of which end at the next boundary
   pub reached_on : (next : Boundary) → slice_get i.kept.boundaries.now (k + 1) ≡ Some next → k < i.kept.first
       → (old new : Done) → Reached n i s items e.rows old k → Takes i items b next old new
       → Reached n i s items e.rows new (k + 1)
   reached_on next there_next l old new r t =
       let provided : List (List ℕ) = i.provided.now in
-      let before : Layout = at.state in
-      let line : ℕ = t.at.line in
       let o : OutputSection = t.output in
-      let x : Item = record { line = line; command = item.Section o } in
       let row : List rows.Piece = get_or (map (λ v. v.items) i.rows.now) (length old.sections.list) [] in
-      let long : length r.state.sections ≡ length before.sections =
+      let long : length r.state.sections ≡ length at.state.sections =
       (let p = ap length r.sections in let q = length-map old.sections.list (section_of n) in
       let z = r.many in let w = at.many in omega (arith, p, q, z, w)) in
-      let two = still_two e.rows provided items s r.place b.items r.state before r.comes at.comes long in
-      let h = chained (item_step e.rows provided before x)
-      (λ u. run (item_step e.rows provided) u (drop (suc b.items) items)) e.leads.layout
-      (sym (run_first (item_step e.rows provided) x (drop (suc b.items) items) before)
-      ∙ (ap (run (item_step e.rows provided) before) (sym (drop_at items b.items x t.at.there)) ∙ goes)) in
-      let after : Layout = h.value in
-      let comes : run (item_step e.rows provided) s (take (suc b.items) items) ≡ Ok after =
-      run_more (item_step e.rows provided) items b.items x s before after at.comes t.at.there h.first in
-      let row_is : next_row e.rows before ≡ row_named n row =
+      let two = still_two e.rows provided items s r.place b.items r.state at.state r.comes at.comes long in
+      let row_is : next_row e.rows at.state ≡ row_named n row =
       ap (λ j. get_or e.rows j []) at.many
       ∙ (e.same k l
       ∙ (get_or-map (row_named n) (map (λ v. v.items) i.rows.now) k []
       ∙ ap (λ j. row_named n (get_or (map (λ v. v.items) i.rows.now) j [])) (sym r.many))) in
-      let step : section_step provided (row_named n row) (noted before) line o ≡ Ok after =
-      ap (λ z. section_step provided z (noted before) line o) (sym row_is)
-      ∙ step_is e.rows provided before after x line o refl h.first in
-      let leads = leads_before script i.kept after e.leads.layout
-      (section_step provided (row_named n row) (noted before) line o)
-      (run (item_step e.rows provided) s items)
-      (items_on e.rows provided (drop (suc b.items) items) after e.leads.layout h.second) step e.leads refl in
-      let same : leads.layout ≡ after = given_is leads.layout after (sym leads.comes ∙ step) in
-      let sections : before.sections ≡ map (section_of n) old.sections.list = sym (r.sections ∙ two.0) in
-      let g = grown n script i.kept provided row (noted before) line o old.sections.list sections leads in
-      let at_next = e.boundaries (k + 1) next there_next in
-      let added : after.sections ≡ before.sections ++ g.section ∷ [] =
-      ap (λ (u : Layout). u.sections) (sym same) ∙ g.added in
-      let next_long : length after.sections ≡ length at_next.state.sections =
-      (let p = ap length added ∙ length-append before.sections (g.section ∷ []) in
-      let z = at.many in let w = at_next.many in omega (arith, p, z, w)) in
-      let next_two = still_two e.rows provided items s (suc b.items) next.items after at_next.state comes at_next.comes
-      next_long in
-      let end : next.data_commands ≡ length (data_in leads.layout.sections) =
-      at_next.at.data_commands
-      ∙ (ap (λ z. length (data_in z)) (sym next_two.0)
-      ∙ ap (λ (u : Layout). length (data_in u.sections)) (sym same)) in
-      let y = section_taken n script i.kept provided row (noted before) line o old.sections.list sections leads t.section
-      next.data_commands t.taken end in
+      let st = stepped t.at.line o t.at.there (row_named n row) row_is in
+      let same : st.leads.layout ≡ st.after = given_is st.leads.layout st.after (sym st.leads.comes ∙ st.step) in
+      let sections : at.state.sections ≡ map (section_of n) old.sections.list = sym (r.sections ∙ two.0) in
+      let g = grown n script i.kept provided row (noted at.state) t.at.line o old.sections.list sections st.leads in
+      let y = section_taken n script i.kept provided row (noted at.state) t.at.line o old.sections.list sections st.leads
+      t.section next.data_commands t.taken (data_end t.at.line o t.at.there (row_named n row) row_is next there_next) in
       record {
         place = suc b.items;
-        state = after;
-        comes = comes;
+        state = st.after;
+        comes = st.comes;
         sections = ap (map (section_of n)) t.pushed
             ∙ (map-append (section_of n) old.sections.list (t.section ∷ [])
             ∙ (ap (λ z. z ++ section_of n t.section ∷ []) (sym sections)
-            ∙ (ap (λ z. before.sections ++ z ∷ []) y.0 ∙ sym added)));
+            ∙ (ap (λ z. at.state.sections ++ z ∷ []) y.0
+            ∙ (sym g.added ∙ ap (λ (u : Layout). u.sections) same))));
         regions = t.regions
             ∙ (ap (λ (p : Placed). freed_from (load_region o.load) (p.load + p.load_size)
             (freed_from o.region (p.start + p.size) old.regions)) y.1

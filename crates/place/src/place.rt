@@ -117,10 +117,10 @@ fn lay_out(
 ///
 /// `rows` has one row for each output section, in the order of the script, `provided` the PROVIDEs that are in force.
 /// With `kept`, an earlier placement of the script, in which the same PROVIDEs were in force, and the number of the
-/// first row that differs from the earlier ones, the layout goes on right after the last output section before that
-/// row: this one, those before it and all statements of SECTIONS up to it are taken over, and none of them is evaluated
-/// or looked at. Memory regions end where the sections that are taken over do. So the layout is the same with and
-/// without `kept`. The meter counts the pieces that were placed anew.
+/// first row that differs from the earlier ones, the layout goes on right before the output section of that row: those
+/// before it and all statements of SECTIONS up to it are taken over, and none of them is evaluated. Memory regions end
+/// where the sections that are taken over do. So the layout is the same with and without `kept`. The meter counts the
+/// pieces that were placed anew.
 ///
 /// What the pieces' objects and sections are called does not matter: the contract holds with any names.
 ///
