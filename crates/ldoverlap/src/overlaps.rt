@@ -105,8 +105,8 @@ fn push_meetings(
     Ok(())
 }
 
-/// The overlaps in one space. Where no two output sections meet, as a sort shows, there are none; where some do,
-/// the first that each meets is looked for in a tree of ranges. The time is that of a sort.
+/// The overlaps in one space. Where no two output sections meet, as their order or a sort shows, there are none; where
+/// some do, the first that each meets is looked for in a tree of ranges. The time is at most that of a sort.
 fn push_overlaps(
     alloc: Global,
     faults: &mut Vec<Fault>,
@@ -116,6 +116,10 @@ fn push_overlaps(
     ensures { OnOk result (faults.new.items ≡ faults.old.items ++ met_before space (extents_in space sections.now)) }
 {
     let extents = extents(alloc, space, sections)?;
+    // most scripts have their output sections in the order of their addresses
+    if are_ascending(&extents) {
+        return Ok(());
+    }
     let mut ascending = Vec::from_slice(alloc, &extents)?;
     ascending.sort_unstable_by_key(|e| e.start);
     if are_ascending(&ascending) {

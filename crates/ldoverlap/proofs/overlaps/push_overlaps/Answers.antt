@@ -1,6 +1,7 @@
--- Where the copy in order ascends no two meet.
+-- Where the ranges ascend, in the order of the script or in that of their addresses, no two meet.
 use Rattle.std.proofs.Common.{◌∙◌, ◌++◌, ◌≤◌, ℕ, sym, ap, subst, IsPermutation}
 use Rattle.std.proofs.lemmas.List.{append-nil}
+use Rattle.std.proofs.lemmas.List.Sorted.{IsPermutation-refl}
 use Rattle.ldoverlap.specs.Extents.{cover}
 use Rattle.ldoverlap.specs.Found.{extents_in}
 use Rattle.ldoverlap.proofs.Apart.{apart_in_order}
@@ -9,12 +10,22 @@ use Rattle.ldoverlap.proofs.overlaps.push_overlaps.Goals as goal
 pub returns-then-are_ascending : goal.returns-then-are_ascending
 returns-then-are_ascending c =
     let all = extents_in c.args.space c.args.sections.now in
+    let apart : (address : ℕ) → cover address all ≤ 1 =
+    λ a. subst (λ l. cover a l ≤ 1) (c.deref.ensures.value ∙ c.in_ok-extents.ensures)
+    (c.are_ascending.ensures c.if-are_ascending.true a) in
+    sym (ap (λ l. c.args.faults.now.items
+    ++ l) (apart_in_order c.args.space all all (IsPermutation-refl all) apart)
+    ∙ append-nil c.args.faults.now.items)
+
+pub returns-then-are_ascending-2 : goal.returns-then-are_ascending-2
+returns-then-are_ascending-2 c =
+    let all = extents_in c.args.space c.args.sections.now in
     let moved : IsPermutation all c.sort_unstable_by_key.new.self.items =
     subst (λ l. IsPermutation l c.sort_unstable_by_key.new.self.items)
-    (c.in_ok-ascending.ensures.items ∙ c.deref.ensures.value ∙ c.in_ok-extents.ensures)
+    (c.in_ok-ascending.ensures.items ∙ c.deref-2.ensures.value ∙ c.in_ok-extents.ensures)
     c.sort_unstable_by_key.ensures.permutation in
     let apart : (address : ℕ) → cover address c.sort_unstable_by_key.new.self.items ≤ 1 =
-    λ a. subst (λ l. cover a l ≤ 1) c.deref-2.ensures.value (c.are_ascending.ensures c.if-are_ascending.true a) in
+    λ a. subst (λ l. cover a l ≤ 1) c.deref-3.ensures.value (c.are_ascending-2.ensures c.if-are_ascending-2.true a) in
     sym (ap (λ l. c.args.faults.now.items
     ++ l) (apart_in_order c.args.space all c.sort_unstable_by_key.new.self.items moved apart)
     ∙ append-nil c.args.faults.now.items)
