@@ -1,6 +1,7 @@
 //! The output sections that meet others.
 
-ghost use Rattle.std.specs.Prelude.{◌≡◌, ◌++◌, IfOk, OnOk, length};
+ghost use Rattle.std.specs.Prelude.{◌≡◌, ◌++◌, ◌≤◌, ℕ, IfOk, IsTrue, OnOk, length};
+ghost use Rattle.ldoverlap.specs.Extents.{cover};
 ghost use Rattle.ldoverlap.specs.Meetings.{AreOverlaps};
 ghost use Rattle.ldoverlap.specs.Firsts.{before};
 ghost use Rattle.ldoverlap.specs.Found.{extent_in, extents_in, fault_in, fault_with, met_before};
@@ -56,6 +57,25 @@ fn extents(alloc: Global, space: Space, sections: &[Placed]) -> Result<Vec<Exten
         extents.push(space.extent(section))?;
     }
     Ok(extents)
+}
+
+/// Whether each output section, in the order of the script, begins at or past the end of all before it, as most do;
+/// those without a byte do not count. Then no address is in two of them.
+fn are_in_order(space: Space, sections: &[Placed]) -> bool
+    ensures { IsTrue result → (address : ℕ) → cover address (extents_in space sections.now) ≤ 1 }
+{
+    let mut end = 0;
+    for section in sections {
+        let extent = space.extent(section);
+        if extent.size == 0 {
+            continue;
+        }
+        if u128::from(extent.start) < end {
+            return false;
+        }
+        end = extent.end();
+    }
+    true
 }
 
 /// The number of an output section; out of memory past 2^32, where no number is left.
@@ -115,11 +135,10 @@ fn push_overlaps(
 ) -> Result<(), NoMemory>
     ensures { OnOk result (faults.new.items ≡ faults.old.items ++ met_before space (extents_in space sections.now)) }
 {
-    let extents = extents(alloc, space, sections)?;
-    // most scripts have their output sections in the order of their addresses
-    if are_ascending(&extents) {
+    if are_in_order(space, sections) {
         return Ok(());
     }
+    let extents = extents(alloc, space, sections)?;
     let mut ascending = Vec::from_slice(alloc, &extents)?;
     ascending.sort_unstable_by_key(|e| e.start);
     if are_ascending(&ascending) {
