@@ -83,7 +83,7 @@ impl Placement {
         &self.counts
     }
 
-    /// Where the layout had come to after each output section.
+    /// Where the layout had come to before each output section, and after all.
     pub(crate) fn boundaries(&self) -> &[Boundary]
         ensures { result.now ≡ self.now.boundaries }
     {
