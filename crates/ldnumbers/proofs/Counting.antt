@@ -2,12 +2,9 @@
 use Rattle.std.proofs.Common.{◌≡◌, ℕ, suc, ◌+◌, List, [], ◌∷◌, ◌++◌, length, map, refl, sym, ap, ◌∙◌, arith}
 use Rattle.std.proofs.Common.{append_assoc, length-append}
 use Rattle.std.proofs.lemmas.List.{append-nil, length-map}
-use Rattle.ldmodel.specs.declared.rows.Piece.{Piece}
 use Rattle.ldnumbers.specs.Keyed.{KeyedPiece, KeyedSection}
-use Rattle.ldnumbers.specs.SectionTable.{taken_pieces}
 use Rattle.ldnumbers.specs.Wholes.{all_data_in, data_in, starts_in}
 use Rattle.ldnumbers.specs.declared.sections.DataAt.{DataAt}
-use Rattle.std.proofs.Common.{min}
 
 -- the starts of one more output section
 pub starts_push : (xs : List KeyedSection) (x : KeyedSection) → starts_in (xs ++ x ∷ []) ≡ starts_in xs
@@ -39,8 +36,3 @@ data_grow k (y ∷ ys) x =
     let one = length-append (data_in k y.data_commands) (all_data_in (k + 1) (ys ++ x ∷ [])) in
     let other = length-append (data_in k y.data_commands) (all_data_in (k + 1) ys) in
     omega (arith, more, one, other)
-
-pub taken_length : (xs : List ℕ) (ps : List Piece) → length (taken_pieces xs ps) ≡ min (length xs) (length ps)
-taken_length [] ps = omega arith
-taken_length (x ∷ xs) [] = omega arith
-taken_length (x ∷ xs) (p ∷ ps) = let h = taken_length xs ps in omega (arith, h)

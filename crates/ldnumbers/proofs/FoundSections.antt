@@ -61,7 +61,9 @@ module _ (script : List Statement) (xs : List KeyedSection) (name : List ℕ)
 -- those that were placed follow those that are taken over
 pub after_taken : (ts : List Taken) (xs : List Closed) (k j : ℕ) → k ≡ length ts + j
     → slice_get (both ts xs) k ≡ option_map keyed (slice_get xs j)
-after_taken [] xs k j e = let same : k ≡ j = omega (arith, e) in ap (slice_get (map keyed xs)) same ∙ slice_get-map keyed xs j
+after_taken [] xs k j e =
+    let same : k ≡ j = omega (arith, e) in
+    ap (slice_get (map keyed xs)) same ∙ slice_get-map keyed xs j
 after_taken (t ∷ ts) xs zero j e = absurd (omega (arith, e))
 after_taken (t ∷ ts) xs (suc k) j e = after_taken ts xs k j (omega (arith, e))
 
@@ -147,7 +149,8 @@ difference_other xs x region e =
 
 -- the number of the next one
 pub next_number : (script : List Statement) (e : EarlierOutputs) (xs : List KeyedSection) (v : Outputs)
-    (output : OutputSection) → record { script = script; earlier = e; list = xs } ≡ v → IsSound script → IsOutput v.script (length v.list) output
+    (output : OutputSection) → record { script = script; earlier = e; list = xs } ≡ v → IsSound script
+    → IsOutput v.script (length v.list) output
     → section_number script output.name ≡ Some (length xs)
 next_number script before xs v output e sound next =
     output_number script (length xs) output sound

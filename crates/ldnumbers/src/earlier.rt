@@ -2,7 +2,6 @@
 
 ghost use Rattle.std.specs.Prelude.{◌≡◌, ◌+◌, ◌-◌, length, take, IfSome};
 ghost use Rattle.ldnumbers.specs.Earlier.{part_of, IsSectionOf};
-ghost use Rattle.ldnumbers.specs.SectionTable.{taken_pieces};
 
 use ldmodel::laid::{Placed, PlacedData};
 use ldmodel::rows::Piece;
@@ -34,16 +33,6 @@ pub struct Taken<'a> {
     pub row: &'a [Piece],
     /// Its data commands.
     pub data_commands: &'a [PlacedData],
-}
-
-impl<'a> Taken<'a> {
-    /// How many input sections it has.
-    #[tactic(auto, using(crate::proofs::Counting::taken_length))]
-    pub fn len(&self) -> usize
-        ensures { result ≡ length (taken_pieces self.now.starts.now self.now.row.now) }
-    {
-        self.starts.len().min(self.row.len())
-    }
 }
 
 /// The first elements of a list, or all where there are no more.

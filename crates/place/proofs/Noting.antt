@@ -83,7 +83,8 @@ pub all_there : (n : Naming) (rows : List (List Piece)) (provided : List (List �
     (h : Here) (d : Done) (k : ℕ) → run (item_step rows provided) start (take k items) ≡ Ok (layout_of n h d)
     → length items ≤ k → run (item_step rows provided) start (take (length items) items) ≡ Ok (layout_of n h d)
 all_there n rows provided start items h d k comes l =
-    ap (run (item_step rows provided) start) (take_all (length items) items (omega arith) ∙ sym (take_all k items l)) ∙ comes
+    ap (run (item_step rows provided) start) (take_all (length items) items (omega arith) ∙ sym (take_all k items l))
+    ∙ comes
 
 -- one boundary more
 pub noted_more : (n : Naming) (rows : List (List Piece)) (provided : List (List ℕ)) (start : Layout) (items : List Item)

@@ -156,7 +156,8 @@ module _ (n : Naming) (script : List Statement) (k : Kept) (provided : List (Lis
       ∙ plain_numbered (length s.sections) q)
 
   -- the section, whose numbers are those of the layout
-  pub section_taken : (x : KeyedSection) (end : ℕ) → IsTaken (earlier_of k.earlier) before row o end x → end ≡ length (data_in t.sections)
+  pub section_taken : (x : KeyedSection) (end : ℕ) → IsTaken (earlier_of k.earlier) before row o end x
+      → end ≡ length (data_in t.sections)
       → (section_of n x ≡ q) × (x.placed ≡ placed_of q)
   section_taken x end i e =
       let p = placed_is x.placed i.placed in

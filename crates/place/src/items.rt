@@ -97,9 +97,10 @@ impl<'i, 'a> Input<'i, 'a> {
         ensures anew { here.new.anew ≤ here.old.anew + entries (length done.old.sections.list)
             (map (λ v. v.items) self.now.rows.now) }
         ensures left { OnOk result
-            (here.new.anew + entries (length done.new.sections.list) (map (λ v. v.items) self.now.rows.now) ≤ here.old.anew
-            + entries (length done.old.sections.list) (map (λ v. v.items) self.now.rows.now)) }
-        ensures resumed { OnOk result (Resumes self.now here.old here.new done.old.sections.list done.new.sections.list) }
+            (here.new.anew + entries (length done.new.sections.list) (map (λ v. v.items) self.now.rows.now)
+            ≤ here.old.anew + entries (length done.old.sections.list) (map (λ v. v.items) self.now.rows.now)) }
+        ensures resumed { OnOk result
+            (Resumes self.now here.old here.new done.old.sections.list done.new.sections.list) }
         ensures outputs { done.new.sections.script ≡ done.old.sections.script }
         ensures gives { Gives
             (item_command_step (rows_of naming self.now) self.now.provided.now line
@@ -140,9 +141,10 @@ impl<'i, 'a> Input<'i, 'a> {
         ensures anew { here.new.anew ≤ here.old.anew + entries (length done.old.sections.list)
             (map (λ v. v.items) self.now.rows.now) }
         ensures left { OnOk result
-            (here.new.anew + entries (length done.new.sections.list) (map (λ v. v.items) self.now.rows.now) ≤ here.old.anew
-            + entries (length done.old.sections.list) (map (λ v. v.items) self.now.rows.now)) }
-        ensures resumed { OnOk result (Resumes self.now here.old here.new done.old.sections.list done.new.sections.list) }
+            (here.new.anew + entries (length done.new.sections.list) (map (λ v. v.items) self.now.rows.now)
+            ≤ here.old.anew + entries (length done.old.sections.list) (map (λ v. v.items) self.now.rows.now)) }
+        ensures resumed { OnOk result
+            (Resumes self.now here.old here.new done.old.sections.list done.new.sections.list) }
         ensures outputs { done.new.sections.script ≡ done.old.sections.script }
         ensures gives { Gives
             (item_step (rows_of naming self.now) self.now.provided.now (layout_of naming here.old done.old) item.now)

@@ -114,7 +114,8 @@ fn add_taken_data(
 
 /// The data commands, section by section.
 fn data_commands_of(alloc: Global, parts: Parts<'_, '_>) -> Result<Vec<PlacedData>, AllocError>
-    ensures { IfOk result (λ v. map data_of v.items ≡ all_data_in 0 (both parts.entry.taken.now parts.entry.placed.now)) }
+    ensures { IfOk result (λ v.
+        map data_of v.items ≡ all_data_in 0 (both parts.entry.taken.now parts.entry.placed.now)) }
 {
     let mut list = Vec::new(alloc);
     let mut number: usize = 0;

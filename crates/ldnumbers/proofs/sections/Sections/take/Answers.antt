@@ -54,7 +54,8 @@ invariant_of-self-in-None c = (
 pub invariant_of-self-in-Some-kept_at : goal.invariant_of-self-in-Some-kept_at
 invariant_of-self-in-Some-kept_at c = (
   subst (λ l. AreSectionsOf c.self.inside.script.now l
-      (set c.self.inside.differences.items c.in-Some-kept_at.number (difference_of (section_of nameless (keyed_taken c.in-Some-section.section))))
+      (set c.self.inside.differences.items c.in-Some-kept_at.number
+      (difference_of (section_of nameless (keyed_taken c.in-Some-section.section))))
       c.self.inside.elsewhere c.in_ok-count.count c.args.data_end)
       (sym (ap (λ l. both l c.self.inside.list.items) c.in_ok-push.ensures.items
       ∙ both_taken c.self.inside.taken.items c.self.inside.list.items c.in-Some-section.section

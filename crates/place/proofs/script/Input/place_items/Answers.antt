@@ -1,4 +1,5 @@
-use Rattle.std.proofs.Common.{◌≡◌, if◌then◌else◌, rules, Err, length, map, arith, ◌∙◌, ap, inl, inr, subst, sym, refl, Vec, Global}
+use Rattle.std.proofs.Common.{◌≡◌, if◌then◌else◌, rules, Err, length, map, arith, ◌∙◌, ap, inl, inr, subst, sym}
+use Rattle.std.proofs.Common.{refl, Vec, Global}
 use Rattle.ldnumbers.specs.Keyed.{section_of}
 use Rattle.place.proofs.Counting.{entries_fewer, left_at_first}
 use Rattle.place.proofs.Noting.{all_there, comes_on, is_next, more_by, noted_more, stands_at, stops_there}
@@ -31,7 +32,8 @@ place_item-requires g c =
     (is_next g.naming (rows_of g.naming c.args.self.now) c.args.self.now.provided.now
     (layout_of g.naming c.args.here.now c.args.done.now) c.args.items.now c.loop-number.here c.loop-number.done
     c.loop-number.number c.index-items-number.result c.loop-number.invariant.here c.loop-number-test.true
-    c.index-items-number.is c.args.done.now.sections.script (ap (map (section_of g.naming)) c.requires.0) c.requires.1.0)
+    c.index-items-number.is c.args.done.now.sections.script
+    (ap (map (section_of g.naming)) c.requires.0) c.requires.1.0)
 
 pub returns-in_err-place_item-clause-gives : goal.returns-in_err-place_item-clause-gives
 returns-in_err-place_item-clause-gives g c =
