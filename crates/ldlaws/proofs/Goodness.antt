@@ -10,6 +10,7 @@ use Rattle.std.proofs.lemmas.Slice.Eq.{bytes_eq-Decides}
 use Rattle.elfobj.specs.Sections.{LinkedSection}
 use Rattle.elfobj.specs.declared.section.SectionIndex.{SectionIndex}
 use Rattle.ldmodel.specs.Fault.{Fault, ImageTooLong}
+use Rattle.ldmodel.specs.Edits.{AreNamesDistinct}
 use Rattle.ldmodel.specs.FileLayout.{Each}
 use Rattle.ldmodel.specs.Image.{object_named, section_numbered}
 use Rattle.ldmodel.specs.Layout.{Layout, PlacedPiece, PlacedSection}
@@ -28,7 +29,7 @@ use Rattle.ldmodel.specs.Stayed.{GoodLink, LinkedPiece, linked_piece, linked_pie
 use Rattle.ldmodel.specs.SymbolValues.{entry_point, is_part, placed_part, placed_pieces}
 use Rattle.ldmodel.specs.declared.sections.Part.{Part}
 use Rattle.ldmodel.specs.declared.sections.Part.TheVariants.{InTable, InCommon}
-use Rattle.ldlaws.specs.PlacedOnce.{Differ}
+use Rattle.ldlaws.specs.PlacedOnce.{AreNumbered, Differ}
 use Rattle.ldlaws.specs.Spread.{EachLater, entries_in}
 use Rattle.ldlaws.specs.Untouched.{HasField, IsFaultless, IsGood}
 use Rattle.ldlaws.proofs.Finding.{NotBoth, each_member, find_only, flat_map_in, in_flat_map, in_map, later_imply}
@@ -52,7 +53,7 @@ no_overlap : (p : Project) (t s : Layout) (fs : List Fault) → without_overlaps
 no_overlap p t s [] e = long_enough p t s e
 no_overlap p t s (f ∷ fs) e = absurd (let none : ⊥ = cc in none)
 
-of_placement : (p : Project) (s : Layout) → layout p ≡ Ok s → placement p.script (rows p) (provided p) ≡ Ok s
+pub of_placement : (p : Project) (s : Layout) → layout p ≡ Ok s → placement p.script (rows p) (provided p) ≡ Ok s
 unfolding layout
 of_placement p s e = go (placement p.script (rows p) (provided p)) refl e
   where
@@ -79,7 +80,7 @@ entries_joined (q ∷ qs) = mapped_append entry q.pieces (flat_map pieces_of qs)
     ∙ ap (λ l. map entry q.pieces ++ l) (entries_joined qs)
 
 -- a test of parts is passed by one of two entries that differ
-not_both : (object : List ℕ) (part : Part) (x y : PlacedPiece) → Differ x.piece y.piece
+pub not_both : (object : List ℕ) (part : Part) (x y : PlacedPiece) → Differ x.piece y.piece
     → (is_part object part x && is_part object part y) ≡ false
 not_both object part x y h = go (is_part object part x) (is_part object part y) refl refl
   where
@@ -99,10 +100,20 @@ not_both object part x y h = go (is_part object part x) (is_part object part y) 
         ∙ own_part y.piece.part) in
         absurd (true≢false (sym one ∙ h))
 
+-- no two input sections in the output are one
+pub placed_once : (p : Project) (s : Layout) → placement p.script (rows p) (provided p) ≡ Ok s
+    → AreNamesDistinct p.objects → AreNumbered p
+    → EachLater (λ (x y : PlacedPiece). Differ x.piece y.piece) (placed_pieces s)
+placed_once p s placed names numbers =
+    later_of_map entry Differ (placed_pieces s)
+    (subst (EachLater Differ)
+    (sym (entries_joined s.sections ∙ ap (flat_map (λ r. r)) (placed_are_rows p (provided p) s placed)))
+    (once_in_rows p names numbers))
+
 abbrev index : ℕ → SectionIndex
 index n = record { 0 = n }
 
-section_found : (o : NamedObject) (k : SectionIndex) (z : LinkedSection) → section_numbered o k ≡ Some z
+pub section_found : (o : NamedObject) (k : SectionIndex) (z : LinkedSection) → section_numbered o k ≡ Some z
     → (z.number ≡ k) × Contains o.object.sections z
 section_found o k z e = go o.object.sections e
   where
@@ -151,11 +162,7 @@ module _ (l : GoodLink) (h : IsFaultless l) where
   placed = of_placement p s h.layout
 
   differ : EachLater (λ (x y : PlacedPiece). Differ x.piece y.piece) (placed_pieces s)
-  differ =
-      later_of_map entry Differ (placed_pieces s)
-      (subst (EachLater Differ)
-      (sym (entries_joined s.sections ∙ ap (flat_map (λ r. r)) (placed_are_rows p (provided p) s placed)))
-      (once_in_rows p h.names h.numbers))
+  differ = placed_once p s placed h.names h.numbers
 
   part_found : (w : PlacedPiece) → Contains (placed_pieces s) w → placed_part s w.piece.object w.piece.part ≡ Some w
   part_found w c =

@@ -64,7 +64,7 @@ up_to_multiple : (n : ℕ) → n ≤ next_multiple_of n 8
 up_to_multiple n = omega arith
 
 -- the tail stands past the loaded part
-loaded_in_image : (p : Project) (s : Layout) → loaded_end (segments s.sections) ≤ image_length p s
+pub loaded_in_image : (p : Project) (s : Layout) → loaded_end (segments s.sections) ≤ image_length p s
 unfolding image_length header_part tables
 loaded_in_image p s =
     let a = up_to_multiple (loaded_end (segments s.sections)) in

@@ -14,6 +14,10 @@ pub mod Segmented
 pub mod Targeted
 pub mod Gapped
 pub mod Small
+pub mod Agreeing
+pub mod Alike
+pub mod AlikeSections
+pub mod AlikeScripts
 pub mod Cutting
 pub mod Effects
 pub mod RowParts
@@ -32,3 +36,8 @@ pub mod InImage
 pub mod Once
 pub mod OnceInRows
 pub mod Goodness
+pub mod Joined
+pub mod Unmoved
+pub mod SitesByPiece
+pub mod StayedBytes
+pub mod StayedSites

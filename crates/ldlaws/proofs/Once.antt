@@ -272,7 +272,7 @@ module _ (p : Project) (i : ℕ) (o : NamedObject) where
 
 -- ---- of all objects
 
-names_later : (os : List NamedObject) → AreNamesDistinct os
+pub names_later : (os : List NamedObject) → AreNamesDistinct os
     → EachLater (λ (a b : NamedObject). bytes_eq a.name b.name ≡ false) os
 names_later [] h = tt
 names_later (o ∷ os) h = (

@@ -28,7 +28,7 @@ use Rattle.ldlaws.proofs.PieceBytes.{both_of, later_filtered, of_both}
 use Rattle.ldlaws.proofs.Untouched.{same_part}
 
 -- members that a relation of earlier and later ones holds of in neither way are one
-unique : {X : Type 0} (R : X → X → Type 0) (xs : List X) (s t : X) → EachLater R xs → Contains xs s → Contains xs t
+pub unique : {X : Type 0} (R : X → X → Type 0) (xs : List X) (s t : X) → EachLater R xs → Contains xs s → Contains xs t
     → (R s t → ⊥) → (R t s → ⊥) → s ≡ t
 unique R [] s t h c d m n = absurd (none_in_nil s c)
 unique {X} R (x ∷ xs) s t h c d m n =
@@ -48,7 +48,7 @@ own_part (InCommon k) = eq-eqb (k.0) (k.0) refl
 abbrev pub is_one : (object other : List ℕ) → (a b : Part) → Bool
 is_one object other a b = bytes_eq object other && is_same_part a b
 
-turned : (object other : List ℕ) (a b : Part) → is_one object other a b ≡ false → is_one other object b a ≡ false
+pub turned : (object other : List ℕ) (a b : Part) → is_one object other a b ≡ false → is_one other object b a ≡ false
 turned object other a b h = go (is_one other object b a) refl
   where
     go : (t : Bool) → is_one other object b a ≡ t → is_one other object b a ≡ false

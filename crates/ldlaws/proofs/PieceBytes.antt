@@ -77,7 +77,7 @@ sections_placed : (g : Segment) (qs : List PlacedSection) → map section_in (ma
 sections_placed g [] = refl
 sections_placed g (q ∷ qs) = ap (λ l. q ∷ l) (sections_placed g qs)
 
-map_append : {X Y : Type 0} (f : X → Y) (xs ys : List X) → map f (xs ++ ys) ≡ map f xs ++ map f ys
+pub map_append : {X Y : Type 0} (f : X → Y) (xs ys : List X) → map f (xs ++ ys) ≡ map f xs ++ map f ys
 map_append f [] ys = refl
 map_append f (x ∷ xs) ys = ap (λ l. f x ∷ l) (map_append f xs ys)
 

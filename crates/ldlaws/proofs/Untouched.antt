@@ -65,7 +65,6 @@ module _ (l : GoodLink) (good : IsGood l) where
 
   -- what is known of a linked piece
   pub record Known (x : LinkedPiece) : Type 0 where
-    pub text : x.text ≡ text_of l.project x.object
     pub byte : (i : ℕ) → i < x.range.length → byte_at l.project l.layout (x.range.offset + i)
         ≡ part_byte l.project l.layout x.object x.part x.start i
 
@@ -75,7 +74,15 @@ module _ (l : GoodLink) (good : IsGood l) where
       let k = in_flat_map (λ (q : PlacedSection). map (linked_piece l.project gs q) q.pieces) l.layout.sections x c in
       let q : PlacedSection = k.origin in
       let m = in_map (linked_piece l.project gs q) q.pieces x k.gives in
-      subst Known m.gives (record { text = refl; byte = λ i low. piece_byte_in q m.origin i k.among m.among low })
+      subst Known m.gives (record { byte = λ i low. piece_byte_in q m.origin i k.among m.among low })
+
+pub linked_text : (l : GoodLink) (x : LinkedPiece) → Contains (pieces_in l) x → x.text ≡ text_of l.project x.object
+unfolding linked_pieces
+linked_text l x c =
+    let k = in_flat_map (λ (q : PlacedSection). map (linked_piece l.project (segments l.layout.sections) q) q.pieces)
+    l.layout.sections x c in
+    let m = in_map (linked_piece l.project (segments l.layout.sections) k.origin) k.origin.pieces x k.gives in
+    subst (λ (y : LinkedPiece). y.text ≡ text_of l.project y.object) m.gives refl
 
 -- ---- two linked pieces that are the same
 
@@ -113,7 +120,7 @@ same x y e =
 -- ---- fields
 
 -- the number of a site with a field
-number_of : (t : Site) (v : SymbolValue) (f : List ℕ) → field_with t v ≡ Ok f → v ≡ Number (number_or_0 v)
+pub number_of : (t : Site) (v : SymbolValue) (f : List ℕ) → field_with t v ≡ Ok f → v ≡ Number (number_or_0 v)
 number_of t (Number x) f e = refl
 number_of t NotDefined f e = absurd (let none : ⊥ = cc in none)
 number_of t NotInOutput f e = absurd (let none : ⊥ = cc in none)
@@ -181,8 +188,8 @@ same_bytes p r s u i bytes (t ∷ ts) h = go h.0.either (same_bytes p r s u i by
         (outside i t h.0.second k.0 k.2)) ∙ sym right
 
 -- the field of a site of an evaluated relocation has its width
-pub wide : (p : Project) (s : Layout) (o : NamedObject) (x : LinkedSection) (start : ℕ) (r : Relocation) (field : List ℕ)
-    → is_evaluated r.kind ≡ true
+pub wide : (p : Project) (s : Layout) (o : NamedObject) (x : LinkedSection) (start : ℕ) (r : Relocation)
+    (field : List ℕ) → is_evaluated r.kind ≡ true
     → site_field p s (record { object = o; section = x; start = start; relocation = r }) ≡ Ok field → length field
     ≡ width r.kind
 wide p s o x start r field e f =
@@ -283,7 +290,7 @@ by_part p x (InCommon k) = refl
 pub sites_by : (p : Project) (x : LinkedPiece) → sites_in p x ≡ by_object x.start x.part (object_named p x.object)
 sites_by p x = by_part p x x.part
 
-unmoved : (a b : ℕ) → not (a == b) ≡ false → a ≡ b
+pub unmoved : (a b : ℕ) → not (a == b) ≡ false → a ≡ b
 unmoved a b e = go (a == b) refl e
   where
     go : (c : Bool) → (a == b) ≡ c → not c ≡ false → a ≡ b
@@ -315,53 +322,54 @@ none p s start i (InTable k) None e = refl
 none p s start i (InTable k) (Some o) e =
     ap (λ zs. option_map_or (section_byte p s o start i) (find (λ (z : LinkedSection). z.number.0 == k.0) zs) 0) e
 
-module _ (old new : GoodLink) (g : IsGood old) (h : IsGood new) (x : LinkedPiece) (stays : Contains (stayed old new) x)
-  where
-    in_both : Contains (pieces_in new) x × (has_stayed old x ≡ true)
-    unfolding stayed
-    in_both = in_filter (has_stayed old) (pieces_in new) x stays
+module _ (old new : GoodLink) (g : IsGood old) (read : AreRead new.project) (x : LinkedPiece)
+    (stays : Contains (stayed old new) x) where
+  in_both : Contains (pieces_in new) x × (has_stayed old x ≡ true)
+  unfolding stayed
+  in_both = in_filter (has_stayed old) (pieces_in new) x stays
 
-    found : Passes (same_piece x) (pieces_in old)
-    found = in_any (same_piece x) (pieces_in old) in_both.1
+  found : Passes (same_piece x) (pieces_in old)
+  found = in_any (same_piece x) (pieces_in old) in_both.1
 
-    abbrev y : LinkedPiece
-    y = found.member
+  abbrev y : LinkedPiece
+  y = found.member
 
-    alike : SamePiece x y
-    alike = same x y found.passes
+  alike : SamePiece x y
+  alike = same x y found.passes
 
-    text : text_of old.project x.object ≡ text_of new.project x.object
-    text = ap (text_of old.project) alike.object ∙ sym (known old g y found.among).text ∙ sym alike.text
-        ∙ (known new h x in_both.0).text
+  text : text_of old.project x.object ≡ text_of new.project x.object
+  text = ap (text_of old.project) alike.object ∙ sym (linked_text old y found.among) ∙ sym alike.text
+      ∙ linked_text new x in_both.0
 
-    objects : (object_named old.project x.object ≡ object_named new.project x.object)
-        ⊎ (IsBare (object_named old.project x.object) × IsBare (object_named new.project x.object))
-    objects = same_object old.project new.project x.object g.read h.read text
+  objects : (object_named old.project x.object ≡ object_named new.project x.object)
+      ⊎ (IsBare (object_named old.project x.object) × IsBare (object_named new.project x.object))
+  objects = same_object old.project new.project x.object g.read read text
 
-    -- the sites of the old piece
-    old_sites : sites_in old.project y ≡ by_object x.start x.part (object_named old.project x.object)
-    old_sites =
-        sites_by old.project y ∙ ap (λ n. by_object n y.part (object_named old.project y.object)) (sym alike.start)
-        ∙ ap (λ part. by_object x.start part (object_named old.project y.object)) (sym alike.part)
-        ∙ ap (λ name. by_object x.start x.part (object_named old.project name)) (sym alike.object)
+  -- the sites of the old piece
+  old_sites : sites_in old.project y ≡ by_object x.start x.part (object_named old.project x.object)
+  old_sites =
+      sites_by old.project y ∙ ap (λ n. by_object n y.part (object_named old.project y.object)) (sym alike.start)
+      ∙ ap (λ part. by_object x.start part (object_named old.project y.object)) (sym alike.part)
+      ∙ ap (λ name. by_object x.start x.part (object_named old.project name)) (sym alike.object)
 
-    same_sites : sites_in old.project y ≡ sites_in new.project x
-    same_sites = old_sites ∙ go objects ∙ sym (sites_by new.project x)
-      where
-        go : (object_named old.project x.object ≡ object_named new.project x.object)
-            ⊎ (IsBare (object_named old.project x.object) × IsBare (object_named new.project x.object))
-            → by_object x.start x.part (object_named old.project x.object)
-            ≡ by_object x.start x.part (object_named new.project x.object)
-        go (inl e) = ap (by_object x.start x.part) e
-        go (inr k) = no_sites x.start x.part (object_named old.project x.object) k.0
-            ∙ sym (no_sites x.start x.part (object_named new.project x.object) k.1)
+  same_sites : sites_in old.project y ≡ sites_in new.project x
+  same_sites = old_sites ∙ go objects ∙ sym (sites_by new.project x)
+    where
+      go : (object_named old.project x.object ≡ object_named new.project x.object)
+          ⊎ (IsBare (object_named old.project x.object) × IsBare (object_named new.project x.object))
+          → by_object x.start x.part (object_named old.project x.object)
+          ≡ by_object x.start x.part (object_named new.project x.object)
+      go (inl e) = ap (by_object x.start x.part) e
+      go (inr k) = no_sites x.start x.part (object_named old.project x.object) k.0
+          ∙ sym (no_sites x.start x.part (object_named new.project x.object) k.1)
 
-    -- a site of it has a field in both links
-    in_old : (t : Site) → Contains (sites_in new.project x) t → HasField old t
-    in_old t c = member_of (HasField old) (sites_in old.project y) t (g.fields y found.among)
-        (subst (λ ts. Contains ts t) (sym same_sites) c)
+  -- a site of it has a field in both links
+  pub in_old : (t : Site) → Contains (sites_in new.project x) t → HasField old t
+  in_old t c = member_of (HasField old) (sites_in old.project y) t (g.fields y found.among)
+      (subst (λ ts. Contains ts t) (sym same_sites) c)
 
-    in_new : (t : Site) → Contains (sites_in new.project x) t → HasField new t
+  module _ (h : IsGood new) where
+    pub in_new : (t : Site) → Contains (sites_in new.project x) t → HasField new t
     in_new t c = member_of (HasField new) (sites_in new.project x) t (h.fields x in_both.0) c
 
     is_retargeted : (t : Site) → Contains (sites_in new.project x) t → is_moved old new t ≡ true
@@ -456,15 +464,21 @@ module _ (old new : GoodLink) (g : IsGood old) (h : IsGood new) (x : LinkedPiece
               none old.project old.layout x.start i x.part (object_named old.project x.object) k.0
               ∙ sym (none new.project new.layout x.start i x.part (object_named new.project x.object) k.1)
 
-      pub untouched : i < x.range.length → byte_at old.project old.layout (x.range.offset + i)
+      untouched_byte : i < x.range.length → byte_at old.project old.layout (x.range.offset + i)
           ≡ byte_at new.project new.layout (x.range.offset + i)
-      untouched low =
+      untouched_byte low =
           ap (λ n. byte_at old.project old.layout (n + i)) alike.offset
           ∙ (known old g y found.among).byte i (subst (λ n. i < n) alike.length low)
           ∙ ap (λ n. part_byte old.project old.layout y.object y.part n i) (sym alike.start)
           ∙ ap (λ part. part_byte old.project old.layout y.object part x.start i) (sym alike.part)
           ∙ ap (λ name. part_byte old.project old.layout name x.part x.start i) (sym alike.object)
           ∙ parts_same ∙ sym ((known new h x in_both.0).byte i low)
+
+pub untouched : (old new : GoodLink) → IsGood old → IsGood new → (x : LinkedPiece) → Contains (stayed old new) x
+    → (i : ℕ) → ((t : Site) → Contains (retargeted old new) t → Contains (sites_in new.project x) t → IsOutside i t)
+    → i < x.range.length
+    → byte_at old.project old.layout (x.range.offset + i) ≡ byte_at new.project new.layout (x.range.offset + i)
+untouched old new g h x stays i clear = untouched_byte old new g h.read x stays h i clear
 
 -- ---- retargeted sites
 
@@ -487,8 +501,8 @@ unfolding retargeted site_field
 other_target old new g h t a c e same_number =
     let both = in_filter (is_moved old new) (flat_map (sites_in new.project) (stayed old new)) t c in
     let k = in_flat_map (sites_in new.project) (stayed old new) t both.0 in
-    let first : HasField old t = in_old old new g h k.origin k.among t k.gives in
-    let second : HasField new t = in_new old new g h k.origin k.among t k.gives in
+    let first : HasField old t = in_old old new g h.read k.origin k.among t k.gives in
+    let second : HasField new t = in_new old new g h.read k.origin k.among h t k.gives in
     let left : site_value old.project old.layout t ≡ referenced_value old.project old.layout t.object a =
     value_by old.project old.layout t a e in
     let right : site_value new.project new.layout t ≡ referenced_value new.project new.layout t.object a =

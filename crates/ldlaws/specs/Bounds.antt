@@ -31,3 +31,9 @@ pub record IsSmallScope (s : Scope) : Type 0 where
   pub symbols : (name : List ℕ) (x : ℕ) → s.symbol name ≡ Some x → x < 2 ^ 64
   pub sections : (name : List ℕ) (q : SectionNumbers) → s.section name ≡ Some q → AreSmallSectionNumbers q
   pub regions : (name : List ℕ) (r : RegionNumbers) → s.region name ≡ Some r → AreSmallRegionNumbers r
+
+-- what two scopes agree on: output sections and regions have the same numbers, and so do symbols that both have
+pub record DoAgree (s t : Scope) : Type 0 where
+  pub symbols : (name : List ℕ) (x y : ℕ) → s.symbol name ≡ Some x → t.symbol name ≡ Some y → x ≡ y
+  pub sections : (name : List ℕ) → s.section name ≡ t.section name
+  pub regions : (name : List ℕ) → s.region name ≡ t.region name

@@ -4,6 +4,7 @@ pub mod Renumbering
 pub mod Examples
 pub mod ExampleProjects
 pub mod Bounds
+pub mod Alike
 pub mod Spread
 pub mod FileOrder
 pub mod Outcomes
@@ -11,3 +12,4 @@ pub mod LayoutExamples
 pub mod ImageBytes
 pub mod Untouched
 pub mod PlacedOnce
+pub mod StayedSites

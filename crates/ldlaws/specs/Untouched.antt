@@ -6,7 +6,7 @@ use Rattle.ldmodel.specs.Edits.{AreNamesDistinct}
 use Rattle.ldmodel.specs.FileLayout.{Each}
 use Rattle.ldmodel.specs.Link.{layout}
 use Rattle.ldmodel.specs.Project.{NamedObject, Project}
-use Rattle.ldmodel.specs.Relocations.{Site, relocation_faults, site_field}
+use Rattle.ldmodel.specs.Relocations.{Site, relocation_faults, site_field, site_value}
 use Rattle.ldmodel.specs.Stayed.{GoodLink, LinkedPiece, pieces_in, sites_in}
 use Rattle.ldlaws.specs.ImageBytes.{AreNamed}
 use Rattle.ldlaws.specs.PlacedOnce.{AreNumbered}
@@ -19,6 +19,10 @@ HasField l t = (field : List ℕ) × (site_field l.project l.layout t ≡ Ok fie
 -- objects are what their bytes spell
 abbrev pub AreRead : Project → Type 0
 AreRead p = Each (λ (o : NamedObject). o.object ≡ object_of o.object.text) p.objects
+
+-- a site's symbol has one value in both links
+abbrev pub HasSameValue : GoodLink → GoodLink → Site → Type 0
+HasSameValue old new t = site_value old.project old.layout t ≡ site_value new.project new.layout t
 
 -- nothing meets in an output section; output sections have different names; objects are what their bytes spell; each
 -- site of an input section in the output has its field

@@ -1,16 +1,20 @@
 //! Laws of layout: a placement by equations between neighbours.
 
-ghost use Rattle.std.specs.Prelude.{◌≡◌, ◌↔◌, ℕ, List, [], ◌∷◌, ◌++◌, length, Ok, Err, map};
+ghost use Rattle.std.specs.Prelude.{◌≡◌, ◌↔◌, ◌≤◌, ℕ, List, [], ◌∷◌, ◌++◌, length, Ok, Err, map};
+ghost use Rattle.ldscript.specs.Script.{IsSound};
+ghost use Rattle.ldtree.specs.Numbering.{common_commands};
 ghost use Rattle.ldtree.specs.declared.section.BodyStatement.{BodyStatement};
 ghost use Rattle.ldtree.specs.declared.statement.Item.{Item};
 ghost use Rattle.ldtree.specs.declared.statement.Statement.{Statement};
 ghost use Rattle.ldmodel.specs.Body.{Body, body_step};
 ghost use Rattle.ldmodel.specs.Fault.{Fault};
 ghost use Rattle.ldmodel.specs.FileLayout.{Each};
-ghost use Rattle.ldmodel.specs.Layout.{Layout};
+ghost use Rattle.ldmodel.specs.Layout.{Layout, nothing_placed};
 ghost use Rattle.ldmodel.specs.Placement.{item_step, placement};
 ghost use Rattle.ldmodel.specs.Project.{Project};
 ghost use Rattle.ldmodel.specs.Rows.{Piece, rows};
+ghost use Rattle.ldlaws.specs.Alike.{AreAlike, AreSameBefore, BodiesStayAlike, HeadsAgree, IsPartedAt};
+ghost use Rattle.ldlaws.specs.Alike.{ItemsStayAlike, LeadTo, StatementsStayAlike, names_given};
 ghost use Rattle.ldlaws.specs.Placed.{IsFirstFault, IsPlacement};
 ghost use Rattle.ldlaws.specs.Spread.{IsSpread, Notes, dots_in, dots_of, entries_in};
 
@@ -50,4 +54,27 @@ pub fn dots_by_statement()
 pub fn nothing_meets()
     ensures { (script : List Statement) (rows : List (List Piece)) (provided : List (List ℕ)) (s : Layout)
         → placement script rows provided ≡ Ok s → Each IsSpread s.sections }
+{}
+
+/// Two layouts of a script whose rows are the same before a number, and that both come to the same statement of
+/// SECTIONS before an output section of that number, differ in symbols alone, whichever PROVIDEs are in force in each:
+/// `.`, regions, output sections and their input sections are the same, and so are the values of symbols that both have.
+/// A PROVIDE gives its own symbol a value and moves nothing, no name is given a value twice, and what names a symbol
+/// that is not there has a fault.
+pub fn placements_alike()
+    ensures { (script before : List Statement) (items : List Item) (first : ℕ) (old rows : List (List Piece))
+        (earlier provided : List (List ℕ)) (s t : Layout) → IsSound script → IsPartedAt script before items
+        → AreSameBefore first old rows → LeadTo old earlier before items s → LeadTo rows provided before items t
+        → length t.sections ≤ first → AreAlike [] s t }
+{}
+
+/// The same step by step: what leads from layouts, or from bodies of output sections, that differ in symbols alone,
+/// leads to such, and the names to come stay new.
+pub fn steps_stay_alike()
+    ensures begun { (script : List Statement) → IsSound script
+        → AreAlike (names_given (common_commands script)) nothing_placed nothing_placed }
+    ensures statements { StatementsStayAlike }
+    ensures items { ItemsStayAlike }
+    ensures heads { HeadsAgree }
+    ensures bodies { BodiesStayAlike }
 {}

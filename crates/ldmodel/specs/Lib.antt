@@ -43,6 +43,7 @@ pub mod Assertions
 pub mod Link
 pub mod Stayed
 pub mod WorkBound
+pub mod SessionWork
 pub mod Mentioned
 pub mod FaultCode
 pub mod Lent
