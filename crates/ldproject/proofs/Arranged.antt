@@ -5,6 +5,7 @@ use Rattle.std.specs.Prelude.{nat_eq, is_some, unwrap_or, Option, Some, None}
 use Rattle.std.specs.List.{count_by, insert, remove}
 use Rattle.std.proofs.lemmas.Bool.{eqb-true, eq-eqb}
 use Rattle.std.proofs.lemmas.List.{length-map, get_or-map}
+use Rattle.std.proofs.lemmas.List.Edits.{length-remove}
 use Rattle.std.proofs.lemmas.Simd.{map-map}
 use Rattle.slab.specs.Slab.{Slab, get, slab_len, HasRoomFor}
 use Rattle.ldmodel.specs.Edits.{unnamed, place_of, AreNamesDistinct}
@@ -13,14 +14,18 @@ use Rattle.ldproject.specs.Listing.{Entry, Contents, key_count}
 use Rattle.ldproject.specs.Slots.{named_at, entry_at, IsOrdered}
 use Rattle.ldproject.specs.Next.{named_under, next_named, next_entry, next_count, CanStep}
 use Rattle.ldproject.specs.Staging.{IsStaged, SameButRoom}
+use Rattle.ldproject.specs.Touched.{IsArranged}
+use Rattle.ldproject.specs.declared.staged.Places.{Places}
 use Rattle.ldproject.specs.declared.staged.StagedObjects.{StagedObjects}
 use Rattle.ldproject.specs.declared.staged.Step.{Step}
-use Rattle.ldproject.specs.declared.staged.Step.TheVariants.{Put, Remove, Stay}
+use Rattle.ldproject.specs.declared.staged.Step.TheVariants.{Put, Remove, Move, Stay}
 use Rattle.ldproject.proofs.Counts.{one_if, map-same, map-replaced, map-insert, map-remove, count_by-insert}
 use Rattle.ldproject.proofs.Counts.{count_by-remove, count_by_at}
 use Rattle.ldproject.proofs.Keys.{key_count-entries, named_under-entries}
 use Rattle.ldproject.proofs.Places.{objects_shown, objects-entries}
 use Rattle.ldproject.proofs.Names.{names-insert, names-remove, names-moved, names-set, name_at_place}
+use Rattle.ldproject.proofs.Placed.{insert-remove}
+use Rattle.ldproject.proofs.Touching.{arranged, arranged_same}
 
 -- what contracts see of a slab and an order
 abbrev pub shown : Slab NamedObject → List ℕ → Contents
@@ -30,8 +35,8 @@ shown slots order = record {
   room = slots.capacity - slab_len slots;
 }
 
-abbrev pub staged : Vec ℕ Global → Step → StagedObjects
-staged order step = record { order = order; step = step }
+abbrev pub staged : Vec ℕ Global → Step → Places → StagedObjects
+staged order step places = record { order = order; step = step; places = places }
 
 -- only the capacity differs
 pub IsOrdered-reserved : (old new : Slab NamedObject) (order : List ℕ) → new ≡ record old { capacity = new.capacity }
@@ -50,16 +55,17 @@ reserved_same old new order e h =
     record { same = refl; room = omega (arith, h) } in
     subst (λ (s : Slab NamedObject). SameButRoom (shown old order) (shown s order)) (sym e) same
 
--- a staged edit from the three facts that each needs
-pub staged_from : (slots : Slab NamedObject) (order : List ℕ) (v : Vec ℕ Global) (step : Step) (next : List ℕ)
-    (objects : List NamedObject)
+-- a staged edit from the facts that each needs
+pub staged_from : (slots : Slab NamedObject) (order : List ℕ) (v : Vec ℕ Global) (step : Step) (places : Places)
+    (next : List ℕ) (objects : List NamedObject)
     → v.items ≡ next
+    → IsArranged (map (entry_at slots) order) (staged v step places)
     → ((k : ℕ) → count_by (nat_eq k) next ≡ next_count (map (entry_at slots) order) step k)
     → map (next_named (map (entry_at slots) order) step) next ≡ objects
     → AreNamesDistinct objects
     → CanStep (shown slots order) step
-    → IsStaged (shown slots order) (staged v step) objects
-staged_from slots order v step next objects e keys made names can =
+    → IsStaged (shown slots order) (staged v step places) objects
+staged_from slots order v step places next objects e arranged keys made names can =
     let entries : List Entry = map (entry_at slots) order in
     let all : map (λ (e : Entry). e.named) (map (next_entry entries step) v.items) ≡ objects =
     map-map (λ (e : Entry). e.named) (next_entry entries step) v.items
@@ -71,6 +77,7 @@ staged_from slots order v step next objects e keys made names can =
         step = can;
       };
       makes = all;
+      arranged = arranged;
     }
 
 -- a key that the slab does not have is not listed
@@ -79,7 +86,7 @@ not_listed : (slots : Slab NamedObject) (order : List ℕ) (k : ℕ) → IsOrder
 not_listed slots order k h none = h.listed k ∙ ap (λ (o : Option NamedObject). cond (is_some o) 1 0) none
 
 -- no key is listed twice
-listed_once : (slots : Slab NamedObject) (order : List ℕ) (k : ℕ) → IsOrdered slots order
+pub listed_once : (slots : Slab NamedObject) (order : List ℕ) (k : ℕ) → IsOrdered slots order
     → count_by (nat_eq k) order ≤ 1
 listed_once slots order k h = at (is_some (get slots k)) (h.listed k)
   where
@@ -97,6 +104,18 @@ listed_at slots order i k h within e =
       count_by_at (nat_eq k) order i 0 within (eq-eqb k (get_or order i 0) (sym e)),
     )
 
+-- a key that is listed once is not listed without its place
+not_left : (order : List ℕ) (i k : ℕ) → i < length order → get_or order i 0 ≡ k → count_by (nat_eq k) order ≡ 1
+    → count_by (nat_eq k) (remove order i) ≡ 0
+not_left order i k within e once =
+    let here : one_if (nat_eq k (get_or order i 0)) ≡ 1 = ap one_if (eq-eqb k (get_or order i 0) (sym e)) in
+    omega (arith, count_by-remove (nat_eq k) order i 0 within)
+
+-- and the order is what is left, with the key put back
+put_back : (order : List ℕ) (i k : ℕ) → i < length order → get_or order i 0 ≡ k → order ≡ insert (remove order i) i k
+put_back order i k within e =
+    sym (ap (insert (remove order i) i) (sym e) ∙ insert-remove order i 0 within)
+
 -- the objects that stay, in the order before
 stays : (slots : Slab NamedObject) (order ks : List ℕ) → ((k : ℕ) → count_by (nat_eq k) ks ≤ count_by (nat_eq k) order)
     → map (named_under (map (entry_at slots) order)) ks ≡ map (named_at slots) ks
@@ -107,10 +126,21 @@ stays slots order ks h =
 pub new_staged : (slots : Slab NamedObject) (order : List ℕ) (at key : ℕ) (o : NamedObject) (v : Vec ℕ Global)
     → IsOrdered slots order → HasRoomFor slots 1 → get slots key ≡ None → key ≡ slots.vacant_key
     → place_of (objects_shown slots order) o.name ≡ None
+    → at ≤ length order
     → v.items ≡ insert order at key
-    → IsStaged (shown slots order) (staged v (Put key o)) (insert (objects_shown slots order) at o)
-new_staged slots order at key o v h room vacant next unused e =
-    staged_from slots order v (Put key o) (insert order at key) (insert objects at o) e
+    → IsStaged (shown slots order) (staged v (Put key o) (record { before = None; after = Some at }))
+    (insert (objects_shown slots order) at o)
+new_staged slots order at key o v h room vacant next unused within e =
+    let places : Places = record { before = None; after = Some at } in
+    staged_from slots order v (Put key o) places (insert order at key) (insert objects at o) e
+    (arranged slots order (staged v (Put key o) places) key order (record {
+      touched = refl;
+      fresh = not_listed slots order key h vacant;
+      within_before = tt;
+      within_after = within;
+      old = refl;
+      new = e;
+    }))
     (λ k. listed k (nat_eq k key) refl (count_by-insert (nat_eq k) order at key) (key_count-entries slots order k))
     made
     (names-insert objects at o (subst AreNamesDistinct (sym (objects-entries slots order)) h.names) unused) (
@@ -168,9 +198,21 @@ pub replaced_staged : (slots : Slab NamedObject) (order : List ℕ) (at key : �
     → IsOrdered slots order → get_or order at 0 ≡ key
     → place_of (objects_shown slots order) o.name ≡ Some at
     → v.items ≡ order
-    → IsStaged (shown slots order) (staged v (Put key o)) (set (objects_shown slots order) at o)
+    → IsStaged (shown slots order) (staged v (Put key o) (record { before = Some at; after = Some at }))
+    (set (objects_shown slots order) at o)
 replaced_staged slots order at key o v h there place e =
-    staged_from slots order v (Put key o) order (set (objects_shown slots order) at o) e
+    let places : Places = record { before = Some at; after = Some at } in
+    let back : order ≡ insert (remove order at) at key = put_back order at key within there in
+    let long : at ≤ length (remove order at) = omega (arith, length-remove order at within, within) in
+    staged_from slots order v (Put key o) places order (set (objects_shown slots order) at o) e
+    (arranged slots order (staged v (Put key o) places) key (remove order at) (record {
+      touched = refl;
+      fresh = not_left order at key within there once;
+      within_before = long;
+      within_after = long;
+      old = back;
+      new = e ∙ back;
+    }))
     (λ k. listed k (nat_eq k key) refl (key_count-entries slots order k))
     made
     (names-set (objects_shown slots order) at o place
@@ -214,12 +256,22 @@ replaced_staged slots order at key o v h there place e =
 
 pub moved_staged : (slots : Slab NamedObject) (order : List ℕ) (from to key : ℕ) (v : Vec ℕ Global)
     → IsOrdered slots order → from < length order → get_or order from 0 ≡ key
+    → to ≤ length (remove order from)
     → v.items ≡ insert (remove order from) to key
-    → IsStaged (shown slots order) (staged v Stay)
+    → IsStaged (shown slots order) (staged v (Move key) (record { before = Some from; after = Some to }))
     (insert (remove (objects_shown slots order) from) to (get_or (objects_shown slots order) from unnamed))
-moved_staged slots order from to key v h within there e =
-    staged_from slots order v Stay (insert (remove order from) to key)
+moved_staged slots order from to key v h within there goes e =
+    let places : Places = record { before = Some from; after = Some to } in
+    staged_from slots order v (Move key) places (insert (remove order from) to key)
     (insert (remove (objects_shown slots order) from) to (get_or (objects_shown slots order) from unnamed)) e
+    (arranged slots order (staged v (Move key) places) key (remove order from) (record {
+      touched = refl;
+      fresh = not_left order from key within there (listed_at slots order from key h within there);
+      within_before = omega (arith, length-remove order from within);
+      within_after = goes;
+      old = put_back order from key within there;
+      new = e;
+    }))
     (λ k. same_count k ∙ sym (key_count-entries slots order k))
     (stays slots order (insert (remove order from) to key) (λ k. omega (arith, same_count k)) ∙ made)
     (subst (λ os. AreNamesDistinct (insert (remove os from) to (get_or os from unnamed)))
@@ -251,9 +303,19 @@ moved_staged slots order from to key v h within there e =
 pub removed_staged : (slots : Slab NamedObject) (order : List ℕ) (at key : ℕ) (v : Vec ℕ Global)
     → IsOrdered slots order → at < length order → get_or order at 0 ≡ key
     → v.items ≡ remove order at
-    → IsStaged (shown slots order) (staged v (Remove key)) (remove (objects_shown slots order) at)
+    → IsStaged (shown slots order) (staged v (Remove key) (record { before = Some at; after = None }))
+    (remove (objects_shown slots order) at)
 removed_staged slots order at key v h within there e =
-    staged_from slots order v (Remove key) (remove order at) (remove (objects_shown slots order) at) e
+    let places : Places = record { before = Some at; after = None } in
+    staged_from slots order v (Remove key) places (remove order at) (remove (objects_shown slots order) at) e
+    (arranged slots order (staged v (Remove key) places) key (remove order at) (record {
+      touched = refl;
+      fresh = not_left order at key within there once;
+      within_before = omega (arith, length-remove order at within);
+      within_after = tt;
+      old = put_back order at key within there;
+      new = e;
+    }))
     (λ k. listed k (nat_eq k key) refl (key_count-entries slots order k))
     (stays slots order (remove order at) (λ k. omega (arith, count_by-remove (nat_eq k) order at 0 within))
     ∙ (map-remove (named_at slots) order at ∙ ap (λ os. remove os at) (sym (objects-entries slots order))))
@@ -277,9 +339,10 @@ removed_staged slots order at key v h within there e =
 
 pub same_staged : (slots : Slab NamedObject) (order : List ℕ) (v : Vec ℕ Global)
     → IsOrdered slots order → v.items ≡ order
-    → IsStaged (shown slots order) (staged v Stay) (objects_shown slots order)
+    → IsStaged (shown slots order) (staged v Stay (record { before = None; after = None })) (objects_shown slots order)
 same_staged slots order v h e =
-    staged_from slots order v Stay order (objects_shown slots order) e
+    staged_from slots order v Stay (record { before = None; after = None }) order (objects_shown slots order) e
+    (arranged_same slots order v e)
     (λ k. sym (key_count-entries slots order k))
     (stays slots order order (λ k. omega arith) ∙ sym (objects-entries slots order))
     (subst AreNamesDistinct (sym (objects-entries slots order)) h.names)

@@ -1,12 +1,13 @@
 -- Objects of a slab in an order of keys, seen as entries.
 use Rattle.std.proofs.Common.{◌≡◌, ℕ, ◌+◌, ◌<◌, List, [], ◌∷◌, map, refl, ap, sym, arith, Bool, true, false, cond}
-use Rattle.std.specs.Prelude.{nat_eq}
+use Rattle.std.specs.Prelude.{nat_eq, Some, unwrap_or}
 use Rattle.std.specs.List.{count_by}
 use Rattle.std.proofs.lemmas.List.Sums.{sum_by-cons}
 use Rattle.std.proofs.lemmas.Bool.{eqb-true}
 use Rattle.slab.specs.Slab.{Slab}
+use Rattle.ldmodel.specs.Edits.{unnamed}
 use Rattle.ldmodel.specs.Project.{NamedObject}
-use Rattle.ldproject.specs.Listing.{Entry, key_count}
+use Rattle.ldproject.specs.Listing.{Entry, found_under, key_count}
 use Rattle.ldproject.specs.Slots.{named_at, entry_at}
 use Rattle.ldproject.specs.Next.{named_under}
 
@@ -38,7 +39,8 @@ named_under-map f (x ∷ xs) k h =
     at_x : (b : Bool) → nat_eq k x ≡ b → count_by (nat_eq k) (x ∷ xs) ≡ cond b 1 0 + count_by (nat_eq k) xs
         → (0 < count_by (nat_eq k) xs
         → named_under (map (λ j. let e : Entry = record { key = j; named = f j } in e) xs) k ≡ f k)
-        → cond b (f x) (named_under (map (λ j. let e : Entry = record { key = j; named = f j } in e) xs) k) ≡ f k
+        → unwrap_or (cond b (Some (f x))
+        (found_under (map (λ j. let e : Entry = record { key = j; named = f j } in e) xs) k)) unnamed ≡ f k
     at_x true same split later = ap f (sym (eqb-true k x same))
     at_x false same split later = later (omega arith)
 

@@ -1,12 +1,14 @@
 -- A staged edit leads where the definition says.
 use Rattle.std.proofs.Common.{◌≡◌, ◌∙◌, ℕ, List, ap, sym, subst, inr}
-use Rattle.std.specs.Prelude.{Option, None, Some, Result, Ok, Err, unwrap_or}
+use Rattle.std.specs.Prelude.{Option, None, Some, IfSome, Result, Ok, Err, unwrap_or}
+use Rattle.std.proofs.lemmas.Option.{none-some}
 use Rattle.ldtree.specs.declared.statement.Statement.{Statement}
 use Rattle.ldmodel.specs.Edits.{Change, SetScript, Accepts, early_refusal, with_objects}
 use Rattle.ldmodel.specs.Project.{NamedObject, Project}
 use Rattle.ldscript.specs.Script.{IsScript}
 use Rattle.ldmodel.specs.EditMeaning.{refusal_of}
 use Rattle.ldproject.specs.Holding.{Holding, Makes, MakesScript, Stages, held, next_listing, project_of}
+use Rattle.ldproject.specs.Next.{touched_key}
 use Rattle.ldproject.specs.Staging.{IsStaged}
 use Rattle.ldmodel.specs.declared.edit.EditRefusal.{EditRefusal}
 use Rattle.ldproject.specs.declared.staged.Staged.{Staged}
@@ -22,18 +24,35 @@ leads h s objects script staged e =
     ∙ ap (λ (m : Option (List Statement)). let p : Project =
     record { objects = objects; script = unwrap_or m h.script; options = h.options } in p) e
 
+-- no script is staged
+none_staged : (P : List Statement → Type 0) (o : Option (List Statement)) → o ≡ None → IfSome o P
+none_staged P None e = tt
+none_staged P (Some x) e = absurd (none-some x (sym e))
+
 -- an edit of the objects alone
 pub stages_objects : (h : Holding) (c : Change) (next : List NamedObject) (r : Result Staged EditRefusal)
     → early_refusal (held h) c ≡ None
     → Accepts (held h) c (with_objects (held h) next) → Makes h next r → Stages h c r
-stages_objects h c next (Ok s) early accepts made =
-    (made.0.fits, (early, subst (Accepts (held h) c) (sym (leads h s next None made.0 made.1)) accepts))
+stages_objects h c next (Ok s) early accepts made = (
+  made.0.fits,
+  (early, subst (Accepts (held h) c) (sym (leads h s next None made.0 made.1)) accepts),
+  made.0.arranged,
+  none_staged (λ _. touched_key s.objects.step ≡ None) s.script made.1,
+)
 stages_objects h c next (Err r) early accepts made = inr (early, ap refusal_of made)
 
 -- an edit of the script
 pub stages_script : (h : Holding) (text : List ℕ) (script : List Statement) (r : Result Staged EditRefusal)
     → early_refusal (held h) (SetScript text) ≡ None
     → IsScript text script → MakesScript h script r → Stages h (SetScript text) r
-stages_script h text script (Ok s) early is made =
-    (made.0.fits, (early, (script, is, leads h s (held h).objects (Some script) made.0 made.1)))
+stages_script h text script (Ok s) early is made = (
+  made.0.fits,
+  (early, (script, is, leads h s (held h).objects (Some script) made.0 made.1)),
+  made.0.arranged,
+  script_staged s.script,
+)
+  where
+    script_staged : (o : Option (List Statement)) → IfSome o (λ _. touched_key s.objects.step ≡ None)
+    script_staged None = tt
+    script_staged (Some x) = made.2
 stages_script h text script (Err r) early is made = inr (early, ap refusal_of made)

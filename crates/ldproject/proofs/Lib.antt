@@ -3,6 +3,11 @@ pub mod Keys
 pub mod Steps
 pub mod Places
 pub mod Names
+pub mod Placed
+pub mod Found
+pub mod Touching
 pub mod Arranged
 pub mod Shown
 pub mod Leading
+pub mod Noting
+pub mod Tabled

@@ -81,7 +81,7 @@ is_some-cond : {X : Type 0} (b : Bool) (x : X) → is_some (cond b (Some x) None
 is_some-cond true x = refl
 is_some-cond false x = refl
 
-in_use_of : {X : Type 0} (p : X → Bool) (xs : List X) → is_some (position p xs) ≡ list_any p xs
+pub in_use_of : {X : Type 0} (p : X → Bool) (xs : List X) → is_some (position p xs) ≡ list_any p xs
 in_use_of p xs = is_some-cond (nat_lt (position_or_len p xs) (length xs)) (position_or_len p xs) ∙ lt_any p xs
 
 -- a name stands somewhere exactly where an object has it

@@ -10,7 +10,7 @@ use Rattle.ldmodel.specs.Project.{NamedObject}
 use Rattle.ldproject.specs.Listing.{Entry, key_count, objects_of}
 use Rattle.ldproject.specs.Next.{put_under, next_named, next_entry, next_count}
 use Rattle.ldproject.specs.declared.staged.Step.{Step}
-use Rattle.ldproject.specs.declared.staged.Step.TheVariants.{Put, Remove, Stay}
+use Rattle.ldproject.specs.declared.staged.Step.TheVariants.{Put, Remove, Move, Stay}
 
 -- the entry at a place of the staged order
 pub next_entry_at : (entries : List Entry) (step : Step) (order : List ℕ) (at key : ℕ) (o : NamedObject)
@@ -35,6 +35,7 @@ listed_before entries (Remove old) key none h = at_key (nat_eq key old) h
     at_key : (b : Bool) → 0 < cond b 0 (key_count entries key) → 0 < key_count entries key
     at_key true h = absurd (omega arith)
     at_key false h = h
+listed_before entries (Move moved) key none h = h
 listed_before entries Stay key none h = h
 
 -- one more of the objects of entries

@@ -13,7 +13,7 @@ use Rattle.ldproject.specs.Next.{named_under, next_named, next_entry, next_entri
 use Rattle.ldproject.specs.Next.{Fits, KeysAreStable}
 use Rattle.ldproject.specs.declared.staged.StagedObjects.{StagedObjects}
 use Rattle.ldproject.specs.declared.staged.Step.{Step}
-use Rattle.ldproject.specs.declared.staged.Step.TheVariants.{Put, Remove, Stay}
+use Rattle.ldproject.specs.declared.staged.Step.TheVariants.{Put, Remove, Move, Stay}
 use Rattle.ldproject.proofs.Counts.{map-same}
 use Rattle.ldproject.proofs.Keys.{key_count-entries, key_count-map, named_under-entries, named_under-map}
 
@@ -33,6 +33,7 @@ next_count-entries slots order (Remove old) k h = at_key (nat_eq k old) (key_cou
         → cond b 0 (key_count (map (entry_at slots) order) k) ≡ cond (is_some (cond b None (get slots k))) 1 0
     at_key true e = refl
     at_key false e = e
+next_count-entries slots order (Move moved) k h = key_count-entries slots order k ∙ h.listed k
 next_count-entries slots order Stay k h = key_count-entries slots order k ∙ h.listed k
 
 -- the object under a key that is listed after the step is that of the slab then
@@ -54,6 +55,9 @@ next_named-entries slots order (Remove old) k h = at_key (nat_eq k old) h (key_c
         → named_under (map (entry_at slots) order) k ≡ unwrap_or (cond b None (get slots k)) unnamed
     at_key true h e = absurd (omega arith)
     at_key false h e = named_under-entries slots order k (omega arith)
+next_named-entries slots order (Move moved) k h =
+    let e = key_count-entries slots order k in
+    named_under-entries slots order k (omega arith)
 next_named-entries slots order Stay k h =
     let e = key_count-entries slots order k in
     named_under-entries slots order k (omega arith)
@@ -124,4 +128,5 @@ Fits-stable c s h k before later =
             can.1 (subst (λ n. 0 < key_count c.entries n) e before) ∙ ap (λ n. (named_under c.entries n).name) (sym e)
         at_key false same = refl
     kept (Remove old) can = refl
+    kept (Move moved) can = refl
     kept Stay can = refl

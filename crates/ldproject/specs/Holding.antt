@@ -1,16 +1,17 @@
 -- What a project is kept as, and what a staged edit makes of it.
-use Rattle.std.specs.Prelude.{◌≡◌, ◌⊎◌, List, Some, None, Result, Ok, Err, unwrap_or}
+use Rattle.std.specs.Prelude.{◌≡◌, ◌⊎◌, List, Some, None, Result, Ok, Err, unwrap_or, IfSome}
 use Rattle.ldtree.specs.declared.statement.Statement.{Statement}
 use Rattle.ldmodel.specs.Counts.{Counts}
-use Rattle.ldmodel.specs.Edits.{Change, After, RefusedAs}
+use Rattle.ldmodel.specs.Edits.{Change, Add, Replace, Move, Remove, SetScript, After, RefusedAs}
 use Rattle.ldmodel.specs.Options.{LinkOptions}
 use Rattle.ldmodel.specs.Project.{Project, NamedObject}
 use Rattle.ldmodel.specs.Raised.{raised}
 use Rattle.ldmodel.specs.declared.meter.Count.TheVariants.{Objects}
 use Rattle.ldmodel.specs.EditMeaning.{refusal_of}
 use Rattle.ldproject.specs.Listing.{Entry, Contents, objects_of}
-use Rattle.ldproject.specs.Next.{Fits, next_entries}
-use Rattle.ldproject.specs.Staging.{IsStaged, SameButRoom}
+use Rattle.ldproject.specs.Next.{Fits, next_entries, touched_key}
+use Rattle.ldproject.specs.Staging.{IsStaged, IsTouching, SameButRoom, TouchesNamed}
+use Rattle.ldproject.specs.Touched.{IsArranged}
 use Rattle.ldmodel.specs.declared.edit.EditRefusal.{EditRefusal}
 use Rattle.ldmodel.specs.declared.edit.EditRefusal.TheVariants.{NoMemory}
 use Rattle.ldproject.specs.declared.staged.Staged.{Staged}
@@ -57,14 +58,36 @@ Makes h next (Err r) = r ≡ NoMemory
 
 -- the same of another script
 abbrev pub MakesScript : Holding → List Statement → Result Staged EditRefusal → Type 0
-MakesScript h next (Ok s) = IsStaged h.contents s.objects (held h).objects × (s.script ≡ Some next)
+MakesScript h next (Ok s) =
+    IsStaged h.contents s.objects (held h).objects × (s.script ≡ Some next) × (touched_key s.objects.step ≡ None)
 MakesScript h next (Err r) = r ≡ NoMemory
 
--- the edit is staged, and leads where the definition says; or it is refused
+-- a staged script touches no object
+abbrev pub TouchesOne : Staged → Type 0
+TouchesOne s = IfSome s.script (λ _. touched_key s.objects.step ≡ None)
+
+-- the edit is staged, leads where the definition says, and says what it touches; or it is refused
 abbrev pub Stages : Holding → Change → Result Staged EditRefusal → Type 0
-Stages h change (Ok s) = Fits h.contents s.objects × After (held h) change (Ok (project_of (next_listing h s)))
+Stages h change (Ok s) =
+    Fits h.contents s.objects × After (held h) change (Ok (project_of (next_listing h s)))
+    × IsArranged h.contents.entries s.objects × TouchesOne s
 Stages h change (Err r) = RefusedAs (held h) change (refusal_of r)
 
 -- at most one object is read
 abbrev pub ReadsAtMostOne : Counts → Counts → Type 0
 ReadsAtMostOne before after = (after ≡ before) ⊎ (after ≡ raised before Objects 1)
+
+-- at most one object is read, and none but for an edit that brings one
+abbrev pub ReadsFor : Change → Counts → Counts → Type 0
+ReadsFor (Add name at bytes) before after = ReadsAtMostOne before after
+ReadsFor (Replace name bytes) before after = ReadsAtMostOne before after
+ReadsFor _ before after = after ≡ before
+
+-- the edit touches the object of its name, which stands where the name does before the edit; a new one stands nowhere
+-- before, and then at its place. A script touches none
+abbrev pub StandsAsNamed : Change → Contents → Staged → Type 0
+StandsAsNamed (Add name at bytes) c s = IsTouching None s.objects × (s.objects.places.after ≡ Some at)
+StandsAsNamed (Replace name bytes) c s = TouchesNamed (objects_of c.entries) name s.objects
+StandsAsNamed (Move name to) c s = TouchesNamed (objects_of c.entries) name s.objects
+StandsAsNamed (Remove name) c s = TouchesNamed (objects_of c.entries) name s.objects
+StandsAsNamed (SetScript text) c s = touched_key s.objects.step ≡ None

@@ -2,7 +2,11 @@ pub mod Refused
 pub mod Listing
 pub mod Slots
 pub mod Next
+pub mod Touched
 pub mod Staging
 pub mod Holding
 pub mod Inputs
 pub mod ByPlace
+pub mod Read
+pub mod Order
+pub mod Tables

@@ -1,5 +1,5 @@
 -- Objects in their order under stable keys.
-use Rattle.std.specs.Prelude.{ℕ, List, map, count_by, nat_eq}
+use Rattle.std.specs.Prelude.{ℕ, ◌≤◌, List, [], ◌∷◌, map, count_by, nat_eq, if◌then◌else◌, Option, Some, None}
 use Rattle.ldmodel.specs.Project.{NamedObject}
 
 -- an object and the key that it keeps while the project has it
@@ -9,6 +9,19 @@ pub record Entry : Type 0 where
 
 abbrev pub objects_of : List Entry → List NamedObject
 objects_of entries = map (λ (e : Entry). e.named) entries
+
+-- their keys, in the same order
+abbrev pub keys_of : List Entry → List ℕ
+keys_of entries = map (λ (e : Entry). e.key) entries
+
+-- no key stands twice
+abbrev pub AreKeysDistinct : List ℕ → Type 0
+AreKeysDistinct keys = (key : ℕ) → count_by (nat_eq key) keys ≤ 1
+
+-- the object under a key, where there is one
+abbrev pub found_under : List Entry → ℕ → Option NamedObject
+found_under [] key = None
+found_under (e ∷ es) key = if nat_eq key e.key then Some e.named else found_under es key
 
 -- how often a key is listed
 abbrev pub key_count : List Entry → ℕ → ℕ

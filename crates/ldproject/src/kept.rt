@@ -1,9 +1,10 @@
 //! The objects of a project under stable keys, in their order.
 
-ghost use Rattle.std.specs.Prelude.{◌≡◌, ◌==◌, ◌<◌, [], ℕ, IfOk, length, is_some, true};
+ghost use Rattle.std.specs.Prelude.{◌≡◌, ◌==◌, ◌<◌, [], ℕ, IfOk, length, is_some, slice_get, true};
+ghost use Rattle.std.specs.Option.{option_copied};
 ghost use Rattle.ldmodel.specs.Edits.{AreNamesDistinct, place_of, is_in_use};
 ghost use Rattle.ldproject.specs.Inputs.{shown_inputs};
-ghost use Rattle.ldproject.specs.Listing.{objects_of, key_count};
+ghost use Rattle.ldproject.specs.Listing.{AreKeysDistinct, found_under, key_count, keys_of, objects_of};
 ghost use Rattle.ldproject.specs.Next.{Fits, next_entries, CanChange, next_slot, named_under, KeysAreStable};
 ghost use Rattle.slab.specs.Slab.{get};
 
@@ -58,7 +59,7 @@ fn change(objects: &mut Slab<NamedObject>, step: Step)
         Step::Remove { key } => {
             objects.remove(key);
         }
-        Step::Stay => {}
+        Step::Move { .. } | Step::Stay => {}
     }
 }
 
@@ -109,6 +110,33 @@ impl Kept {
         &self.objects[key]
     }
 
+    /// The object under a key, if there is one.
+    pub fn found(&self, key: usize) -> Option<&NamedObject>
+        ensures { option_copied result ≡ found_under self.now.entries key }
+    {
+        self.objects.get(key)
+    }
+
+    /// The object at a place, from 0.
+    pub fn named_at(&self, place: usize) -> Option<&NamedObject>
+        ensures { option_copied result ≡ slice_get (objects_of self.now.entries) place }
+    {
+        if place < self.order.len() {
+            Some(&self.objects[self.order[place]])
+        } else {
+            None
+        }
+    }
+
+    /// The keys of all objects, in their order.
+    pub fn keys(&self) -> &[usize]
+        ensures value { result.now ≡ keys_of self.now.entries }
+        ensures distinct { AreKeysDistinct result.now }
+    {
+        let _objects = &self.objects;
+        &self.order
+    }
+
     /// No two objects have one name.
     pub(crate) fn names_differ(&self)
         ensures { AreNamesDistinct (objects_of self.now.entries) }
@@ -133,7 +161,11 @@ impl Kept {
         ensures next { self.new.entries ≡ next_entries self.old.entries staged }
         ensures stable { KeysAreStable self.old.entries self.new.entries }
     {
-        let StagedObjects { order, step } = staged;
+        let StagedObjects {
+            order,
+            step,
+            places: _,
+        } = staged;
         change(&mut self.objects, step);
         self.order = order;
     }

@@ -4,7 +4,9 @@
 pub mod edit;
 pub mod input;
 pub mod kept;
+pub mod law;
 pub mod named;
+pub mod order;
 pub mod project;
 pub mod staged;
 pub mod view;

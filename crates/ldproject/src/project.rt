@@ -1,16 +1,17 @@
 //! A project, changed by edits in two parts.
 
-ghost use Rattle.std.specs.Prelude.{◌≡◌, ◌==◌, ◌<◌, length, Some, Ok, IfErr, IfOk, OnErr, OnOk, slice_get};
+ghost use Rattle.std.specs.Prelude.{◌≡◌, ◌==◌, ◌<◌, ℕ, length, Some, Ok, IfErr, IfOk, OnErr, OnOk, slice_get};
 ghost use Rattle.ldmodel.specs.EditMeaning.{change_of, refusal_of};
 ghost use Rattle.ldmodel.specs.Edits.{After, RefusedAs};
 ghost use Rattle.ldmodel.specs.Project.{empty_project};
 ghost use Rattle.ldproject.specs.Holding.{held, listing_of, next_listing};
 ghost use Rattle.ldproject.specs.Inputs.{shown_inputs};
-ghost use Rattle.ldproject.specs.Listing.{objects_of};
-ghost use Rattle.ldproject.specs.Next.{Fits, KeysAreStable};
+ghost use Rattle.ldproject.specs.Listing.{found_under, objects_of};
+ghost use Rattle.ldproject.specs.Next.{Fits, KeysAreStable, next_found};
 
 mod early;
 mod lending;
+mod looking;
 mod staging;
 
 use crate::input::Input;
@@ -64,7 +65,9 @@ impl Project {
     /// The next project, as a staged edit makes it.
     pub fn next<'a>(&'a self, staged: &'a Staged) -> Next<'a>
         requires { Fits self.now.contents staged.now.objects }
-        ensures { result ≡ next_listing self.now staged.now }
+        ensures next { result ≡ next_listing self.now staged.now }
+        ensures found { (key : ℕ) → found_under result.entries key
+            ≡ next_found self.now.contents.entries staged.now.objects.step key }
     {
         Next {
             project: self,
@@ -77,6 +80,8 @@ impl Project {
         requires { Fits self.old.contents staged.objects }
         ensures next { listing_of self.new ≡ next_listing self.old staged }
         ensures stable { KeysAreStable self.old.contents.entries self.new.contents.entries }
+        ensures found { (key : ℕ) → found_under self.new.contents.entries key
+            ≡ next_found self.old.contents.entries staged.objects.step key }
     {
         let Staged { objects, script } = staged;
         self.kept.commit(objects);

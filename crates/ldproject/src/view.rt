@@ -7,6 +7,7 @@ ghost use Rattle.ldmodel.specs.NameFaults.{object_name};
 ghost use Rattle.ldmodel.specs.Names.{entry_symbol};
 ghost use Rattle.ldmodel.specs.Project.{NamedObject};
 ghost use Rattle.ldproject.specs.Inputs.{shown_inputs};
+ghost use Rattle.ldproject.specs.Read.{AreObjectsRead};
 
 use crate::input::Input;
 use elfobj::object::Object;
@@ -67,6 +68,15 @@ impl<'a> ProjectView<'a> {
         ensures distinct { AreNamesDistinct self.now.objects }
     {
         self.inputs
+    }
+
+    /// Each object is what its bytes spell, since it was read.
+    pub fn objects_are_read(&self)
+        ensures { AreObjectsRead self.now.objects }
+    {
+        for input in self.inputs {
+            let _bytes = input.object.data();
+        }
     }
 
     /// The script.

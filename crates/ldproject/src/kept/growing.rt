@@ -4,11 +4,12 @@ ghost use Rattle.std.specs.Prelude.{◌≡◌, ◌<◌, ◌≤◌, None, Some, I
 ghost use Rattle.std.specs.Prelude.{slice_index_or, length};
 ghost use Rattle.ldmodel.specs.Edits.{place_of, unnamed};
 ghost use Rattle.ldproject.specs.Listing.{objects_of};
-ghost use Rattle.ldproject.specs.Staging.{IsStaged, SameButRoom};
+ghost use Rattle.ldproject.specs.Next.{touched_key};
+ghost use Rattle.ldproject.specs.Staging.{IsStaged, IsTouching, SameButRoom};
 
 use crate::kept::Kept;
 use crate::named::NamedObject;
-use crate::staged::{StagedObjects, Step};
+use crate::staged::{Places, StagedObjects, Step};
 use elfobj::object::Object;
 use ldmodel::memory::NoMemory;
 use std::alloc::Global;
@@ -66,6 +67,8 @@ impl Kept {
         ensures staged { IfOk result (λ s.
             IsStaged self.new s (insert (objects_of self.old.entries) at
             (record { name = name.now; object = object }))) }
+        ensures touching { IfOk result (IsTouching None) }
+        ensures after { IfOk result (λ s. s.places.after ≡ Some at) }
     {
         let named = NamedObject::new(self.alloc, name, object)?;
         self.objects.reserve(1)?;
@@ -74,6 +77,10 @@ impl Kept {
         Ok(StagedObjects {
             order,
             step: Step::Put { key, named },
+            places: Places {
+                before: None,
+                after: Some(at),
+            },
         })
     }
 
@@ -85,9 +92,10 @@ impl Kept {
         object: Object,
     ) -> Result<StagedObjects, NoMemory>
         requires { place_of (objects_of self.now.entries) name.now ≡ Some at }
-        ensures { IfOk result (λ s.
+        ensures staged { IfOk result (λ s.
             IsStaged self.now s (slice_set (objects_of self.now.entries) at
             (record { name = name.now; object = object }))) }
+        ensures touching { IfOk result (IsTouching (Some at)) }
     {
         let named = NamedObject::new(self.alloc, name, object)?;
         let order = Vec::from_slice(self.alloc, &self.order)?;
@@ -95,6 +103,10 @@ impl Kept {
         Ok(StagedObjects {
             order,
             step: Step::Put { key, named },
+            places: Places {
+                before: Some(at),
+                after: Some(at),
+            },
         })
     }
 
@@ -102,38 +114,54 @@ impl Kept {
     pub(crate) fn grow_move(&self, from: usize, to: usize) -> Result<StagedObjects, NoMemory>
         requires from { from < length self.now.entries }
         requires to { to ≤ length (remove (objects_of self.now.entries) from) }
-        ensures { let objects = objects_of self.now.entries in
+        ensures staged { let objects = objects_of self.now.entries in
             IfOk result (λ s. IsStaged self.now s
             (insert (remove objects from) to (slice_index_or objects from unnamed))) }
+        ensures touching { IfOk result (IsTouching (Some from)) }
     {
         let order = with_key_moved(self.alloc, &self.order, from, to)?;
+        let key = self.order[from];
         Ok(StagedObjects {
             order,
-            step: Step::Stay,
+            step: Step::Move { key },
+            places: Places {
+                before: Some(from),
+                after: Some(to),
+            },
         })
     }
 
     /// What a removal needs: an order without the key.
     pub(crate) fn grow_remove(&self, at: usize) -> Result<StagedObjects, NoMemory>
         requires { at < length self.now.entries }
-        ensures { IfOk result (λ s. IsStaged self.now s (remove (objects_of self.now.entries) at)) }
+        ensures staged { IfOk result (λ s. IsStaged self.now s (remove (objects_of self.now.entries) at)) }
+        ensures touching { IfOk result (IsTouching (Some at)) }
     {
         let order = without_key(self.alloc, &self.order, at)?;
         let key = self.order[at];
         Ok(StagedObjects {
             order,
             step: Step::Remove { key },
+            places: Places {
+                before: Some(at),
+                after: None,
+            },
         })
     }
 
     /// What an edit needs that leaves all objects: a copy of the order.
     pub(crate) fn grow_same(&self) -> Result<StagedObjects, NoMemory>
-        ensures { IfOk result (λ s. IsStaged self.now s (objects_of self.now.entries)) }
+        ensures staged { IfOk result (λ s. IsStaged self.now s (objects_of self.now.entries)) }
+        ensures untouched { IfOk result (λ s. touched_key s.step ≡ None) }
     {
         let order = Vec::from_slice(self.alloc, &self.order)?;
         Ok(StagedObjects {
             order,
             step: Step::Stay,
+            places: Places {
+                before: None,
+                after: None,
+            },
         })
     }
 }

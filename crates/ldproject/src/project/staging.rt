@@ -1,11 +1,13 @@
 //! Staging an edit: all growths that it needs, before anything changes.
 
-ghost use Rattle.std.specs.Prelude.{◌≡◌, List, IfOk};
+ghost use Rattle.std.specs.Prelude.{◌≡◌, ℕ, List, IfOk, None, Option};
 ghost use Rattle.ldmodel.specs.EditMeaning.{change_of};
 ghost use Rattle.ldmodel.specs.Edits.{Add, Replace, Move, Remove, SetScript};
 ghost use Rattle.ldmodel.specs.Project.{NamedObject};
-ghost use Rattle.ldproject.specs.Holding.{Holding, Makes, MakesScript, Stages, SameHolding, ReadsAtMostOne};
-ghost use Rattle.ldproject.specs.Staging.{IsStaged};
+ghost use Rattle.ldproject.specs.Holding.{Holding, Makes, MakesScript, ReadsAtMostOne, ReadsFor, SameHolding};
+ghost use Rattle.ldproject.specs.Holding.{Stages, StandsAsNamed};
+ghost use Rattle.ldproject.specs.Next.{touched_key};
+ghost use Rattle.ldproject.specs.Staging.{IsStaged, IsTouching};
 
 use crate::edit::{object_refused, script_refused};
 use crate::project::Project;
@@ -20,6 +22,10 @@ use ldscript::script::Script;
 fn staged(grown: Result<StagedObjects, NoMemory>) -> Result<Staged, EditRefusal>
     ensures ok { (h : Holding) (next : List NamedObject) → IfOk grown (λ s. IsStaged h.contents s next)
         → Makes h next result }
+    ensures touching { (before : Option ℕ) → IfOk grown (IsTouching before)
+        → IfOk result (λ s. IsTouching before s.objects) }
+    ensures after { (after : Option ℕ) → IfOk grown (λ s. s.places.after ≡ after)
+        → IfOk result (λ s. s.objects.places.after ≡ after) }
 {
     match grown {
         Ok(objects) => Ok(Staged {
@@ -40,6 +46,7 @@ impl Project {
     ) -> Result<Staged, EditRefusal>
         ensures same { SameHolding self.old self.new }
         ensures staged { Stages self.new (Add name.now at bytes.items) result }
+        ensures named { IfOk result (StandsAsNamed (Add name.now at bytes.items) self.new.contents) }
         ensures counted { ReadsAtMostOne meter.old meter.new }
     {
         let place = match self.place_to_add(name, at, &bytes) {
@@ -59,6 +66,7 @@ impl Project {
         meter: &mut Meter,
     ) -> Result<Staged, EditRefusal>
         ensures staged { Stages self.now (Replace name.now bytes.items) result }
+        ensures named { IfOk result (StandsAsNamed (Replace name.now bytes.items) self.now.contents) }
         ensures counted { ReadsAtMostOne meter.old meter.new }
     {
         let place = match self.place_to_replace(name, &bytes) {
@@ -72,7 +80,8 @@ impl Project {
     }
 
     fn stage_move(&self, name: &[u8], to: u64) -> Result<Staged, EditRefusal>
-        ensures { Stages self.now (Move name.now to) result }
+        ensures staged { Stages self.now (Move name.now to) result }
+        ensures named { IfOk result (StandsAsNamed (Move name.now to) self.now.contents) }
     {
         match self.place_to_move(name, to) {
             Err(refusal) => Err(refusal),
@@ -81,7 +90,8 @@ impl Project {
     }
 
     fn stage_remove(&self, name: &[u8]) -> Result<Staged, EditRefusal>
-        ensures { Stages self.now (Remove name.now) result }
+        ensures staged { Stages self.now (Remove name.now) result }
+        ensures named { IfOk result (StandsAsNamed (Remove name.now) self.now.contents) }
     {
         match self.place_to_remove(name) {
             Err(refusal) => Err(refusal),
@@ -91,7 +101,8 @@ impl Project {
 
     /// Stages a script, which has been read.
     fn stage_read(&self, script: Script) -> Result<Staged, EditRefusal>
-        ensures { MakesScript self.now script result }
+        ensures made { MakesScript self.now script result }
+        ensures untouched { IfOk result (λ s. touched_key s.objects.step ≡ None) }
     {
         match self.kept.grow_same() {
             Ok(objects) => Ok(Staged {
@@ -103,7 +114,8 @@ impl Project {
     }
 
     fn stage_script(&self, text: &[u8]) -> Result<Staged, EditRefusal>
-        ensures { Stages self.now (SetScript text.now) result }
+        ensures staged { Stages self.now (SetScript text.now) result }
+        ensures named { IfOk result (StandsAsNamed (SetScript text.now) self.now.contents) }
     {
         if let Err(refusal) = self.may_read(text) {
             return Err(refusal);
@@ -124,7 +136,9 @@ impl Project {
     pub fn stage(&mut self, edit: Edit<'_>, meter: &mut Meter) -> Result<Staged, EditRefusal>
         ensures same { SameHolding self.old self.new }
         ensures staged { Stages self.new (change_of edit.entry) result }
+        ensures named { IfOk result (StandsAsNamed (change_of edit.entry) self.new.contents) }
         ensures counted { ReadsAtMostOne meter.old meter.new }
+        ensures reads { ReadsFor (change_of edit.entry) meter.old meter.new }
     {
         match edit {
             Edit::Add { name, at, bytes } => self.stage_add(name, at, bytes, meter),

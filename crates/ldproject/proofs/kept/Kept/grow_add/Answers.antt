@@ -1,12 +1,14 @@
-use Rattle.std.proofs.Common.{◌≡◌, ◌∙◌, ℕ, List, ap, map, subst, sym}
-use Rattle.std.specs.Prelude.{None}
+use Rattle.std.proofs.Common.{◌≡◌, ◌∙◌, ℕ, ◌≤◌, List, ap, length, map, subst, sym}
+use Rattle.std.specs.Prelude.{None, Some}
 use Rattle.std.specs.List.{insert}
+use Rattle.std.proofs.lemmas.List.{length-map}
 use Rattle.slab.specs.Slab.{Slab}
 use Rattle.ldmodel.specs.Edits.{place_of}
 use Rattle.ldmodel.specs.Project.{NamedObject}
 use Rattle.ldproject.specs.Listing.{Contents, Entry}
 use Rattle.ldproject.specs.Slots.{entry_at}
 use Rattle.ldproject.specs.Staging.{IsStaged, SameButRoom}
+use Rattle.ldproject.specs.declared.staged.Places.{Places}
 use Rattle.ldproject.specs.declared.staged.Step.TheVariants.{Put}
 use Rattle.ldproject.proofs.Arranged.{IsOrdered-reserved, reserved_same, new_staged, staged, shown}
 use Rattle.ldproject.proofs.kept.Kept.grow_add.Goals as goal
@@ -49,14 +51,17 @@ returns-clause-staged c =
     ∙ ap (λ (k : Contents). k.entries) c.self.view_is in
     let unused : place_of (map (λ (e : Entry). e.named) (map (entry_at slots) order)) o.name ≡ None =
     ap (λ (es : List Entry). place_of (map (λ (e : Entry). e.named) es) o.name) entries ∙ c.requires.unused in
+    let places : Places = record { before = None; after = Some c.args.at } in
+    let within : c.args.at ≤ length order =
+    rw length-map at (subst (λ (k : Contents). c.args.at ≤ length k.entries) (sym c.self.view_is) c.requires.place) in
     let at_o = new_staged slots order c.args.at c.vacant_key-key.result o c.in_ok-order.order
     (IsOrdered-reserved c.self.inside.objects slots order c.reserve.ensures.rest_kept c.self.invariant)
-    c.in_ok-reserve.ensures.room c.vacant_key-key.ensures.vacant c.vacant_key-key.ensures.value unused
+    c.in_ok-reserve.ensures.room c.vacant_key-key.ensures.vacant c.vacant_key-key.ensures.value unused within
     (c.in_ok-order.ensures ∙ ap (λ ks. insert ks c.args.at c.vacant_key-key.result) c.deref.ensures.value) in
     let next : List NamedObject = insert (map (λ (e : Entry). e.named) c.args.self.now.entries) c.args.at o in
     let moved = subst (λ (es : List Entry).
-    IsStaged (shown slots order) (staged c.in_ok-order.order (Put c.vacant_key-key.result o))
+    IsStaged (shown slots order) (staged c.in_ok-order.order (Put c.vacant_key-key.result o) places)
     (insert (map (λ (e : Entry). e.named) es) c.args.at o)) entries at_o in
     subst (λ (n : NamedObject).
-    IsStaged (shown slots order) (staged c.in_ok-order.order (Put c.vacant_key-key.result n)) next) (sym named)
+    IsStaged (shown slots order) (staged c.in_ok-order.order (Put c.vacant_key-key.result n) places) next) (sym named)
     moved

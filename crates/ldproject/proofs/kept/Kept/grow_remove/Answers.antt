@@ -5,15 +5,18 @@ use Rattle.ldproject.specs.Listing.{Contents, objects_of}
 use Rattle.ldproject.specs.Staging.{IsStaged}
 use Rattle.ldproject.proofs.Arranged.{removed_staged, staged}
 use Rattle.ldproject.specs.declared.staged.Step.TheVariants.{Remove}
+use Rattle.ldproject.specs.declared.staged.Places.{Places}
+use Rattle.std.specs.Prelude.{None, Some}
 use Rattle.ldproject.proofs.kept.Kept.grow_remove.Goals as goal
 
-pub returns : goal.returns
-returns c =
+pub returns-clause-staged : goal.returns-clause-staged
+returns-clause-staged c =
     let within : c.args.at < length c.self.inside.order.items =
     rw length-map at (subst (λ (k : Contents). c.args.at < length k.entries) (sym c.self.view_is) c.requires) in
     let key : get_or c.self.inside.order.items c.args.at 0 ≡ c.index-key.result.now =
     sym (get_or_read c.self.inside.order.items c.args.at c.index-key.result.now within c.index-key.ensures 0) in
-    subst (λ (k : Contents). IsStaged k (staged c.in_ok-order.order (Remove c.index-key.result.now))
+    let places : Places = record { before = Some c.args.at; after = None } in
+    subst (λ (k : Contents). IsStaged k (staged c.in_ok-order.order (Remove c.index-key.result.now) places)
     (remove (objects_of k.entries) c.args.at)) c.self.view_is
     (removed_staged c.self.inside.objects c.self.inside.order.items c.args.at c.index-key.result.now
     c.in_ok-order.order c.self.invariant within key

@@ -1,5 +1,5 @@
 use Rattle.std.proofs.Common.{◌≡◌, ◌∙◌, ℕ, List, ap, sym, subst}
-use Rattle.std.specs.Prelude.{None}
+use Rattle.std.specs.Prelude.{None, Some, Ok, Err, Result, IfOk}
 use Rattle.ldmodel.specs.Edits.{Change, Add, early_refusal, named, with_objects}
 use Rattle.ldmodel.specs.Project.{NamedObject, Project}
 use Rattle.ldproject.specs.Holding.{Holding, held}
@@ -9,6 +9,9 @@ use Rattle.ldproject.proofs.project.Project.stage_add.Goals as goal
 use Rattle.std.specs.List.{insert}
 use Rattle.elfobj.specs.Object.{ObjectData}
 use Rattle.ldproject.specs.Listing.{Contents}
+use Rattle.ldproject.specs.Staging.{IsTouching}
+use Rattle.ldproject.specs.declared.staged.Staged.{Staged}
+use Rattle.ldmodel.specs.declared.edit.EditRefusal.{EditRefusal}
 
 pub returns-in-Ok-read-clause-staged : goal.returns-in-Ok-read-clause-staged
 returns-in-Ok-read-clause-staged c =
@@ -47,3 +50,16 @@ returns-in-Ok-read-clause-staged c =
     ∙ ap (λ (es : List Entry). insert (objects_of es) c.args.at (named c.args.name.now c.args.bytes.items)) same) in
     stages_objects h change next c.staged.result early (c.in-Ok-read.ensures.ok.0, ap (with_objects (held h)) made)
     (c.staged.ensures.ok h next c.grow_add.ensures.staged)
+
+-- a new object is touched, and stands at its place
+new_stands : (r : Result Staged EditRefusal) (at place : ℕ) → place ≡ at → IfOk r (λ s. IsTouching None s.objects)
+    → IfOk r (λ s. s.objects.places.after ≡ Some place)
+    → IfOk r (λ s. IsTouching None s.objects × (s.objects.places.after ≡ Some at))
+new_stands (Ok s) at place e touching after = (touching, after ∙ ap (λ (k : ℕ). Some k) e)
+new_stands (Err r) at place e touching after = touching
+
+pub returns-in-Ok-read-clause-named : goal.returns-in-Ok-read-clause-named
+returns-in-Ok-read-clause-named c =
+    new_stands c.staged.result c.args.at c.in-Ok.place c.in-Ok.ensures.place.0
+    (c.staged.ensures.touching None c.grow_add.ensures.touching)
+    (c.staged.ensures.after (Some c.in-Ok.place) c.grow_add.ensures.after)

@@ -8,8 +8,8 @@ use Rattle.ldproject.proofs.Leading.{stages_objects}
 use Rattle.ldproject.proofs.project.Project.stage_remove.Goals as goal
 use Rattle.std.specs.List.{remove}
 
-pub returns-in-Ok : goal.returns-in-Ok
-returns-in-Ok c =
+pub returns-in-Ok-clause-staged : goal.returns-in-Ok-clause-staged
+returns-in-Ok-clause-staged c =
     let h : Holding = record {
       contents = c.self.inside.kept;
       script = c.self.inside.script;
@@ -23,4 +23,4 @@ returns-in-Ok c =
     ≡ Some c.in-Ok.place) (sym c.self.view_is) c.in-Ok.ensures.place in
     let accepts = ap (λ (m : Option ℕ). with_objects (held h) (removed (held h).objects m)) (sym place) in
     subst (λ (x : Holding). Stages x change c.staged.result) c.self.view_is
-    (stages_objects h change next c.staged.result early accepts (c.staged.ensures.ok h next c.grow_remove.ensures))
+    (stages_objects h change next c.staged.result early accepts (c.staged.ensures.ok h next c.grow_remove.ensures.staged))

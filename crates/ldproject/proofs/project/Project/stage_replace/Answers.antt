@@ -34,4 +34,4 @@ returns-in-Ok-read-clause-staged c =
     (sym place) in
     subst (λ (x : Holding). Stages x change c.staged.result) c.self.view_is
     (stages_objects h change next c.staged.result early (c.in-Ok-read.ensures.ok.0, accepts)
-    (c.staged.ensures.ok h next c.grow_replace.ensures))
+    (c.staged.ensures.ok h next c.grow_replace.ensures.staged))

@@ -1,0 +1,9 @@
+-- Objects that were read.
+use Rattle.std.specs.Prelude.{◌≡◌, List}
+use Rattle.elfobj.specs.Object.{object_of}
+use Rattle.ldmodel.specs.FileLayout.{Each}
+use Rattle.ldmodel.specs.Project.{NamedObject}
+
+-- each is what its bytes spell
+abbrev pub AreObjectsRead : List NamedObject → Type 0
+AreObjectsRead objects = Each (λ (o : NamedObject). o.object ≡ object_of o.object.text) objects
