@@ -1,7 +1,8 @@
 -- Names that are defined twice, a symbol more.
 use Rattle.std.proofs.Common.{◌≡◌, ◌∙◌, ℕ, ◌+◌, ◌<◌, ◌≤◌, zero, suc, Bool, true, false, cond, not, List, [], ◌∷◌, ◌++◌}
 use Rattle.std.proofs.Common.{length, map, filter, get_or, set, refl, ap, sym, subst, arith, ⊎_elim}
-use Rattle.std.proofs.Common.{take, drop, replicate, append-nil, append_assoc, length-append, get_or-set_same, get_or-set_other}
+use Rattle.std.proofs.Common.{take, drop, replicate, append-nil, append_assoc, length-append, get_or-set_same}
+use Rattle.std.proofs.Common.{get_or-set_other}
 use Rattle.std.specs.Prelude.{Option, Some, None, bytes_eq, nat_lt, ◌&&◌, ◌||◌, ◌==◌, unwrap_or, slice_get}
 use Rattle.std.specs.Option.{option_map, option_map_or, option_and_then}
 use Rattle.std.specs.List.{enumerate_from}
@@ -9,7 +10,8 @@ use Rattle.std.specs.Prelude.{flat_map}
 use Rattle.std.proofs.Math.Seq.{take-suc}
 use Rattle.std.proofs.lemmas.List.Concat.{flat_map-append}
 use Rattle.std.proofs.lemmas.Bool.{cases_eq, cases_lt, eq-eqb, ltb-false, true≢false}
-use Rattle.std.proofs.lemmas.List.{map-append, length-map, get_or-map, get_or_past, get_or-replicate, length-replicate, take-append-drop, take_all}
+use Rattle.std.proofs.lemmas.List.{map-append, length-map, get_or-map, get_or_past, get_or-replicate, length-replicate}
+use Rattle.std.proofs.lemmas.List.{take-append-drop, take_all}
 use Rattle.std.proofs.lemmas.List.Elements.{filter-append}
 use Rattle.std.proofs.lemmas.Slice.Eq.{bytes_eq-Decides}
 use Rattle.std.proofs.lemmas.Option.{get_or_from_slice_get, slice_get-get_or}
@@ -27,7 +29,8 @@ use Rattle.ldmodel.specs.Link.{duplicate_fault}
 use Rattle.ldmodel.specs.NameFaults.{ByObject, ByScript, Definer, duplicate, first_definer, first_of}
 use Rattle.ldmodel.specs.NameFaults.{duplicates, is_duplicate, is_first_of, object_name, strong_definitions}
 use Rattle.ldmodel.specs.Names.{Declaration, Decision, Duplicate, Entry, decided, decision, declaration, declarations}
-use Rattle.ldmodel.specs.Names.{all_entries, declarations_in, declarations_of, entries, is_global, is_local, is_of_name, is_placed, is_strong, symbol_tables}
+use Rattle.ldmodel.specs.Names.{all_entries, declarations_in, declarations_of, entries, is_global, is_local}
+use Rattle.ldmodel.specs.Names.{is_of_name, is_placed, is_strong, symbol_tables}
 use Rattle.ldmodel.specs.Project.{NamedObject, Project}
 use Rattle.ldmodel.specs.ScriptNames.{is_assigned, is_provided}
 use Rattle.ldmodel.specs.declared.fault.Definer as code_definer
@@ -115,7 +118,7 @@ same_entry e = ap (λ (b : Bool). b && (e.symbol == e.symbol)) (eq-eqb e.object 
     ∙ eq-eqb e.symbol e.symbol refl
 
 -- a definition that isn't of a name that is defined twice is no fault
-not_duplicate : (p : Project) (ds : List Declaration) (d : Declaration) → Begins p (ds ++ d ∷ [])
+pub not_duplicate : (p : Project) (ds : List Declaration) (d : Declaration) → Begins p (ds ++ d ∷ [])
     → (is_strong d ≡ true → decision p d.name ≡ Duplicate → ⊥) → is_duplicate p d ≡ false
 unfolding decision
 not_duplicate p ds d b h = go (is_strong d) refl
@@ -465,7 +468,7 @@ duplicate_case (Some case.Provided) h = absurd (cc)
 duplicate_case (Some case.Undefined) h = absurd (cc)
 duplicate_case (Some case.Duplicate) h = refl
 
-case_duplicate : (c : Case) → decision_of (λ key. key) c ≡ Duplicate → is_doubled (Some c) ≡ true
+pub case_duplicate : (c : Case) → decision_of (λ key. key) c ≡ Duplicate → is_doubled (Some c) ≡ true
 case_duplicate (case.Strong e) h = absurd (cc)
 case_duplicate case.Script h = absurd (cc)
 case_duplicate (case.Common e size align) h = absurd (cc)

@@ -1,19 +1,24 @@
--- The symbol tables of the first objects of a link.
-use Rattle.std.proofs.Common.{◌≡◌, ◌∙◌, ℕ, ◌+◌, ◌<◌, ◌≤◌, List, [], ◌∷◌, ◌++◌, length, take, get_or, ap, sym}
-use Rattle.std.proofs.Common.{subst}
-use Rattle.std.proofs.Common.{arith, suc, false}
+-- The objects of a link under their places.
+use Rattle.std.proofs.Common.{◌≡◌, ◌∙◌, ℕ, ◌+◌, ◌<◌, ◌≤◌, suc, Bool, true, false, cond, List, [], ◌∷◌, ◌++◌, length}
+use Rattle.std.proofs.Common.{take, map}
+use Rattle.std.proofs.Common.{get_or, refl, ap, sym, subst, arith}
+use Rattle.std.specs.Prelude.{count_by, nat_eq}
+use Rattle.std.specs.List.{enumerate_from}
 use Rattle.std.proofs.Math.Seq.{take-suc}
-use Rattle.std.specs.List.{insert}
-use Rattle.std.specs.Prelude.{◌==◌}
-use Rattle.std.proofs.lemmas.Bool.{ne_eqb}
-use Rattle.std.proofs.lemmas.List.{length-map, length-take-le, get_or-map, get_or-take}
-use Rattle.std.proofs.lemmas.List.Edits.{insert_end}
+use Rattle.std.proofs.lemmas.Bool.{eqb-true, ne_eqb}
+use Rattle.std.proofs.lemmas.List.{get_or-map, length-map, map-append, take_all}
+use Rattle.std.proofs.lemmas.List.Sums.{sum_by-cons}
+use Rattle.std.proofs.lemmas.Simd.{map-map}
 use Rattle.std.proofs.lemmas.List.FromFn.{length-enumerate_from, get_or-enumerate_from}
 use Rattle.elfobj.specs.Symbols.{NamedSymbol}
 use Rattle.ldmodel.specs.Names.{symbol_tables}
 use Rattle.ldmodel.specs.Project.{NamedObject}
 use Rattle.ldproject.specs.Inputs.{shown_input, shown_inputs}
+use Rattle.ldproject.specs.Listing.{AreKeysDistinct}
 use Rattle.ldproject.specs.declared.input.Input.{Input}
+use Rattle.ldnames.specs.Keyed as keyed
+use Rattle.ldnames.specs.Keyed.{AreApart, table_of}
+use Rattle.ldnames.specs.declared.keyed.Keyed.{Keyed}
 use Rattle.ldnaming.specs.Entered.{tables_of}
 
 abbrev pub Table : Type 0
@@ -26,10 +31,6 @@ pub length-tables : (inputs : List Input) → length (tables_of inputs) ≡ leng
 length-tables inputs =
     length-enumerate_from 0 (symbol_tables (shown_inputs inputs))
     ∙ (length-map (shown_inputs inputs) (λ (o : NamedObject). o.object.symbols) ∙ length-map inputs shown_input)
-
-pub length-first : (inputs : List Input) (n : ℕ) → n ≤ length inputs → length (take n (tables_of inputs)) ≡ n
-length-first inputs n h =
-    length-take-le n (tables_of inputs) (subst (λ (m : ℕ). n ≤ m) (sym (length-tables inputs)) h)
 
 -- the table of an object
 pub table_at : (inputs : List Input) (i : ℕ) (x : Input) (d : Table) → i < length inputs → get_or inputs i x ≡ x
@@ -49,35 +50,94 @@ table_at inputs i x d within here =
     ∙ (ap (λ (n : ℕ). let t : Table = (n, get_or (symbol_tables (shown_inputs inputs)) i d.1) in t) from_0
     ∙ ap (λ (ss : List NamedSymbol). let t : Table = (i, ss) in t) symbols)
 
--- one more object is entered
-pub one_more : (inputs : List Input) (i : ℕ) (x : Input) → i < length inputs → get_or inputs i x ≡ x
-    → insert (take i (tables_of inputs)) i (i, symbols_of x) ≡ take (i + 1) (tables_of inputs)
-one_more inputs i x within here =
+-- one more object
+pub one_keyed : (inputs : List Input) (i : ℕ) (x : Input) (old new : List Keyed) (k : Keyed) → i < length inputs
+    → get_or inputs i x ≡ x → new ≡ old ++ k ∷ [] → table_of k ≡ (i, symbols_of x)
+    → keyed.tables_of old ≡ take i (tables_of inputs) → keyed.tables_of new ≡ take (i + 1) (tables_of inputs)
+one_keyed inputs i x old new k within here pushed is h =
     let t : Table = (i, symbols_of x) in
     let tables : List Table = tables_of inputs in
-    let first : length (take i tables) ≡ i = length-first inputs i (omega (arith, within)) in
-    let end : insert (take i tables) i t ≡ take i tables ++ t ∷ [] =
-    ap (λ (n : ℕ). insert (take i tables) n t) (sym first) ∙ insert_end (take i tables) t in
     let more : take (suc i) tables ≡ take i tables ++ get_or tables i t ∷ [] =
     take-suc tables i t (subst (λ (m : ℕ). i < m) (sym (length-tables inputs)) within) in
     let suc_is : suc i ≡ i + 1 = omega arith in
-    end
-    ∙ (ap (λ (y : Table). take i tables ++ y ∷ []) (sym (table_at inputs i x t within here))
-    ∙ (sym more ∙ ap (λ (n : ℕ). take n tables) suc_is))
+    ap keyed.tables_of pushed
+    ∙ (map-append table_of old (k ∷ [])
+    ∙ (ap (λ (ts : List Table). ts ++ table_of k ∷ []) h
+    ∙ (ap (λ (y : Table). take i tables ++ y ∷ []) (is ∙ sym (table_at inputs i x t within here))
+    ∙ (sym more ∙ ap (λ (n : ℕ). take n tables) suc_is))))
 
--- the objects before a place have other keys
-pub fresh_at : (inputs : List Input) (i k : ℕ) (d : Table) → i ≤ length inputs → k < length (take i (tables_of inputs))
-    → ((get_or (take i (tables_of inputs)) k d).0 == i) ≡ false
-fresh_at inputs i k d within h =
-    let tables : List Table = tables_of inputs in
-    let first : length (take i tables) ≡ i = length-first inputs i within in
-    let below : k < i = subst (λ (m : ℕ). k < m) first h in
-    let many : length (symbol_tables (shown_inputs inputs)) ≡ length inputs =
-    length-map (shown_inputs inputs) (λ (o : NamedObject). o.object.symbols) ∙ length-map inputs shown_input in
-    let inside : k < length (symbol_tables (shown_inputs inputs)) = omega (arith, many, below, within) in
-    let from_0 : 0 + k ≡ k = omega arith in
-    let key : (get_or (take i tables) k d).0 ≡ k =
-    ap (λ (t : Table). t.0) (get_or-take i tables k d below
-    ∙ get_or-enumerate_from 0 (symbol_tables (shown_inputs inputs)) k d inside)
-    ∙ from_0 in
-    ap (λ (n : ℕ). n == i) key ∙ ne_eqb k i (λ e. omega (arith, e, below))
+pub all_keyed : (inputs : List Input) (n : ℕ) (xs : List Keyed) → length inputs ≤ n
+    → keyed.tables_of xs ≡ take n (tables_of inputs) → keyed.tables_of xs ≡ tables_of inputs
+all_keyed inputs n xs past h = h ∙ take_all n (tables_of inputs) (omega (arith, length-tables inputs, past))
+
+-- ---- the keys
+
+key_at : (inputs : List Input) (xs : List Keyed) (i : ℕ) (x : Keyed) → keyed.tables_of xs ≡ tables_of inputs
+    → i < length xs → (get_or xs i x).key.0 ≡ i
+key_at inputs xs i x same within =
+    let t : Table = table_of x in
+    let many : length xs ≡ length (symbol_tables (shown_inputs inputs)) =
+    sym (length-map xs table_of) ∙ ap length same
+    ∙ length-enumerate_from 0 (symbol_tables (shown_inputs inputs)) in
+    let from_0 : 0 + i ≡ i = omega arith in
+    sym (ap (λ (u : Table). u.0) (get_or-map table_of xs i x t within))
+    ∙ ap (λ (ts : List Table). (get_or ts i t).0) same
+    ∙ ap (λ (u : Table). u.0)
+    (get_or-enumerate_from 0 (symbol_tables (shown_inputs inputs)) i t (omega (arith, within, many))) ∙ from_0
+
+pub are_apart : (inputs : List Input) (xs : List Keyed) → keyed.tables_of xs ≡ tables_of inputs → AreApart xs
+are_apart inputs xs same i j x below within e =
+    let first = key_at inputs xs i x same (omega (arith, below, within)) in
+    let second = key_at inputs xs j x same within in
+    omega (arith, below, first, second, e)
+
+-- 1 where the test passes
+abbrev one_if : Bool → ℕ
+one_if b = cond b 1 0
+
+abbrev firsts : {X : Type 0} → ℕ → List X → List ℕ
+firsts {X} n xs = map (λ (t : ℕ × X). t.0) (enumerate_from n xs)
+
+none_below : {X : Type 0} (key n : ℕ) (xs : List X) → key < n → count_by (nat_eq key) (firsts n xs) ≡ 0
+none_below key n [] h = refl
+none_below key n (x ∷ xs) h =
+    let split = sum_by-cons (λ (y : ℕ). one_if (nat_eq key y)) n (firsts (n + 1) xs) in
+    let here : one_if (nat_eq key n) ≡ 0 =
+    ap one_if (ne_eqb key n (λ e. omega (arith, h, e))) in
+    omega (arith, split, here, none_below key (n + 1) xs (omega (arith, h)))
+
+at_most_once : {X : Type 0} (key n : ℕ) (xs : List X) → count_by (nat_eq key) (firsts n xs) ≤ 1
+at_most_once key n [] = omega arith
+at_most_once {X} key n (x ∷ xs) =
+    go (nat_eq key n) refl (sum_by-cons (λ (y : ℕ). one_if (nat_eq key y)) n (firsts (n + 1) xs))
+    (at_most_once key (n + 1) xs)
+  where
+    go : (b : Bool) → nat_eq key n ≡ b
+        → count_by (nat_eq key) (n ∷ firsts (n + 1) xs)
+        ≡ one_if (nat_eq key n) + count_by (nat_eq key) (firsts (n + 1) xs)
+        → count_by (nat_eq key) (firsts (n + 1) xs) ≤ 1 → count_by (nat_eq key) (firsts n (x ∷ xs)) ≤ 1
+    go true e split h =
+        let here : one_if (nat_eq key n) ≡ 1 = ap one_if e in
+        omega (arith, split, here, none_below key (n + 1) xs (omega (arith, eqb-true key n e)))
+    go false e split h =
+        let here : one_if (nat_eq key n) ≡ 0 = ap one_if e in
+        omega (arith, split, here, h)
+
+-- the places of objects are distinct keys
+pub places_distinct : (inputs : List Input) (xs : List Keyed) (keys : List ℕ)
+    → keyed.tables_of xs ≡ tables_of inputs → keys ≡ map (λ (x : Keyed). x.key.0) xs → AreKeysDistinct keys
+places_distinct inputs xs keys same is =
+    let all : keys ≡ map (λ (t : Table). t.0) (tables_of inputs) =
+    is ∙ sym (map-map (λ (t : Table). t.0) table_of xs) ∙ ap (map (λ (t : Table). t.0)) same in
+    subst AreKeysDistinct (sym all) (λ key. at_most_once key 0 (symbol_tables (shown_inputs inputs)))
+
+-- the keys of the tables
+pub keys_are : (inputs : List Input) (xs : List Keyed) (keys : List ℕ) → keys ≡ map (λ (x : Keyed). x.key.0) xs
+    → map (λ (t : Table). t.0) (keyed.tables_of xs) ≡ keys
+keys_are inputs xs keys is = map-map (λ (t : Table). t.0) table_of xs ∙ sym is
+
+-- ---- the tables without their numbers
+
+pub seconds : {X : Type 0} (n : ℕ) (xs : List X) → map (λ (t : ℕ × X). t.1) (enumerate_from n xs) ≡ xs
+seconds n [] = refl
+seconds n (x ∷ xs) = ap (λ (l : List _). x ∷ l) (seconds (n + 1) xs)

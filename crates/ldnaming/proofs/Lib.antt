@@ -1,8 +1,7 @@
 pub mod Entering
-pub mod Deciding
-pub mod Noting
-pub mod Finding
+pub mod Placing
 pub mod Providing
 pub mod Sorting
 pub mod Doubling
+pub mod Undoubled
 pub mod EntryFault

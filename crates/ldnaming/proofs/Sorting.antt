@@ -1,34 +1,30 @@
 -- The names of a link in byte order.
-use Rattle.std.proofs.Common.{◌≡◌, ◌∙◌, ℕ, ◌+◌, ◌<◌, zero, suc, Bool, true, false, cond, not, List, [], ◌∷◌, ◌++◌}
-use Rattle.std.proofs.Common.{length, map, filter, get_or, refl, ap, sym, subst, arith, ◌⊎◌, inl, inr, ⊎_elim}
-use Rattle.std.specs.Prelude.{flat_map, Result, Ok, Err, IfOk}
-use Rattle.std.proofs.Common.{Vec, Global}
-use Rattle.std.specs.Prelude.{Option, Some, None, bytes_eq, Contains}
-use Rattle.std.specs.List.{AllZip, AllByRecursion, IsDistinct, enumerate_from}
+use Rattle.std.proofs.Common.{◌≡◌, ◌∙◌, ℕ, ◌<◌, zero, suc, Bool, true, false, List, [], ◌∷◌, length, map, get_or}
+use Rattle.std.proofs.Common.{refl, ap, sym, subst, arith, Vec, Global}
+use Rattle.std.specs.Prelude.{Contains, IfOk, Result, Ok, Err, Option, Some, bytes_eq}
+use Rattle.std.specs.List.{AllByRecursion, IsDistinct}
 use Rattle.std.specs.Cmp.Lexicographic.{slice_cmp, nat_list_cmp_total}
 use Rattle.std.specs.Ordering.{is_lt, is_eq, nat_cmp, ordering_reverse}
 use Rattle.std.specs.declared.cmp.Ordering.{Ordering}
 use Rattle.std.specs.declared.cmp.Ordering.TheVariants.{Less, Equal, Greater}
-use Rattle.std.proofs.lemmas.List.{get_or-map, length-map, map-append}
+use Rattle.std.proofs.lemmas.List.{get_or-map, length-map}
 use Rattle.std.proofs.lemmas.Simd.{map-map}
-use Rattle.std.proofs.lemmas.List.Elements.{Contains-append_cases}
 use Rattle.std.proofs.lemmas.List.MinMax.{ranks_by}
 use Rattle.std.proofs.lemmas.List.Sorted.{sorted_far}
 use Rattle.std.proofs.lemmas.Map.Text.{is_eq-slice_cmp}
 use Rattle.std.proofs.lemmas.Map.Views.{Contains-from_lookup}
 use Rattle.std.proofs.lemmas.Slice.Eq.{bytes_eq-Decides}
-use Rattle.elfobj.specs.Symbols.{NamedSymbol}
-use Rattle.ldmodel.specs.Names.{Declaration, declaration, declarations_in, declarations_of, is_local}
 use Rattle.ldmodel.specs.Names.{names_in_objects, symbol_tables}
 use Rattle.ldmodel.specs.OutputSymbols.{is_before}
-use Rattle.ldmodel.specs.Project.{Project}
-use Rattle.ldmodel.specs.declared.names.NameKey.{NameKey}
+use Rattle.ldmodel.specs.Project.{NamedObject, Project}
 use Rattle.symres.specs.State.{AreDistinct, IsInByteOrder, IsListing, IsNamed, comes_before}
-use Rattle.ldnaming.specs.Decided.{IsKeyOf, all_symbols}
-use Rattle.ldnaming.specs.Naming.{IsNaming, NamingState}
+use Rattle.ldnames.specs.Counted.{declared_names}
+use Rattle.ldnames.specs.Decisions.{DecisionsState}
+use Rattle.ldnaming.specs.Naming.{IsNaming, NamingState, state_of}
 use Rattle.ldnaming.specs.Sorted.{AreSorted, named_number}
 use Rattle.ldnaming.specs.declared.sorted.NamedKey.{NamedKey}
 use Rattle.ldnaming.proofs.Entering.{Table}
+use Rattle.ldnaming.proofs.Placing.{same_tables}
 
 abbrev Listed : Type 0
 Listed = List ℕ × ℕ
@@ -94,80 +90,15 @@ key_listed names xs k name l h =
 
 -- ---- the declared names
 
--- a symbol of this name that isn't local
-abbrev HasNamed : List NamedSymbol → List ℕ → Type 0
-HasNamed [] name = ⊥
-HasNamed (s ∷ ss) name = ((is_local s.symbol.binding ≡ false) × (s.name ≡ name)) ⊎ HasNamed ss name
-
-has_left : (xs ys : List NamedSymbol) (name : List ℕ) → HasNamed xs name → HasNamed (xs ++ ys) name
-has_left [] ys name h = absurd h
-has_left (x ∷ xs) ys name (inl h) = inl h
-has_left (x ∷ xs) ys name (inr h) = inr (has_left xs ys name h)
-
-has_right : (xs ys : List NamedSymbol) (name : List ℕ) → HasNamed ys name → HasNamed (xs ++ ys) name
-has_right [] ys name h = h
-has_right (x ∷ xs) ys name h = inr (has_right xs ys name h)
-
-key_of : (names : List (Option (List ℕ))) (s : NamedSymbol) (o : Option NameKey) (name : List ℕ) → IsKeyOf names s o
-    → is_local s.symbol.binding ≡ false → s.name ≡ name → (k : ℕ) × IsNamed names k name
-key_of names s None name h seen same = absurd (cc)
-key_of names s (Some k) name h seen same = (k.0, subst (λ (n : List ℕ). IsNamed names k.0 n) same h.1)
-
-key_of_named : (names : List (Option (List ℕ))) (symbols : List NamedSymbol) (keys : List (Option NameKey))
-    (name : List ℕ) → AllZip (IsKeyOf names) symbols keys → HasNamed symbols name → (k : ℕ) × IsNamed names k name
-key_of_named names [] keys name zip h = absurd h
-key_of_named names (s ∷ ss) [] name zip h = absurd zip
-key_of_named names (s ∷ ss) (k ∷ ks) name zip (inl h) = key_of names s k name zip.0 h.0 h.1
-key_of_named names (s ∷ ss) (k ∷ ks) name zip (inr h) = key_of_named names ss ks name zip.1 h
-
-contains_cases : (x : List ℕ) (xs : List (List ℕ)) (z : List ℕ) → Contains (x ∷ xs) z → (x ≡ z) ⊎ Contains xs z
-contains_cases x xs z c = go c.0 c.1 c.2
-  where
-    go : (k : ℕ) → k < length (x ∷ xs) → get_or (x ∷ xs) k z ≡ z → (x ≡ z) ⊎ Contains xs z
-    go zero l e = inl e
-    go (suc k) l e = inr (k, omega (arith, l), e)
-
-abbrev name_of : Declaration → List ℕ
-name_of d = d.name
-
-abbrev seen : Declaration → Bool
-seen d = not (is_local d.symbol.binding)
-
-in_table : (o n : ℕ) (symbols : List NamedSymbol) (name : List ℕ)
-    → Contains (map name_of (filter seen (map (declaration o) (enumerate_from n symbols)))) name
-    → HasNamed symbols name
-in_table o n [] name c = absurd (omega (arith, c.1))
-in_table o n (s ∷ ss) name c = go (is_local s.symbol.binding) refl c (in_table o (n + 1) ss name)
-  where
-    rest : List Declaration
-    rest = filter seen (map (declaration o) (enumerate_from (n + 1) ss))
-
-    go : (b : Bool) → is_local s.symbol.binding ≡ b
-        → Contains (map name_of (cond (not b) (declaration o (n, s) ∷ rest) rest)) name
-        → (Contains (map name_of rest) name → HasNamed ss name) → HasNamed (s ∷ ss) name
-    go true e h more = inr (more h)
-    go false e h more =
-        ⊎_elim (λ same. inl (e, same)) (λ later. inr (more later))
-        (contains_cases s.name (map name_of rest) name h)
-
-in_tables : (tables : List Table) (name : List ℕ) → Contains (map name_of (flat_map declarations_in tables)) name
-    → HasNamed (all_symbols tables) name
-in_tables [] name c = absurd (omega (arith, c.1))
-in_tables (t ∷ ts) name c =
-    ⊎_elim (λ here. has_left t.1 (all_symbols ts) name (in_table t.0 0 t.1 name here))
-    (λ later. has_right t.1 (all_symbols ts) name (in_tables ts name later))
-    (Contains-append_cases (map name_of (declarations_in t)) (map name_of (flat_map declarations_in ts)) name
-    (subst (λ (ns : List (List ℕ)). Contains ns name)
-    (map-append name_of (declarations_in t) (flat_map declarations_in ts)) c))
-
-declared_key : (p : Project) (a : NamingState) (name : List ℕ) → IsNaming p a
-    → AllZip (IsKeyOf a.names) (all_symbols a.objects) a.keys → Contains (names_in_objects p.objects) name
-    → (k : ℕ) × IsNamed a.names k name
-unfolding declarations_of
-declared_key p a name naming keys c =
-    key_of_named a.names (all_symbols a.objects) a.keys name keys
-    (subst (λ (ts : List Table). HasNamed (all_symbols ts) name) (sym naming.objects)
-    (in_tables (enumerate_from 0 (symbol_tables p.objects)) name c))
+pub declared_key : (p : Project) (d : DecisionsState) (order name : List ℕ)
+    → ((objects : List NamedObject) (tables : List Table) → map (λ (t : Table). t.1) tables ≡ symbol_tables objects
+    → declared_names tables ≡ names_in_objects objects)
+    → (Contains (declared_names d.names.objects) name → (k : ℕ) × IsNamed d.names.names k name)
+    → IsNaming p (state_of d order) → Contains (names_in_objects p.objects) name
+    → (k : ℕ) × IsNamed d.names.names k name
+declared_key p d order name law known naming c =
+    known (subst (λ (ns : List (List ℕ)). Contains ns name)
+    (sym (law p.objects d.names.objects (same_tables p d order naming))) c)
 
 -- ---- keys
 
@@ -181,9 +112,10 @@ differ names order l m n name a b = some_one m n (sym (l.complete m name a) ∙ 
 
 -- a list of the names in byte order has all that callers are told
 pub are_sorted : (a : NamingState) (order : List Listed) (xs : List NamedKey)
-    → AllZip (IsKeyOf a.names) (all_symbols a.objects) a.keys → IsInByteOrder order → IsListing a.names order
-    → map named_number xs ≡ order → AreSorted a xs
-are_sorted a order xs keys up listing same =
+    → ((p : Project) (name : List ℕ) → IsNaming p a → Contains (names_in_objects p.objects) name
+    → (k : ℕ) × IsNamed a.names k name)
+    → IsInByteOrder order → IsListing a.names order → map named_number xs ≡ order → AreSorted a xs
+are_sorted a order xs known up listing same =
     let l : IsListing a.names (map named_number xs) =
     subst (λ (es : List Listed). IsListing a.names es) (sym same) listing in
     let u : IsInByteOrder (map named_number xs) = subst IsInByteOrder (sym same) up in record {
@@ -200,11 +132,13 @@ are_sorted a order xs keys up listing same =
           (subst (λ (n : ℕ). j < n) (sym (length-map xs named_number)) h)));
       keys = λ k name h. key_listed a.names xs k name l h;
       declared = λ p naming name c.
-          let named = declared_key p a name naming keys c in key_listed a.names xs named.0 name l named.1;
+          let named = known p name naming c in key_listed a.names xs named.0 name l named.1;
     }
 
 pub list_sorted : {E : Type 0} (a : NamingState) (order : List Listed) (r : Result (Vec NamedKey Global) E)
-    → AllZip (IsKeyOf a.names) (all_symbols a.objects) a.keys → IsInByteOrder order → IsListing a.names order
-    → IfOk r (λ list. map named_number list.items ≡ order) → IfOk r (λ list. AreSorted a list.items)
-list_sorted a order (Ok list) keys up listing same = are_sorted a order list.items keys up listing same
-list_sorted a order (Err e) keys up listing same = tt
+    → ((p : Project) (name : List ℕ) → IsNaming p a → Contains (names_in_objects p.objects) name
+    → (k : ℕ) × IsNamed a.names k name)
+    → IsInByteOrder order → IsListing a.names order → IfOk r (λ list. map named_number list.items ≡ order)
+    → IfOk r (λ list. AreSorted a list.items)
+list_sorted a order (Ok list) known up listing same = are_sorted a order list.items known up listing same
+list_sorted a order (Err e) known up listing same = tt

@@ -1,5 +1,5 @@
 -- Names that are defined twice, found symbol by symbol.
-use Rattle.std.specs.Prelude.{◌≡◌, ◌<◌, ◌++◌, ℕ, Bool, true, false, List, [], ◌∷◌, Option, Some, None, filter, map, not}
+use Rattle.std.specs.Prelude.{◌≡◌, ◌<◌, ◌++◌, ℕ, Bool, true, List, [], ◌∷◌, Option, Some, None, filter, map, not}
 use Rattle.std.specs.Prelude.{if◌then◌else◌, length, slice_index_or}
 use Rattle.std.specs.Option.{option_map}
 use Rattle.elfobj.specs.Symbols.{NamedSymbol}
@@ -7,23 +7,19 @@ use Rattle.ldmodel.specs.HandedOver.{entry_of}
 use Rattle.ldmodel.specs.InputSections.{is_same_entry}
 use Rattle.ldmodel.specs.Link.{duplicate_fault}
 use Rattle.ldmodel.specs.NameFaults.{duplicate, is_duplicate}
-use Rattle.ldmodel.specs.Names.{Declaration, Duplicate, Entry, declaration, declarations, decision, is_local, is_of_name}
+use Rattle.ldmodel.specs.Names.{Declaration, Duplicate, Entry, declaration, declarations, decision, is_local}
+use Rattle.ldmodel.specs.Names.{is_of_name}
 use Rattle.ldmodel.specs.Names.{is_strong}
 use Rattle.ldmodel.specs.Project.{Project}
 use Rattle.ldmodel.specs.declared.fault.Definer as code_definer
 use Rattle.ldmodel.specs.declared.fault.Definer.TheVariants as definer
 use Rattle.ldmodel.specs.declared.fault.Fault as code
 use Rattle.ldmodel.specs.declared.fault.Fault.TheVariants as variant
-use Rattle.ldmodel.specs.declared.names.Case.{Case}
-use Rattle.ldmodel.specs.declared.names.Case.TheVariants as case
 use Rattle.ldmodel.specs.declared.names.Entry as code_names
 use Rattle.ldmodel.specs.declared.names.NameKey.{NameKey}
 use Rattle.ldproject.specs.ByPlace.{faults_in}
+pub use Rattle.ldnames.specs.Decided.{is_doubled}
 use Rattle.symres.specs.State.{IsNamed}
-
-abbrev pub is_doubled : Option Case → Bool
-is_doubled (Some case.Duplicate) = true
-is_doubled _ = false
 
 -- an entry, by the place of its object
 abbrev pub by_place : code_names.Entry → Entry

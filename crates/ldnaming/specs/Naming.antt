@@ -1,48 +1,34 @@
 -- The names of a link, as callers see them.
-use Rattle.std.specs.Prelude.{ℕ, ◌≡◌, ◌<◌, List, Option, Some, length, take, slice_index_or}
+use Rattle.std.specs.Prelude.{ℕ, ◌≡◌, ◌<◌, List, Option, Some, length, map, slice_index_or}
 use Rattle.std.specs.Prelude.{false}
-use Rattle.std.specs.List.{All, AllZip, enumerate_from}
+use Rattle.std.specs.List.{enumerate_from}
+use Rattle.std.specs.Option.{option_map}
 use Rattle.elfobj.specs.Symbols.{NamedSymbol}
 use Rattle.ldmodel.specs.HandedOver.{decision_of}
 use Rattle.ldmodel.specs.Names.{decision, is_local, symbol_tables}
 use Rattle.ldmodel.specs.Project.{Project}
 use Rattle.ldmodel.specs.declared.names.Case.{Case}
-use Rattle.ldmodel.specs.declared.names.NameKey.{NameKey}
-use Rattle.ldnaming.specs.Decided.{case_at, HasCaseOr, IsKeyOf, all_symbols}
-use Rattle.symres.specs.State.{State, IsNamed, HasName}
+use Rattle.symres.specs.State.{IsNamed, HasName}
+use Rattle.ldnames.specs.Decided.{case_at}
+use Rattle.ldnames.specs.Decisions.{DecisionsState}
+use Rattle.ldnaming.specs.Placed.{by_place, place_case}
 
--- the symbol tables of the objects under their places; the names under their keys; the cases under these; the keys of
--- all symbols, one table after the other; and where those of each object begin
+-- what is kept between links, where objects have keys; and what a link sees of it, where they have places: the symbol
+-- tables of the objects, the names under their keys, and the cases under these
 pub record NamingState : Type 0 where
+  pub kept : DecisionsState
   pub objects : List (ℕ × List NamedSymbol)
   pub names : List (Option (List ℕ))
   pub cases : List (Option Case)
-  pub keys : List (Option NameKey)
-  pub starts : List ℕ
 
-abbrev pub state_of : State → List (Option Case) → List (Option NameKey) → List ℕ → NamingState
-state_of s cases keys starts = record {
-  objects = s.objects;
-  names = s.names;
-  cases = cases;
-  keys = keys;
-  starts = starts;
+-- `order` has the keys of the objects by place
+abbrev pub state_of : DecisionsState → (order : List ℕ) → NamingState
+state_of d order = record {
+  kept = d;
+  objects = by_place d.names.objects;
+  names = d.names.names;
+  cases = map (option_map (place_case order)) d.cases;
 }
-
--- the number of symbols of the objects before a place
-abbrev pub start_of : List (ℕ × List NamedSymbol) → ℕ → ℕ
-start_of objects i = length (all_symbols (take i objects))
-
--- the keys of the symbols of each object begin where they do
-pub record AreStarts (starts : List ℕ) (objects : List (ℕ × List NamedSymbol)) (n : ℕ) : Type 0 where
-  pub long : length starts ≡ n
-  pub at : (i : ℕ) → i < n → slice_index_or starts i 0 ≡ start_of objects i
-
--- each symbol has the key of its name, and each key a case
-pub record IsComplete (a : NamingState) : Type 0 where
-  pub starts : AreStarts a.starts a.objects (length a.objects)
-  pub keys : AllZip (IsKeyOf a.names) (all_symbols a.objects) a.keys
-  pub cases : All (HasCaseOr a.cases) a.keys
 
 -- the key has a name, and the case is what it stands for in the project
 pub record IsDecision (p : Project) (names : List (Option (List ℕ))) (k : ℕ) (c : Case) : Type 0 where

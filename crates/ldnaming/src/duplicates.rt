@@ -1,7 +1,7 @@
 //! Names that are defined twice.
 
 ghost use Rattle.std.specs.Prelude.{◌≡◌, ◌<◌, ◌++◌, ◌&&◌, ℕ, IfOk, List, None, OnOk, Some, length, map, slice_index_or};
-ghost use Rattle.std.specs.Prelude.{replicate, slice_set, unwrap_or};
+ghost use Rattle.std.specs.Prelude.{[], count_by, replicate, slice_set, unwrap_or};
 ghost use Rattle.elfobj.specs.Symbols.{NamedSymbol};
 ghost use Rattle.ldmodel.specs.Link.{duplicate_fault};
 ghost use Rattle.ldmodel.specs.NameFaults.{duplicates};
@@ -104,7 +104,17 @@ impl Naming {
     fn names_differ(&self)
         ensures { AreDistinct self.now.names }
     {
-        let _names = self.names.in_byte_order();
+        let _names = self.decisions.in_byte_order();
+    }
+
+    /// Where no case is that of a name that is defined twice, no name of the project is. The call does nothing.
+    fn none_doubled(&self, project: &ProjectView<'_>)
+        requires naming { IsNaming project.now self.now }
+        requires none { count_by is_doubled self.now.kept.cases ≡ 0 }
+        ensures { duplicates project.now ≡ [] }
+    {
+        self.decided_by_keys();
+        let _count = self.decisions.known();
     }
 
     /// Whether the name of a key is defined twice.
@@ -209,7 +219,7 @@ impl Naming {
     }
 
     /// The faults of names that are defined twice: each strong definition after the first, in object order and then
-    /// symbol order; where the script assigns the name, each.
+    /// symbol order; where the script assigns the name, each. Where no name is, no symbol is looked at.
     pub(crate) fn duplicates(
         &self,
         alloc: Global,
@@ -218,6 +228,10 @@ impl Naming {
         requires { IsNaming project.now self.now }
         ensures { IfOk result (λ fs. faults_in project.now fs.items ≡ map duplicate_fault (duplicates project.now)) }
     {
+        if self.decisions.doubled() == 0 {
+            self.none_doubled(project);
+            return Ok(Vec::new(alloc));
+        }
         let mut firsts = no_entries(alloc, self.limit())?;
         let mut faults = Vec::new(alloc);
         for (place, input) in project.inputs().iter().enumerate() {

@@ -1,26 +1,35 @@
-//! A table of names over all objects of a link.
+//! The objects of a link as they are entered first.
 
-ghost use Rattle.std.specs.Prelude.{◌≡◌, IfOk};
+ghost use Rattle.std.specs.Prelude.{◌≡◌, IfOk, map};
+ghost use Rattle.ldnames.specs.Keyed as keyed;
+ghost use Rattle.ldnames.specs.Keyed.{AreApart};
+ghost use Rattle.ldnames.specs.declared.keyed.Keyed.{Keyed};
 ghost use Rattle.ldnaming.specs.Entered.{tables_of};
-ghost use Rattle.symres.specs.State.{IsInByteOrder};
 
 use ldmodel::memory::NoMemory;
 use ldmodel::names::ObjectKey;
+use ldnames::keyed::Keyed;
 use ldproject::input::Input;
 use std::alloc::Global;
-use std::hash::RandomState;
-use symres::names::Names;
 
-/// The names of these objects, in byte order. The key of each object is its place. An error says that memory ran out.
-pub fn enter_all(alloc: Global, seed: RandomState, inputs: &[Input<'_>]) -> Result<Names, NoMemory>
-    ensures objects { IfOk result (λ names. names.objects ≡ tables_of inputs.now) }
-    ensures order { IfOk result (λ names. IsInByteOrder names.order) }
+/// These objects, each under its place. An error says that memory ran out.
+pub fn by_place<'a>(alloc: Global, inputs: &[Input<'a>]) -> Result<Vec<Keyed<'a>>, NoMemory>
+    ensures tables { IfOk result (λ list. keyed.tables_of list.items ≡ tables_of inputs.now) }
+    ensures apart { IfOk result (λ list. AreApart list.items) }
 {
-    let mut names = Names::new(alloc, seed);
+    let mut list = Vec::with_capacity(alloc, inputs.len())?;
     for (place, input) in inputs.iter().enumerate() {
-        names.reserve(input.object)?;
-        names.enter(ObjectKey(place), place, input.object);
+        list.push(Keyed {
+            key: ObjectKey(place),
+            object: input.object,
+        })?;
     }
-    names.sort_names()?;
-    Ok(names)
+    Ok(list)
+}
+
+/// Their keys, in the same order.
+pub fn keys_of(alloc: Global, objects: &[Keyed<'_>]) -> Result<Vec<usize>, NoMemory>
+    ensures { IfOk result (λ v. v.items ≡ map (λ (x : Keyed). x.key.0) objects.now) }
+{
+    objects.iter().map(|keyed| keyed.key.0).collect(alloc)
 }

@@ -8,7 +8,6 @@ ghost use Rattle.ldnaming.specs.Undefined.{faults_if, is_undefined};
 ghost use Rattle.ldproject.specs.ByPlace.{faults_in};
 
 use crate::naming::Naming;
-use ldbase::meter::Meter;
 use ldmodel::fault::Fault;
 use ldmodel::memory::NoMemory;
 use ldmodel::names::Case;
@@ -32,12 +31,12 @@ fn is_undefined(case: Case) -> bool
 
 impl Naming {
     /// Whether there is an entry symbol, and nothing defines it.
-    fn is_entry_undefined(&self, project: &ProjectView<'_>, meter: &mut Meter) -> bool
+    fn is_entry_undefined(&self, project: &ProjectView<'_>) -> bool
         requires { IsNaming project.now self.now }
         ensures { result ≡ is_some (undefined_entry project.now) }
     {
         match project.entry_symbol() {
-            Some(name) => is_undefined(self.case_named(project.script(), name, meter)),
+            Some(name) => is_undefined(self.case_named(project.script(), name)),
             None => false,
         }
     }
@@ -47,13 +46,12 @@ impl Naming {
         &self,
         project: &ProjectView<'_>,
         faults: &mut Vec<Fault>,
-        meter: &mut Meter,
     ) -> Result<(), NoMemory>
         requires { IsNaming project.now self.now }
         ensures { OnOk result (faults.new.items
             ≡ faults.old.items ++ faults_if (is_some (undefined_entry project.now))) }
     {
-        if !self.is_entry_undefined(project, meter) {
+        if !self.is_entry_undefined(project) {
             return Ok(());
         }
         faults.push(Fault::UndefinedEntry)?;
@@ -61,18 +59,13 @@ impl Naming {
     }
 
     /// The faults of the names of a project, in object order and then symbol order: `F1`; then that of the entry
-    /// symbol, `F2`. The entry symbol is hashed, decided and counted. An error says that memory ran out.
-    pub fn faults(
-        &self,
-        alloc: Global,
-        project: &ProjectView<'_>,
-        meter: &mut Meter,
-    ) -> Result<Vec<Fault>, NoMemory>
+    /// symbol, `F2`. An error says that memory ran out.
+    pub fn faults(&self, alloc: Global, project: &ProjectView<'_>) -> Result<Vec<Fault>, NoMemory>
         requires { IsNaming project.now self.now }
         ensures { IfOk result (λ fs. faults_in project.now fs.items ≡ name_faults project.now) }
     {
         let mut faults = self.duplicates(alloc, project)?;
-        self.add_entry_fault(project, &mut faults, meter)?;
+        self.add_entry_fault(project, &mut faults)?;
         Ok(faults)
     }
 }

@@ -1,10 +1,12 @@
 //! The names of a link: what each stands for over all objects and the script, and the faults of names.
 #![tactic(auto)]
 
-mod cases;
+mod changing;
 mod duplicates;
-pub mod entered;
+mod entered;
 mod faults;
+mod keyed;
 pub mod naming;
+mod placed;
 mod provided;
 pub mod sorted;

@@ -1,94 +1,58 @@
 //! The names of a link: what each name that its objects declare stands for.
 
-ghost use Rattle.std.specs.Prelude.{◌≡◌, IfOk, length};
-ghost use Rattle.ldbase.specs.Raised.{raised};
-ghost use Rattle.ldbase.specs.declared.meter.Count.TheVariants as counts;
+ghost use Rattle.std.specs.Prelude.{◌≡◌, ℕ, List, IfOk, length, map};
+ghost use Rattle.elfobj.specs.Symbols.{NamedSymbol};
 ghost use Rattle.ldmodel.specs.HandedOver.{decision_of};
-ghost use Rattle.ldmodel.specs.Names.{decision};
+ghost use Rattle.ldmodel.specs.Names.{decision, symbol_tables};
 ghost use Rattle.ldmodel.specs.Project.{Project};
-ghost use Rattle.ldnaming.specs.Decided.{case_at, AreCases, HasCase};
+ghost use Rattle.ldlaws.specs.Renumbering.{renumbered_decision};
+ghost use Rattle.ldnames.specs.Decided.{case_at, decision_in, HasCase};
+ghost use Rattle.ldnames.specs.Decisions.{AreKept};
 ghost use Rattle.ldnaming.specs.Entered.{tables_of};
-ghost use Rattle.ldnaming.specs.Naming.{IsComplete, IsNameAt, IsNaming, IsSeenAt, state_of};
+ghost use Rattle.ldnaming.specs.Naming.{IsNameAt, IsNaming, IsSeenAt};
+ghost use Rattle.ldnaming.specs.Placed.{keys_of};
 ghost use Rattle.ldproject.specs.Inputs.{shown_inputs};
+ghost use Rattle.ldproject.specs.Tables.{place_or_0};
 
-use crate::cases::note_symbols;
-use crate::entered::enter_all;
+use crate::entered::{by_place, keys_of};
+use crate::placed::place_case;
 use elfobj::relocation::SymbolIndex;
 use ldbase::meter::Meter;
+use ldlaws::names::decision_by_keys;
 use ldmodel::memory::NoMemory;
-use ldmodel::names::{Case, NameKey, ObjectKey};
+use ldmodel::names::{Case, NameKey};
+use ldnames::decisions::Decisions;
 use ldproject::input::Input;
+use ldproject::law::tables_by_place;
+use ldproject::order::Order;
 use ldscript::script::Script;
 use std::alloc::Global;
 use std::hash::RandomState;
 use std::marker::Model;
-use symres::names::Names;
 
-/// The names of the objects of a link, each decided once. The key of an object is its place among them.
+/// What the names of the objects of a link stand for, kept under keys of objects while these change, and seen by place:
+/// the key of an object in a link is its place among all.
 #[derive(Drop)]
 pub struct Naming {
-    pub(crate) names: Names,
-    cases: Vec<Option<Case>>,
-    keys: Vec<Option<NameKey>>,
-    starts: Vec<usize>,
+    pub(crate) decisions: Decisions,
+    pub(crate) order: Order,
 }
 
 impl Model for Naming {
-    ghost use Rattle.ldnaming.specs.Naming.{IsComplete, NamingState, state_of};
-    ghost use Rattle.symres.specs.State.{IsInByteOrder};
+    ghost use Rattle.std.specs.Prelude.{◌≡◌};
+    ghost use Rattle.ldnaming.specs.Naming.{NamingState, state_of};
+    ghost use Rattle.ldnaming.specs.Placed.{keys_of};
 
     ghost Value = { NamingState };
 
-    ghost view = { λ a. state_of a.names a.cases.items a.keys.items a.starts.items };
+    ghost view = { λ a. state_of a.decisions a.order };
 
-    ghost invariant = { λ a. IsComplete (state_of a.names a.cases.items a.keys.items a.starts.items)
-        × IsInByteOrder a.names.order };
-}
-
-/// The tables of a `Naming`.
-#[derive(Drop)]
-struct Tables {
-    cases: Vec<Option<Case>>,
-    keys: Vec<Option<NameKey>>,
-    starts: Vec<usize>,
-}
-
-/// Decides the names of all entered objects.
-fn note_all(
-    alloc: Global,
-    names: &Names,
-    inputs: &[Input<'_>],
-    script: &Script,
-    meter: &mut Meter,
-) -> Result<Tables, NoMemory>
-    requires { names.now.objects ≡ tables_of inputs.now }
-    ensures complete { IfOk result (λ t. IsComplete (state_of names.now t.cases.items t.keys.items t.starts.items)) }
-    ensures sound { IfOk result (λ t. AreCases script.now names.now t.cases.items) }
-{
-    let mut cases = Vec::new(alloc);
-    let mut keys = Vec::new(alloc);
-    let mut starts = Vec::with_capacity(alloc, inputs.len())?;
-    for (place, input) in inputs.iter().enumerate() {
-        starts.push(keys.len())?;
-        note_symbols(
-            names,
-            script,
-            ObjectKey(place),
-            input.object,
-            &mut cases,
-            &mut keys,
-            meter,
-        )?;
-    }
-    Ok(Tables {
-        cases,
-        keys,
-        starts,
-    })
+    ghost invariant = { λ a. keys_of a.decisions.names.objects ≡ a.order };
 }
 
 impl Naming {
-    /// Decides the names of all symbols of these objects that aren't local. An error says that memory ran out.
+    /// Decides the names of all symbols of these objects that aren't local, each once. The key of each object is its
+    /// place. An error says that memory ran out.
     pub fn of(
         alloc: Global,
         seed: RandomState,
@@ -96,31 +60,58 @@ impl Naming {
         script: &Script,
         meter: &mut Meter,
     ) -> Result<Naming, NoMemory>
-        ensures { IfOk result (λ naming. (p : Project) → p.objects ≡ shown_inputs inputs.now → p.script ≡ script.now
-            → IsNaming p naming) }
+        ensures naming { IfOk result (λ naming. (p : Project) → p.objects ≡ shown_inputs inputs.now
+            → p.script ≡ script.now → IsNaming p naming) }
+        ensures objects { IfOk result (λ a. a.kept.names.objects ≡ tables_of inputs.now) }
+        ensures kept { IfOk result (λ a. AreKept script.now a.kept) }
     {
-        let names = enter_all(alloc, seed, inputs)?;
-        let tables = note_all(alloc, &names, inputs, script, meter)?;
-        Ok(Naming {
-            names,
-            cases: tables.cases,
-            keys: tables.keys,
-            starts: tables.starts,
-        })
+        let objects = by_place(alloc, inputs)?;
+        let keys = keys_of(alloc, &objects)?;
+        let order = Order::of(alloc, &keys)?;
+        let decisions = Decisions::of(alloc, seed, &objects, script, meter)?;
+        let naming = Naming { decisions, order };
+        naming.names_kept();
+        Ok(naming)
+    }
+
+    /// What a name stands for among objects under their places is decided under their keys. The call does nothing.
+    pub(crate) fn decided_by_keys(&self)
+        ensures { (p : Project) (name : List ℕ)
+            → symbol_tables p.objects ≡ map (λ (t : ℕ × List NamedSymbol). t.1) self.now.kept.names.objects
+            → decision p name ≡ renumbered_decision (place_or_0 (keys_of self.now.kept.names.objects))
+            (decision_in p.script self.now.kept.names name) }
+    {
+        decision_by_keys();
+        tables_by_place();
+        let _keys = self.order.keys();
+    }
+
+    /// While the cases are kept for the script of a project, and the objects are those of the project, they are what
+    /// its names stand for. The call does nothing.
+    pub fn names_kept(&self)
+        ensures { (p : Project) → AreKept p.script self.now.kept
+            → symbol_tables p.objects ≡ map (λ (t : ℕ × List NamedSymbol). t.1) self.now.kept.names.objects
+            → IsNaming p self.now }
+    {
+        let _order = &self.order;
+        self.decided_by_keys();
     }
 
     /// One more than the greatest key that has a case, at most: the cases fit a table of this length.
     pub fn limit(&self) -> usize
         ensures { result ≡ length self.now.cases }
     {
-        self.cases.len()
+        self.decisions.limit()
     }
 
-    /// What the name of a key stands for, if a symbol declares it.
+    /// What the name of a key stands for, if the key has one. The time is constant.
     pub fn case_of(&self, key: NameKey) -> Option<Case>
         ensures { result ≡ case_at self.now.cases key.0 }
     {
-        self.cases.get(key.0).copied().unwrap_or(None)
+        match self.decisions.case_of(key) {
+            Some(case) => Some(place_case(&self.order, case)),
+            None => None,
+        }
     }
 
     /// The key of the name of a symbol that isn't local, of the object at a place. It has a case. The time is constant.
@@ -129,18 +120,15 @@ impl Naming {
         ensures name { IsNameAt self.now place symbol.0 result.0 }
         ensures case { HasCase self.now.cases result.0 }
     {
-        match self.keys[self.starts[place] + symbol.0 as usize] {
-            Some(key) => key,
-            None => unreachable!(),
-        }
+        self.decisions.key_at(place, symbol)
     }
 
-    /// What any name stands for, as that of the entry symbol. It is hashed, decided and counted.
-    pub fn case_named(&self, script: &Script, name: &[u8], meter: &mut Meter) -> Case
+    /// What any name stands for, as that of the entry symbol: it is hashed and looked up.
+    pub fn case_named(&self, script: &Script, name: &[u8]) -> Case
         ensures case { (p : Project) → IsNaming p self.now → p.script ≡ script.now → decision_of (λ key. key) result
             ≡ decision p name.now }
-        ensures counted { meter.new ≡ raised meter.old counts.Names 1 }
     {
-        *self.names.decide(script, name, meter).case()
+        self.decided_by_keys();
+        place_case(&self.order, self.decisions.case_named(script, name))
     }
 }

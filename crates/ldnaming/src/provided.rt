@@ -10,7 +10,6 @@ ghost use Rattle.ldnaming.specs.Naming.{IsNaming};
 ghost use Rattle.ldnaming.specs.Provided.{in_force, AddsIfInForce};
 
 use crate::naming::Naming;
-use ldbase::meter::Meter;
 use ldmodel::memory::NoMemory;
 use ldmodel::names::Case;
 use ldmodel::script_symbol::CommonIndex;
@@ -34,12 +33,12 @@ fn is_provided(case: Case) -> bool
 
 impl Naming {
     /// Whether a command is a PROVIDE that is in force.
-    fn is_in_force(&self, script: &Script, command: &Common, meter: &mut Meter) -> bool
+    fn is_in_force(&self, script: &Script, command: &Common) -> bool
         ensures { (p : Project) → IsNaming p self.now → p.script ≡ script.now → result ≡ in_force p command.now }
     {
         match command {
             Common::Provide(assignment) => {
-                is_provided(self.case_named(script, assignment.name.as_bytes(), meter))
+                is_provided(self.case_named(script, assignment.name.as_bytes()))
             }
             Common::Assign(_) | Common::Assert(_) => false,
         }
@@ -52,12 +51,11 @@ impl Naming {
         number: usize,
         command: &Common,
         list: &mut Vec<CommonIndex>,
-        meter: &mut Meter,
     ) -> Result<(), NoMemory>
         ensures { OnOk result ((p : Project) → IsNaming p self.now → p.script ≡ script.now
             → AddsIfInForce p number command.now list.old.items list.new.items) }
     {
-        if !self.is_in_force(script, command, meter) {
+        if !self.is_in_force(script, command) {
             return Ok(());
         }
         match u32::try_from(number) {
@@ -69,21 +67,16 @@ impl Naming {
         }
     }
 
-    /// The PROVIDEs that are in force, in the order of the text. Their names are hashed, decided and counted. An error
-    /// says that memory ran out, or that the script has more than 2^32 commands, which none that was read has.
-    pub fn provided(
-        &self,
-        alloc: Global,
-        script: &Script,
-        meter: &mut Meter,
-    ) -> Result<Vec<CommonIndex>, NoMemory>
+    /// The PROVIDEs that are in force, in the order of the text. Their names are hashed and looked up. An error says
+    /// that memory ran out, or that the script has more than 2^32 commands, which none that was read has.
+    pub fn provided(&self, alloc: Global, script: &Script) -> Result<Vec<CommonIndex>, NoMemory>
         ensures { IfOk result (λ list. (p : Project) → IsNaming p self.now → p.script ≡ script.now
             → map (λ (k : CommonIndex). name_given_by p.script k.0) list.items ≡ provided p) }
     {
         let commands = script.common_commands(alloc)?;
         let mut list = Vec::new(alloc);
         for (number, at) in commands.iter().enumerate() {
-            self.add_if_in_force(script, number, at.command, &mut list, meter)?;
+            self.add_if_in_force(script, number, at.command, &mut list)?;
         }
         Ok(list)
     }

@@ -7,8 +7,9 @@ ghost use Rattle.symres.specs.State.{IsInByteOrder, IsListing};
 use crate::naming::Naming;
 use ldmodel::memory::NoMemory;
 use ldmodel::names::NameKey;
+use ldnames::decisions::Decisions;
+use ldnames::law::names_of_objects;
 use std::alloc::Global;
-use symres::names::Names;
 
 /// A name and its key.
 #[derive(Clone, Copy, Debug)]
@@ -19,14 +20,14 @@ pub struct NamedKey<'a> {
     pub key: NameKey,
 }
 
-/// The names of a table in byte order, each with its key.
-fn listed(alloc: Global, names: &Names) -> Result<Vec<NamedKey<'_>>, NoMemory>
-    requires { IsInByteOrder names.now.order }
-    ensures list { IfOk result (λ list. map named_number list.items ≡ names.now.order) }
-    ensures listing { IsListing names.now.names names.now.order }
+/// All known names in byte order, each with its key.
+fn listed(alloc: Global, decisions: &Decisions) -> Result<Vec<NamedKey<'_>>, NoMemory>
+    ensures list { IfOk result (λ list. map named_number list.items ≡ decisions.now.names.order) }
+    ensures listing { IsListing decisions.now.names.names decisions.now.names.order }
+    ensures order { IsInByteOrder decisions.now.names.order }
 {
     let mut list = Vec::new(alloc);
-    for (name, key) in names.in_byte_order() {
+    for (name, key) in decisions.in_byte_order() {
         list.push(NamedKey {
             name: name.as_slice(),
             key: NameKey(*key),
@@ -36,10 +37,13 @@ fn listed(alloc: Global, names: &Names) -> Result<Vec<NamedKey<'_>>, NoMemory>
 }
 
 impl Naming {
-    /// All names that objects declare, in byte order, each with its key. An error says that memory ran out.
+    /// All known names in byte order, each with its key: all that objects declare are among them. An error says that
+    /// memory ran out.
     pub fn sorted(&self, alloc: Global) -> Result<Vec<NamedKey<'_>>, NoMemory>
         ensures { IfOk result (λ list. AreSorted self.now list.items) }
     {
-        listed(alloc, &self.names)
+        names_of_objects();
+        let _count = self.decisions.known();
+        listed(alloc, &self.decisions)
     }
 }

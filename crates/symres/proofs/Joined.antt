@@ -64,7 +64,7 @@ entries_length names k name os d h a = ap length (entries_spelled names k name o
     ∙ length-map (entries k os) (declaration_of name)
 
 -- the name that a symbol which isn't local is spelled by
-named_so : (names : Names) (s : Numbered) → HasName names s → is_local s.symbol.binding ≡ false
+pub named_so : (names : Names) (s : Numbered) → HasName names s → is_local s.symbol.binding ≡ false
     → IsNamed names s.name (spell_symbol names s).name
 named_so names s h v = let t = h v in t.1 ∙ ap Some (sym (seen_name names s v ∙ ap text t.1))
 

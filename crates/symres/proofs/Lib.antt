@@ -14,3 +14,6 @@ pub mod Spelling
 pub mod Ready
 pub mod Joined
 pub mod Ordered
+pub mod ByPlace
+pub mod Fresh
+pub mod Reentering

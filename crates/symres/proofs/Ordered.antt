@@ -1,6 +1,6 @@
 -- Names in byte order.
 use Rattle.std.proofs.Common.{◌≡◌, ◌<◌, ◌+◌, ℕ, Bool, false, length, get_or, Vec, Global, List, [], ◌∷◌, map, ap, sym}
-use Rattle.std.proofs.Common.{◌∙◌, arith, Option, Some, None, Result, Ok, Err, OnOk}
+use Rattle.std.proofs.Common.{◌∙◌, arith, Option, Some, None, Result, Ok, Err, OnErr, OnOk}
 use Rattle.std.specs.Prelude.{bytes_eq}
 use Rattle.std.specs.List.{IsDistinct, AllByRecursion}
 use Rattle.std.specs.List.Sorted.{IsPermutation, IsSortedBy}
@@ -54,6 +54,10 @@ sorted_spelled (e ∷ es) s = λ k d l h.
 pub sorted_ok : {E A B : Type 0} (r : Result (Unit {0}) E) → (A → B) → OnOk r A → OnOk r B
 sorted_ok (Ok x) f a = f a
 sorted_ok (Err e) f a = tt
+
+pub refused_so : {E A B : Type 0} (r : Result (Unit {0}) E) → (A → B) → OnErr r A → OnErr r B
+refused_so (Ok x) f a = tt
+refused_so (Err e) f a = f a
 
 others_mapped : (x : Name × ℕ) (es : List (Name × ℕ))
     → AllByRecursion (λ (y : Name). bytes_eq x.0.items y.items ≡ false) (map (λ (e : Name × ℕ). e.0) es)

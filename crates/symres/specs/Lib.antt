@@ -8,3 +8,4 @@ pub mod Objects
 pub mod Lists
 pub mod Spelled
 pub mod Tally
+pub mod Changes

@@ -10,6 +10,7 @@ use Rattle.std.specs.Ordering.{is_lt, nat_cmp}
 use Rattle.std.specs.Cmp.Lexicographic.{slice_cmp}
 use Rattle.elfobj.specs.Symbols.{NamedSymbol}
 use Rattle.ldmodel.specs.Names.{Declaration, declarations_of, is_of_name, is_local}
+use Rattle.ldmodel.specs.declared.names.ObjectKey.{ObjectKey}
 
 -- the entries of a name, in object order and then symbol order, where the objects have these symbol tables
 abbrev pub entries_of : List ℕ → List (ℕ × List NamedSymbol) → List Declaration
@@ -94,6 +95,23 @@ IsNamedOr names n (Some s) = IsNamed names n s.name
 abbrev pub IsNameOfSymbol : List (Option (List ℕ)) → ℕ → ℕ → List (ℕ × List NamedSymbol) → ℕ → Type 0
 IsNameOfSymbol names key number tables n =
     All (λ (t : ℕ × List NamedSymbol). (t.0 == key) ≡ true → IsNamedOr names n (slice_get t.1 number)) tables
+
+-- the object at the place has a symbol of this number that isn't local
+pub record IsSeenAt (tables : List (ℕ × List NamedSymbol)) (place number : ℕ) : Type 0 where
+  pub within : place < length tables
+  pub symbol : (t : ℕ × List NamedSymbol) → number < length (slice_index_or tables place t).1
+  pub seen : (t : ℕ × List NamedSymbol) (s : NamedSymbol)
+      → is_local (slice_index_or (slice_index_or tables place t).1 number s).symbol.binding ≡ false
+
+-- the key is that of the name of the symbol of this number of the object at the place
+abbrev pub IsNameAt : List (Option (List ℕ)) → List (ℕ × List NamedSymbol) → (place number n : ℕ) → Type 0
+IsNameAt names tables place number n =
+    (t : ℕ × List NamedSymbol) (s : NamedSymbol)
+    → IsNamed names n (slice_index_or (slice_index_or tables place t).1 number s).name
+
+-- the key of an entered object
+abbrev pub object_key : ℕ × List NamedSymbol → ObjectKey
+object_key table = record { 0 = table.0 }
 
 -- each known name stands once in the list, with its key
 pub record IsListing (names : List (Option (List ℕ))) (order : List (List ℕ × ℕ)) : Type 0 where

@@ -1,7 +1,7 @@
 //! Numbers of names. A name keeps its number until it is forgotten.
 
 ghost use Rattle.std.specs.Prelude.{◌≡◌, ◌≢◌, ◌==◌, ℕ, List, [], IfOk, Some, None, MatchOption, OnOk, length, take};
-ghost use Rattle.std.specs.Prelude.{map, filter, is_some, if◌then◌else◌};
+ghost use Rattle.std.specs.Prelude.{map, filter, is_some, if◌then◌else◌, OnErr, ◌<◌, slice_index_or};
 ghost use Rattle.std.proofs.Common.{Vec, Global};
 ghost use Rattle.slab.specs.Slab.{get};
 ghost use Rattle.symres.specs.Known.{AddsNames, entry_spelled, is_number, IsConsistent, IsKeptWhere, kept_if};
@@ -79,6 +79,7 @@ impl Known {
         ensures len { result ≡ length self.now.order }
         ensures consistent { IsConsistent self.now }
         ensures distinct { AreDistinct self.now.slots }
+        ensures listing { IsListing self.now.slots self.now.order }
     {
         self.numbers.len()
     }
@@ -115,9 +116,21 @@ impl Known {
         }
     }
 
+    /// The number of the name that stands at a place in the list of names.
+    pub fn number_listed(&self, place: usize) -> usize
+        requires { place < length self.now.order }
+        ensures { (e : List ℕ × ℕ) → (slice_index_or self.now.order place e).1 ≡ result }
+    {
+        match self.numbers.get_index(place) {
+            Some((_name, number)) => *number,
+            None => unreachable!(),
+        }
+    }
+
     /// Puts the names into byte order. Those that become known later stand after them.
     pub fn sort(&mut self) -> Result<(), AllocError>
         ensures sorted { OnOk result (IsInByteOrder self.new.order) }
+        ensures refused { OnErr result (self.new ≡ self.old) }
         ensures slots { self.new.slots ≡ self.old.slots }
     {
         self.numbers.sort_keys()

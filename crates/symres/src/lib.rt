@@ -2,10 +2,11 @@
 #![tactic(auto)]
 
 mod known;
+pub mod law;
 mod lists;
 pub mod names;
 mod objects;
 mod places;
 mod rows;
-mod symbol;
+pub mod symbol;
 mod tally;

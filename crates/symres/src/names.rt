@@ -1,8 +1,10 @@
 //! The names of entered objects: which definition each stands for.
 
 ghost use Rattle.std.specs.Prelude.{◌≡◌, ◌≤◌, ◌<◌, ◌+◌, ◌==◌, ℕ, List, [], length, insert, map, true, false, not};
-ghost use Rattle.std.specs.Prelude.{vec_len, vec_capacity, OnOk, OnErr, MatchOption};
+ghost use Rattle.std.specs.Prelude.{vec_len, vec_capacity, OnOk, OnErr, MatchOption, IfSome, IfNone, slice_get, drop};
+ghost use Rattle.std.specs.Prelude.{slice_index_or};
 ghost use Rattle.std.specs.List.{All};
+ghost use Rattle.std.specs.Option.{option_map};
 ghost use Rattle.ldbase.specs.Raised.{raised};
 ghost use Rattle.ldbase.specs.declared.meter.Count.TheVariants as counts;
 ghost use Rattle.elfobj.specs.Symbols.{NamedSymbol};
@@ -15,13 +17,15 @@ ghost use Rattle.symres.specs.Objects.{GrowsRoom};
 ghost use Rattle.symres.specs.Spelled.{IsReady};
 ghost use Rattle.symres.specs.State.{entries_of, Forgets, HasList, HasName, HasObject, HasSymbol, IsFresh};
 ghost use Rattle.symres.specs.State.{IsInByteOrder, IsListing, IsMore, IsNamed, IsNameOfSymbol, IsSameBut, KeepsNames};
-ghost use Rattle.symres.specs.State.{MayEnter, ParksList, SameNames, TakesList, without};
+ghost use Rattle.symres.specs.State.{IsNameAt, IsSeenAt, MayEnter, object_key, ParksList, SameNames, TakesList};
+ghost use Rattle.symres.specs.State.{without};
 ghost use Rattle.symres.specs.declared.symbol.Numbered.{Numbered};
+ghost use Rattle.symres.specs.Tally.{declaration_of};
 
 use crate::known::Known;
 use crate::lists::{number_all, number_new, park, take_list};
 use crate::objects::Objects;
-use crate::symbol::Numbered;
+use crate::symbol::{Declared, Numbered};
 use crate::tally::decide;
 use elfobj::object::Object;
 use elfobj::relocation::SymbolIndex;
@@ -133,6 +137,7 @@ fn make_ready_or_not(
 ) -> Result<(), NoMemory>
     ensures kept { KeepsNames known.old.slots known.new.slots }
     ensures refused { OnErr result (SameNames known.old.slots known.new.slots) }
+    ensures order { OnErr result (known.new.order ≡ known.old.order) }
     ensures added { AddsNames known.old known.new }
     ensures same { GrowsRoom objects.old objects.new }
     ensures ok { OnOk result (IsReady known.new.slots objects.new object.now.symbols) }
@@ -159,6 +164,7 @@ fn reserve_fields(
     requires { vec_len spare.old + length objects.old.objects ≤ vec_capacity spare.old }
     ensures kept { KeepsNames known.old.slots known.new.slots }
     ensures refused { OnErr result (SameNames known.old.slots known.new.slots) }
+    ensures order { OnErr result (known.new.order ≡ known.old.order) }
     ensures added { AddsNames known.old known.new }
     ensures same { GrowsRoom objects.old objects.new }
     ensures ok { OnOk result (IsReady known.new.slots objects.new object.now.symbols) }
@@ -233,6 +239,45 @@ impl Names {
         }
     }
 
+    /// How many names are known, those without entries too.
+    pub fn known(&self) -> usize
+        ensures len { result ≡ length self.now.order }
+        ensures listing { IsListing self.now.names self.now.order }
+        ensures unknown { (name : List ℕ) → ((k : ℕ) → IsNamed self.now.names k name → ⊥)
+            → entries_of name self.now.objects ≡ [] }
+    {
+        self.known.len()
+    }
+
+    /// The key of a name, while it is known. It is hashed.
+    pub fn key_named(&self, name: &[u8]) -> Option<NameKey>
+        ensures known { IfSome result (λ k. IsNamed self.now.names k.0 name.now) }
+        ensures unknown { IfNone result (entries_of name.now self.now.objects ≡ []) }
+        ensures none { IfNone result ((k : ℕ) → IsNamed self.now.names k name.now → ⊥) }
+    {
+        match self.known.number_of(name) {
+            Some(number) => Some(NameKey(number)),
+            None => None,
+        }
+    }
+
+    /// The key of the known name that stands at a place in the list of names, from 0.
+    pub fn key_listed(&self, place: usize) -> NameKey
+        requires { place < length self.now.order }
+        ensures { (e : List ℕ × ℕ) → (slice_index_or self.now.order place e).1 ≡ result.0 }
+    {
+        NameKey(self.known.number_listed(place))
+    }
+
+    /// The entries of the name of a key, in object order and then symbol order, with the caller's keys of objects.
+    pub fn entries(&self, name: NameKey) -> &[Declared]
+        ensures { (bytes : List ℕ) → IsNamed self.now.names name.0 bytes
+            → map (declaration_of bytes) result.now ≡ entries_of bytes self.now.objects }
+    {
+        let _known = self.known.len();
+        self.objects.row(name.0)
+    }
+
     /// The name of a key, while it is known.
     pub fn name_of(&self, name: NameKey) -> Option<&[u8]>
         ensures { MatchOption result ((bytes : List ℕ) → IsNamed self.now.names name.0 bytes → ⊥) (λ bytes.
@@ -242,10 +287,11 @@ impl Names {
     }
 
     /// Puts the names into byte order: those that became known since the last call are put in among the others. An
-    /// error says that there was no memory for it; the names stand in some order then.
+    /// error says that there was no memory for it; then the names stand as before.
     pub fn sort_names(&mut self) -> Result<(), NoMemory>
         ensures sorted { OnOk result (IsInByteOrder self.new.order) }
         ensures same { self.new ≡ record self.old { order = self.new.order } }
+        ensures refused { OnErr result (self.new ≡ self.old) }
     {
         self.known.sort()
     }
@@ -272,14 +318,36 @@ impl Names {
         }
     }
 
+    /// The same of the object at a place among the entered ones, from 0. The time is constant.
+    pub fn key_at(&self, place: usize, symbol: SymbolIndex) -> NameKey
+        requires { IsSeenAt self.now.objects place symbol.0 }
+        ensures { IsNameAt self.now.names self.now.objects place symbol.0 result.0 }
+    {
+        NameKey(self.objects.symbol_in(place, symbol.0 as usize).name)
+    }
+
+    /// The key of the object at a place among the entered ones, from 0. The time is constant.
+    pub fn object_at(&self, place: usize) -> Option<ObjectKey>
+        ensures { result ≡ option_map object_key (slice_get self.now.objects place) }
+    {
+        match self.objects.key_at(place) {
+            Some(key) => Some(ObjectKey(key)),
+            None => None,
+        }
+    }
+
     /// Takes all memory that entering an object needs: its names are known from then on, and there is room for its
     /// entries. Where memory is refused, the names that it made known are dropped again.
     pub fn reserve(&mut self, object: &Object) -> Result<(), NoMemory>
         ensures objects { self.new.objects ≡ self.old.objects }
         ensures ok { OnOk result (MayEnter self.new object.now.symbols) }
         ensures more { IsMore self.old self.new }
+        ensures unused { All (λ (e : List ℕ × ℕ). entries_of e.0 self.old.objects ≡ [])
+            (drop (length self.old.order) self.new.order) }
         ensures refused { OnErr result (SameNames self.old.names self.new.names) }
+        ensures order { OnErr result (self.new.order ≡ self.old.order) }
     {
+        let _before = self.known.len();
         let reserved = reserve_fields(
             &mut self.known,
             &mut self.objects,

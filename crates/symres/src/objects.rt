@@ -2,6 +2,7 @@
 
 ghost use Rattle.std.specs.Prelude.{◌≡◌, ◌<◌, ◌≤◌, ◌+◌, ◌==◌, ◌∷◌, ◌++◌, ℕ, List, [], length, insert, true, false, not};
 ghost use Rattle.std.specs.Prelude.{slice_index_or, slice_get, vec_len, vec_capacity, OnOk};
+ghost use Rattle.std.specs.Option.{option_map};
 ghost use Rattle.std.specs.List.{All};
 ghost use Rattle.ldmodel.specs.Names.{is_local};
 ghost use Rattle.symres.specs.Objects.{CanEnter, GrowsRoom, HasKey};
@@ -130,6 +131,26 @@ impl Objects {
     {
         let at = find(&self.places, key).unwrap();
         symbol_at(&self.order[at].symbols, number)
+    }
+
+    /// A symbol of the object at a place.
+    pub fn symbol_in(&self, place: usize, number: usize) -> Numbered
+        requires place { place < length self.now.objects }
+        requires number { (o : Entered) → number < length (slice_index_or self.now.objects place o).symbols }
+        ensures { (o : Entered) (s : Numbered) → result
+            ≡ slice_index_or (slice_index_or self.now.objects place o).symbols number s }
+    {
+        self.order[place].symbols[number]
+    }
+
+    /// The key of the object at a place.
+    pub fn key_at(&self, place: usize) -> Option<usize>
+        ensures { result ≡ option_map (λ (o : Entered). o.key) (slice_get self.now.objects place) }
+    {
+        match self.order.get(place) {
+            Some(placed) => Some(placed.key),
+            None => None,
+        }
     }
 
     /// Makes rows for the names up to a number.

@@ -5,4 +5,4 @@ use Rattle.ldnaming.proofs.sorted.listed.Given as goal
 
 -- the names so far, and those that are left
 abbrev pub invariant-loop-name : goal.invariant-loop-name
-invariant-loop-name l = map named_number l.list.items ++ map entry_spelled l.name-iterator ≡ l.names.order
+invariant-loop-name l = map named_number l.list.items ++ map entry_spelled l.name-iterator ≡ l.decisions.names.order

@@ -24,3 +24,10 @@ returns-in-Err-clause-refused c =
 
 pub returns-in-Err-clause-kept : goal.returns-in-Err-clause-kept
 returns-in-Err-clause-kept c = λ n name h. returns-in-Err-clause-refused c n ∙ h
+
+pub returns-in-Err-clause-order : goal.returns-in-Err-clause-order
+returns-in-Err-clause-order c =
+    let k0 = c.args.known.now in
+    let k1 = c.make_ready.new.known in
+    c.drop_newer.ensures ∙ ap (λ n. take n k1.order) c.len-count.ensures.len
+    ∙ ap (take (length k0.order)) c.in-Err.ensures.added.1 ∙ take_first k0.order c.in-Err.ensures.added.0

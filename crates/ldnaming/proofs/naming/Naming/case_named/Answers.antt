@@ -1,17 +1,16 @@
-use Rattle.std.proofs.Common.{◌≡◌, ◌∙◌, ap, sym, subst}
-use Rattle.std.specs.List.{enumerate_from}
+use Rattle.std.proofs.Common.{◌∙◌, ap}
 use Rattle.ldmodel.specs.HandedOver.{decision_of}
-use Rattle.ldmodel.specs.Names.{symbol_tables}
 use Rattle.ldmodel.specs.declared.names.Case.{Case}
-use Rattle.ldnaming.specs.Naming.{NamingState}
-use Rattle.ldnaming.proofs.Noting.{decided_is}
+use Rattle.ldnaming.proofs.Placing.{named_decision}
 use Rattle.ldnaming.proofs.naming.Naming.case_named.Goals as goal
 
-pub returns-clause-case : goal.returns-clause-case
-returns-clause-case c =
-    λ p naming same.
-    ap (λ (x : Case). decision_of (λ key. key) x) c.case.ensures
-    ∙ (c.decide.ensures.case
-    ∙ decided_is p c.args.script.now c.self.inside.names.objects c.args.name.now
-    (subst (λ (x : NamingState). x.objects ≡ enumerate_from 0 (symbol_tables p.objects)) (sym c.self.view_is)
-    naming.objects) same)
+pub returns : goal.returns
+returns c =
+    let by = rw (← c.self.view_is) at c.decided_by_keys.ensures in
+    rw (← c.self.view_is)
+    (record {
+      case = λ p naming same.
+          ap (λ (x : Case). decision_of (λ key. key) x) c.place_case.ensures
+          ∙ named_decision p c.args.script.now c.self.inside.decisions c.self.inside.order c.args.name.now
+          c.case_named.result c.self.invariant (by p c.args.name.now) c.case_named.ensures.found naming same;
+    })

@@ -1,12 +1,18 @@
-use Rattle.std.proofs.Common.{◌∙◌, List, [], arith, sym, ap, length, subst}
+use Rattle.std.proofs.Common.{◌∙◌, List, [], arith, sym, ap, length, map, subst}
 use Rattle.std.specs.Prelude.{Option, None}
+use Rattle.ldmodel.specs.Link.{duplicate_fault}
 use Rattle.ldmodel.specs.Names.{declarations_of}
 use Rattle.ldmodel.specs.declared.fault.Fault.{Fault}
 use Rattle.ldmodel.specs.declared.names.Entry.{Entry}
+use Rattle.ldproject.specs.ByPlace.{faults_in}
 use Rattle.ldnaming.specs.Duplicates.{AreFound}
 use Rattle.std.proofs.lemmas.List.{length-replicate}
 use Rattle.ldnaming.proofs.Doubling.{is_table_at, none_found, object_more, objects_all}
 use Rattle.ldnaming.proofs.naming.Naming.duplicates.Goals as goal
+
+pub returns-then-doubled-eq0 : goal.returns-then-doubled-eq0
+returns-then-doubled-eq0 c =
+    ap (faults_in c.args.project.now) c.new.ensures.items ∙ ap (map duplicate_fault) (sym c.none_doubled.ensures)
 
 pub loop-place-init : goal.loop-place-init
 loop-place-init c = record {

@@ -1,6 +1,7 @@
 use Rattle.std.proofs.Common.{subst}
 use Rattle.symres.specs.Known.{KnownNames, IsConsistent}
-use Rattle.symres.specs.State.{AreDistinct}
+use Rattle.symres.specs.State.{AreDistinct, IsListing}
+use Rattle.symres.proofs.Ordered.{once_mapped, listing}
 use Rattle.symres.proofs.Pairs.{distinct_law, consistent}
 use Rattle.symres.proofs.known.Known.len.Goals as goal
 
@@ -13,3 +14,9 @@ pub returns-clause-distinct : goal.returns-clause-distinct
 returns-clause-distinct c =
     subst (λ (k : KnownNames). AreDistinct k.slots) c.self.view_is
     (distinct_law c.self.inside.numbers.entries c.self.inside.names.slots c.self.invariant)
+
+pub returns-clause-listing : goal.returns-clause-listing
+returns-clause-listing c =
+    subst (λ (k : KnownNames). IsListing k.slots k.order) c.self.view_is
+    (listing _ (consistent c.self.inside.numbers.entries c.self.inside.names.slots c.self.invariant)
+    (once_mapped c.self.inside.numbers.entries c.len.ensures.unique))

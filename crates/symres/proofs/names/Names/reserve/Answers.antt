@@ -3,6 +3,7 @@ use Rattle.symres.specs.Lists.{rooms}
 use Rattle.symres.specs.Spelled.{spell}
 use Rattle.symres.specs.State.{State}
 use Rattle.symres.proofs.Spelling.{AllSpellable, same_objects, spellable_kept}
+use Rattle.symres.proofs.Fresh.{unused}
 use Rattle.symres.proofs.Growing.{both_ok}
 use Rattle.symres.proofs.Joined.{may_enter}
 use Rattle.symres.proofs.names.Names.reserve.Goals as goal
@@ -38,3 +39,11 @@ returns-clause-ok c =
     both_ok c.reserve_fields-reserved.result e.ok e.list (λ r l.
     may_enter new c.reserve_fields-reserved.new.objects (rooms c.reserve_fields-reserved.new.spare.items) _
     c.reserve_fields-reserved.new.known.order c.args.object.now.symbols c.len-known.ensures.distinct named r l)
+
+pub returns-clause-unused : goal.returns-clause-unused
+returns-clause-unused c =
+    let a = c.self.inside in
+    let e = c.reserve_fields-reserved.ensures in
+    rw (← c.self.view_is)
+    (unused a.known c.reserve_fields-reserved.new.known a.objects.objects c.len-before.ensures.listing
+    c.len-known.ensures.listing e.added c.self.invariant.named)

@@ -1,0 +1,100 @@
+//! The names of a link, while objects change.
+
+ghost use Rattle.std.specs.Prelude.{◌≡◌, ◌++◌, List, OnOk};
+ghost use Rattle.ldtree.specs.declared.statement.Statement.{Statement};
+ghost use Rattle.ldnames.specs.Change.{changed_tables, declared_by, Fits, IsReadyFor, reversed};
+ghost use Rattle.ldnames.specs.Counted.{CountsNames, declared_names};
+ghost use Rattle.ldnames.specs.Decisions.{AreKept};
+ghost use Rattle.ldnames.specs.Room.{KeepsUsed};
+ghost use Rattle.ldnaming.specs.Placed.{keys_of};
+ghost use Rattle.symres.specs.State.{Forgets};
+
+use crate::naming::Naming;
+use ldbase::meter::Meter;
+use ldmodel::memory::NoMemory;
+use ldnames::change::ObjectChange;
+use ldproject::order::Order;
+use ldscript::script::Script;
+use std::mem;
+
+impl Naming {
+    /// Takes all memory that a change needs, but for the order after it. Where memory is refused, the objects and what
+    /// their names stand for are as before; names without entries may be forgotten.
+    pub fn room_for(&mut self, script: &Script, change: &ObjectChange<'_>) -> Result<(), NoMemory>
+        requires fits { Fits self.old.kept.names.objects change.now }
+        requires kept { AreKept script.now self.old.kept }
+        ensures objects { self.new.kept.names.objects ≡ self.old.kept.names.objects }
+        ensures kept { AreKept script.now self.new.kept }
+        ensures used { KeepsUsed self.old.kept.names self.new.kept.names }
+        ensures ready { OnOk result (IsReadyFor self.new.kept change.now) }
+    {
+        self.decisions.room_for(script, change)
+    }
+
+    /// Makes a change that there is room for. Each name that the object declared or declares is decided anew, once. It
+    /// takes the order of the objects after the change, and gives back that before it. It takes no memory.
+    pub fn change(
+        &mut self,
+        script: &Script,
+        change: &ObjectChange<'_>,
+        order: Order,
+        meter: &mut Meter,
+    ) -> Order
+        requires ready { IsReadyFor self.old.kept change.now }
+        requires kept { AreKept script.now self.old.kept }
+        requires order { order ≡ keys_of (changed_tables self.old.kept.names.objects change.now) }
+        ensures objects { self.new.kept.names.objects ≡ changed_tables self.old.kept.names.objects change.now }
+        ensures names { self.new.kept.names.names ≡ self.old.kept.names.names }
+        ensures kept { AreKept script.now self.new.kept }
+        ensures counted { CountsNames meter.old meter.new (declared_by change.now.out ++ declared_by change.now.into) }
+        ensures back { IsReadyFor self.new.kept (reversed change.now) }
+        ensures order { result ≡ keys_of self.old.kept.names.objects }
+    {
+        self.decisions.change(script, change, meter);
+        mem::replace(&mut self.order, order)
+    }
+
+    /// Makes the change back, after a change was made: the objects are as they were before it. It takes the order that
+    /// the change gave back. It takes no memory.
+    pub fn undo(
+        &mut self,
+        script: &Script,
+        change: &ObjectChange<'_>,
+        order: Order,
+        meter: &mut Meter,
+    )
+        requires ready { IsReadyFor self.old.kept (reversed change.now) }
+        requires kept { AreKept script.now self.old.kept }
+        requires order { order ≡ keys_of (changed_tables self.old.kept.names.objects (reversed change.now)) }
+        ensures objects { self.new.kept.names.objects
+            ≡ changed_tables self.old.kept.names.objects (reversed change.now) }
+        ensures names { self.new.kept.names.names ≡ self.old.kept.names.names }
+        ensures kept { AreKept script.now self.new.kept }
+        ensures counted { CountsNames meter.old meter.new (declared_by change.now.into ++ declared_by change.now.out) }
+        ensures again { IsReadyFor self.new.kept change.now }
+    {
+        self.decisions.undo(script, change, meter);
+        self.order = order;
+    }
+
+    /// Gives each known name the case that it has under another script. Those that have entries are decided and
+    /// counted, each once. It takes no memory.
+    pub fn redecide(&mut self, script: &Script, meter: &mut Meter)
+        ensures names { self.new.kept.names ≡ self.old.kept.names }
+        ensures kept { AreKept script.now self.new.kept }
+        ensures counted { CountsNames meter.old meter.new (declared_names self.old.kept.names.objects) }
+    {
+        self.decisions.redecide(script, meter);
+    }
+
+    /// Forgets the names without entries. The others keep their keys and their cases. The time is linear in the number
+    /// of names. It takes no memory.
+    pub fn forget(&mut self)
+        ensures forgets { Forgets self.old.kept.names self.new.kept.names }
+        ensures objects { self.new.kept.names.objects ≡ self.old.kept.names.objects }
+        ensures used { KeepsUsed self.old.kept.names self.new.kept.names }
+        ensures kept { (script : List Statement) → AreKept script self.old.kept → AreKept script self.new.kept }
+    {
+        self.decisions.forget();
+    }
+}
