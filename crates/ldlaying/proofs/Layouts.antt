@@ -13,6 +13,7 @@ use Rattle.ldmodel.specs.declared.laid.Placed.{Placed}
 use Rattle.ldsegments.specs.Placing.{AreAllSegments}
 use Rattle.ldtree.specs.declared.statement.Statement.{Statement}
 use Rattle.place.specs.Outcomes as outcomes
+use Rattle.place.specs.Places.{IsPlacement, Places}
 use Rattle.place.specs.declared.fault.PlaceFault.{PlaceFault}
 use Rattle.ldlaying.specs.Laying.{HasLayout, HasPlaces}
 use Rattle.ldlaying.specs.declared.laying.Laying.{Laying}
@@ -25,6 +26,25 @@ why_of_project p script pieces names f a b c h =
     subst (λ (ps : List (List ℕ)). outcomes.IsWhy p.script (rows p) ps f) c
     (subst (λ (xs : List (List Piece)). outcomes.IsWhy p.script xs names f) b
     (subst (λ (ss : List Statement). outcomes.IsWhy ss pieces names f) a h))
+
+-- places of a script with these rows and PROVIDEs are places of the project whose they are
+pub places_of_project : (p : Project) (script : List Statement) (pieces : List (List Piece)) (names : List (List ℕ))
+    (l : Places) → script ≡ p.script → pieces ≡ rows p → names ≡ provided p → outcomes.IsGood script pieces names l
+    → IsPlacement script pieces names l → HasPlaces p l
+places_of_project p script pieces names l a b c good kept =
+    let there : outcomes.IsGood p.script (rows p) (provided p) l =
+    subst (λ (ps : List (List ℕ)). outcomes.IsGood p.script (rows p) ps l) c
+    (subst (λ (xs : List (List Piece)). outcomes.IsGood p.script xs names l) b
+    (subst (λ (ss : List Statement). outcomes.IsGood ss pieces names l) a good)) in
+    record {
+      layout = there.layout;
+      placed = there.placed;
+      apart = there.apart;
+      places = there.places;
+      kept = subst (λ (ps : List (List ℕ)). IsPlacement p.script (rows p) ps l) c
+          (subst (λ (xs : List (List Piece)). IsPlacement p.script xs names l) b
+          (subst (λ (ss : List Statement). IsPlacement ss pieces names l) a kept));
+    }
 
 layout_is : (p : Project) (s : Layout) → placement p.script (rows p) (provided p) ≡ Ok s → overlaps s.sections ≡ []
     → layout p ≡ of_length (image_length p s) s
@@ -41,6 +61,7 @@ has_layout p l h placed e segments = record {
     apart = h.apart;
     layout = layout_is p h.layout h.placed h.apart;
     places = h.places;
+    kept = h.kept;
     segments = segments h.layout.sections (sym h.places.sections ∙ sym e);
   };
 }

@@ -12,17 +12,19 @@ use Rattle.ldmodel.specs.SectionHeaders.{image_length}
 use Rattle.ldmodel.specs.Segments.{segments}
 use Rattle.ldmodel.specs.declared.fault.Fault.{Fault}
 use Rattle.ldproject.specs.ByPlace.{faults_in}
-use Rattle.place.specs.Places.{AreOf, Places}
+use Rattle.place.specs.Places.{AreOf, IsPlacement, Places}
 use Rattle.ldlaying.specs.declared.laying.LayFault.{LayFault}
 use Rattle.ldlaying.specs.declared.laying.LayFault.TheVariants.{Faulty, NoMemory}
 use Rattle.ldlaying.specs.declared.laying.Laying.{Laying}
 
--- s is the layout of the project but for the length of its image, and l is s
+-- s is the layout of the project but for the length of its image, and l is s; a later layout of the script may take
+-- its placement over
 pub record IsLaying (p : Project) (s : Layout) (l : Laying) : Type 0 where
   pub placed : placement p.script (rows p) (provided p) ≡ Ok s
   pub apart : overlaps s.sections ≡ []
   pub layout : layout p ≡ of_length (image_length p s) s
   pub places : AreOf p.script s l.placement
+  pub kept : IsPlacement p.script (rows p) (provided p) l.placement
   pub segments : AreSegments s.sections (segments s.sections) l.segments.items
 
 -- places of the project's layout, in which no output sections meet
@@ -31,6 +33,7 @@ pub record HasPlaces (p : Project) (l : Places) : Type 0 where
   pub placed : placement p.script (rows p) (provided p) ≡ Ok layout
   pub apart : overlaps layout.sections ≡ []
   pub places : AreOf p.script layout l
+  pub kept : IsPlacement p.script (rows p) (provided p) l
 
 pub record HasLayout (p : Project) (l : Laying) : Type 0 where
   pub layout : Layout

@@ -1,12 +1,13 @@
 //! The layout of a project, or its faults.
 
-ghost use Rattle.std.specs.Prelude.{◌≡◌, IfErr, IfOk};
+ghost use Rattle.std.specs.Prelude.{◌≡◌, IfErr, IfOk, map};
 ghost use Rattle.ldmodel.specs.Names.{provided};
 ghost use Rattle.ldmodel.specs.Project.{Project};
 ghost use Rattle.ldmodel.specs.Rows as model;
 ghost use Rattle.ldlaying.specs.Laying.{HasLayout, HasPlaces, IsOne, IsWhy};
 ghost use Rattle.ldnaming.specs.Naming.{IsNaming};
 ghost use Rattle.ldproject.specs.ByPlace.{rows_in};
+ghost use Rattle.place.specs.Counted.{CountsPieces, entries};
 ghost use Rattle.place.specs.Outcomes as outcomes;
 
 use ldbase::meter::Meter;
@@ -87,9 +88,10 @@ fn place_rows(
     requires rows { rows_in lent rows.now ≡ model.rows lent }
     ensures good { IfOk result (λ l. HasPlaces lent l) }
     ensures faulty { IfErr result (λ f. IsWhy lent f) }
+    ensures counted { CountsPieces meter.old meter.new (entries 0 (map (λ v. v.items) rows.now)) }
 {
     let script = project.script();
-    let provided = naming.provided(alloc, script, meter)?;
+    let provided = naming.provided(alloc, script)?;
     match place(alloc, script, rows, &provided, None, meter) {
         Ok(placement) => Ok(placement),
         Err(fault) => Err(reported(alloc, fault)),
@@ -98,7 +100,7 @@ fn place_rows(
 
 impl Laying {
     /// Lays the rows of a project out, whose names are decided. The length of the image isn't looked at: it is known
-    /// only when the symbols have their values.
+    /// only when the symbols have their values. At most the entries of the rows are counted as placed.
     ///
     /// # Errors
     ///
@@ -114,6 +116,7 @@ impl Laying {
         requires rows { rows_in project.now rows.now ≡ model.rows project.now }
         ensures good { IfOk result (λ l. HasLayout project.now l) }
         ensures faulty { IfErr result (λ f. IsWhy project.now f) }
+        ensures counted { CountsPieces meter.old meter.new (entries 0 (map (λ v. v.items) rows.now)) }
     {
         let placement = place_rows(alloc, project, naming, rows, meter)?;
         let segments = segments(alloc, placement.laid())?;

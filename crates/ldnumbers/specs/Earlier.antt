@@ -29,6 +29,11 @@ earlier_of e = record {
 abbrev pub part_of : {X : Type 0} → List X → ℕ → ℕ → List X
 part_of xs from count = take count (drop from xs)
 
+-- these are the starts of the input sections of an output section, before which this many come
+pub record AreStartsOf (e : Earlier) (number from : ℕ) (starts : List ℕ) : Type 0 where
+  pub counted : slice_get e.counts.now number ≡ Some (length starts)
+  pub are : starts ≡ part_of e.starts.now from (length starts)
+
 -- it is the one of this number, its input sections are the earlier layout's from this one on, and it has these data
 -- commands
 pub record IsSectionOf (e : Earlier) (number start : ℕ) (o : OutputSection) (row : List Piece)

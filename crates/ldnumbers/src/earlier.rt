@@ -1,7 +1,7 @@
 //! The output sections of an earlier layout.
 
 ghost use Rattle.std.specs.Prelude.{◌≡◌, ◌+◌, ◌-◌, length, take, IfSome};
-ghost use Rattle.ldnumbers.specs.Earlier.{part_of, IsSectionOf};
+ghost use Rattle.ldnumbers.specs.Earlier.{part_of, AreStartsOf, IsSectionOf};
 
 use ldmodel::laid::{Placed, PlacedData};
 use ldmodel::rows::Piece;
@@ -66,6 +66,14 @@ impl<'a> Earlier<'a> {
         part(self.data_commands, from, count)
     }
 
+    /// Where the input sections of the output section of a number start, before which this many come.
+    pub fn starts_of(&self, number: usize, from: usize) -> Option<&'a [u64]>
+        ensures { IfSome result (λ x. AreStartsOf self.now number from x.now) }
+    {
+        let count = *self.counts.get(number)?;
+        part(self.starts, from, count)
+    }
+
     /// The output section of a number, whose input sections are those from this one on: the first entries of its row.
     pub(crate) fn section(
         &self,
@@ -78,10 +86,9 @@ impl<'a> Earlier<'a> {
         ensures { IfSome result (λ t. IsSectionOf self.now number start output.now row.now data_commands.now t) }
     {
         let placed = self.sections.get(number)?;
-        let count = *self.counts.get(number)?;
-        let starts = part(self.starts, start, count)?;
+        let starts = self.starts_of(number, start)?;
         placed.start.checked_add(placed.size)?;
-        if row.len() < count {
+        if row.len() < starts.len() {
             return None;
         }
         Some(Taken {

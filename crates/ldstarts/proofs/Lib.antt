@@ -2,4 +2,6 @@ mod Ranks
 mod Searching
 mod Numbers
 mod Collecting
+mod Counting
+mod Owning
 mod Placing

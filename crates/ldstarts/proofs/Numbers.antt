@@ -134,6 +134,15 @@ module _ (objects : List NamedObject) (distinct : AreNamesDistinct objects) wher
           absurd (omega arith)
       go None at false l = nameless
 
+-- a number is at most the number of objects
+pub number_below : (objects : List NamedObject) (key : ℕ) → number_of (numbering_of objects) key < length objects + 1
+number_below objects key = go (nat_lt key (length objects)) refl
+  where
+    go : (t : Bool) → nat_lt key (length objects) ≡ t
+        → cond t key (position_or_len (has_name []) objects) < length objects + 1
+    go true e = let inside : key < length objects = ltb-true key (length objects) e in omega arith
+    go false e = omega (arith, prefix_len-le-length (λ (o : NamedObject). not (has_name [] o)) objects)
+
 -- two keys have one name exactly where they have one number
 pub same_number : (p : Project) → AreNamesDistinct p.objects → (i j : ℕ)
     → (number_of (numbering_of p.objects) i == number_of (numbering_of p.objects) j)

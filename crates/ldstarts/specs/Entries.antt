@@ -25,12 +25,20 @@ rank_cmp x y = ordering_then (ordering_then (nat_cmp x.0 y.0) (bool_cmp x.1 y.1)
 abbrev pub has_rank : ℕ × Bool × ℕ → Entry → Bool
 has_rank sought e = is_eq (rank_cmp (rank_in e) sought)
 
+-- whether an entry is a common block
+abbrev pub is_block_part : Part → Bool
+is_block_part (InTable k) = false
+is_block_part (InCommon x) = true
+
+abbrev pub is_block : Entry → Bool
+is_block e = is_block_part e.part
+
 -- an entry of a row and the address that it starts at, in an output section
 abbrev pub entry_of : Numbering → ℕ → Piece × ℕ → Entry
 entry_of objects section x = record {
   object = number_of objects x.0.section.object.0;
   part = x.0.section.part;
-  place = record { start = x.1; section = record { 0 = section } };
+  place = record { start = x.1; size = x.0.size; section = record { 0 = section } };
 }
 
 abbrev pub row_entries : Numbering → ℕ → List Piece → List ℕ → List Entry

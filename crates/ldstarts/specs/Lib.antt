@@ -1,3 +1,5 @@
 pub mod Entries
+pub mod Headers
 pub mod Numbering
+pub mod Sections
 pub mod Starts

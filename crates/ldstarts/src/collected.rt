@@ -28,6 +28,7 @@ fn add_row(
             part: piece.section.part,
             place: PartPlace {
                 start: *start,
+                size: piece.size,
                 section,
             },
         })?;

@@ -1,12 +1,14 @@
 //! Input sections with their places, in an order of their own.
 
-ghost use Rattle.std.specs.Prelude.{◌≡◌, find};
+ghost use Rattle.std.specs.Prelude.{◌≡◌, IfOk, filter, find};
 ghost use Rattle.std.specs.List.Sorted.{IsSortedByKey};
 ghost use Rattle.std.specs.Option.{option_map};
-ghost use Rattle.ldstarts.specs.Entries.{has_rank, rank_cmp, rank_in, rank_of};
+ghost use Rattle.ldstarts.specs.Entries.{has_rank, is_block, rank_cmp, rank_in, rank_of};
 
 use crate::starts::PartPlace;
+use ldmodel::memory::NoMemory;
 use ldmodel::sections::Part;
+use std::alloc::Global;
 
 /// Where a part of an object comes among all: by the number of the object, then sections before common blocks, then by
 /// the number of the part.
@@ -40,6 +42,24 @@ impl Entry {
     {
         rank(self.object, self.part)
     }
+
+    /// Whether it is a common block.
+    pub(crate) fn is_block(&self) -> bool
+        ensures { result ≡ is_block self.now }
+    {
+        matches!(self.part, Part::InCommon(_))
+    }
+}
+
+/// The common blocks among these input sections, in their order. An error says that memory ran out.
+pub(crate) fn blocks_among(alloc: Global, entries: &[Entry]) -> Result<Vec<Entry>, NoMemory>
+    ensures { IfOk result (λ v. v.items ≡ filter is_block entries.now) }
+{
+    entries
+        .iter()
+        .filter(|entry| entry.is_block())
+        .copied()
+        .collect(alloc)
 }
 
 /// Where the first input section of a rank stands. The time is logarithmic.

@@ -3,5 +3,7 @@
 
 mod collected;
 mod entry;
+mod headers;
 mod numbering;
+mod sections;
 pub mod starts;

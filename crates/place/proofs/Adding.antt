@@ -39,7 +39,7 @@ pub record SectionGrown (row : List Piece) (s : Layout) (o : OutputSection) (t :
   pub symbols_are : Begins s.symbols t.symbols
 
 -- the end of a section adds it, and changes regions alone
-end_is : (line : ℕ) (o : OutputSection) (h : Head) (b : Body) (t : Layout) → section_end line o h b ≡ Ok t
+pub end_is : (line : ℕ) (o : OutputSection) (h : Head) (b : Body) (t : Layout) → section_end line o h b ≡ Ok t
     → with_section b.layout o (placed_section o h b) ≡ t
 unfolding section_end
 end_is line o h b t e =

@@ -43,6 +43,7 @@ module _ (script : List Statement) (rows : List (List Piece)) (provided : List (
     places = i.places;
     boundaries = i.boundaries;
     many = i.many;
+    in_force = i.in_force;
     apart = sym (met alone (λ k. k) refl) ∙ ap (map (fault_of alone (λ k. k))) none;
   }
 

@@ -82,9 +82,10 @@ abbrev pub the_piece : PlacedPiece → Piece
 the_piece x = x.piece
 
 -- a body goes on: it takes entries from the front of the row, keeps the output sections that are complete and the
--- regions, and adds to the values of `.` and the symbols
+-- regions, and adds to the input sections, the values of `.` and the symbols
 pub record Grown (b c : Body) : Type 0 where
   pub row : map the_piece c.pieces ++ c.rest ≡ map the_piece b.pieces ++ b.rest
+  pub pieces : Begins b.pieces c.pieces
   pub dot : b.layout.dot ≤ c.layout.dot
   pub sections : c.layout.sections ≡ b.layout.sections
   pub regions : c.layout.regions ≡ b.layout.regions
@@ -94,6 +95,7 @@ pub record Grown (b c : Body) : Type 0 where
 grown_none : (b : Body) → Grown b b
 grown_none b = record {
   row = refl;
+  pieces = begins_same b.pieces b.pieces refl;
   dot = omega arith;
   sections = refl;
   regions = refl;
@@ -104,6 +106,7 @@ grown_none b = record {
 pub grown_on : (b c e : Body) → Grown b c → Grown c e → Grown b e
 grown_on b c e g h = record {
   row = h.row ∙ g.row;
+  pieces = begins_on b.pieces c.pieces e.pieces g.pieces h.pieces;
   dot = omega (arith, g.dot, h.dot);
   sections = h.sections ∙ g.sections;
   regions = h.regions ∙ g.regions;
@@ -118,6 +121,7 @@ grown_given b c e = subst (Grown b) (given_is b c e) (grown_none b)
 grown_dot : (b : Body) (x : ℕ) → b.layout.dot ≤ x → Grown b (with_dot b x)
 grown_dot b x l = record {
   row = refl;
+  pieces = begins_same b.pieces b.pieces refl;
   dot = l;
   sections = refl;
   regions = refl;
@@ -137,6 +141,7 @@ piece_grows line b p rest c r e =
       subst (Grown b) d (record {
         row = ap (λ l. l ++ rest) (map-append the_piece b.pieces (x ∷ []))
             ∙ (append_assoc (map the_piece b.pieces) (p ∷ []) rest ∙ ap (λ l. map the_piece b.pieces ++ l) (sym r));
+        pieces = begins_one b.pieces x (b.pieces ++ x ∷ []) refl;
         dot = omega (arith, end);
         sections = refl;
         regions = refl;
@@ -146,7 +151,7 @@ piece_grows line b p rest c r e =
       ap (λ (u : Body). u.rest) (sym d),
     )
 
-pieces_grow : (line n : ℕ) (ps : List Piece) (b c : Body) → b.rest ≡ ps → pieces_placed line n b ps ≡ Ok c
+pub pieces_grow : (line n : ℕ) (ps : List Piece) (b c : Body) → b.rest ≡ ps → pieces_placed line n b ps ≡ Ok c
     → Grown b c
 unfolding pieces_placed
 pieces_grow line n [] b c r e = grown_given b c e
@@ -167,6 +172,7 @@ input_grows line b c e =
     let g = pieces_grow line b.layout.inputs b.rest b h.value refl h.first in
     subst (Grown b) d (record {
       row = g.row;
+      pieces = g.pieces;
       dot = g.dot;
       sections = g.sections;
       regions = g.regions;
@@ -210,6 +216,7 @@ data_grows line w bytes b c e =
     let d = given_is (with_dot (with_data b bytes) k.value) c k.second in
     subst (Grown b) d (record {
       row = refl;
+      pieces = begins_same b.pieces b.pieces refl;
       dot = omega (arith, end);
       sections = refl;
       regions = refl;
@@ -222,6 +229,7 @@ common_grows : (provided : List (List ℕ)) (line : ℕ) (x : Common) (b : Body)
     → Grown b (record b { layout = s })
 common_grows provided line x b s e = record {
   row = refl;
+  pieces = begins_same b.pieces b.pieces refl;
   dot = let h = common_leaves (λ (u : Layout). u.dot) (λ u n v. refl) provided b.layout line x s e in omega (arith, h);
   sections = common_keeps provided b.layout line x s e;
   regions = common_leaves (λ (u : Layout). u.regions) (λ u n v. refl) provided b.layout line x s e;
@@ -250,6 +258,7 @@ statement_grows provided x b c e =
     let h = command_grows provided x.line x.command (record b { layout = noted b.layout }) c e in
     record {
       row = h.row;
+      pieces = h.pieces;
       dot = h.dot;
       sections = h.sections;
       regions = h.regions;

@@ -21,3 +21,6 @@ pub mod Resuming
 pub mod Noting
 pub mod Joining
 pub mod Keeping
+pub mod Options
+pub mod Alongside
+pub mod AlongsideItems

@@ -103,7 +103,7 @@ module _ (n : Naming) (script : List Statement) (k : Kept) (provided : List (Lis
       (many ∙ sym (length-map s.sections placed_of)) in
       cc
 
-  count_is : (m : ℕ) → slice_get k.earlier.counts.now (length before) ≡ Some m → m ≡ length q.pieces
+  pub count_is : (m : ℕ) → slice_get k.earlier.counts.now (length before) ≡ Some m → m ≡ length q.pieces
   count_is m e =
       let at = next_element (counts_of s.sections) (length q.pieces) (counts_of t.sections) k.earlier.counts.now
       (length before) (ap counts_of grown.added
@@ -111,7 +111,7 @@ module _ (n : Naming) (script : List Statement) (k : Kept) (provided : List (Lis
       (many ∙ sym (length-map s.sections (λ (x : PlacedSection). length x.pieces))) in
       cc
 
-  starts_are : (m : ℕ) → m ≡ length q.pieces → part_of k.earlier.starts.now (length (starts_in before)) m ≡ starts_of q
+  pub starts_are : (m : ℕ) → m ≡ length q.pieces → part_of k.earlier.starts.now (length (starts_in before)) m ≡ starts_of q
   starts_are m e =
       next_part (flat_map starts_of s.sections) (starts_of q) (flat_map starts_of t.sections) k.earlier.starts.now
       (length (starts_in before)) m

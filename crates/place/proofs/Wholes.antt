@@ -40,18 +40,6 @@ pub data_whole : (n : Naming) (k : ℕ) (xs : List KeyedSection) → all_data_in
 data_whole n k [] = refl
 data_whole n k (x ∷ xs) = ap (λ l. data_in k x.data_commands ++ l) (data_whole n (k + 1) xs)
 
--- the starts of one more output section of a list
-pub starts_more : {X : Type 0} (key : X → KeyedSection) (from : List X → List KeyedSection)
-    → ((y : X) (ys : List X) → from (y ∷ ys) ≡ key y ∷ from ys)
-    → (xs : List X) (i : ℕ) (x : X) (all old new : List ℕ) → i < length xs → x ≡ get_or xs i x
-    → all ≡ old ++ starts_in (from (drop i xs)) → new ≡ old ++ map (λ (p : KeyedPiece). p.start) (key x).pieces
-    → all ≡ new ++ starts_in (from (drop (i + 1) xs))
-starts_more key from first xs i x all old new l at h e =
-    let here : drop i xs ≡ x ∷ drop (i + 1) xs = drop_more xs i x l ∙ ap (λ y. y ∷ drop (i + 1) xs) (sym at) in
-    h ∙ (ap (λ ys. old ++ starts_in ys) (ap from here ∙ first x (drop (i + 1) xs))
-    ∙ (sym (append_assoc old (map (λ (p : KeyedPiece). p.start) (key x).pieces) (starts_in (from (drop (i + 1) xs))))
-    ∙ ap (λ ys. ys ++ starts_in (from (drop (i + 1) xs))) (sym e)))
-
 pub ends_whole : (xs : List KeyedSection) → KeyedEnds xs → Ends (placed_in xs)
 ends_whole [] h k d l = absurd (omega arith)
 ends_whole (x ∷ xs) h zero d l = h 0 x (omega arith)

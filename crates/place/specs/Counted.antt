@@ -1,5 +1,5 @@
 -- How many input sections are placed anew.
-use Rattle.std.specs.Prelude.{◌≡◌, ℕ, zero, suc, ◌+◌, ◌≤◌, max, List, [], ◌∷◌, length, map, ◌⊎◌}
+use Rattle.std.specs.Prelude.{◌≡◌, ℕ, zero, suc, ◌+◌, ◌≤◌, max, List, [], ◌∷◌, length, map, IfSome, ◌⊎◌}
 use Rattle.ldbase.specs.Counts.{Counts}
 use Rattle.ldbase.specs.Raised.{raised}
 use Rattle.ldbase.specs.declared.meter.Count.TheVariants.{Pieces}
@@ -9,12 +9,19 @@ use Rattle.place.specs.declared.script.Input.{Input}
 use Rattle.place.specs.declared.state.Frame.{Frame}
 use Rattle.place.specs.declared.state.Here.{Here}
 
--- in a body the script stays, and at most as many are placed anew as take their places, and no more of these than the
--- row has
+-- the script stays, and at most as many input sections are placed anew as take their places, and no more of these than
+-- the row has
+pub record Entered (old new : Here) (f : Frame) : Type 0 where
+  pub script : new.symbols.script ≡ old.symbols.script
+  pub anew : new.anew + length old.pieces.items ≤ old.anew + length new.pieces.items
+  pub within : length old.pieces.items ≤ length f.row.now → length new.pieces.items ≤ length f.row.now
+
+-- and none is placed anew where it is known where they start
 pub record Counted (old new : Here) (f : Frame) : Type 0 where
   pub script : new.symbols.script ≡ old.symbols.script
   pub anew : new.anew + length old.pieces.items ≤ old.anew + length new.pieces.items
   pub within : length old.pieces.items ≤ length f.row.now → length new.pieces.items ≤ length f.row.now
+  pub none : IfSome f.starts (λ s. new.anew ≡ old.anew)
 
 -- the entries of the rows from a number on
 abbrev pub entries : ℕ → List (List Piece) → ℕ
@@ -22,7 +29,7 @@ entries k [] = 0
 entries zero (row ∷ rows) = length row + entries zero rows
 entries (suc k) (row ∷ rows) = entries k rows
 
--- the entries of the rows that are not taken over, from the next output section on
+-- the entries of the rows that differ, from the next output section on
 unfoldable pub left_after : Input → List KeyedSection → ℕ
 left_after i sections = entries (max i.kept.first (length sections)) (map (λ v. v.items) i.rows.now)
 

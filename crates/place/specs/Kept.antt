@@ -4,10 +4,10 @@ use Rattle.ldtree.specs.declared.statement.Statement.{Statement}
 use Rattle.ldmodel.specs.Rows.{Piece}
 use Rattle.place.specs.Places.{IsPlacement, Places}
 
--- the places are those of an earlier layout of the script, in which the same PROVIDEs were in force, and whose rows were
--- the same before this number
-pub record IsKept (script : List Statement) (rows : List (List Piece)) (provided : List (List ℕ)) (kept : Places)
-    (first : ℕ) : Type 0 where
+-- the places are those of an earlier layout of the script, whose rows were the same before this number; which PROVIDEs
+-- were in force in it does not matter
+pub record IsKept (script : List Statement) (rows : List (List Piece)) (kept : Places) (first : ℕ) : Type 0 where
   pub earlier : List (List Piece)
-  pub placed : IsPlacement script earlier provided kept
+  pub earlier_provided : List (List ℕ)
+  pub placed : IsPlacement script earlier earlier_provided kept
   pub same : (k : ℕ) → k < first → slice_index_or earlier k [] ≡ slice_index_or rows k []

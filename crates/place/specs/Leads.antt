@@ -1,16 +1,17 @@
 -- What is to come, told by an earlier layout.
-use Rattle.std.specs.Prelude.{◌≡◌, ℕ, List, ◌++◌, length, map, flat_map, Result, Ok}
+use Rattle.std.specs.Prelude.{◌≡◌, ℕ, List, ◌++◌, length, map, flat_map, Result, Ok, true}
 use Rattle.ldtree.specs.declared.statement.Statement.{Statement}
 use Rattle.ldmodel.specs.Fault.{Fault}
 use Rattle.ldmodel.specs.Layout.{Layout, PlacedSection}
 use Rattle.ldmodel.specs.Lent.{data_of, placed_of, starts_of, symbol_of}
+use Rattle.ldmodel.specs.declared.script_symbol.CommonIndex.{CommonIndex}
 use Rattle.ldnumbers.specs.SymbolTable.{AreFound, Rises}
 use Rattle.place.specs.Boundaries.{data_in}
 use Rattle.place.specs.Places.{Places}
 use Rattle.place.specs.declared.kept.Kept.{Kept}
 
--- all of a placement, before the row of a number
-pub record Keeps (p : Places) (first : ℕ) (k : Kept) : Type 0 where
+-- all of a placement, before the row of a number, where these PROVIDEs are in force now
+pub record Keeps (p : Places) (first : ℕ) (provided : List CommonIndex) (k : Kept) : Type 0 where
   pub sections : k.earlier.sections.now ≡ p.sections
   pub counts : k.earlier.counts.now ≡ p.counts
   pub starts : k.earlier.starts.now ≡ p.starts
@@ -19,6 +20,7 @@ pub record Keeps (p : Places) (first : ℕ) (k : Kept) : Type 0 where
   pub symbols : k.symbols.now ≡ p.symbols
   pub boundaries : k.boundaries.now ≡ p.boundaries
   pub first_is : k.first ≡ first
+  pub provided_is : k.same_provided ≡ true → p.provided ≡ provided
 
 -- a list begins with these
 pub record Begins {X : Type 0} (xs ys : List X) : Type 0 where

@@ -13,3 +13,4 @@ pub mod Counted
 pub mod Kept
 pub mod Leads
 pub mod Earlier
+pub mod Alongside

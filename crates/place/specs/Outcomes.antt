@@ -9,6 +9,7 @@ use Rattle.ldmodel.specs.Placement.{placement}
 use Rattle.ldmodel.specs.Project.{Project}
 use Rattle.ldmodel.specs.Rows.{Piece}
 use Rattle.ldmodel.specs.declared.fault.Fault as code_fault
+use Rattle.ldnumbers.specs.ProvidedTable.{provided_names}
 use Rattle.place.specs.Boundaries.{AreBoundariesOf}
 use Rattle.place.specs.Places.{AreOf, IsFirstFault, Places, StandsFor}
 use Rattle.place.specs.declared.fault.PlaceFault.{PlaceFault}
@@ -34,6 +35,7 @@ pub record IsGood (script : List Statement) (rows : List (List Piece)) (provided
   pub places : AreOf script layout p
   pub boundaries : AreBoundariesOf rows provided nothing_placed script p.boundaries
   pub many : length p.boundaries ≡ length layout.sections + 1
+  pub in_force : provided_names script p.provided ≡ provided
   pub apart : overlaps layout.sections ≡ []
 
 -- there is a layout, but output sections meet, and these are all the faults of it

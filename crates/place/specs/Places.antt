@@ -13,7 +13,9 @@ use Rattle.ldmodel.specs.declared.fault.Fault as code_fault
 use Rattle.ldmodel.specs.declared.laid.Placed.{Placed}
 use Rattle.ldmodel.specs.declared.laid.PlacedData.{PlacedData}
 use Rattle.ldmodel.specs.declared.laid.PlacedRegion.{PlacedRegion}
+use Rattle.ldmodel.specs.declared.script_symbol.CommonIndex.{CommonIndex}
 use Rattle.ldmodel.specs.declared.script_symbol.ScriptSymbol.{ScriptSymbol}
+use Rattle.ldnumbers.specs.ProvidedTable.{provided_names}
 use Rattle.ldnumbers.specs.SymbolTable.{AreFound, Rises}
 use Rattle.place.specs.Boundaries.{AreBoundariesOf}
 use Rattle.place.specs.declared.boundary.Boundary.{Boundary}
@@ -28,6 +30,7 @@ pub record Places : Type 0 where
   pub symbols : List ScriptSymbol
   pub regions : List PlacedRegion
   pub boundaries : List Boundary
+  pub provided : List CommonIndex
 
 -- the end of each output section is an address
 abbrev pub Ends : List Placed → Type 0
@@ -54,6 +57,7 @@ pub record IsPlacement (script : List Statement) (rows : List (List Piece)) (pro
   pub places : AreOf script layout p
   pub boundaries : AreBoundariesOf rows provided nothing_placed script p.boundaries
   pub many : length p.boundaries ≡ length layout.sections + 1
+  pub in_force : provided_names script p.provided ≡ provided
 
 -- a fault of the code stands for one of the definition, whatever project has the script
 abbrev pub StandsFor : List Statement → code_fault.Fault → Fault → Type 0

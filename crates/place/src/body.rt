@@ -1,23 +1,56 @@
 //! The body of an output section.
 
-ghost use Rattle.std.specs.Prelude.{◌≤◌, ◌≡◌, ◌+◌, length, drop, OnOk};
+ghost use Rattle.std.specs.Prelude.{◌≤◌, ◌≡◌, ◌+◌, length, drop, OnOk, IfSome};
 ghost use Rattle.ldexpr.specs.DotForms.{dot_form};
 ghost use Rattle.ldexpr.specs.Expressions.{expr_of};
 ghost use Rattle.ldmodel.specs.Body.{advanced, body_command_step, body_step, data_step, input_step, moved};
-ghost use Rattle.ldmodel.specs.Body.{piece_placed, pieces_placed, set_to};
+ghost use Rattle.ldmodel.specs.Body.{piece_placed, piece_start, pieces_placed, set_to};
 ghost use Rattle.ldmodel.specs.Chain.{run};
 ghost use Rattle.ldnumbers.specs.Naming.{Naming, piece_named, row_named};
-ghost use Rattle.place.specs.Counted.{Counted};
+ghost use Rattle.place.specs.Alongside.{BodyAlongside, IfInput, StartAt, StartsThere};
+ghost use Rattle.place.specs.Counted.{Counted, Entered};
 ghost use Rattle.place.specs.State.{body_of, Gives};
 
 use crate::state::{Frame, Here};
 use crate::stop::Stop;
+use ldlaws::layout::steps_stay_alike;
 use ldmodel::rows::Piece;
 use ldnumbers::sections::{DataAt, PieceAt};
 use ldscript::tree::{BodyCommand, BodyStatement, DotCommand, DotForm, Expr, Formula, Width};
 
 impl<'d, 'a> Frame<'d, 'a> {
-    /// The next entry of the row takes its place.
+    /// The next entry of the row takes its place, which starts there.
+    #[tactic(auto, unfolding(ldmodel::specs::Body::piece_placed))]
+    fn put_piece(
+        &self,
+        here: &mut Here<'a>,
+        line: u32,
+        piece: &'a Piece,
+        start: u64,
+    ) -> Result<(), Stop<'a>>
+        ghost naming: { Naming }
+        requires { start ≡ piece_start here.now.dot (piece_named naming piece.now) }
+        ensures gives { Gives
+            (piece_placed line (body_of naming here.old self.now) (piece_named naming piece.now)
+            (row_named naming (drop (length here.old.pieces.items + 1) self.now.row.now)))
+            (body_of naming here.new self.now) result }
+        ensures script { here.new.symbols.script ≡ here.old.symbols.script }
+        ensures inputs { here.new.inputs ≡ here.old.inputs }
+        ensures dot { OnOk result (here.new.dot ≡ start + piece.now.size) }
+        ensures one { OnOk result (length here.new.pieces.items ≡ length here.old.pieces.items + 1) }
+        ensures anew { here.new.anew ≡ here.old.anew }
+        ensures few { length here.old.pieces.items ≤ length here.new.pieces.items }
+        ensures no_more { length here.new.pieces.items ≤ length here.old.pieces.items + 1 }
+    {
+        let Some(end) = start.checked_add(piece.size) else {
+            return Err(Stop::PastAddressSpace { line });
+        };
+        here.pieces.push(PieceAt { start, piece })?;
+        here.dot = end;
+        Ok(())
+    }
+
+    /// The next entry of the row is placed anew.
     #[tactic(auto, unfolding(ldmodel::specs::Body::piece_placed))]
     fn place_piece(&self, here: &mut Here<'a>, line: u32, piece: &'a Piece) -> Result<(), Stop<'a>>
         ghost naming: { Naming }
@@ -33,16 +66,12 @@ impl<'d, 'a> Frame<'d, 'a> {
         let Some(start) = here.dot.checked_next_multiple_of(piece.alignment.max(1)) else {
             return Err(Stop::PastAddressSpace { line });
         };
-        let Some(end) = start.checked_add(piece.size) else {
-            return Err(Stop::PastAddressSpace { line });
-        };
-        here.pieces.push(PieceAt { start, piece })?;
+        self.put_piece(here, line, piece, start)?;
         here.anew = here.anew.saturating_add(1);
-        here.dot = end;
         Ok(())
     }
 
-    /// The entries of an input statement take their places.
+    /// The entries of an input statement are placed anew.
     #[tactic(auto, unfolding(ldmodel::specs::Body::pieces_placed))]
     fn place_pieces(&self, here: &mut Here<'a>, line: u32, number: u64) -> Result<(), Stop<'a>>
         ghost naming: { Naming }
@@ -50,7 +79,7 @@ impl<'d, 'a> Frame<'d, 'a> {
             (pieces_placed line number (body_of naming here.old self.now)
             (row_named naming (drop (length here.old.pieces.items) self.now.row.now)))
             (body_of naming here.new self.now) result }
-        ensures counted { Counted here.old here.new self.now }
+        ensures entered { Entered here.old here.new self.now }
     {
         while here.pieces.len() < self.row.len() {
             let piece = &self.row[here.pieces.len()];
@@ -62,9 +91,45 @@ impl<'d, 'a> Frame<'d, 'a> {
         Ok(())
     }
 
+    /// The entries of an input statement stay where they were: those of the row start at these addresses.
+    #[tactic(auto, unfolding(ldmodel::specs::Body::pieces_placed))]
+    fn keep_pieces(
+        &self,
+        here: &mut Here<'a>,
+        line: u32,
+        number: u64,
+        starts: &[u64],
+    ) -> Result<(), Stop<'a>>
+        ghost naming: { Naming }
+        requires { StartAt number here.now.dot
+            (row_named naming (drop (length here.now.pieces.items) self.now.row.now))
+            (drop (length here.now.pieces.items) starts.now) }
+        ensures gives { Gives
+            (pieces_placed line number (body_of naming here.old self.now)
+            (row_named naming (drop (length here.old.pieces.items) self.now.row.now)))
+            (body_of naming here.new self.now) result }
+        ensures counted { Counted here.old here.new self.now }
+        ensures anew { here.new.anew ≡ here.old.anew }
+    {
+        while here.pieces.len() < self.row.len() {
+            let place = here.pieces.len();
+            let piece = &self.row[place];
+            if u64::from(piece.statement.0) != number {
+                break;
+            }
+            let Some(start) = starts.get(place) else {
+                // it does not come to this: the earlier row had as many entries
+                return Err(Stop::NoMemory);
+            };
+            self.put_piece(here, line, piece, *start)?;
+        }
+        Ok(())
+    }
+
     /// An input statement.
     fn place_input(&self, here: &mut Here<'a>, line: u32) -> Result<(), Stop<'a>>
         ghost naming: { Naming }
+        requires { StartsThere naming here.now self.now }
         ensures gives { Gives (input_step line (body_of naming here.old self.now)) (body_of naming here.new self.now)
             result }
         ensures counted { Counted here.old here.new self.now }
@@ -74,7 +139,10 @@ impl<'d, 'a> Frame<'d, 'a> {
             // it does not come to this: no script has 2^64 input statements
             return Err(Stop::NoMemory);
         };
-        self.place_pieces(here, line, number)?;
+        match self.starts {
+            Some(starts) => self.keep_pieces(here, line, number, starts)?,
+            None => self.place_pieces(here, line, number)?,
+        }
         here.inputs = next;
         Ok(())
     }
@@ -166,6 +234,7 @@ impl<'d, 'a> Frame<'d, 'a> {
         command: &'a BodyCommand,
     ) -> Result<(), Stop<'a>>
         ghost naming: { Naming }
+        requires { IfInput command.now (StartsThere naming here.now self.now) }
         ensures gives { Gives
             (body_command_step self.now.provided.now line (body_of naming here.old self.now) command.now)
             (body_of naming here.new self.now) result }
@@ -186,6 +255,7 @@ impl<'d, 'a> Frame<'d, 'a> {
         statement: &'a BodyStatement,
     ) -> Result<(), Stop<'a>>
         ghost naming: { Naming }
+        requires { IfInput statement.now.command (StartsThere naming here.now self.now) }
         ensures gives { Gives (body_step self.now.provided.now (body_of naming here.old self.now) statement.now)
             (body_of naming here.new self.now) result }
         ensures counted { Counted here.old here.new self.now }
@@ -198,10 +268,12 @@ impl<'d, 'a> Frame<'d, 'a> {
     #[tactic(auto, unfolding(ldmodel::specs::Chain::run))]
     pub fn place_body(&self, here: &mut Here<'a>, body: &'a [BodyStatement]) -> Result<(), Stop<'a>>
         ghost naming: { Naming }
+        requires { IfSome self.now.starts (λ s. BodyAlongside s.now (body_of naming here.now self.now) body.now) }
         ensures gives { Gives (run (body_step self.now.provided.now) (body_of naming here.old self.now) body.now)
             (body_of naming here.new self.now) result }
         ensures counted { Counted here.old here.new self.now }
     {
+        steps_stay_alike();
         for statement in body {
             self.place_statement(here, statement)?;
         }

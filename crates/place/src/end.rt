@@ -1,16 +1,15 @@
 //! The end of an output section.
 
-ghost use Rattle.std.specs.Prelude.{◌+◌, length, OnOk, ◌≡◌, ◌==◌, ◌&&◌, ◌||◌, if◌then◌else◌, map, not, bit_and};
-ghost use Rattle.std.specs.List.{list_any};
+ghost use Rattle.std.specs.Prelude.{◌+◌, length, OnOk, ◌≡◌, ◌==◌, ◌&&◌, ◌||◌, if◌then◌else◌, not};
 ghost use Rattle.std.specs.Option.{option_copied, option_and_then};
-ghost use Rattle.ldmodel.specs.Layout.{PlacedPiece, region_named};
-ghost use Rattle.ldmodel.specs.SectionEnd.{freed_from, has_file_bytes, has_flag, is_empty, is_in_file, is_within};
+ghost use Rattle.ldmodel.specs.Layout.{region_named};
+ghost use Rattle.ldmodel.specs.SectionEnd.{freed_from, has_file_bytes, has_flag, is_within};
 ghost use Rattle.ldmodel.specs.SectionEnd.{load_region, placed_section, section_end, with_room};
-ghost use Rattle.ldnumbers.specs.Keyed.{piece_at, section_of};
+ghost use Rattle.ldnumbers.specs.Keyed.{section_of};
 ghost use Rattle.ldnumbers.specs.Naming.{Naming};
 ghost use Rattle.ldnumbers.specs.Outputs.{IsOutput};
 ghost use Rattle.ldnumbers.specs.RegionTable.{region_of};
-ghost use Rattle.ldnumbers.specs.SectionTable.{keyed, keyed_piece, Fits};
+ghost use Rattle.ldnumbers.specs.SectionTable.{keyed, Fits};
 ghost use Rattle.place.specs.Ends.{body_alone, ended_body, load_end};
 ghost use Rattle.place.specs.Heads.{head_from, Yields};
 ghost use Rattle.place.specs.State.{layout_of, Gives};
@@ -19,52 +18,12 @@ use crate::head::{Head, region_name};
 use crate::state::{Done, Here};
 use crate::stop::Stop;
 use elfdefs::constants::{SHF_EXECINSTR, SHF_WRITE};
-use elfobj::section::SectionKind;
 use ldmodel::laid::Placed;
+use ldnumbers::pieces::{any_in_file, any_with_flag};
 use ldnumbers::regions::{Region, Regions};
-use ldnumbers::sections::{Closed, PieceAt};
+use ldnumbers::sections::Closed;
 use ldscript::tree::{Load, OutputSection};
 use std::alloc::Global;
-
-/// Whether an input section brings bytes into the file.
-fn is_in_file(at: &PieceAt<'_>) -> bool
-    ghost naming: { Naming }
-    ensures { result ≡ is_in_file (piece_at naming (keyed_piece at.now)) }
-{
-    !matches!(at.piece.kind, SectionKind::Nobits) && at.piece.size != 0
-}
-
-fn any_in_file(pieces: &[PieceAt<'_>]) -> bool
-    ghost naming: { Naming }
-    ensures { result ≡ list_any is_in_file (map (piece_at naming) (map keyed_piece pieces.now)) }
-{
-    for at in pieces {
-        if is_in_file(at) {
-            return true;
-        }
-    }
-    false
-}
-
-fn has_this_flag(at: &PieceAt<'_>, flag: u64) -> bool
-    ensures { result ≡ (not (bit_and at.now.piece.now.flags flag == 0) && not (at.now.piece.now.size == 0)) }
-{
-    at.piece.flags & flag != 0 && at.piece.size != 0
-}
-
-/// Whether an input section of nonzero size has a flag.
-fn any_with_flag(pieces: &[PieceAt<'_>], flag: u64) -> bool
-    ghost naming: { Naming }
-    ensures { result ≡ list_any (λ (x : PlacedPiece). not (bit_and x.piece.flags flag == 0)
-        && not (is_empty x)) (map (piece_at naming) (map keyed_piece pieces.now)) }
-{
-    for at in pieces {
-        if has_this_flag(at, flag) {
-            return true;
-        }
-    }
-    false
-}
 
 /// The region of `AT>region`.
 pub(crate) fn load_region_name(section: &OutputSection) -> Option<&[u8]>

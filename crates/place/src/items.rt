@@ -1,23 +1,29 @@
 //! The statements of SECTIONS.
 
-ghost use Rattle.std.specs.Prelude.{◌≡◌, ◌≤◌, ◌<◌, ◌+◌, [], map, slice_index_or, length, IfOk, OnOk};
+ghost use Rattle.std.specs.Prelude.{◌≡◌, ◌≤◌, ◌<◌, ◌+◌, [], map, slice_index_or, length, IfErr, IfOk, OnOk};
+ghost use Rattle.std.specs.Prelude.{IfNone, IfSome, false, true};
 ghost use Rattle.std.specs.Prelude.{if◌then◌else◌};
 ghost use Rattle.ldtree.specs.Numbering.{sections_of};
 ghost use Rattle.ldmodel.specs.Chain.{run};
+ghost use Rattle.ldmodel.specs.Layout.{noted};
 ghost use Rattle.ldmodel.specs.Placement.{free_dot_step, item_command_step, item_step};
-ghost use Rattle.ldnumbers.specs.Earlier.{earlier_of};
+ghost use Rattle.ldnumbers.specs.Earlier.{earlier_of, AreStartsOf};
 ghost use Rattle.ldnumbers.specs.Naming.{Naming};
+ghost use Rattle.ldnumbers.specs.Wholes.{starts_in};
+ghost use Rattle.place.specs.Alongside.{IsAlongside, ItemsAlongside};
 ghost use Rattle.place.specs.Boundaries.{AreBoundaries, IsAt};
 ghost use Rattle.place.specs.Counted.{Resumes, entries};
 ghost use Rattle.place.specs.Earlier.{Earlier};
 ghost use Rattle.place.specs.Inputs.{rows_of};
 ghost use Rattle.place.specs.Next.{AreFirst, IsNext};
 ghost use Rattle.place.specs.State.{layout_of, Gives};
+ghost use Rattle.place.specs.declared.stop.Stop.TheVariants.{NoMemory};
 
 use crate::boundary::Boundary;
 use crate::script::Input;
 use crate::state::{Done, Here};
 use crate::stop::Stop;
+use ldlaws::layout::steps_stay_alike;
 use ldmodel::rows::Piece;
 use ldscript::tree::{DotCommand, Item, ItemCommand};
 
@@ -83,6 +89,31 @@ impl<'a> Here<'a> {
 }
 
 impl<'i, 'a> Input<'i, 'a> {
+    /// Where the input sections of the next output section start, if its row is as it was in an earlier layout.
+    fn kept_starts(&self, done: &Done<'a>) -> Result<Option<&'a [u64]>, Stop<'a>>
+        ensures first { IfOk result (λ o. IfSome o (λ _. length done.now.sections.list < self.now.kept.first)) }
+        ensures past { IfOk result (λ o. IfNone o (self.now.kept.first ≤ length done.now.sections.list)) }
+        ensures other { IfOk result (λ o. IfSome o (λ _. self.now.kept.same_provided ≡ false)) }
+        ensures starts { IfOk result (λ o. IfSome o (λ s.
+            AreStartsOf self.now.kept.earlier (length done.now.sections.list) (length (starts_in done.now.sections.list))
+            s.now)) }
+        ensures refused { IfErr result (λ f. f ≡ NoMemory) }
+    {
+        let number = done.sections.len();
+        if number >= self.kept.first {
+            return Ok(None);
+        }
+        if self.kept.same_provided {
+            // it does not come to this: these are taken over
+            return Err(Stop::NoMemory);
+        }
+        match self.kept.earlier.starts_of(number, done.sections.count()) {
+            Some(starts) => Ok(Some(starts)),
+            // nor to this: the earlier layout has this output section
+            None => Err(Stop::NoMemory),
+        }
+    }
+
     #[tactic(auto, unfolding(ldmodel::specs::Placement::item_command_step), using(crate::proofs::Rows::next_row_is, crate::proofs::Counting::entries_more))]
     fn place_command(
         &self,
@@ -93,6 +124,8 @@ impl<'i, 'a> Input<'i, 'a> {
     ) -> Result<(), Stop<'a>>
         ghost naming: { Naming }
         requires next { IsNext done.now.sections.script (length done.now.sections.list) command.now }
+        requires kept { IsAlongside naming self.now (layout_of naming here.now done.now) done.now.sections.list line
+            command.now }
         ensures script { here.new.symbols.script ≡ here.old.symbols.script }
         ensures anew { here.new.anew ≤ here.old.anew + entries (length done.old.sections.list)
             (map (λ v. v.items) self.now.rows.now) }
@@ -110,12 +143,10 @@ impl<'i, 'a> Input<'i, 'a> {
             ItemCommand::Dot(command) => here.move_freely(done, line, command),
             ItemCommand::Common(command) => here.common(done, self.provided, line, command),
             ItemCommand::Section(output) => {
-                if done.sections.len() < self.kept.first {
-                    // it does not come to this: these are taken over
-                    return Err(Stop::NoMemory);
-                }
+                let starts = self.kept_starts(done)?;
                 let row = row_at(self.rows, done.sections.len());
-                here.place_section(self.alloc, done, self.provided, row, line, output.get())
+                let output = output.get();
+                here.place_section(self.alloc, done, self.provided, row, starts, line, output)
             }
             ItemCommand::Discard(inputs) => {
                 let Some(next) = here.inputs.checked_add(inputs.as_slice().len() as u64) else {
@@ -137,6 +168,8 @@ impl<'i, 'a> Input<'i, 'a> {
     ) -> Result<(), Stop<'a>>
         ghost naming: { Naming }
         requires next { IsNext done.now.sections.script (length done.now.sections.list) item.now.command }
+        requires kept { IsAlongside naming self.now (noted (layout_of naming here.now done.now))
+            done.now.sections.list item.now.line item.now.command }
         ensures script { here.new.symbols.script ≡ here.old.symbols.script }
         ensures anew { here.new.anew ≤ here.old.anew + entries (length done.old.sections.list)
             (map (λ v. v.items) self.now.rows.now) }
@@ -154,7 +187,7 @@ impl<'i, 'a> Input<'i, 'a> {
         self.place_command(here, done, item.line, &item.command)
     }
 
-    /// The statements of SECTIONS, of which the first ones are taken over. It gives where the layout had come to before
+    /// The statements of SECTIONS, of which the first ones may be taken over. It gives where the layout had come to before
     /// each output section, and after all.
     pub fn place_items(
         &self,
@@ -166,8 +199,10 @@ impl<'i, 'a> Input<'i, 'a> {
         requires none { done.now.sections.list ≡ [] }
         requires first { AreFirst done.now.sections.script items.now }
         requires kept { done.now.sections.earlier ≡ earlier_of self.now.kept.earlier }
-        requires earlier { 0 < self.now.kept.first → Earlier naming self.now here.now.symbols.script
-            (layout_of naming here.now done.now) items.now }
+        requires earlier { self.now.kept.same_provided ≡ true → 0 < self.now.kept.first
+            → Earlier naming self.now here.now.symbols.script (layout_of naming here.now done.now) items.now }
+        requires alongside { self.now.kept.same_provided ≡ false → 0 < self.now.kept.first
+            → ItemsAlongside naming self.now here.now.symbols.script (layout_of naming here.now done.now) items.now }
         ensures script { here.new.symbols.script ≡ here.old.symbols.script }
         ensures anew { here.new.anew ≤ here.old.anew + entries 0 (map (λ v. v.items) self.now.rows.now) }
         ensures resumed { OnOk result (here.new.anew ≤ here.old.anew
@@ -180,6 +215,7 @@ impl<'i, 'a> Input<'i, 'a> {
             items.now bs.items) }
         ensures many { IfOk result (λ bs. length bs.items ≡ length done.new.sections.list + 1) }
     {
+        steps_stay_alike();
         let resumed = self.resume(here, done, items)?;
         let mut boundaries = resumed.boundaries;
         for number in resumed.passed..items.len() {

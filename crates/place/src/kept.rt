@@ -1,11 +1,11 @@
 //! What is kept of an earlier layout.
 
-ghost use Rattle.std.specs.Prelude.{◌≡◌, ◌≤◌, ◌<◌, length, IfSome, IfNone};
+ghost use Rattle.std.specs.Prelude.{◌≡◌, ◌≤◌, ◌<◌, length, true, IfSome, IfNone};
 ghost use Rattle.place.specs.Leads.{Keeps};
 
 use crate::boundary::Boundary;
 use crate::placement::Placement;
-use ldmodel::script_symbol::ScriptSymbol;
+use ldmodel::script_symbol::{CommonIndex, ScriptSymbol};
 use ldnumbers::earlier::Earlier;
 
 /// What is kept of an earlier layout, and how far it holds.
@@ -19,32 +19,20 @@ pub(crate) struct Kept<'k> {
     pub symbols: &'k [ScriptSymbol],
     /// Where it had come to before each output section, and after all.
     pub boundaries: &'k [Boundary],
-    /// The number of the output section before which it is taken over.
+    /// The number of the first output section whose row differs: before it the layout is the same but for symbols.
     pub first: usize,
+    /// Whether the same PROVIDEs were in force, so that before that output section symbols are the same too.
+    pub same_provided: bool,
 }
 
 impl<'k> Kept<'k> {
-    /// All of an earlier placement, before the row of this number; or nothing.
-    pub fn new(kept: Option<(&'k Placement, usize)>) -> Kept<'k>
-        ensures some { IfSome kept.entry (λ k. Keeps k.0.now k.1 result) }
+    /// All of an earlier placement, before the row of this number, where these PROVIDEs are in force; or nothing.
+    pub fn new(kept: Option<(&'k Placement, usize)>, provided: &[CommonIndex]) -> Kept<'k>
+        ensures some { IfSome kept.entry (λ k. Keeps k.0.now k.1 provided.now result) }
         ensures none { IfNone kept.entry (result.first ≡ 0) }
     {
         match kept {
-            Some((placement, first)) => {
-                let laid = placement.laid();
-                Kept {
-                    earlier: Earlier {
-                        sections: laid.sections,
-                        counts: placement.counts(),
-                        starts: laid.starts,
-                        data_commands: laid.data_commands,
-                    },
-                    dots: laid.dots,
-                    symbols: laid.symbols,
-                    boundaries: placement.boundaries(),
-                    first,
-                }
-            }
+            Some((placement, first)) => placement.kept(first, provided),
             None => Kept {
                 earlier: Earlier {
                     sections: &[],
@@ -56,16 +44,19 @@ impl<'k> Kept<'k> {
                 symbols: &[],
                 boundaries: &[],
                 first: 0,
+                same_provided: false,
             },
         }
     }
 
-    /// How many output sections are taken over, if there is an earlier layout: all before the first whose row differs.
+    /// How many output sections are taken over with all that is before them, if any are: those before the first whose
+    /// row differs.
     pub fn count(&self) -> Option<usize>
+        ensures same { IfSome result (λ _. self.now.same_provided ≡ true) }
         ensures first { IfSome result (λ k. (0 < self.now.first) × (k ≤ self.now.first)) }
         ensures boundary { IfSome result (λ k. k < length self.now.boundaries.now) }
     {
-        if self.first == 0 {
+        if !self.same_provided || self.first == 0 {
             return None;
         }
         let last = self.boundaries.len().checked_sub(1)?;

@@ -14,6 +14,7 @@ use crate::placement::Placement;
 use crate::script::Input;
 use crate::state::{Done, Here};
 use crate::whole::whole;
+use ldlaws::layout::steps_stay_alike;
 use ldmodel::meter::{Count, Meter};
 use ldmodel::rows::Piece;
 use ldmodel::script_symbol::CommonIndex;
@@ -25,18 +26,18 @@ use ldoverlap::overlaps::overlaps;
 use ldscript::script::Script;
 use std::alloc::{AllocError, Global};
 
-/// No symbol has a value yet, of a layout that has this many output sections.
+/// No symbol has a value yet, of a layout that has this many output sections, of which some are taken over.
 fn no_symbols<'a>(
     alloc: Global,
     script: &'a Script,
-    taken: Kept<'_>,
+    kept: Kept<'_>,
     sections: usize,
 ) -> Result<Symbols<'a>, AllocError>
     ensures script { IfOk result (λ s. s.script ≡ script.now) }
     ensures none { IfOk result (λ s. s.list ≡ []) }
 {
-    if taken.first > sections / 2 {
-        Symbols::taken_over(alloc, script, taken.symbols.len())
+    if kept.count().unwrap_or(0) > sections / 2 {
+        Symbols::taken_over(alloc, script, kept.symbols.len())
     } else {
         Symbols::new(alloc, script)
     }
@@ -46,7 +47,7 @@ fn no_symbols<'a>(
 fn nowhere<'a>(
     alloc: Global,
     script: &'a Script,
-    taken: Kept<'_>,
+    kept: Kept<'_>,
     sections: usize,
 ) -> Result<Here<'a>, AllocError>
     ensures dot { IfOk result (λ h. h.dot ≡ 0) }
@@ -56,8 +57,8 @@ fn nowhere<'a>(
     ensures script { IfOk result (λ h. h.symbols.script ≡ script.now) }
     ensures symbols { IfOk result (λ h. h.symbols.list ≡ []) }
 {
-    let symbols = no_symbols(alloc, script, taken, sections)?;
-    let dots = Vec::with_capacity(alloc, taken.dots.len())?;
+    let symbols = no_symbols(alloc, script, kept, sections)?;
+    let dots = Vec::with_capacity(alloc, kept.dots.len())?;
     Ok(Here {
         dot: 0,
         dots,
@@ -81,34 +82,35 @@ fn lay_out(
 ) -> Result<Placement, PlaceFault>
     ghost naming: { Naming }
     requires kept { IfSome kept (λ k.
-        IsKept script.now (rows_named naming (map (λ v. v.items) rows.now)) (provided_names script.now provided.now)
-        k.0.now k.1) }
+        IsKept script.now (rows_named naming (map (λ v. v.items) rows.now)) k.0.now k.1) }
     ensures counted { CountsPieces meter.old meter.new (entries 0 (map (λ v. v.items) rows.now)) }
     ensures resumed { IfOk result (λ _. IfSome kept.entry (λ k.
-        IsKept script.now (rows_named naming (map (λ v. v.items) rows.now)) (provided_names script.now provided.now)
-        k.0.now k.1 → CountsPieces meter.old meter.new (entries k.1 (map (λ v. v.items) rows.now)))) }
+        IsKept script.now (rows_named naming (map (λ v. v.items) rows.now)) k.0.now k.1
+        → CountsPieces meter.old meter.new (entries k.1 (map (λ v. v.items) rows.now)))) }
     ensures placed { IfOk result (λ p.
         IsPlacement script.now (rows_named naming (map (λ v. v.items) rows.now))
         (provided_names script.now provided.now) p) }
     ensures faulty { IfErr result (λ f.
         Stops script.now (rows_named naming (map (λ v. v.items) rows.now)) (provided_names script.now provided.now) f) }
 {
-    let provided = Provided::new(alloc, script, provided)?;
-    let taken = Kept::new(kept);
-    let mut here = nowhere(alloc, script, taken, rows.len())?;
-    let sections = Sections::new(alloc, script, rows.len(), taken.earlier, taken.first)?;
+    steps_stay_alike();
+    let in_force = Provided::new(alloc, script, provided)?;
+    let kept = Kept::new(kept, provided);
+    let mut here = nowhere(alloc, script, kept, rows.len())?;
+    let taken = kept.count().unwrap_or(0);
+    let sections = Sections::new(alloc, script, rows.len(), kept.earlier, taken)?;
     let regions = Regions::new(alloc, script);
     let mut done = Done { sections, regions };
     let input = Input {
         alloc,
-        provided: &provided,
+        provided: &in_force,
         rows,
-        kept: taken,
+        kept,
     };
     let laid = input.place_script(&mut here, &mut done, script.statements());
     meter.raise(Count::Pieces, here.anew);
     match laid {
-        Ok(boundaries) => Ok(whole(alloc, here, &done, boundaries)?),
+        Ok(boundaries) => Ok(whole(alloc, here, &done, boundaries, provided)?),
         Err(stop) => Err(reported(alloc, script, stop)),
     }
 }
@@ -116,11 +118,12 @@ fn lay_out(
 /// Lays a script out: one pass over its statements, in which the rows' entries take their places.
 ///
 /// `rows` has one row for each output section, in the order of the script, `provided` the PROVIDEs that are in force.
-/// With `kept`, an earlier placement of the script, in which the same PROVIDEs were in force, and the number of the
-/// first row that differs from the earlier ones, the layout goes on right before the output section of that row: those
-/// before it and all statements of SECTIONS up to it are taken over, and none of them is evaluated. Memory regions end
-/// where the sections that are taken over do. So the layout is the same with and without `kept`. The meter counts the
-/// pieces that were placed anew.
+/// With `kept`, an earlier placement of the script and the number of the first row that differs from the earlier ones,
+/// the input sections of the rows before it stay where they were, and the layout is the same with and without `kept`.
+/// Where the same PROVIDEs were in force, it goes on right before the output section of that row: those before it and all
+/// statements of SECTIONS up to it are taken over, and none of them is evaluated. Memory regions end where the sections
+/// that are taken over do. Where other PROVIDEs were in force, the statements up to it are evaluated anew, and input
+/// statements take the earlier places of their entries. The meter counts the pieces that were placed anew.
 ///
 /// What the pieces' objects and sections are called does not matter: the contract holds with any names.
 ///
@@ -138,12 +141,14 @@ pub fn place(
 ) -> Result<Placement, PlaceFault>
     ghost naming: { Naming }
     requires kept { IfSome kept (λ k.
-        IsKept script.now (rows_named naming (map (λ v. v.items) rows.now)) (provided_names script.now provided.now)
-        k.0.now k.1) }
+        IsKept script.now (rows_named naming (map (λ v. v.items) rows.now)) k.0.now k.1) }
     ensures counted { CountsPieces meter.old meter.new (entries 0 (map (λ v. v.items) rows.now)) }
     ensures resumed { IfOk result (λ _. IfSome kept.entry (λ k.
-        IsKept script.now (rows_named naming (map (λ v. v.items) rows.now)) (provided_names script.now provided.now)
-        k.0.now k.1 → CountsPieces meter.old meter.new (entries k.1 (map (λ v. v.items) rows.now)))) }
+        IsKept script.now (rows_named naming (map (λ v. v.items) rows.now)) k.0.now k.1
+        → CountsPieces meter.old meter.new (entries k.1 (map (λ v. v.items) rows.now)))) }
+    ensures placed { IfOk result (λ p.
+        IsPlacement script.now (rows_named naming (map (λ v. v.items) rows.now))
+        (provided_names script.now provided.now) p) }
     ensures good { IfOk result (λ p.
         IsGood script.now (rows_named naming (map (λ v. v.items) rows.now)) (provided_names script.now provided.now) p) }
     ensures faulty { IfErr result (λ f.

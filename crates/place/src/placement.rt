@@ -4,11 +4,14 @@ ghost use Rattle.std.specs.Prelude.{◌≡◌, List, slice_get};
 ghost use Rattle.ldtree.specs.declared.statement.Statement.{Statement};
 ghost use Rattle.ldmodel.specs.Layout.{Layout};
 ghost use Rattle.ldmodel.specs.Lent.{IsLaid};
+ghost use Rattle.place.specs.Leads.{Keeps};
 ghost use Rattle.place.specs.Places.{AreOf, Ends};
 
 use crate::boundary::Boundary;
+use crate::kept::Kept;
 use ldmodel::laid::{Laid, Placed, PlacedData, PlacedRegion};
-use ldmodel::script_symbol::ScriptSymbol;
+use ldmodel::script_symbol::{CommonIndex, ScriptSymbol};
+use ldnumbers::earlier::Earlier;
 use std::marker::Model;
 
 /// Where everything of a script stands: its output sections, their input sections and data commands, `.` before its
@@ -23,6 +26,7 @@ pub struct Placement {
     pub(crate) symbols: Vec<ScriptSymbol>,
     pub(crate) regions: Vec<PlacedRegion>,
     pub(crate) boundaries: Vec<Boundary>,
+    pub(crate) provided: Vec<CommonIndex>,
 }
 
 impl Model for Placement {
@@ -42,6 +46,7 @@ impl Model for Placement {
       symbols = p.symbols.items;
       regions = p.regions.items;
       boundaries = p.boundaries.items;
+      provided = p.provided.items;
     } };
 
     ghost invariant = { λ p. Ends p.sections.items };
@@ -76,18 +81,23 @@ impl Placement {
         &self.sections
     }
 
-    /// How many input sections each output section has.
-    pub(crate) fn counts(&self) -> &[usize]
-        ensures { result.now ≡ self.now.counts }
+    /// What is kept of it where rows are as they were before a number, and these PROVIDEs are in force now.
+    pub(crate) fn kept(&self, first: usize, provided: &[CommonIndex]) -> Kept<'_>
+        ensures { Keeps self.now first provided.now result }
     {
-        &self.counts
-    }
-
-    /// Where the layout had come to before each output section, and after all.
-    pub(crate) fn boundaries(&self) -> &[Boundary]
-        ensures { result.now ≡ self.now.boundaries }
-    {
-        &self.boundaries
+        Kept {
+            earlier: Earlier {
+                sections: &self.sections,
+                counts: &self.counts,
+                starts: &self.starts,
+                data_commands: &self.data_commands,
+            },
+            dots: &self.dots,
+            symbols: &self.symbols,
+            boundaries: &self.boundaries,
+            first,
+            same_provided: self.provided.as_slice() == provided,
+        }
     }
 
     /// Where the input sections start, row by row.

@@ -1,10 +1,11 @@
 //! The statements of a script.
 
-ghost use Rattle.std.specs.Prelude.{◌≡◌, ◌≤◌, ◌<◌, ◌+◌, [], length, map, OnOk, IfOk};
+ghost use Rattle.std.specs.Prelude.{◌≡◌, ◌≤◌, ◌<◌, ◌+◌, [], length, map, OnOk, IfOk, false, true};
 ghost use Rattle.ldmodel.specs.Chain.{run};
 ghost use Rattle.ldmodel.specs.Placement.{statement_step};
 ghost use Rattle.ldnumbers.specs.Earlier.{earlier_of};
 ghost use Rattle.ldnumbers.specs.Naming.{Naming};
+ghost use Rattle.place.specs.Alongside.{ScriptAlongside};
 ghost use Rattle.place.specs.Boundaries.{AreBoundariesOf};
 ghost use Rattle.place.specs.Counted.{entries};
 ghost use Rattle.place.specs.Earlier.{EarlierScript};
@@ -16,6 +17,7 @@ use crate::kept::Kept;
 use crate::parts::Parts;
 use crate::state::{Done, Here};
 use crate::stop::Stop;
+use ldlaws::layout::steps_stay_alike;
 use ldmodel::rows::Piece;
 use ldnumbers::provided::Provided;
 use ldscript::tree::{Command, Statement};
@@ -96,8 +98,11 @@ impl<'i, 'a> Input<'i, 'a> {
         requires none { done.now.sections.list ≡ [] }
         requires all { done.now.sections.script ≡ statements.now }
         requires kept { done.now.sections.earlier ≡ earlier_of self.now.kept.earlier }
-        requires earlier { 0 < self.now.kept.first → EarlierScript naming self.now here.now.symbols.script
-            (layout_of naming here.now done.now) statements.now }
+        requires earlier { self.now.kept.same_provided ≡ true → 0 < self.now.kept.first
+            → EarlierScript naming self.now here.now.symbols.script (layout_of naming here.now done.now) statements.now }
+        requires alongside { self.now.kept.same_provided ≡ false → 0 < self.now.kept.first
+            → ScriptAlongside naming self.now here.now.symbols.script (layout_of naming here.now done.now)
+            statements.now }
         ensures script { here.new.symbols.script ≡ here.old.symbols.script }
         ensures anew { here.new.anew ≤ here.old.anew + entries 0 (map (λ v. v.items) self.now.rows.now) }
         ensures resumed { OnOk result (here.new.anew ≤ here.old.anew
@@ -110,6 +115,7 @@ impl<'i, 'a> Input<'i, 'a> {
             statements.now bs.items) }
         ensures many { IfOk result (λ bs. length bs.items ≡ length done.new.sections.list + 1) }
     {
+        steps_stay_alike();
         let parts = Parts::of(statements);
         self.place_statements(here, done, parts.before)?;
         let boundaries = self.place_items(here, done, parts.items)?;

@@ -1,11 +1,12 @@
 //! An output section.
 
-ghost use Rattle.std.specs.Prelude.{◌≡◌, ◌≤◌, ◌+◌, [], length, OnOk, IfErr};
+ghost use Rattle.std.specs.Prelude.{◌≡◌, ◌≤◌, ◌+◌, [], length, OnOk, IfErr, IfSome};
 ghost use Rattle.ldmodel.specs.Body.{body_step};
 ghost use Rattle.ldmodel.specs.Chain.{run};
 ghost use Rattle.ldmodel.specs.Placement.{opened, section_step};
 ghost use Rattle.ldnumbers.specs.Naming.{Naming, row_named};
 ghost use Rattle.ldnumbers.specs.Outputs.{IsOutput};
+ghost use Rattle.place.specs.Alongside.{BodyAlongside, SectionAlongside};
 ghost use Rattle.place.specs.Heads.{head_from};
 ghost use Rattle.place.specs.State.{body_from, layout_of, Gives};
 ghost use Rattle.place.specs.declared.stop.Stop.TheVariants.{NoMemory};
@@ -13,6 +14,7 @@ ghost use Rattle.place.specs.declared.stop.Stop.TheVariants.{NoMemory};
 use crate::head::Head;
 use crate::state::{Done, Frame, Here};
 use crate::stop::Stop;
+use ldlaws::layout::steps_stay_alike;
 use ldmodel::rows::Piece;
 use ldnumbers::provided::Provided;
 use ldscript::tree::OutputSection;
@@ -44,12 +46,17 @@ impl<'a> Here<'a> {
         done: &Done<'a>,
         provided: &Provided<'a>,
         row: &'a [Piece],
+        starts: Option<&'a [u64]>,
         head: Head,
         output: &'a OutputSection,
     ) -> Result<(), Stop<'a>>
         ghost naming: { Naming }
+        requires kept { IfSome starts (λ s.
+            BodyAlongside s.now
+            (opened (layout_of naming self.now done.now) (row_named naming row.now) (head_from head)) output.now.body) }
         ensures script { self.new.symbols.script ≡ self.old.symbols.script }
         ensures anew { self.new.anew ≤ self.old.anew + length row.now }
+        ensures none { IfSome starts.entry (λ s. self.new.anew ≡ self.old.anew) }
         ensures gives { Gives
             (run (body_step provided.now)
             (opened (layout_of naming self.old done.now) (row_named naming row.now) (head_from head)) output.now.body)
@@ -59,6 +66,7 @@ impl<'a> Here<'a> {
             done,
             provided,
             row,
+            starts,
             start: head.start,
         };
         self.open(alloc, head.start, row.len())?;
@@ -66,7 +74,7 @@ impl<'a> Here<'a> {
         Ok(())
     }
 
-    /// An output section.
+    /// An output section. Its input sections start at these addresses, where they stay in their places.
     #[tactic(auto, unfolding(ldmodel::specs::Placement::section_step), using(crate::proofs::Ending::end_alone))]
     pub fn place_section(
         &mut self,
@@ -74,21 +82,26 @@ impl<'a> Here<'a> {
         done: &mut Done<'a>,
         provided: &Provided<'a>,
         row: &'a [Piece],
+        starts: Option<&'a [u64]>,
         line: u32,
         output: &'a OutputSection,
     ) -> Result<(), Stop<'a>>
         ghost naming: { Naming }
         requires next { IsOutput done.now.sections.script (length done.now.sections.list) output.now }
+        requires kept { IfSome starts (λ s.
+            SectionAlongside (row_named naming row.now) (layout_of naming self.now done.now) line output.now s.now) }
         ensures script { self.new.symbols.script ≡ self.old.symbols.script }
         ensures outputs { done.new.sections.script ≡ done.old.sections.script }
         ensures anew { self.new.anew ≤ self.old.anew + length row.now }
+        ensures none { IfSome starts.entry (λ s. self.new.anew ≡ self.old.anew) }
         ensures one { OnOk result (length done.new.sections.list ≡ length done.old.sections.list + 1) }
         ensures gives { Gives
             (section_step provided.now (row_named naming row.now) (layout_of naming self.old done.old) line output.now)
             (layout_of naming self.new done.new) result }
     {
+        steps_stay_alike();
         let head = self.head(done, row, line, output)?;
-        self.body(alloc, done, provided, row, head, output)?;
+        self.body(alloc, done, provided, row, starts, head, output)?;
         self.end(alloc, done, line, output, head)?;
         Ok(())
     }

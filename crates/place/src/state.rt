@@ -43,6 +43,8 @@ pub(crate) struct Frame<'d, 'a> {
     pub provided: &'d Provided<'a>,
     /// Its row.
     pub row: &'a [Piece],
+    /// Where the entries of the row start, if they stay where they were in an earlier layout.
+    pub starts: Option<&'a [u64]>,
     /// Where it starts.
     pub start: u64,
 }

@@ -1,6 +1,6 @@
 //! Output sections that are taken over from an earlier layout.
 
-ghost use Rattle.std.specs.Prelude.{◌≡◌, ◌≤◌, ◌<◌, [], length, take, IfOk, IfSome, IfErr, OnOk, Ok};
+ghost use Rattle.std.specs.Prelude.{◌≡◌, ◌≤◌, ◌<◌, [], length, take, IfOk, IfSome, IfErr, OnOk, Ok, false, true};
 ghost use Rattle.ldmodel.specs.Chain.{run};
 ghost use Rattle.ldmodel.specs.Placement.{item_step};
 ghost use Rattle.ldnumbers.specs.Earlier.{earlier_of};
@@ -126,7 +126,7 @@ impl<'i, 'a> Input<'i, 'a> {
     }
 
     /// Takes over the output sections before the first whose row differs, with all statements of SECTIONS up to that
-    /// one. It is an error where memory ran out.
+    /// one; none of them where other PROVIDEs were in force. It is an error where memory ran out.
     pub fn resume(
         &self,
         here: &mut Here<'a>,
@@ -137,8 +137,8 @@ impl<'i, 'a> Input<'i, 'a> {
         requires none { done.now.sections.list ≡ [] }
         requires first { AreFirst done.now.sections.script items.now }
         requires kept { done.now.sections.earlier ≡ earlier_of self.now.kept.earlier }
-        requires earlier { 0 < self.now.kept.first → Earlier naming self.now here.now.symbols.script
-            (layout_of naming here.now done.now) items.now }
+        requires earlier { self.now.kept.same_provided ≡ true → 0 < self.now.kept.first
+            → Earlier naming self.now here.now.symbols.script (layout_of naming here.now done.now) items.now }
         ensures script { here.new.symbols.script ≡ here.old.symbols.script }
         ensures outputs { done.new.sections.script ≡ done.old.sections.script }
         ensures anew { here.new.anew ≡ here.old.anew }
@@ -146,6 +146,8 @@ impl<'i, 'a> Input<'i, 'a> {
         ensures here { IfOk result (λ r.
             run (item_step (rows_of naming self.now) self.now.provided.now) (layout_of naming here.old done.old)
             (take r.passed items.now) ≡ Ok (layout_of naming here.new done.new)) }
+        ensures none { IfOk result (λ r. self.now.kept.same_provided ≡ false → (r.passed ≡ 0)
+            × (here.new ≡ here.old) × (done.new ≡ done.old)) }
         ensures noted { IfOk result (λ r.
             AreNoted (rows_of naming self.now) self.now.provided.now (layout_of naming here.old done.old) items.now
             r.boundaries.items (length done.new.sections.list)) }

@@ -3,7 +3,6 @@
 ghost use Rattle.std.specs.Prelude.{◌≡◌, ◌<◌, [], map, slice_index_or, IfOk, IfSome};
 ghost use Rattle.place.specs.Kept.{IsKept};
 ghost use Rattle.ldnumbers.specs.Naming.{rows_named};
-ghost use Rattle.ldnumbers.specs.ProvidedTable.{provided_names};
 ghost use Rattle.trylayout.specs.Unnamed.{SameBefore, unnamed};
 
 use elfobj::section::{SectionIndex, SectionKind};
@@ -93,6 +92,7 @@ pub struct Rows {
     rows: Vec<Vec<Piece>>,
     provided: Vec<CommonIndex>,
     last: Vec<Vec<Piece>>,
+    last_provided: Vec<CommonIndex>,
 }
 
 impl Rows {
@@ -102,6 +102,7 @@ impl Rows {
             rows: Vec::new(alloc),
             provided: Vec::new(alloc),
             last: Vec::new(alloc),
+            last_provided: Vec::new(alloc),
         }
     }
 
@@ -145,7 +146,8 @@ impl Rows {
         Ok(true)
     }
 
-    /// The placement of the present rows before this number, and of the rows that were laid out last from it on.
+    /// The placement of the present rows before this number, and of the rows that were laid out last from it on, with the
+    /// PROVIDEs that were in force then.
     fn earlier(
         &self,
         alloc: Global,
@@ -153,15 +155,14 @@ impl Rows {
         first: Option<usize>,
     ) -> Option<(Placement, usize)>
         ensures { IfSome result (λ k.
-            IsKept script.now (rows_named unnamed (map (λ v. v.items) self.now.rows.items))
-            (provided_names script.now self.now.provided.items) k.0 k.1) }
+            IsKept script.now (rows_named unnamed (map (λ v. v.items) self.now.rows.items)) k.0 k.1) }
     {
         let first = first?;
         let Ok(rows) = joined(alloc, first, &self.rows, &self.last) else {
             return None;
         };
         let mut meter = Meter::new();
-        match place(alloc, script, &rows, &self.provided, None, &mut meter) {
+        match place(alloc, script, &rows, &self.last_provided, None, &mut meter) {
             Ok(placement) => Some((placement, first)),
             Err(_) => None,
         }
@@ -186,6 +187,7 @@ impl Rows {
             Ok(placement) => {
                 print_laid(placement.laid(), out)?;
                 self.last = joined(alloc, 0, &self.rows, &self.rows)?;
+                self.last_provided = self.provided.as_slice().to_vec(alloc)?;
             }
             Err(PlaceFault::First(fault)) => print_fault(fault, out)?,
             Err(PlaceFault::Meeting(faults)) => {
@@ -303,6 +305,7 @@ impl Layer for Rows {
         self.rows = Vec::new(alloc);
         self.provided = Vec::new(alloc);
         self.last = Vec::new(alloc);
+        self.last_provided = Vec::new(alloc);
         Ok(())
     }
 
@@ -325,6 +328,7 @@ impl Layer for Rows {
             Ok(true)
         } else if word == b"rows".as_slice() {
             self.rows = Vec::new(alloc);
+            self.provided = Vec::new(alloc);
             Ok(true)
         } else if word == b"place".as_slice() {
             self.lay_out(alloc, state, None, out)?;

@@ -27,10 +27,10 @@
 //!                                                          bytes, 8 for none
 //!     provided NUMBER                                      this PROVIDE is in force, by its number among the commands
 //!     place                                                the layout, or its faults
-//!     rows                                                 forgets all rows
+//!     rows                                                 forgets all rows, and the PROVIDEs in force
 //!     kept FIRST                                           the same as `place`, with an earlier placement kept: of the
 //!                                                          same rows before this number, and from it on of those that
-//!                                                          were last laid out
+//!                                                          were last laid out, with the PROVIDEs in force then
 //!     repeat TIMES                                         lays out that often, and prints how many pieces were placed
 //!     again TIMES FIRST                                    the same with such a placement kept, which is made once
 //!     changed TIMES FIRST                                  compares the rows that often with the earlier ones of such

@@ -5,10 +5,10 @@ use Rattle.ldmodel.specs.Placement.{statement_step}
 use Rattle.ldnumbers.specs.Naming.{rows_named}
 use Rattle.ldnumbers.specs.ProvidedTable.{provided_names}
 use Rattle.place.proofs.Good.{begins, nothing_there, stops_at}
-use Rattle.place.proofs.Keeping.{by_option, for_some, kept_earlier}
+use Rattle.place.proofs.Keeping.{kept_alongside, kept_earlier}
+use Rattle.place.proofs.Options.{by_option, for_some}
 use Rattle.place.proofs.place.lay_out.Goals as goal
 use Rattle.place.specs.Counted.{entries}
-use Rattle.place.specs.Kept.{IsKept}
 use Rattle.place.specs.State.{layout_of}
 use Rattle.place.specs.declared.state.Done.{Done}
 
@@ -27,9 +27,9 @@ returns-clause-faulty g c =
           run (statement_step (rows_named g.naming (map (λ v. v.items) c.args.rows.now)) ps)
           (layout_of g.naming c.in_ok-here.here
           (record { sections = c.in_ok-sections.sections; regions = c.new-regions.result })) c.args.script.now)
-          (sym c.in_ok-provided.ensures)
+          (sym c.in_ok-in_force.ensures)
           ∙ (ap (λ (xs : List Statement).
-          run (statement_step (rows_named g.naming (map (λ v. v.items) c.args.rows.now)) c.in_ok-provided.provided)
+          run (statement_step (rows_named g.naming (map (λ v. v.items) c.args.rows.now)) c.in_ok-in_force.in_force)
           (layout_of g.naming c.in_ok-here.here
           (record { sections = c.in_ok-sections.sections; regions = c.new-regions.result })) xs)
           (sym c.statements.ensures.value)
@@ -40,7 +40,7 @@ returns-clause-faulty g c =
 
 pub returns-in-Ok-clause-resumed : goal.returns-in-Ok-clause-resumed
 returns-in-Ok-clause-resumed g c =
-    for_some c.args.kept _ _ c.new-taken.ensures.some
+    for_some c.args.kept _ _ c.new-kept.ensures.some
     (λ k keeps kept. inr (
       c.place_script-laid.new.here.anew,
       (let e = ap (λ j. entries j (map (λ v. v.items) c.args.rows.now)) keeps.first_is in
@@ -56,16 +56,27 @@ place_script-laid-requires g c =
         c.in_ok-sections.ensures.script ∙ sym c.statements.ensures.value,
         (
           c.in_ok-sections.ensures.earlier,
-          λ some. by_option c.args.kept _ _ _ _ c.requires c.new-taken.ensures.some c.new-taken.ensures.none
-              (λ k kept keeps.
-              kept_earlier g.naming _ c.args.script.now c.in_ok-here.here.symbols.script c.statements.result.now
-              (layout_of g.naming c.in_ok-here.here d) k.0.now k.1 c.in_ok-here.ensures.script c.statements.ensures.value
-              (nothing_there g.naming c.in_ok-here.here d c.in_ok-here.ensures.dot c.in_ok-here.ensures.dots
-              c.in_ok-here.ensures.inputs c.in_ok-here.ensures.symbols c.in_ok-sections.ensures.none c.new-regions.ensures)
-              (subst (λ ps. IsKept c.args.script.now (rows_named g.naming (map (λ v. v.items) c.args.rows.now)) ps k.0.now
-              k.1) (sym c.in_ok-provided.ensures) kept)
-              keeps)
-              (λ none. absurd (omega (arith, none, some))),
+          (
+            λ same some. by_option c.args.kept _ _ _ _ c.requires c.new-kept.ensures.some c.new-kept.ensures.none
+                (λ k kept keeps.
+                kept_earlier g.naming _ c.args.script.now k.0.now k.1 c.args.provided.now kept keeps
+                c.in_ok-here.here.symbols.script c.statements.result.now (layout_of g.naming c.in_ok-here.here d)
+                c.in_ok-here.ensures.script c.statements.ensures.value
+                (nothing_there g.naming c.in_ok-here.here d c.in_ok-here.ensures.dot c.in_ok-here.ensures.dots
+                c.in_ok-here.ensures.inputs c.in_ok-here.ensures.symbols c.in_ok-sections.ensures.none
+                c.new-regions.ensures) c.in_ok-in_force.ensures same)
+                (λ none. absurd (omega (arith, none, some))),
+            λ other some. by_option c.args.kept _ _ _ _ c.requires c.new-kept.ensures.some c.new-kept.ensures.none
+                (λ k kept keeps.
+                kept_alongside g.naming _ c.args.script.now k.0.now k.1 c.args.provided.now kept keeps
+                c.in_ok-here.here.symbols.script c.statements.result.now (layout_of g.naming c.in_ok-here.here d)
+                c.in_ok-here.ensures.script c.statements.ensures.value
+                (nothing_there g.naming c.in_ok-here.here d c.in_ok-here.ensures.dot c.in_ok-here.ensures.dots
+                c.in_ok-here.ensures.inputs c.in_ok-here.ensures.symbols c.in_ok-sections.ensures.none
+                c.new-regions.ensures)
+                (c.steps_stay_alike.ensures.begun c.args.script.now c.statements.ensures.sound))
+                (λ none. absurd (omega (arith, none, some))),
+          ),
         ),
       ),
     )

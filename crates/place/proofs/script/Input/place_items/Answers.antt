@@ -1,8 +1,12 @@
 use Rattle.std.proofs.Common.{◌≡◌, if◌then◌else◌, rules, Err, length, map, arith, ◌∙◌, ap, inl, inr, subst, sym}
-use Rattle.std.proofs.Common.{refl, Vec, Global}
+use Rattle.std.proofs.Common.{refl, Vec, Global, drop, ◌+◌}
+use Rattle.std.proofs.lemmas.List.{length-map}
 use Rattle.ldnumbers.specs.Keyed.{section_of}
+use Rattle.place.proofs.Alongside.{from_here}
+use Rattle.place.proofs.AlongsideItems.{items_go_on, next_alongside}
 use Rattle.place.proofs.Counting.{entries_fewer, left_at_first}
 use Rattle.place.proofs.Noting.{all_there, comes_on, is_next, more_by, noted_more, stands_at, stops_there}
+use Rattle.place.specs.Alongside.{ItemsAlongside}
 use Rattle.place.specs.Boundaries.{AreNoted}
 use Rattle.place.specs.Inputs.{rows_of}
 use Rattle.place.specs.Next.{IsNext}
@@ -23,17 +27,37 @@ loop-number-init g c = record {
   resumed =
       let f = left_at_first c.args.self.now c.resume.new.done.sections.list c.in_ok-resumed.ensures.few in
       omega (arith, f, c.resume.ensures.anew);
+  alongside = λ other some few.
+      let same = c.in_ok-resumed.ensures.none other in
+      let there : layout_of g.naming c.resume.new.here c.resume.new.done
+      ≡ layout_of g.naming c.args.here.now c.args.done.now =
+      ap (λ h. layout_of g.naming h c.resume.new.done) same.1
+      ∙ ap (λ d. layout_of g.naming c.args.here.now d) same.2 in
+      subst (λ s. ItemsAlongside g.naming c.args.self.now c.args.here.now.symbols.script s
+      (drop c.in_ok-resumed.resumed.passed c.args.items.now)) (sym there)
+      (subst (λ k. ItemsAlongside g.naming c.args.self.now c.args.here.now.symbols.script
+      (layout_of g.naming c.args.here.now c.args.done.now) (drop k c.args.items.now)) (sym same.0)
+      (c.requires.1.1.1.1 other some));
 }
 
 pub place_item-requires : goal.place_item-requires
-place_item-requires g c =
-    subst (λ z. IsNext z (length c.loop-number.done.sections.list) c.index-items-number.result.command)
-    (sym c.loop-number.invariant.outputs)
-    (is_next g.naming (rows_of g.naming c.args.self.now) c.args.self.now.provided.now
-    (layout_of g.naming c.args.here.now c.args.done.now) c.args.items.now c.loop-number.here c.loop-number.done
-    c.loop-number.number c.index-items-number.result c.loop-number.invariant.here c.loop-number-test.true
-    c.index-items-number.is c.args.done.now.sections.script
-    (ap (map (section_of g.naming)) c.requires.0) c.requires.1.0)
+place_item-requires g c = (
+  subst (λ z. IsNext z (length c.loop-number.done.sections.list) c.index-items-number.result.command)
+      (sym c.loop-number.invariant.outputs)
+      (is_next g.naming (rows_of g.naming c.args.self.now) c.args.self.now.provided.now
+      (layout_of g.naming c.args.here.now c.args.done.now) c.args.items.now c.loop-number.here c.loop-number.done
+      c.loop-number.number c.index-items-number.result c.loop-number.invariant.here c.loop-number-test.true
+      c.index-items-number.is c.args.done.now.sections.script
+      (ap (map (section_of g.naming)) c.requires.0) c.requires.1.0),
+  next_alongside g.naming c.args.self.now c.args.here.now.symbols.script
+      (layout_of g.naming c.loop-number.here c.loop-number.done) c.index-items-number.result
+      (drop (c.loop-number.number + 1) c.args.items.now) c.loop-number.done.sections.list refl
+      (λ other some few.
+      subst (ItemsAlongside g.naming c.args.self.now c.args.here.now.symbols.script
+      (layout_of g.naming c.loop-number.here c.loop-number.done))
+      (from_here c.args.items.now c.loop-number.number c.index-items-number.result c.loop-number-test.true
+      c.index-items-number.is) (c.loop-number.invariant.alongside other some few)),
+)
 
 pub returns-in_err-place_item-clause-gives : goal.returns-in_err-place_item-clause-gives
 returns-in_err-place_item-clause-gives g c =
@@ -85,6 +109,22 @@ loop-number-preserved g c = record {
   script = c.place_item.ensures.script ∙ c.loop-number.invariant.script;
   anew = omega (arith, c.loop-number.invariant.anew, c.in_ok-place_item.ensures.left);
   resumed = omega (arith, c.loop-number.invariant.resumed, c.in_ok-place_item.ensures.resumed);
+  alongside = λ other some few.
+      let more = more_by g.naming (rows_of g.naming c.args.self.now) c.args.self.now.provided.now
+      (layout_of g.naming c.args.here.now c.args.done.now) c.args.items.now c.loop-number.here c.loop-number.done
+      c.loop-number.number c.index-items-number.result c.loop-number.invariant.here c.loop-number-test.true
+      c.index-items-number.is c.place_item.new.here c.place_item.new.done c.in_ok-place_item.ensures.gives in
+      let long = length-map c.place_item.new.done.sections.list (section_of g.naming) in
+      items_go_on g.naming c.args.self.now c.args.here.now.symbols.script
+      (layout_of g.naming c.loop-number.here c.loop-number.done) c.index-items-number.result
+      (drop (c.loop-number.number + 1) c.args.items.now)
+      (subst (ItemsAlongside g.naming c.args.self.now c.args.here.now.symbols.script
+      (layout_of g.naming c.loop-number.here c.loop-number.done))
+      (from_here c.args.items.now c.loop-number.number c.index-items-number.result c.loop-number-test.true
+      c.index-items-number.is) (c.loop-number.invariant.alongside other some (omega (arith, more, few))))
+      c.steps_stay_alike.ensures.items c.args.self.now.provided.now
+      (layout_of g.naming c.place_item.new.here c.place_item.new.done) c.in_ok-place_item.ensures.gives
+      (omega (arith, long, few));
 }
 
 pub returns-clause-boundaries : goal.returns-clause-boundaries

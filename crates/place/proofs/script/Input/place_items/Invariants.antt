@@ -1,6 +1,7 @@
-use Rattle.std.proofs.Common.{◌≡◌, ◌+◌, ◌≤◌, length, map, take, Ok}
+use Rattle.std.proofs.Common.{◌≡◌, ◌+◌, ◌≤◌, ◌<◌, length, map, take, drop, Ok, false}
 use Rattle.ldmodel.specs.Chain.{run}
 use Rattle.ldmodel.specs.Placement.{item_step}
+use Rattle.place.specs.Alongside.{ItemsAlongside}
 use Rattle.place.specs.Boundaries.{AreNoted}
 use Rattle.place.specs.Counted.{entries, left_after}
 use Rattle.place.specs.Inputs.{rows_of}
@@ -28,4 +29,8 @@ invariant-loop-number g l = record {
       ≤ l.fn.here.anew + entries 0 (map (λ v. v.items) l.self.rows.now);
   resumed : l.here.anew + left_after l.self l.done.sections.list
       ≤ l.fn.here.anew + entries l.self.kept.first (map (λ v. v.items) l.self.rows.now);
+  alongside : l.self.kept.same_provided ≡ false → 0 < l.self.kept.first
+      → length l.done.sections.list ≤ l.self.kept.first
+      → ItemsAlongside g.naming l.self l.fn.here.symbols.script (layout_of g.naming l.here l.done)
+      (drop l.number l.items);
 }

@@ -1,7 +1,9 @@
-use Rattle.std.proofs.Common.{◌≡◌, rules, Err, List, sym, ap, ◌∙◌, subst}
+use Rattle.std.proofs.Common.{◌≡◌, rules, Err, List, sym, ap, ◌∙◌, subst, arith, length, map}
 use Rattle.ldtree.specs.declared.statement.Item.{Item}
 use Rattle.ldmodel.specs.Chain.{run}
 use Rattle.ldmodel.specs.Placement.{item_step, statement_step}
+use Rattle.ldnumbers.specs.Keyed.{section_of}
+use Rattle.place.proofs.AlongsideItems.{items_alongside}
 use Rattle.place.proofs.Joining.{after_goes, before_stops, earlier_items, items_stop, stops_so}
 use Rattle.place.specs.Boundaries.{AreBoundaries}
 use Rattle.ldnumbers.specs.Outputs.{Outputs}
@@ -32,13 +34,26 @@ place_items-requires g c = (
         (subst (AreFirst c.args.statements.now) (sym c.of-parts.ensures.items) (are_first c.args.statements.now)),
     (
       ap (λ (z : Outputs). z.earlier) c.place_statements.ensures.sections ∙ c.requires.1.1.0,
-      λ some. earlier_items g.naming c.args.self.now c.args.here.now.symbols.script
-          c.place_statements.new.here.symbols.script (layout_of g.naming c.args.here.now c.args.done.now)
-          (layout_of g.naming c.place_statements.new.here c.place_statements.new.done) c.args.statements.now
-          c.of-parts.result.items.now c.place_statements.ensures.script c.of-parts.ensures.items
-          (ap (run (statement_step (rows_of g.naming c.args.self.now) c.args.self.now.provided.now)
-          (layout_of g.naming c.args.here.now c.args.done.now)) (sym c.of-parts.ensures.before)
-          ∙ c.in_ok-place_statements.ensures.gives) (c.requires.1.1.1 some),
+      (
+        λ same some. earlier_items g.naming c.args.self.now c.args.here.now.symbols.script
+            c.place_statements.new.here.symbols.script (layout_of g.naming c.args.here.now c.args.done.now)
+            (layout_of g.naming c.place_statements.new.here c.place_statements.new.done) c.args.statements.now
+            c.of-parts.result.items.now c.place_statements.ensures.script c.of-parts.ensures.items
+            (ap (run (statement_step (rows_of g.naming c.args.self.now) c.args.self.now.provided.now)
+            (layout_of g.naming c.args.here.now c.args.done.now)) (sym c.of-parts.ensures.before)
+            ∙ c.in_ok-place_statements.ensures.gives) (c.requires.1.1.1.0 same some),
+        λ other some. items_alongside g.naming c.args.self.now c.args.here.now.symbols.script
+            c.place_statements.new.here.symbols.script (layout_of g.naming c.args.here.now c.args.done.now)
+            (layout_of g.naming c.place_statements.new.here c.place_statements.new.done) c.args.statements.now
+            c.of-parts.result.items.now c.steps_stay_alike.ensures.statements c.place_statements.ensures.script
+            c.of-parts.ensures.items
+            (ap (run (statement_step (rows_of g.naming c.args.self.now) c.args.self.now.provided.now)
+            (layout_of g.naming c.args.here.now c.args.done.now)) (sym c.of-parts.ensures.before)
+            ∙ c.in_ok-place_statements.ensures.gives)
+            (let none = ap (λ (z : Outputs). length (map (section_of g.naming) z.list)) c.place_statements.ensures.sections
+            ∙ ap (λ l. length (map (section_of g.naming) l)) c.requires.0 in omega (arith, none))
+            (c.requires.1.1.1.1 other some),
+      ),
     ),
   ),
 )

@@ -30,7 +30,7 @@ pub take_section-requires : goal.take_section-requires
 take_section-requires g c = record {
   kept = c.loop-number.invariant.kept ∙ c.requires.1.1.0;
   next =
-      let e = c.requires.1.1.1 c.in-Some.ensures.first.0 in
+      let e = c.requires.1.1.1 c.in-Some.ensures.same c.in-Some.ensures.first.0 in
       let bs : List Boundary = c.args.self.now.kept.boundaries.now in
       let inside : c.loop-number.number < length bs =
       (let b = c.in-Some.ensures.boundary in omega (arith, c.loop-number-test.true, b)) in
@@ -66,14 +66,14 @@ loop-number-preserved g c = record {
 
 pub returns-clause-few : goal.returns-clause-few
 returns-clause-few g c =
-    let r = c.loop-number.invariant.reached (c.requires.1.1.1 c.in-Some.ensures.first.0) in
+    let r = c.loop-number.invariant.reached (c.requires.1.1.1 c.in-Some.ensures.same c.in-Some.ensures.first.0) in
     let m = r.many in
     let f = c.in-Some.ensures.first.1 in
     omega (arith, m, f, c.loop-number-test.false, c.loop-number.auto.number-end)
 
 pub returns-clause-here : goal.returns-clause-here
 returns-clause-here g c =
-    let e = c.requires.1.1.1 c.in-Some.ensures.first.0 in
+    let e = c.requires.1.1.1 c.in-Some.ensures.same c.in-Some.ensures.first.0 in
     let bs : List Boundary = c.args.self.now.kept.boundaries.now in
     let end : c.loop-number.number ≡ c.in-Some.count =
     omega (arith, c.loop-number-test.false, c.loop-number.auto.number-end) in
@@ -90,7 +90,7 @@ returns-clause-here g c =
 
 pub returns-clause-noted : goal.returns-clause-noted
 returns-clause-noted g c =
-    let e = c.requires.1.1.1 c.in-Some.ensures.first.0 in
+    let e = c.requires.1.1.1 c.in-Some.ensures.same c.in-Some.ensures.first.0 in
     let r = c.loop-number.invariant.reached e in
     let m = r.many in
     let end : c.loop-number.number ≡ c.in-Some.count =

@@ -1,6 +1,7 @@
-use Rattle.std.proofs.Common.{◌≡◌, drop}
+use Rattle.std.proofs.Common.{◌≡◌, drop, IfSome}
 use Rattle.ldmodel.specs.Body.{body_step}
 use Rattle.ldmodel.specs.Chain.{run}
+use Rattle.place.specs.Alongside.{BodyAlongside}
 use Rattle.place.specs.Counted.{Counted}
 use Rattle.place.specs.State.{body_of}
 use Rattle.place.proofs.state.Frame.place_body.Given as goal
@@ -13,4 +14,6 @@ invariant-loop-statement g l = record {
   gives : run (body_step l.self.provided.now) (body_of g.naming l.fn.here l.self) l.body
       ≡ run (body_step l.self.provided.now) (body_of g.naming l.here l.self) (drop l.statement-index l.body);
   counted : Counted l.fn.here l.here l.self;
+  alongside : IfSome l.self.starts (λ s.
+      BodyAlongside s.now (body_of g.naming l.here l.self) (drop l.statement-index l.body));
 }

@@ -1,7 +1,7 @@
 use Rattle.std.proofs.Common.{◌≡◌, ◌-◌, drop, length}
 use Rattle.ldmodel.specs.Body.{pieces_placed}
 use Rattle.ldnumbers.specs.Naming.{row_named}
-use Rattle.place.specs.Counted.{Counted}
+use Rattle.place.specs.Counted.{Entered}
 use Rattle.place.specs.State.{body_of}
 use Rattle.place.proofs.state.Frame.place_pieces.Given as goal
 
@@ -14,7 +14,7 @@ invariant-loop-here g l = record {
       (row_named g.naming (drop (length l.fn.here.pieces.items) l.self.row.now))
       ≡ pieces_placed l.line l.number (body_of g.naming l.here l.self)
       (row_named g.naming (drop (length l.here.pieces.items) l.self.row.now));
-  counted : Counted l.fn.here l.here l.self;
+  entered : Entered l.fn.here l.here l.self;
 }
 
 abbrev pub decreases-loop-here : goal.decreases-loop-here

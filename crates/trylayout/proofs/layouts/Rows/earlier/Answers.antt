@@ -1,18 +1,13 @@
-use Rattle.std.proofs.Common.{map, ap, subst}
-use Rattle.place.specs.Outcomes.{IsGood}
-use Rattle.ldnumbers.specs.Naming.{rows_named}
+use Rattle.std.proofs.Common.{map, ap}
 use Rattle.ldnumbers.specs.ProvidedTable.{provided_names}
 use Rattle.trylayout.proofs.Joined.{kept_good}
-use Rattle.trylayout.specs.Unnamed.{unnamed}
 use Rattle.trylayout.proofs.layouts.Rows.earlier.Goals as goal
 
 pub returns-in-Ok-place : goal.returns-in-Ok-place
 returns-in-Ok-place c =
     kept_good c.args.script.now (map (λ w. w.items) c.in-Ok.rows.items)
     (map (λ w. w.items) c.args.self.now.rows.items) (map (λ w. w.items) c.deref.result.now)
-    (map (λ w. w.items) c.deref-3.result.now)
-    (provided_names c.args.script.now c.args.self.now.provided.items) c.in-Ok-place.placement c.in_ok-first.first
+    (map (λ w. w.items) c.deref-3.result.now) (provided_names c.args.script.now c.deref-4.result.now)
+    c.in-Ok-place.placement c.in_ok-first.first
     (ap (map (λ w. w.items)) c.deref-3.ensures.value) (ap (map (λ w. w.items)) c.deref.ensures.value)
-    c.in-Ok.ensures
-    (subst (λ ns. IsGood c.args.script.now (rows_named unnamed (map (λ w. w.items) c.deref-3.result.now))
-    (provided_names c.args.script.now ns) c.in-Ok-place.placement) c.deref-4.ensures.value c.in-Ok-place.ensures.good)
+    c.in-Ok.ensures c.in-Ok-place.ensures.good
