@@ -19,6 +19,7 @@ use Rattle.ldmodel.specs.Sections.{is_same_part}
 use Rattle.ldmodel.specs.SymbolValues.{placed_part, placed_pieces}
 use Rattle.ldmodel.specs.declared.sections.Part.{Part}
 use Rattle.ldmodel.specs.declared.sections.Part.TheVariants.{InTable, InCommon}
+use Rattle.ldmodel.specs.declared.sections.SectionKey.{SectionKey}
 use Rattle.ldrelocating.specs.declared.relocated.Relocated.{Relocated}
 use Rattle.ldtargets.specs.KnownLink.{KnownLink}
 use Rattle.lddrawing.proofs.Lists.{each_at, find_at, get_left, later_of_map, take_next, zip_more}
@@ -76,12 +77,13 @@ all_found s rows placed differ =
 
 -- ---- row by row
 
-module _ (p : Project) (numbers : List ℕ) (r : Relocated) (rows : List (List Piece)) (starts : List ℕ) where
+module _ (p : Project) (stays : SectionKey → Bool) (numbers : List ℕ) (r : Relocated) (rows : List (List Piece))
+    (starts : List ℕ) where
   -- the rows before a number are drawn, and the others begin at the addresses that are left
   pub record RowsSoFar (k at : ℕ) (ys : List (List ImagePiece)) : Type 0 where
     pub within : at ≤ length starts
-    pub drawn : (l : KnownLink) → l.project ≡ p → AreSources l numbers r → AreRowsAt p l.layout rows starts
-        → AllZip (IsRow l.project l.layout) (take k l.layout.sections) ys
+    pub drawn : (l : KnownLink) → l.project ≡ p → AreSources l stays numbers r → AreRowsAt p l.layout rows starts
+        → AllZip (IsRow l.project l.layout stays) (take k l.layout.sections) ys
     pub rest : (l : KnownLink) → AreRowsAt p l.layout rows starts
         → drop at starts ≡ flat_map starts_of (drop k l.layout.sections)
 
@@ -158,16 +160,16 @@ module _ (p : Project) (numbers : List ℕ) (r : Relocated) (rows : List (List P
 
   pub one_row : (k at : ℕ) (row : List Piece) (y : List ImagePiece) (old new : List (List ImagePiece))
       → slice_get rows k ≡ Some row → k < length rows → at + length row ≤ length starts
-      → ((l : KnownLink) (q : PlacedSection) → l.project ≡ p → AreSources l numbers r
-      → IsRowAt p l.layout row (drop at starts) q → IsRow l.project l.layout q y) → new ≡ old ++ y ∷ []
+      → ((l : KnownLink) (q : PlacedSection) → l.project ≡ p → AreSources l stays numbers r
+      → IsRowAt p l.layout row (drop at starts) q → IsRow l.project l.layout stays q y) → new ≡ old ++ y ∷ []
       → RowsSoFar k at old → RowsSoFar (k + 1) (at + length row) new
   one_row k at row y old new e below fits make pushed so_far = record {
     within = fits;
     drawn = λ l same sources h.
         let q = placed_at l k at row old e below h so_far in
-        subst (λ qs. AllZip (IsRow l.project l.layout) qs new) (sym (take_next l.layout.sections k q.section q.here))
-        (subst (λ zs. AllZip (IsRow l.project l.layout) (take k l.layout.sections ++ q.section ∷ []) zs) (sym pushed)
-        (zip_more (IsRow l.project l.layout) (take k l.layout.sections) old q.section y (so_far.drawn l same sources h)
+        subst (λ qs. AllZip (IsRow l.project l.layout stays) qs new) (sym (take_next l.layout.sections k q.section q.here))
+        (subst (λ zs. AllZip (IsRow l.project l.layout stays) (take k l.layout.sections ++ q.section ∷ []) zs) (sym pushed)
+        (zip_more (IsRow l.project l.layout stays) (take k l.layout.sections) old q.section y (so_far.drawn l same sources h)
         (make l q.section same sources (row_at l k at row h q))));
     rest = λ l h.
         let q = placed_at l k at row old e below h so_far in
@@ -179,10 +181,10 @@ module _ (p : Project) (numbers : List ℕ) (r : Relocated) (rows : List (List P
   }
 
   pub all_rows : (l : KnownLink) (k at : ℕ) (ys : List (List ImagePiece)) → length rows ≤ k → l.project ≡ p
-      → AreSources l numbers r → AreRowsAt p l.layout rows starts → RowsSoFar k at ys
-      → AllZip (IsRow l.project l.layout) l.layout.sections ys
+      → AreSources l stays numbers r → AreRowsAt p l.layout rows starts → RowsSoFar k at ys
+      → AllZip (IsRow l.project l.layout stays) l.layout.sections ys
   all_rows l k at ys past same sources h so_far =
       let many : length l.layout.sections ≡ length rows =
       sym (length-map l.layout.sections entries_in) ∙ ap length h.placed in
-      subst (λ qs. AllZip (IsRow l.project l.layout) qs ys) (take_all k l.layout.sections (omega (arith, past, many)))
+      subst (λ qs. AllZip (IsRow l.project l.layout stays) qs ys) (take_all k l.layout.sections (omega (arith, past, many)))
       (so_far.drawn l same sources h)

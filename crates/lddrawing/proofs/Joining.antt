@@ -20,13 +20,14 @@ use Rattle.ldmodel.specs.Project.{Project}
 use Rattle.ldmodel.specs.Segments.{SectionInFile, has_file_bytes, nonempty, segments}
 use Rattle.ldmodel.specs.declared.laid.Placed.{Placed}
 use Rattle.ldmodel.specs.declared.laid.PlacedData.{PlacedData}
+use Rattle.ldmodel.specs.declared.sections.SectionKey.{SectionKey}
 use Rattle.ldtree.specs.Numbering.{OutputSectionAt}
 use Rattle.lddrawing.proofs.Lists.{at_zip, next_zip, zip_more}
 use Rattle.lddrawing.proofs.Walking.{in_file_are}
 use Rattle.lddrawing.specs.DataRuns.{AreDataOf}
 use Rattle.lddrawing.specs.Joined.{AreJoined, IsAt}
-use Rattle.lddrawing.specs.Output.{AreDrawn, AreDrawnOf, IsDrawn, IsOffset, IsOutput, IsRow, IsUnstayed, in_file_at}
-use Rattle.lddrawing.specs.Output.{with_bytes}
+use Rattle.lddrawing.specs.Output.{AreDrawn, AreDrawnOf, IsDrawn, IsOffset, IsOutput, IsRow, IsSectionKept}
+use Rattle.lddrawing.specs.Output.{in_file_at, with_bytes}
 use Rattle.lddrawing.specs.declared.output.Output.{Output}
 
 zip_map : {X Y : Type 0} (f : X → Y) (xs : List X) → AllZip (λ x y. y ≡ f x) xs (map f xs)
@@ -41,15 +42,15 @@ same_at f g xs ys k x y e at_x at_y =
     let right : slice_get (map g ys) k ≡ Some (g y) = slice_get-map g ys k ∙ ap (option_map g) at_y in
     same_Some _ _ (sym right ∙ ap (λ l. slice_get l k) (sym e) ∙ left)
 
-module _ (p : Project) (s : Layout) (places : List Placed) (os : List OutputSectionAt) (offsets : List ℕ)
-    (rows : List (List ImagePiece)) (runs : List (List PlacedData)) where
+module _ (p : Project) (s : Layout) (stays : SectionKey → Bool) (places : List Placed) (os : List OutputSectionAt)
+    (offsets : List ℕ) (rows : List (List ImagePiece)) (runs : List (List PlacedData)) where
   -- the output section of a number
   pub record Joint (k : ℕ) (place : Placed) : Type 0 where
     pub member : PlacedSection
     pub taken : take (k + 1) s.sections ≡ take k s.sections ++ member ∷ []
-    pub is : IsAt p s member k place os offsets rows runs
+    pub is : IsAt p s stays member k place os offsets rows runs
 
-  pub joint : (k : ℕ) (place : Placed) → AreJoined p s places os offsets rows runs → k < length places
+  pub joint : (k : ℕ) (place : Placed) → AreJoined p s stays places os offsets rows runs → k < length places
       → get_or places k place ≡ place → Joint k place
   joint k place h l e =
       let z : AllZip (λ q pl. pl ≡ placed_of q) s.sections places =
@@ -70,27 +71,29 @@ module _ (p : Project) (s : Layout) (places : List Placed) (os : List OutputSect
               h.fills
               next.at at;
           offset = λ n at. at_zip (IsOffset s) s.sections offsets k q n h.begun next.at at;
-          row = λ ys at. at_zip (IsRow p s) s.sections rows k q ys h.pieces next.at at;
+          row = λ ys at. at_zip (IsRow p s stays) s.sections rows k q ys h.pieces next.at at;
           data_commands = λ ds at. at_zip AreDataOf s.sections runs k q ds h.data_commands next.at at;
         };
       }
 
   -- one output section more
   pub one_joined : (k : ℕ) (place : Placed) (x : Output) (old new : List Output)
-      → AreJoined p s places os offsets rows runs → k < length places → get_or places k place ≡ place
-      → ((q : PlacedSection) → IsAt p s q k place os offsets rows runs → IsOutput p s q x) → new ≡ old ++ x ∷ []
-      → AllZip (IsOutput p s) (take k s.sections) old → AllZip (IsOutput p s) (take (k + 1) s.sections) new
+      → AreJoined p s stays places os offsets rows runs → k < length places → get_or places k place ≡ place
+      → ((q : PlacedSection) → IsAt p s stays q k place os offsets rows runs → IsOutput p s stays q x)
+      → new ≡ old ++ x ∷ []
+      → AllZip (IsOutput p s stays) (take k s.sections) old
+      → AllZip (IsOutput p s stays) (take (k + 1) s.sections) new
   one_joined k place x old new h l e make pushed so_far =
       let j = joint k place h l e in
-      subst (λ qs. AllZip (IsOutput p s) qs new) (sym j.taken)
-      (subst (λ xs. AllZip (IsOutput p s) (take k s.sections ++ j.member ∷ []) xs) (sym pushed)
-      (zip_more (IsOutput p s) (take k s.sections) old j.member x so_far (make j.member j.is)))
+      subst (λ qs. AllZip (IsOutput p s stays) qs new) (sym j.taken)
+      (subst (λ xs. AllZip (IsOutput p s stays) (take k s.sections ++ j.member ∷ []) xs) (sym pushed)
+      (zip_more (IsOutput p s stays) (take k s.sections) old j.member x so_far (make j.member j.is)))
 
-  pub all_joined : (k : ℕ) (xs : List Output) → AreJoined p s places os offsets rows runs → length places ≤ k
-      → AllZip (IsOutput p s) (take k s.sections) xs → AllZip (IsOutput p s) s.sections xs
+  pub all_joined : (k : ℕ) (xs : List Output) → AreJoined p s stays places os offsets rows runs → length places ≤ k
+      → AllZip (IsOutput p s stays) (take k s.sections) xs → AllZip (IsOutput p s stays) s.sections xs
   all_joined k xs h past so_far =
       let long : length s.sections ≡ length places = sym (length-map s.sections placed_of) ∙ ap length h.placed in
-      subst (λ qs. AllZip (IsOutput p s) qs xs) (take_all k s.sections (omega (arith, past, long))) so_far
+      subst (λ qs. AllZip (IsOutput p s stays) qs xs) (take_all k s.sections (omega (arith, past, long))) so_far
 
 -- ---- output sections with bytes in the file
 
@@ -119,43 +122,45 @@ with_one s q = go (q.size == 0)
     go true = refl
     go false = inner (q.load_size == 0)
 
-pub drawn_same : (p : Project) (s : Layout) (qs : List PlacedSection) (q : PlacedSection) (ys : List ImageSection)
-    (b c : Bool) → (q.size == 0) ≡ b → (q.load_size == 0) ≡ c → one_of s q b c ≡ [] → AreDrawnOf p s qs ys
-    → AreDrawnOf p s (qs ++ q ∷ []) ys
-drawn_same p s qs q ys b c e f none h =
+pub drawn_same : (p : Project) (s : Layout) (stays : SectionKey → Bool) (qs : List PlacedSection) (q : PlacedSection)
+    (ys : List ImageSection) (b c : Bool) → (q.size == 0) ≡ b → (q.load_size == 0) ≡ c → one_of s q b c ≡ []
+    → AreDrawnOf p s stays qs ys → AreDrawnOf p s stays (qs ++ q ∷ []) ys
+drawn_same p s stays qs q ys b c e f none h =
     let one : with_bytes s (q ∷ []) ≡ [] =
     with_one s q ∙ ap (λ t. one_of s q t (q.load_size == 0)) e ∙ ap (one_of s q b) f ∙ none in
+    let same = with_append s qs (q ∷ []) ∙ ap (λ l. with_bytes s qs ++ l) one ∙ append-nil (with_bytes s qs) in
     record {
-      sections = subst (λ l. AllZip (IsImageSection p s) l ys)
-          (sym (with_append s qs (q ∷ []) ∙ ap (λ l. with_bytes s qs ++ l) one ∙ append-nil (with_bytes s qs)))
-          h.sections;
+      sections = subst (λ l. AllZip (IsImageSection p s) l ys) (sym same) h.sections;
       filled = h.filled;
-      unstayed = h.unstayed;
+      kept = subst (λ l. AllZip (IsSectionKept p stays) l ys) (sym same) h.kept;
     }
 
-pub drawn_more : (p : Project) (s : Layout) (qs : List PlacedSection) (q : PlacedSection) (old new : List ImageSection)
-    (y : ImageSection) → (q.size == 0) ≡ false → (q.load_size == 0) ≡ false → IsDrawn p s q y → new ≡ old ++ y ∷ []
-    → AreDrawnOf p s qs old → AreDrawnOf p s (qs ++ q ∷ []) new
-drawn_more p s qs q old new y e f is pushed h =
+pub drawn_more : (p : Project) (s : Layout) (stays : SectionKey → Bool) (qs : List PlacedSection) (q : PlacedSection)
+    (old new : List ImageSection) (y : ImageSection) → (q.size == 0) ≡ false → (q.load_size == 0) ≡ false
+    → IsDrawn p s stays q y → new ≡ old ++ y ∷ []
+    → AreDrawnOf p s stays qs old → AreDrawnOf p s stays (qs ++ q ∷ []) new
+drawn_more p s stays qs q old new y e f is pushed h =
     let one : with_bytes s (q ∷ []) ≡ in_file_at s q ∷ [] =
     with_one s q ∙ ap (λ t. one_of s q t (q.load_size == 0)) e ∙ ap (one_of s q false) f in
-    subst (AreDrawnOf p s (qs ++ q ∷ [])) (sym pushed) (record {
-      sections = subst (λ l. AllZip (IsImageSection p s) l (old ++ y ∷ []))
-          (sym (with_append s qs (q ∷ []) ∙ ap (λ l. with_bytes s qs ++ l) one))
+    let more = with_append s qs (q ∷ []) ∙ ap (λ l. with_bytes s qs ++ l) one in
+    subst (AreDrawnOf p s stays (qs ++ q ∷ [])) (sym pushed) (record {
+      sections = subst (λ l. AllZip (IsImageSection p s) l (old ++ y ∷ [])) (sym more)
           (zip_more (IsImageSection p s) (with_bytes s qs) old (in_file_at s q) y h.sections is.section);
       filled = All-push IsSectionFilled old y h.filled is.filled;
-      unstayed = All-push IsUnstayed old y h.unstayed is.unstayed;
+      kept = subst (λ l. AllZip (IsSectionKept p stays) l (old ++ y ∷ [])) (sym more)
+          (zip_more (IsSectionKept p stays) (with_bytes s qs) old (in_file_at s q) y h.kept is.kept);
     })
 
 -- all are drawn
-pub drawn_all : (p : Project) (s : Layout) (ys : List ImageSection) → AreNamed s.sections
-    → IsFileLayout s.sections (segments s.sections) → AreDrawnOf p s s.sections ys → AreDrawn p s ys
-drawn_all p s ys named file h = record {
-  sections = subst (λ l. AllZip (IsImageSection p s) (filter loads l) ys)
-      (sym (in_file_are s.sections (segments s.sections) named file.grouping.parts)) h.sections;
-  filled = h.filled;
-  unstayed = h.unstayed;
-}
+pub drawn_all : (p : Project) (s : Layout) (stays : SectionKey → Bool) (ys : List ImageSection) → AreNamed s.sections
+    → IsFileLayout s.sections (segments s.sections) → AreDrawnOf p s stays s.sections ys → AreDrawn p s stays ys
+drawn_all p s stays ys named file h =
+    let same = in_file_are s.sections (segments s.sections) named file.grouping.parts in
+    record {
+      sections = subst (λ l. AllZip (IsImageSection p s) (filter loads l) ys) (sym same) h.sections;
+      filled = h.filled;
+      kept = subst (λ l. AllZip (IsSectionKept p stays) (filter loads l) ys) (sym same) h.kept;
+    }
 
 pub not_zero : (n : ℕ) → (n ≡ 0 → ⊥) → (n == 0) ≡ false
 not_zero n h = false_from_ne_true (n == 0) (λ t. absurd (h (eqb-true n 0 t)))

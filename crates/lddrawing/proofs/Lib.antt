@@ -10,5 +10,6 @@ mod OfRows
 mod OfSections
 mod Running
 mod Sizing
+mod Staying
 mod OfSizes
 mod OfSymbols

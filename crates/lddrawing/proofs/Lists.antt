@@ -3,8 +3,8 @@ use Rattle.std.proofs.Common.{◌≡◌, ◌∙◌, sym, refl, ap, subst, ℕ, �
 use Rattle.std.proofs.Common.{filter}
 use Rattle.std.proofs.Common.{◌+◌, ◌≤◌, take, find, Some, None, Bool, true, false, cond, arith, get_or, slice_get}
 use Rattle.std.proofs.Common.{◌⊎◌, inl, inr}
-use Rattle.std.specs.Prelude.{Result, Ok, Err, IfOk}
-use Rattle.std.specs.List.{AllPairs, AllZip}
+use Rattle.std.specs.Prelude.{Result, Ok, Err, IfOk, OnOk}
+use Rattle.std.specs.List.{All, AllPairs, AllZip, Contains}
 use Rattle.std.specs.Option.{option_map}
 use Rattle.std.proofs.lemmas.List.{take_all}
 use Rattle.std.proofs.lemmas.Option.{same_Some, slice_get-map, slice_get_read}
@@ -77,6 +77,23 @@ zip_more R [] (z ∷ zs) x y all one = absurd all
 zip_more R (w ∷ ws) [] x y all one = absurd all
 zip_more R (w ∷ ws) (z ∷ zs) x y all one = (all.0, zip_more R ws zs x y all.1 one)
 
+-- what follows for each pair, of whose first members all are in the list
+pub zip_each : {A B : Type 0} (R S : A → B → Type 0) (xs : List A) (ys : List B)
+    → ((x : A) (y : B) → Contains xs x → R x y → S x y) → AllZip R xs ys → AllZip S xs ys
+zip_each R S [] [] f all = tt
+zip_each R S [] (y ∷ ys) f all = absurd all
+zip_each R S (x ∷ xs) [] f all = absurd all
+zip_each R S (x ∷ xs) (y ∷ ys) f all =
+    (f x y (0, omega arith, refl) all.0, zip_each R S xs ys (λ z w c r. f z w (suc c.0, omega (arith, c.1), c.2) r) all.1)
+
+-- what follows of the second member of each pair
+pub zip_right : {A B : Type 0} (R : A → B → Type 0) (P : B → Type 0) (xs : List A) (ys : List B)
+    → ((x : A) (y : B) → R x y → P y) → AllZip R xs ys → All P ys
+zip_right R P xs [] f all k d l = absurd (omega (arith, l))
+zip_right R P [] (y ∷ ys) f all k d l = absurd all
+zip_right R P (x ∷ xs) (y ∷ ys) f all zero d l = f x y all.0
+zip_right R P (x ∷ xs) (y ∷ ys) f all (suc k) d l = zip_right R P xs ys f all.1 k d (omega (arith, l))
+
 -- lists of one length whose members go together, place by place
 pub zip_at : {A B : Type 0} (R : A → B → Type 0) (xs : List A) (ys : List B) → length xs ≡ length ys
     → ((k : ℕ) (x : A) (y : B) → slice_get xs k ≡ Some x → slice_get ys k ≡ Some y → R x y) → AllZip R xs ys
@@ -137,6 +154,10 @@ zip_done R S xs ys zs k h past done =
 pub if_ok : {X E : Type 0} (r : Result X E) {P Q : X → Type 0} → ((x : X) → P x → Q x) → IfOk r P → IfOk r Q
 if_ok (Ok x) f h = f x h
 if_ok (Err e) f h = h
+
+pub on_ok : {X E : Type 0} (P Q : Type 0) (r : Result X E) → (P → Q) → OnOk r P → OnOk r Q
+on_ok P Q (Ok x) f h = f h
+on_ok P Q (Err e) f h = h
 
 pub if_ok_both : {X E : Type 0} (r : Result X E) {P Q R : X → Type 0} → ((x : X) → P x → Q x → R x) → IfOk r P
     → IfOk r Q → IfOk r R

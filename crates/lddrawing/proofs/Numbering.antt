@@ -1,7 +1,7 @@
 -- Numbers of the sections of objects.
 use Rattle.std.proofs.Common.{◌≡◌, ◌∙◌, sym, refl, ap, subst, ℕ, ◌+◌, ◌-◌, ◌<◌, ◌≤◌, zero, suc, List, [], ◌∷◌, ◌++◌}
 use Rattle.std.proofs.Common.{length}
-use Rattle.std.proofs.Common.{map, flat_map, take, drop, Some, false, ◌==◌, arith, get_or, slice_get}
+use Rattle.std.proofs.Common.{map, flat_map, take, drop, Bool, Some, false, ◌==◌, arith, get_or, slice_get}
 use Rattle.std.specs.List.{AllPairs, AllZip}
 use Rattle.std.proofs.lemmas.Bool.{eqb-true, false_from_ne_true}
 use Rattle.std.proofs.Common.{append-nil, inl, inr}
@@ -17,12 +17,13 @@ use Rattle.ldlaws.specs.PlacedOnce.{AreNumbered}
 use Rattle.ldlaws.specs.Spread.{EachLater}
 use Rattle.ldmodel.specs.FileLayout.{Each}
 use Rattle.ldmodel.specs.Project.{NamedObject, Project}
+use Rattle.ldmodel.specs.declared.sections.SectionKey.{SectionKey}
 use Rattle.ldproject.specs.Inputs.{shown_input, shown_inputs}
 use Rattle.ldproject.specs.declared.input.Input.{Input}
-use Rattle.ldrelocating.specs.Relocated.{AreRuns}
-use Rattle.ldtargets.specs.Filled.{IsRunOf, ObjectSection, ends_of, sections_in, sections_of}
+use Rattle.ldtargets.specs.Filled.{ObjectSection, ends_of, sections_in, sections_of}
 use Rattle.ldtargets.specs.KnownLink.{KnownLink}
 use Rattle.lddrawing.specs.Numbers.{AreFirsts, HaveNumbers}
+use Rattle.ldrelocating.specs.Runs.{AreRunsUnless, IsRunUnless}
 use Rattle.lddrawing.proofs.Lists.{each_join, get_left, get_push, get_right, later_of_map, mapped_at, pairs_later}
 use Rattle.lddrawing.proofs.Lists.{take_next}
 
@@ -169,33 +170,34 @@ run_cut m (r ∷ rs) (suc n) run begin end e f g =
           ∙ ap (take (end - begin)) (drop_own r (flat rs) (begin - (m + length r))) ∙ rest.is;
     }
 
-record Run (l : KnownLink) (ss : ObjectSection) (runs : List (List Patch)) (n : ℕ) : Type 0 where
+record Run (R : ObjectSection → List Patch → Type 0) (s : ObjectSection) (runs : List (List Patch)) (n : ℕ)
+    : Type 0 where
   pub run : List Patch
   pub at : slice_get runs n ≡ Some run
-  pub is : IsRunOf l ss run
+  pub is : R s run
 
-run_of : (l : KnownLink) (ss : List ObjectSection) (runs : List (List Patch)) (n : ℕ) (s : ObjectSection)
-    → AllZip (IsRunOf l) ss runs → slice_get ss n ≡ Some s → Run l s runs n
-run_of l [] runs n s h e = absurd (let none : ⊥ = cc in none)
-run_of l (x ∷ xs) [] n s h e = absurd h
-run_of l (x ∷ xs) (r ∷ rs) zero s h e =
-    record { run = r; at = refl; is = subst (λ z. IsRunOf l z r) (same_Some _ _ e) h.0 }
-run_of l (x ∷ xs) (r ∷ rs) (suc n) s h e =
-    let rest = run_of l xs rs n s h.1 e in record { run = rest.run; at = rest.at; is = rest.is }
+run_of : (R : ObjectSection → List Patch → Type 0) (ss : List ObjectSection) (runs : List (List Patch)) (n : ℕ)
+    (s : ObjectSection) → AllZip R ss runs → slice_get ss n ≡ Some s → Run R s runs n
+run_of R [] runs n s h e = absurd (let none : ⊥ = cc in none)
+run_of R (x ∷ xs) [] n s h e = absurd h
+run_of R (x ∷ xs) (r ∷ rs) zero s h e =
+    record { run = r; at = refl; is = subst (λ z. R z r) (same_Some _ _ e) h.0 }
+run_of R (x ∷ xs) (r ∷ rs) (suc n) s h e =
+    let rest = run_of R xs rs n s h.1 e in record { run = rest.run; at = rest.at; is = rest.is }
 
-pub run_found : (l : KnownLink) (o : NamedObject) (x : LinkedSection) (firsts ends : List ℕ) (patches run : List Patch)
-    (place section first number begin end : ℕ) → AreFirsts l.project.objects (length l.project.objects) firsts
-    → AreRuns l patches ends → slice_get l.project.objects place ≡ Some o → slice_get o.object.sections section ≡ Some x
+pub run_found : (l : KnownLink) (stays : SectionKey → Bool) (o : NamedObject) (x : LinkedSection)
+    (firsts ends : List ℕ) (patches run : List Patch) (place section first number begin end : ℕ) → AreFirsts l.project.objects (length l.project.objects) firsts
+    → AreRunsUnless l stays patches ends → slice_get l.project.objects place ≡ Some o → slice_get o.object.sections section ≡ Some x
     → slice_get firsts place ≡ Some first → number ≡ first + section → slice_get (0 ∷ ends) number ≡ Some begin
     → slice_get (0 ∷ ends) (number + 1) ≡ Some end → run ≡ take (end - begin) (drop begin patches)
-    → IsRunOf l (record { object = o; section = x }) run
-run_found l o x firsts ends patches run place section first number begin end are runs there own at sum from to is =
+    → IsRunUnless l stays (record { object = o; section = x }) run
+run_found l stays o x firsts ends patches run place section first number begin end are runs there own at sum from to is =
     let ss : List ObjectSection = sections_in l.project.objects in
     let number_is : number ≡ length (sections_in (take place l.project.objects)) + section =
     sum ∙ ap (λ n. n + section) (are.at place first at) in
     let found : slice_get ss number ≡ Some (record { object = o; section = x }) =
     ap (slice_get ss) number_is ∙ section_at l.project.objects place o section x there own in
-    let one = run_of l ss runs.runs number (record { object = o; section = x }) runs.each found in
+    let one = run_of (IsRunUnless l stays) ss runs.runs number (record { object = o; section = x }) runs.each found in
     let begins : slice_get (0 ∷ ends_of 0 runs.runs) number ≡ Some begin =
     ap (λ es. slice_get (0 ∷ es) number) (sym runs.ends) ∙ from in
     let suc_is : number + 1 ≡ suc number = omega arith in
@@ -206,4 +208,4 @@ run_found l o x firsts ends patches run place section first number begin end are
     let same : run ≡ one.run =
     is ∙ ap (λ ps. take (end - begin) (drop begin ps)) runs.patches
     ∙ ap (λ k. take (end - begin) (drop k (flat runs.runs))) (sym none) ∙ cut.is in
-    subst (IsRunOf l (record { object = o; section = x })) (sym same) one.is
+    subst (IsRunUnless l stays (record { object = o; section = x })) (sym same) one.is

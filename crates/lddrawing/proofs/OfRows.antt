@@ -5,7 +5,7 @@ use Rattle.std.proofs.Common.{take, find, Option, Some, None, Bool, true, false,
 use Rattle.std.proofs.Common.{inr, eq-eqb}
 use Rattle.std.specs.List.{All, AllZip, count_by}
 use Rattle.std.specs.Option.{option_map, option_map_or}
-use Rattle.std.proofs.lemmas.Bool.{eqb-true, false_from_ne_true}
+use Rattle.std.proofs.lemmas.Bool.{eqb-true, false_from_ne_true, true≢false}
 use Rattle.std.proofs.lemmas.List.{length-map, take_all}
 use Rattle.std.proofs.lemmas.List.Sums.{sum_by-cons}
 use Rattle.std.proofs.lemmas.Option.{get_or_from_slice_get, same_Some, slice_get-map}
@@ -24,16 +24,20 @@ use Rattle.ldmodel.specs.Layout.{Layout, PlacedPiece, PlacedSection}
 use Rattle.ldmodel.specs.NameFaults.{object_name}
 use Rattle.ldmodel.specs.Project.{NamedObject, Project}
 use Rattle.ldmodel.specs.Rows.{Piece}
+use Rattle.ldmodel.specs.declared.rows.Piece as rows
 use Rattle.ldmodel.specs.declared.sections.Part.{Part}
 use Rattle.ldmodel.specs.declared.sections.Part.TheVariants.{InTable, InCommon}
+use Rattle.ldmodel.specs.declared.sections.SectionKey.{SectionKey}
+use Rattle.ldproject.specs.ByPlace.{piece_in}
 use Rattle.elfobj.specs.Numbering.{IsNumberedAt}
 use Rattle.elfobj.specs.Object.{ObjectData}
 use Rattle.elfobj.specs.declared.section.Section.{Section}
 use Rattle.ldmodel.specs.SymbolValues.{placed_part}
-use Rattle.lddrawing.proofs.Lists.{find_at, take_next, zip_more}
+use Rattle.lddrawing.proofs.Lists.{find_at, take_next, zip_each, zip_more, zip_right}
+use Rattle.lddrawing.specs.Kept.{IsKeptBy}
 use Rattle.lddrawing.specs.Numbers.{HaveNumbers}
 use Rattle.lddrawing.specs.Output.{IsRow}
-use Rattle.lddrawing.specs.Pieces.{IsDrawnPiece, IsPlacedAt, IsRowAt}
+use Rattle.lddrawing.specs.Pieces.{IsDrawnPiece, IsPlacedAt, IsRowAt, IsRowPiece}
 
 abbrev one_if : Bool → ℕ
 one_if b = cond b 1 0
@@ -95,6 +99,10 @@ filled_zeros y e f = (
 abbrev pub AreZeros : ℕ → ℕ → ImagePiece → Type 0
 AreZeros size start y =
     (y.start ≡ start) × (y.size ≡ size) × (y.bytes.now ≡ []) × (y.fields.now ≡ []) × (y.stays ≡ false)
+
+abbrev pub AreKept : ℕ → ℕ → ImagePiece → Type 0
+AreKept size start y =
+    (y.start ≡ start) × (y.size ≡ size) × (y.bytes.now ≡ []) × (y.fields.now ≡ []) × (y.stays ≡ true)
 
 module _ (p : Project) (s : Layout) (piece : Piece) (start : ℕ) (w : PlacedPiece) (at : IsPlacedAt p s piece start w)
   where
@@ -238,27 +246,55 @@ numbered_is o number i x differ at same =
 
 -- ---- rows
 
-drawn_all_of : (P : ImagePiece → Type 0) (p : Project) (s : Layout)
-    → ((w : PlacedPiece) (y : ImagePiece) → IsDrawnPiece p s w y → P y) → (ws : List PlacedPiece) (ys : List ImagePiece)
-    → AllZip (IsDrawnPiece p s) ws ys → All P ys
-drawn_all_of P p s f ws [] z k d l = absurd (omega (arith, l))
-drawn_all_of P p s f [] (y ∷ ys) z k d l = absurd z
-drawn_all_of P p s f (w ∷ ws) (y ∷ ys) z zero d l = f w y z.0
-drawn_all_of P p s f (w ∷ ws) (y ∷ ys) z (suc k) d l = drawn_all_of P p s f ws ys z.1 k d (omega (arith, l))
+-- the key of a section, by its number
+pub not_stayed : (r : rows.Piece) (number : SectionIndex) (x : LinkedSection) (stays : SectionKey → Bool)
+    → r.section.part ≡ InTable number → x.number.0 ≡ number.0 → stays r.section ≡ false
+    → stays (record { object = r.section.object; part = InTable x.number }) ≡ false
+not_stayed r number x stays part same new =
+    let key : Part → SectionKey = λ q. record { object = r.section.object; part = q } in
+    let index : x.number ≡ number = ap (λ n. let k : SectionIndex = record { 0 = n } in k) same in
+    ap (λ n. stays (key (InTable n))) index ∙ ap (λ q. stays (key q)) (sym part) ∙ new
 
-drawn_pieces : (p : Project) (s : Layout) (ws : List PlacedPiece) (ys : List ImagePiece)
-    → AllZip (IsDrawnPiece p s) ws ys → AllZip (IsImagePiece p s) ws ys
-drawn_pieces p s [] [] z = tt
-drawn_pieces p s [] (y ∷ ys) z = absurd z
-drawn_pieces p s (w ∷ ws) [] z = absurd z
-drawn_pieces p s (w ∷ ws) (y ∷ ys) z = (z.0.piece, drawn_pieces p s ws ys z.1)
+-- one that is drawn anew, whose key does not stay
+pub row_drawn : (p : Project) (s : Layout) (stays : SectionKey → Bool) (x : rows.Piece) (start : ℕ) (w : PlacedPiece)
+    (y : ImagePiece) → IsPlacedAt p s (piece_in p x) start w → stays x.section ≡ false → IsDrawnPiece p s w y
+    → IsRowPiece p s stays w y
+row_drawn p s stays x start w y at new h = record {
+  piece = h.piece;
+  filled = h.filled;
+  kept = record {
+    section = x.section;
+    object = sym (ap (λ (z : Piece). z.object) at.piece_is);
+    part = sym (ap (λ (z : Piece). z.part) at.piece_is);
+    is = h.unstayed ∙ sym new;
+  };
+}
 
-pub drawn_row : (p : Project) (s : Layout) (q : PlacedSection) (ys : List ImagePiece)
-    → AllZip (IsDrawnPiece p s) q.pieces ys → IsRow p s q ys
-drawn_row p s q ys z = record {
-  pieces = drawn_pieces p s q.pieces ys z;
-  filled = drawn_all_of IsFilled p s (λ w y h. h.filled) q.pieces ys z;
-  unstayed = drawn_all_of (λ y. y.stays ≡ false) p s (λ w y h. h.unstayed) q.pieces ys z;
+-- one that stays, whose key does
+pub row_kept : (p : Project) (s : Layout) (stays : SectionKey → Bool) (x : rows.Piece) (start : ℕ) (w : PlacedPiece)
+    (y : ImagePiece) → IsPlacedAt p s (piece_in p x) start w → stays x.section ≡ true → AreKept x.size start y
+    → IsRowPiece p s stays w y
+row_kept p s stays x start w y at stayed h = record {
+  piece = record {
+    start = h.0 ∙ sym at.start_is;
+    size = h.1 ∙ sym (ap (λ (z : Piece). z.size) at.piece_is);
+    bytes = λ e. absurd (true≢false (sym h.4 ∙ e));
+  };
+  filled = filled_zeros y h.2 h.3;
+  kept = record {
+    section = x.section;
+    object = sym (ap (λ (z : Piece). z.object) at.piece_is);
+    part = sym (ap (λ (z : Piece). z.part) at.piece_is);
+    is = h.4 ∙ sym stayed;
+  };
+}
+
+pub whole_row : (p : Project) (s : Layout) (stays : SectionKey → Bool) (q : PlacedSection) (ys : List ImagePiece)
+    → AllZip (IsRowPiece p s stays) q.pieces ys → IsRow p s stays q ys
+whole_row p s stays q ys z = record {
+  pieces = zip_each (IsRowPiece p s stays) (IsImagePiece p s) q.pieces ys (λ w y c h. h.piece) z;
+  filled = zip_right (IsRowPiece p s stays) IsFilled q.pieces ys (λ w y h. h.filled) z;
+  kept = zip_each (IsRowPiece p s stays) (IsKeptBy p stays) q.pieces ys (λ w y c h. h.kept) z;
 }
 
 member : {X : Type 0} (xs : List X) (k : ℕ) → k < length xs → (x : X) × (slice_get xs k ≡ Some x)
@@ -267,22 +303,22 @@ member (x ∷ xs) zero l = (x, refl)
 member (x ∷ xs) (suc k) l = member xs k (omega (arith, l))
 
 -- one entry more
-pub one_entry : (own p : Project) (s : Layout) (q : PlacedSection) (row : List Piece) (starts : List ℕ) (k : ℕ)
+pub one_entry : (own p : Project) (s : Layout) (stays : SectionKey → Bool) (q : PlacedSection) (row : List Piece) (starts : List ℕ) (k : ℕ)
     (piece : Piece) (start : ℕ) (y : ImagePiece) (old new : List ImagePiece) → IsRowAt own s row starts q
     → k < length row
     → slice_get row k ≡ Some piece → slice_get starts k ≡ Some start
-    → ((w : PlacedPiece) → IsPlacedAt own s piece start w → IsDrawnPiece p s w y) → new ≡ old ++ y ∷ []
-    → AllZip (IsDrawnPiece p s) (take k q.pieces) old → AllZip (IsDrawnPiece p s) (take (k + 1) q.pieces) new
-one_entry own p s q row starts k piece start y old new h l at_row at_start make pushed so_far =
+    → ((w : PlacedPiece) → IsPlacedAt own s piece start w → IsRowPiece p s stays w y) → new ≡ old ++ y ∷ []
+    → AllZip (IsRowPiece p s stays) (take k q.pieces) old → AllZip (IsRowPiece p s stays) (take (k + 1) q.pieces) new
+one_entry own p s stays q row starts k piece start y old new h l at_row at_start make pushed so_far =
     let m = member q.pieces k (omega (arith, l, h.long)) in
-    subst (λ ws. AllZip (IsDrawnPiece p s) ws new) (sym (take_next q.pieces k m.0 m.1))
-    (subst (λ ys. AllZip (IsDrawnPiece p s) (take k q.pieces ++ m.0 ∷ []) ys) (sym pushed)
-    (zip_more (IsDrawnPiece p s) (take k q.pieces) old m.0 y so_far
+    subst (λ ws. AllZip (IsRowPiece p s stays) ws new) (sym (take_next q.pieces k m.0 m.1))
+    (subst (λ ys. AllZip (IsRowPiece p s stays) (take k q.pieces ++ m.0 ∷ []) ys) (sym pushed)
+    (zip_more (IsRowPiece p s stays) (take k q.pieces) old m.0 y so_far
     (make m.0 (h.each k piece start m.0 m.1 at_row at_start))))
 
-pub all_entries : (own p : Project) (s : Layout) (q : PlacedSection) (row : List Piece) (starts : List ℕ) (k : ℕ)
+pub all_entries : (own p : Project) (s : Layout) (stays : SectionKey → Bool) (q : PlacedSection) (row : List Piece) (starts : List ℕ) (k : ℕ)
     (ys : List ImagePiece) → IsRowAt own s row starts q → length row ≤ k
-    → AllZip (IsDrawnPiece p s) (take k q.pieces) ys → IsRow p s q ys
-all_entries own p s q row starts k ys h past z =
-    drawn_row p s q ys
-    (subst (λ ws. AllZip (IsDrawnPiece p s) ws ys) (take_all k q.pieces (omega (arith, past, h.long))) z)
+    → AllZip (IsRowPiece p s stays) (take k q.pieces) ys → IsRow p s stays q ys
+all_entries own p s stays q row starts k ys h past z =
+    whole_row p s stays q ys
+    (subst (λ ws. AllZip (IsRowPiece p s stays) ws ys) (take_all k q.pieces (omega (arith, past, h.long))) z)

@@ -1,9 +1,11 @@
 pub mod DataRuns
 pub mod Drawable
 pub mod Joined
+pub mod Kept
 pub mod Numbers
 pub mod Offsets
 pub mod Output
+pub mod Parts
 pub mod Pieces
 pub mod Sizes
 pub mod Symbols

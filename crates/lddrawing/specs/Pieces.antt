@@ -1,5 +1,5 @@
 -- Input sections as they are drawn.
-use Rattle.std.specs.Prelude.{◌≡◌, ℕ, List, Some, false, flat_map, length, map, slice_get}
+use Rattle.std.specs.Prelude.{◌≡◌, Bool, ℕ, List, Some, false, flat_map, length, map, slice_get}
 use Rattle.ldfields.specs.Patches.{patched_byte}
 use Rattle.elfobj.specs.Sections.{LinkedSection}
 use Rattle.elfobj.specs.declared.section.SectionIndex.{SectionIndex}
@@ -15,15 +15,17 @@ use Rattle.ldmodel.specs.Project.{NamedObject, Project}
 use Rattle.ldmodel.specs.Rows.{Piece}
 use Rattle.ldmodel.specs.SymbolValues.{placed_part}
 use Rattle.ldmodel.specs.declared.sections.Part.TheVariants.{InTable}
-use Rattle.ldrelocating.specs.Relocated.{AreRuns}
+use Rattle.ldmodel.specs.declared.sections.SectionKey.{SectionKey}
 use Rattle.ldrelocating.specs.declared.relocated.Relocated.{Relocated}
 use Rattle.ldtargets.specs.KnownLink.{KnownLink}
+use Rattle.lddrawing.specs.Kept.{IsKeptBy}
 use Rattle.lddrawing.specs.Numbers.{AreFirsts}
+use Rattle.ldrelocating.specs.Runs.{AreRunsUnless}
 
--- the numbers of sections, and the fields, are those of a link
-pub record AreSources (l : KnownLink) (numbers : List ℕ) (r : Relocated) : Type 0 where
+-- the numbers of sections, and the fields of those that do not stay, are those of a link
+pub record AreSources (l : KnownLink) (stays : SectionKey → Bool) (numbers : List ℕ) (r : Relocated) : Type 0 where
   pub firsts : AreFirsts l.project.objects (length l.project.objects) numbers
-  pub runs : AreRuns l r.patches.items r.ends.items
+  pub runs : AreRunsUnless l stays r.patches.items r.ends.items
 
 -- a section of an object at an address
 pub record IsSectionPiece (l : KnownLink) (o : NamedObject) (x : LinkedSection) (long at : ℕ) (y : ImagePiece)
@@ -34,11 +36,18 @@ pub record IsSectionPiece (l : KnownLink) (o : NamedObject) (x : LinkedSection) 
   pub filled : IsFilled y
   pub unstayed : y.stays ≡ false
 
--- an input section in its place
+-- an input section in its place that is drawn anew
 pub record IsDrawnPiece (p : Project) (s : Layout) (w : PlacedPiece) (y : ImagePiece) : Type 0 where
   pub piece : IsImagePiece p s w y
   pub filled : IsFilled y
   pub unstayed : y.stays ≡ false
+
+-- an input section in its place, which stays if its key does
+pub record IsRowPiece (p : Project) (s : Layout) (stays : SectionKey → Bool) (w : PlacedPiece) (y : ImagePiece)
+    : Type 0 where
+  pub piece : IsImagePiece p s w y
+  pub filled : IsFilled y
+  pub kept : IsKeptBy p stays w y
 
 -- an entry of a row has the size of its section
 abbrev pub IsSized : Project → Piece → Type 0

@@ -1,38 +1,48 @@
 //! The image of a link.
 
-ghost use Rattle.std.specs.Prelude.{◌≡◌, ◌∷◌, [], ◌≤◌, IfOk, List, map};
+ghost use Rattle.std.specs.Prelude.{◌≡◌, ◌≤◌, ◌+◌, ◌∷◌, [], All, Bool, IfOk, List, None, OnErr, OnOk, false, is_some};
+ghost use Rattle.std.specs.Prelude.{ℕ};
+ghost use Rattle.ldbase.specs.Raised.{raised};
+ghost use Rattle.ldbase.specs.declared.meter.Count.TheVariants as counts;
 ghost use Rattle.std.specs.List.{AllZip};
+ghost use Rattle.ldimage.specs.Kept.{ArePatchesOf};
 ghost use Rattle.ldimage.specs.OfLink.{IsImagePart};
+ghost use Rattle.ldimage.specs.Stretches.{EndsBy, patch_bytes};
+ghost use Rattle.ldlaws.specs.Untouched.{IsGood};
 ghost use Rattle.ldlaying.specs.Laying.{IsLaying};
 ghost use Rattle.ldmodel.specs.Image as definition;
 ghost use Rattle.ldmodel.specs.Layout.{Layout};
-ghost use Rattle.ldmodel.specs.Link.{max_image_length};
 ghost use Rattle.ldmodel.specs.Rows as model;
-ghost use Rattle.ldmodel.specs.SectionHeaders.{FilePart, image_length};
+ghost use Rattle.ldmodel.specs.SectionHeaders.{image_length};
+ghost use Rattle.ldmodel.specs.Stayed.{GoodLink};
+ghost use Rattle.ldmodel.specs.WorkBound.{bytes_stayed, retargeted_bytes};
+ghost use Rattle.ldmodel.specs.declared.sections.SectionKey.{SectionKey};
 ghost use Rattle.ldnaming.specs.Naming.{NamingState};
 ghost use Rattle.ldproject.specs.ByPlace.{rows_in};
-ghost use Rattle.ldrelocating.specs.Relocated.{IsRelocated};
-ghost use Rattle.ldstarts.specs.Starts.{AreStarts};
-ghost use Rattle.ldvalues.specs.Values.{AreValues};
-ghost use Rattle.lddrawing.specs.Drawable.{AreOutputs, HasOutputs, IsDrawable};
+ghost use Rattle.ldtargets.specs.Earlier.{IsComplete};
+ghost use Rattle.ldvalues.specs.LinkView.{known_link};
+ghost use Rattle.lddrawing.specs.Drawable.{AreOutputs, HasOutputs, IsDrawable, IsDrawableAt};
+ghost use Rattle.lddrawing.specs.Kept.{AreKept, HaveStayed, IsSound};
 
 use crate::output::{Output, outputs};
-use crate::parts::{image_sections, table_sections};
+use crate::parts::drawing_parts;
 use crate::pieces::image_pieces;
-use crate::symbols::table_symbols;
 use ldbase::meter::Meter;
 use ldfields::canvas::Canvas;
-use ldimage::draw::draw;
-use ldimage::law::{drawing_stands, placement_is_in_memory};
+use ldfields::patch::Patch;
+use ldimage::law::{drawing_is_image, drawing_stands, placement_is_in_memory};
+use ldimage::redraw::redraw;
 use ldimage::section::{Drawing, ImagePart, ImagePiece};
+use ldlaws::segments::sections_in_file;
+use ldlaws::stayed::stayed_in_both;
 use ldlaying::laying::Laying;
 use ldmodel::memory::NoMemory;
 use ldmodel::rows::Piece;
 use ldproject::view::ProjectView;
 use ldrelocating::relocated::Relocated;
 use ldstarts::starts::Starts;
-use ldtail::headers::{headers, loaded_end};
-use ldtail::tail::{Part, TailParts, tail};
+use ldtail::tail::{Part, TailParts};
+use ldtargets::earlier::Earlier;
 use ldvalues::values::Values;
 use std::alloc::Global;
 
@@ -59,67 +69,106 @@ fn image_parts(tail: &TailParts) -> [ImagePart<'_>; 4]
     ]
 }
 
-/// Draws these output sections, and what else the image of a link has. An error says that memory ran out.
+/// Draws these output sections, and what else the image of a link has, onto a canvas: all but what stays, in which the
+/// patches are written. An error says that memory ran out; then the canvas is as it was.
 fn draw_outputs(
     alloc: Global,
+    canvas: &mut Canvas,
     project: &ProjectView<'_>,
     laying: &Laying,
     starts: &Starts,
     values: &Values<'_>,
     outputs: &[Output<'_>],
+    patches: &[Patch],
     meter: &mut Meter,
-) -> Result<Canvas, NoMemory>
-    requires { HasOutputs project.now laying.now starts.now values.now outputs.now }
-    ensures { IfOk result (λ c. (s : Layout) → AreOutputs project.now laying.now starts.now values.now s outputs.now
-        → c.bytes ≡ definition.image project.now s) }
+) -> Result<(), NoMemory>
+    requires outputs { HasOutputs project.now laying.now starts.now values.now outputs.now }
+    requires patches { (s : Layout) → IsLaying project.now s laying.now
+        → All (EndsBy (image_length project.now s)) patches.now }
+    ensures image { OnOk result ((s : Layout) (stays : SectionKey → Bool)
+        → AreOutputs project.now laying.now starts.now values.now s stays outputs.now
+        → ((k : SectionKey) → stays k ≡ false) → canvas.new.bytes ≡ definition.image project.now s) }
+    ensures redrawn { OnOk result ((old new : GoodLink) (stays : SectionKey → Bool) → new.project ≡ project.now
+        → AreOutputs project.now laying.now starts.now values.now new.layout stays outputs.now → IsGood old
+        → IsGood new → HaveStayed old new stays → ArePatchesOf old new patches.now
+        → canvas.old.bytes ≡ definition.image old.project old.layout
+        → canvas.new.bytes ≡ definition.image new.project new.layout) }
+    ensures work { OnOk result ((old new : GoodLink) (stays : SectionKey → Bool) → new.project ≡ project.now
+        → AreOutputs project.now laying.now starts.now values.now new.layout stays outputs.now → IsGood new
+        → AreKept old new stays → patch_bytes patches.now ≤ retargeted_bytes old new
+        → meter.new.bytes + bytes_stayed old new
+        ≤ meter.old.bytes + (image_length new.project new.layout + retargeted_bytes old new)) }
+    ensures counted { OnOk result ((n : ℕ) × (meter.new ≡ raised meter.old counts.Bytes n)) }
+    ensures unchanged { OnErr result (canvas.new.bytes ≡ canvas.old.bytes) }
 {
     drawing_stands();
+    drawing_is_image();
     placement_is_in_memory();
-    let segments = laying.segments.as_slice();
-    let symbols = table_symbols(alloc, project, starts, values)?;
-    let headings = table_sections(alloc, outputs)?;
-    let end = loaded_end(segments)?;
-    let tail = tail(alloc, end, &symbols, &headings)?;
-    let entry = values.entry.number_or_0();
-    let headers = headers(
-        alloc,
-        entry,
-        segments,
-        tail.headers.offset(),
-        headings.len(),
-    )?;
-    let sections = image_sections(alloc, project, laying, outputs)?;
-    let parts = image_parts(&tail);
+    stayed_in_both();
+    sections_in_file();
+    let parts = drawing_parts(alloc, project, laying, starts, values, outputs)?;
+    let tail = image_parts(&parts.tail);
     let drawing = Drawing {
-        headers: &headers,
-        sections: &sections,
-        tail: &parts,
+        headers: &parts.headers,
+        sections: &parts.sections,
+        tail: &tail,
     };
-    let mut canvas = Canvas::new(alloc);
-    draw(alloc, &mut canvas, &drawing, meter)?;
-    Ok(canvas)
+    redraw(alloc, canvas, &drawing, patches, meter)
 }
 
-/// Draws the image of a link without faults, whose bytes are counted. An error says that memory ran out.
-pub fn draw_image<'a>(
+/// Draws the image of a link without faults onto a canvas, and counts the bytes that it writes: all but those of the
+/// input sections of which an earlier link says that they stayed, in which the patches, whose offsets are places in the
+/// file, are written.
+///
+/// Where nothing stays, the canvas may hold anything before. Where it holds the image of the earlier link, what is said
+/// to have stayed has, and the patches are the fields of the sites in it whose symbol has another value, it then holds
+/// that of the new one; and where all that stayed is said to, no more bytes are written than the image has outside of it
+/// and these fields have.
+///
+/// An error says that memory ran out; then the canvas is as it was.
+pub fn draw_image<'a, E: Earlier>(
     alloc: Global,
+    canvas: &mut Canvas,
     project: &'a ProjectView<'_>,
     rows: &[Vec<Piece>],
     laying: &'a Laying,
     starts: &Starts,
     values: &Values<'_>,
     relocated: &'a Relocated,
+    earlier: &E,
+    patches: &[Patch],
     meter: &mut Meter,
-) -> Result<Canvas, NoMemory>
+) -> Result<(), NoMemory>
     requires rows { rows_in project.now rows.now ≡ model.rows project.now }
-    requires drawable { IsDrawable project.now laying.now starts.now values.now relocated.now }
-    ensures { IfOk result (λ c. (s : Layout) (a : NamingState) → IsLaying project.now s laying.now
-        → AreStarts project.now s starts.now → AreValues project.now s a values.now
-        → IsRelocated project.now s a relocated.now → image_length project.now s ≤ max_image_length
-        → c.bytes ≡ definition.image project.now s) }
+    requires drawable { IsDrawable project.now laying.now starts.now values.now relocated.now
+        (λ k. is_some (E.range earlier.now k)) }
+    requires patches { (s : Layout) → IsLaying project.now s laying.now
+        → All (EndsBy (image_length project.now s)) patches.now }
+    ensures image { OnOk result ((s : Layout) (a : NamingState)
+        → IsDrawableAt project.now s a laying.now starts.now values.now relocated.now
+        (λ k. is_some (E.range earlier.now k)) → ((k : SectionKey) → E.range earlier.now k ≡ None)
+        → canvas.new.bytes ≡ definition.image project.now s) }
+    ensures redrawn { OnOk result ((old new : GoodLink) (a : NamingState) → new.project ≡ project.now
+        → IsDrawableAt project.now new.layout a laying.now starts.now values.now relocated.now
+        (λ k. is_some (E.range earlier.now k)) → IsGood old → IsGood new
+        → IsSound (E.range earlier.now) old (known_link new.project new.layout a)
+        → ArePatchesOf old new patches.now → canvas.old.bytes ≡ definition.image old.project old.layout
+        → canvas.new.bytes ≡ definition.image new.project new.layout) }
+    ensures work { OnOk result ((old new : GoodLink) (a : NamingState) → new.project ≡ project.now
+        → IsDrawableAt project.now new.layout a laying.now starts.now values.now relocated.now
+        (λ k. is_some (E.range earlier.now k)) → IsGood new
+        → IsComplete (E.range earlier.now) old (known_link new.project new.layout a)
+        → patch_bytes patches.now ≤ retargeted_bytes old new → meter.new.bytes + bytes_stayed old new
+        ≤ meter.old.bytes + (image_length new.project new.layout + retargeted_bytes old new)) }
+    ensures counted { OnOk result ((n : ℕ) × (meter.new ≡ raised meter.old counts.Bytes n)) }
+    ensures unchanged { OnErr result (canvas.new.bytes ≡ canvas.old.bytes) }
 {
     // the borrow checker wants its lifetime named
-    let pieces: Vec<Vec<ImagePiece<'a>>> = image_pieces(alloc, project, rows, laying, relocated)?;
+    let pieces: Vec<Vec<ImagePiece<'a>>> = image_pieces(
+        alloc, project, rows, laying, relocated, earlier,
+    )?;
     let outputs = outputs(alloc, project, laying, &pieces)?;
-    draw_outputs(alloc, project, laying, starts, values, &outputs, meter)
+    draw_outputs(
+        alloc, canvas, project, laying, starts, values, &outputs, patches, meter,
+    )
 }

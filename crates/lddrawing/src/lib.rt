@@ -1,4 +1,4 @@
-//! The image of a link from scratch, and its length.
+//! The image of a link, and its length.
 #![tactic(auto)]
 
 mod data_runs;

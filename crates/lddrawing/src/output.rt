@@ -1,12 +1,13 @@
 //! Output sections with all that is drawn of them.
 
-ghost use Rattle.std.specs.Prelude.{◌≡◌, ◌<◌, ◌≤◌, ◌%◌, ℕ, IfOk, IfSome, List, length, map, slice_index};
+ghost use Rattle.std.specs.Prelude.{◌≡◌, ◌<◌, ◌≤◌, ◌%◌, Bool, ℕ, IfOk, IfSome, List, length, map, slice_index};
 ghost use Rattle.std.specs.List.{AllZip};
 ghost use Rattle.std.specs.Vec.{vec_items};
 ghost use Rattle.ldlaying.specs.Laying.{IsLaying};
 ghost use Rattle.ldmodel.specs.Image.{fill_byte};
 ghost use Rattle.ldmodel.specs.Layout.{Layout, PlacedSection};
 ghost use Rattle.ldmodel.specs.Project.{Project};
+ghost use Rattle.ldmodel.specs.declared.sections.SectionKey.{SectionKey};
 ghost use Rattle.ldtree.specs.Numbered.{shown_sections};
 ghost use Rattle.lddrawing.specs.Joined.{AreJoined, IsAt};
 ghost use Rattle.lddrawing.specs.Output.{IsOutput, IsRow};
@@ -64,9 +65,9 @@ fn output_at<'a>(
     pieces: &'a [Vec<ImagePiece<'a>>],
     runs: &[&'a [PlacedData]],
 ) -> Option<Output<'a>>
-    ensures { IfSome result (λ x. (p : Project) (s : Layout) (q : PlacedSection)
-        → IsAt p s q number placed.now (shown_sections sections.now) offsets.now (map vec_items pieces.now)
-        (map (λ run. run.now) runs.now) → IsOutput p s q x) }
+    ensures { IfSome result (λ x. (p : Project) (s : Layout) (stays : SectionKey → Bool) (q : PlacedSection)
+        → IsAt p s stays q number placed.now (shown_sections sections.now) offsets.now (map vec_items pieces.now)
+        (map (λ run. run.now) runs.now) → IsOutput p s stays q x) }
 {
     let at = sections.get(number)?;
     let offset = *offsets.get(number)?;
@@ -93,9 +94,9 @@ fn join<'a>(
     pieces: &'a [Vec<ImagePiece<'a>>],
     runs: &[&'a [PlacedData]],
 ) -> Result<Vec<Output<'a>>, NoMemory>
-    ensures { IfOk result (λ v. (p : Project) (s : Layout)
-        → AreJoined p s placed.now (shown_sections sections.now) offsets.now (map vec_items pieces.now)
-        (map (λ run. run.now) runs.now) → AllZip (IsOutput p s) s.sections v.items) }
+    ensures { IfOk result (λ v. (p : Project) (s : Layout) (stays : SectionKey → Bool)
+        → AreJoined p s stays placed.now (shown_sections sections.now) offsets.now (map vec_items pieces.now)
+        (map (λ run. run.now) runs.now) → AllZip (IsOutput p s stays) s.sections v.items) }
 {
     let mut outputs = Vec::with_capacity(alloc, placed.len())?;
     for (number, place) in placed.iter().enumerate() {
@@ -115,9 +116,9 @@ pub(crate) fn outputs<'a>(
     laying: &'a Laying,
     pieces: &'a [Vec<ImagePiece<'a>>],
 ) -> Result<Vec<Output<'a>>, NoMemory>
-    ensures { IfOk result (λ v. (s : Layout) → IsLaying project.now s laying.now
-        → AllZip (IsRow project.now s) s.sections (map vec_items pieces.now)
-        → AllZip (IsOutput project.now s) s.sections v.items) }
+    ensures { IfOk result (λ v. (s : Layout) (stays : SectionKey → Bool) → IsLaying project.now s laying.now
+        → AllZip (IsRow project.now s stays) s.sections (map vec_items pieces.now)
+        → AllZip (IsOutput project.now s stays) s.sections v.items) }
 {
     outputs_are_of_script();
     let script = project.script();

@@ -1,14 +1,14 @@
 //! Numbers of the sections of the objects of a link.
 
-ghost use Rattle.std.specs.Prelude.{◌≡◌, ◌∷◌, IfOk, IfSome, Some, length, slice_get};
+ghost use Rattle.std.specs.Prelude.{◌≡◌, ◌∷◌, Bool, IfOk, IfSome, Some, length, slice_get};
 ghost use Rattle.elfobj.specs.Sections.{LinkedSection};
 ghost use Rattle.ldlaws.specs.PlacedOnce.{AreNumbered};
 ghost use Rattle.ldmodel.specs.Project.{NamedObject, Project};
+ghost use Rattle.ldmodel.specs.declared.sections.SectionKey.{SectionKey};
 ghost use Rattle.ldproject.specs.Inputs.{shown_inputs};
-ghost use Rattle.ldrelocating.specs.Relocated.{AreRuns};
-ghost use Rattle.ldtargets.specs.Filled.{IsRunOf};
 ghost use Rattle.ldtargets.specs.KnownLink.{KnownLink};
 ghost use Rattle.lddrawing.specs.Numbers.{AreFirsts, HaveNumbers};
+ghost use Rattle.ldrelocating.specs.Runs.{AreRunsUnless, IsRunUnless};
 
 use elfobj::object::Object;
 use elfobj::section::LinkedIndex;
@@ -57,18 +57,18 @@ fn end_of(ends: &[usize], count: usize) -> Option<usize>
     }
 }
 
-/// The fields of a section of the object at a place; none where the place or the section is none.
+/// The fields of a section of the object at a place, unless it stays; none where the place or the section is none.
 pub(crate) fn fields_of<'a>(
     relocated: &'a Relocated,
     firsts: &[usize],
     place: usize,
     section: LinkedIndex,
 ) -> Option<&'a [Patch]>
-    ensures { IfSome result (λ run. (l : KnownLink) (o : NamedObject) (x : LinkedSection)
+    ensures { IfSome result (λ run. (l : KnownLink) (stays : SectionKey → Bool) (o : NamedObject) (x : LinkedSection)
         → AreFirsts l.project.objects (length l.project.objects) firsts.now
-        → AreRuns l relocated.now.patches.items relocated.now.ends.items
+        → AreRunsUnless l stays relocated.now.patches.items relocated.now.ends.items
         → slice_get l.project.objects place ≡ Some o → slice_get o.object.sections section.0 ≡ Some x
-        → IsRunOf l (record { object = o; section = x }) run.now) }
+        → IsRunUnless l stays (record { object = o; section = x }) run.now) }
 {
     let patches = relocated.patches.as_slice();
     let ends = relocated.ends.as_slice();

@@ -242,18 +242,6 @@ module _ (laws : Laws) (old new : GoodLink) (good_old : IsGood old) (good_new : 
           sym (laws.byte new good_new x (among_new x w.among_stayed) t w.among w.apart q.field w.is_field i l under)
           ∙ ap (byte_at new.project new.layout) at
 
-      patch_ends : (q : Patch) → IsSitePatch old new q → EndsBy (drawing_end d) q
-      patch_ends q w =
-          let x : LinkedPiece = w.piece in
-          let t : Site = w.site in
-          let place : q.offset ≡ x.range.offset + t.relocation.offset = ap (λ (r : Patch). r.offset) w.place in
-          let some = laws.some new x t w.among in
-          let wide = laws.wide new x t q.field w.among w.is_field in
-          let full : x.range.length - 1 < x.range.length = omega (arith, place, w.inside, some, wide) in
-          let last = laws.own new good_new x (among_new x w.among_stayed) (x.range.length - 1) full in
-          let end = end-same new.project new.layout d is in
-          omega (arith, w.inside, last, full, end)
-
 pub drawn_for : Laws → (old new : GoodLink) (d : Drawing) (ps : List Patch) → IsGood old → IsGood new
     → IsRedrawing old new d ps → IsDrawnFor (byte_at new.project new.layout) d ps (image old.project old.layout)
 drawn_for laws old new d ps g h r = record {
@@ -263,7 +251,25 @@ drawn_for laws old new d ps g h r = record {
   stays = λ o l e n. stays_right laws old new g h d r.drawing r.kept ps r.patched o e n;
 }
 
-pub patches_end : Laws → (old new : GoodLink) (d : Drawing) (ps : List Patch) → IsGood old → IsGood new
+-- a patch ends in the new image
+patch_ends : Laws → (old new : GoodLink) → IsGood new → (q : Patch) → IsSitePatch old new q
+    → EndsBy (image_length new.project new.layout) q
+patch_ends laws old new good q w =
+    let x : LinkedPiece = w.piece in
+    let t : Site = w.site in
+    let place : q.offset ≡ x.range.offset + t.relocation.offset = ap (λ (r : Patch). r.offset) w.place in
+    let some = laws.some new x t w.among in
+    let wide = laws.wide new x t q.field w.among w.is_field in
+    let full : x.range.length - 1 < x.range.length = omega (arith, place, w.inside, some, wide) in
+    let last = laws.own new good x ((laws.stayed_are old new x).0 w.among_stayed).0 (x.range.length - 1) full in
+    omega (arith, w.inside, last, full)
+
+pub patches_in_image : Laws → (old new : GoodLink) (ps : List Patch) → IsGood new → ArePatchesOf old new ps
+    → All (EndsBy (image_length new.project new.layout)) ps
+patches_in_image laws old new ps good h = λ k q l. patch_ends laws old new good (get_or ps k q) (h.each k q l)
+
+pub patches_end : Laws → (old new : GoodLink) (d : Drawing) (ps : List Patch) → IsGood new
     → IsRedrawing old new d ps → All (EndsBy (drawing_end d)) ps
-patches_end laws old new d ps g h r = λ k q l.
-    patch_ends laws old new g h d r.drawing r.kept ps r.patched (get_or ps k q) (r.patched.each k q l)
+patches_end laws old new d ps good r =
+    subst (λ n. All (EndsBy n) ps) (sym (end-same new.project new.layout d r.drawing))
+    (patches_in_image laws old new ps good r.patched)

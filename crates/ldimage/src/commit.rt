@@ -112,6 +112,8 @@ pub(crate) fn write_image(
     requires room { end ≤ canvas.old.room }
     requires patches { All (EndsBy end) patches.now }
     ensures len { length canvas.new.bytes ≡ end }
+    ensures drawn { (o : ℕ) → o < end → stays_at stretches.now o ≡ false
+        → slice_index canvas.new.bytes o ≡ drawn_byte stretches.now o }
     ensures image { (image : ℕ → ℕ) → IsPlanFor image stretches.now end patches.now canvas.old.bytes → (o : ℕ)
         → o < end → slice_index canvas.new.bytes o ≡ image o }
     ensures counted { meter.new ≡ raised meter.old Count.Bytes (patch_bytes patches.now + written 0 stretches.now) }

@@ -9,7 +9,8 @@ ghost use Rattle.ldmodel.specs.Project.{Project};
 ghost use Rattle.ldimage.specs.Drawing.{IsDrawing, drawing_end};
 ghost use Rattle.ldimage.specs.OfLink.{AreUnstayed, IsDrawingOf};
 
-use crate::plan::plan_image;
+use crate::law::drawing_is_image;
+use crate::redraw::redraw;
 use crate::section::Drawing;
 use ldbase::meter::Meter;
 use ldfields::canvas::Canvas;
@@ -32,7 +33,6 @@ pub fn draw(
     ensures counted { OnOk result (meter.new ≡ raised meter.old counts.Bytes (drawing_end drawing.now)) }
     ensures unchanged { OnErr result (canvas.new.bytes ≡ canvas.old.bytes) }
 {
-    let plan = plan_image(alloc, canvas, drawing, &[])?;
-    plan.commit(canvas, meter);
-    Ok(())
+    drawing_is_image();
+    redraw(alloc, canvas, drawing, &[], meter)
 }

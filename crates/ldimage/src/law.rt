@@ -19,7 +19,7 @@ ghost use Rattle.ldmodel.specs.WorkBound.{bytes_stayed, retargeted_bytes};
 ghost use Rattle.ldtree.specs.declared.statement.Statement.{Statement};
 ghost use Rattle.ldimage.specs.Drawing.{IsDrawing, drawing_end, drawing_spot};
 ghost use Rattle.ldimage.specs.InMemory.{AreFilled, IsInMemory};
-ghost use Rattle.ldimage.specs.Kept.{EachPiece, IsKept, IsRedrawing};
+ghost use Rattle.ldimage.specs.Kept.{ArePatchesOf, EachPiece, IsKept, IsRedrawing};
 ghost use Rattle.ldimage.specs.OfLink.{AreUnstayed, IsDrawingOf};
 ghost use Rattle.ldimage.specs.Plan.{IsDrawnFor, count_unstayed};
 ghost use Rattle.ldimage.specs.Stretches.{EndsBy, patch_bytes};
@@ -56,13 +56,15 @@ pub fn placement_is_in_memory()
 
 /// What is kept of the image of an old link is right for a new one, where only input sections that stayed are kept, and
 /// patches give the fields of their sites whose symbol has another value: then drawing and patches are those of the new
-/// image, and no patch ends past it.
+/// image, and no patch ends past the drawing. With or without a drawing, no such patch ends past the image.
 pub fn kept_is_image()
     ensures drawn { (old new : GoodLink) (d : Drawing) (patches : List Patch) → IsGood old → IsGood new
         → IsRedrawing old new d patches
         → IsDrawnFor (byte_at new.project new.layout) d patches (image old.project old.layout) }
     ensures within { (old new : GoodLink) (d : Drawing) (patches : List Patch) → IsGood old → IsGood new
         → IsRedrawing old new d patches → All (EndsBy (drawing_end d)) patches }
+    ensures ends { (old new : GoodLink) (patches : List Patch) → IsGood new → ArePatchesOf old new patches
+        → All (EndsBy (image_length new.project new.layout)) patches }
 {
     untouched_bytes();
     stayed_in_both();

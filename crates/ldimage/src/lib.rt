@@ -7,5 +7,6 @@ pub mod commit;
 pub mod draw;
 pub mod law;
 pub mod plan;
+pub mod redraw;
 pub mod section;
 pub mod stretch;

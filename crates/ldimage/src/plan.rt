@@ -167,7 +167,7 @@ pub fn plan_image<'a>(
 }
 
 impl<'a> Plan<'a> {
-    ghost use Rattle.std.specs.Prelude.{◌≡◌, ◌≤◌, ◌<◌, ◌+◌, ℕ, List, length, slice_index};
+    ghost use Rattle.std.specs.Prelude.{◌≡◌, ◌≤◌, ◌<◌, ◌+◌, ℕ, List, false, length, slice_index};
     ghost use Rattle.ldbase.specs.Raised.{raised};
     ghost use Rattle.ldbase.specs.declared.meter.Count.TheVariants as counts;
     ghost use Rattle.ldfields.specs.declared.patch.Patch.{Patch as PatchOf};
@@ -184,7 +184,8 @@ impl<'a> Plan<'a> {
     ghost use Rattle.ldimage.specs.declared.section.Drawing.{Drawing as DrawingOf};
 
     /// Writes the image of the plan onto the canvas: sets its length, writes the patches, and then each byte that does
-    /// not stay, once. It takes no memory, and counts the bytes that it writes.
+    /// not stay, once. It takes no memory, and counts the bytes that it writes. A byte that does not stay is then that
+    /// of the drawing, whatever the canvas held.
     ///
     /// A canvas that holds the image of an old link then holds that of the new one, where only input sections that
     /// stayed are kept and the patches are the fields of their sites whose symbol has another value. Where all that
@@ -192,6 +193,9 @@ impl<'a> Plan<'a> {
     pub fn commit(&self, canvas: &mut Canvas, meter: &mut Meter)
         requires { self.now.end ≤ canvas.old.room }
         ensures len { length canvas.new.bytes ≡ self.now.end }
+        ensures drawn { (d : DrawingOf) (patches : List PatchOf) → IsPlanOf d patches self.now → (o : ℕ)
+            → o < drawing_end d → (drawing_spot d o).stays ≡ false
+            → slice_index canvas.new.bytes o ≡ (drawing_spot d o).byte }
         ensures image { (d : DrawingOf) (patches : List PatchOf) (image : ℕ → ℕ) → IsPlanOf d patches self.now
             → IsDrawnFor image d patches canvas.old.bytes → (o : ℕ) → o < drawing_end d
             → slice_index canvas.new.bytes o ≡ image o }

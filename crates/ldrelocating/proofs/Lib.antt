@@ -3,3 +3,6 @@ mod Ending
 mod Sizes
 mod Ordering
 mod Faulting
+mod Reading
+mod Patching
+mod Beside

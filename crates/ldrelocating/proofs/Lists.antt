@@ -2,9 +2,11 @@
 use Rattle.std.proofs.Common.{◌≡◌, ◌⊎◌, inl, inr, ◌<◌, ◌≤◌, ℕ, zero, suc, ◌+◌, Bool, true, false, cond, List}
 use Rattle.std.proofs.Common.{[], ◌∷◌, length, map, flat_map, find, count_by, Option, Some, None, get_or, refl}
 use Rattle.std.proofs.Common.{sym, ap, ◌∙◌, subst, arith, IfSome}
+use Rattle.std.specs.Prelude.{slice_get}
 use Rattle.std.specs.List.{All, Contains, cons_option, enumerate_from, filter_map}
 use Rattle.std.proofs.lemmas.List.Elements.{All-append, All-cons, All-head, All-nil, All-tail}
 use Rattle.std.proofs.lemmas.List.Sums.{sum_by-cons}
+use Rattle.std.proofs.lemmas.Option.{get_or_from_slice_get, slice_get_within}
 use Rattle.ldmodel.specs.Sorting.{insert_by, sort_by}
 
 pub all_flat_map : {X Y : Type 0} (P : Y → Type 0) (f : X → List Y) (xs : List X) → All (λ x. All P (f x)) xs
@@ -79,7 +81,7 @@ first_or_later y ys x c = at c.0 c.1 c.2
     at zero l e = inl e
     at (suc k) l e = inr (k, omega (arith, l), e)
 
-none_in_nil : {X : Type 0} (x : X) → Contains [] x → ⊥
+pub none_in_nil : {X : Type 0} (x : X) → Contains [] x → ⊥
 none_in_nil x c = omega (arith, c.1)
 
 abbrev one_if : Bool → ℕ
@@ -120,3 +122,50 @@ one_passes {X} test (z ∷ zs) x y few c d s t =
     go (inl a) (inr b) rest = absurd (two a s b t)
     go (inr a) (inl b) rest = absurd (two b t a s)
     go (inr a) (inr b) rest = rest a b
+
+-- then it has one place
+pub one_place : {X : Type 0} (test : X → Bool) (xs : List X) (x : X) → count_by test xs ≤ 1 → test x ≡ true
+    → (i j : ℕ) → slice_get xs i ≡ Some x → slice_get xs j ≡ Some x → i ≡ j
+one_place test [] x few s i j e f = cc
+one_place {X} test (z ∷ zs) x few s i j e f = at i j e f (one_place test zs x less s)
+  where
+    split : count_by test (z ∷ zs) ≡ one_if (test z) + count_by test zs
+    split = sum_by-cons (λ (w : X). one_if (test w)) z zs
+
+    less : count_by test zs ≤ 1
+    less = omega (arith, few, split)
+
+    two : (k : ℕ) → Some z ≡ Some x → slice_get zs k ≡ Some x → ⊥
+    two k a b =
+        let is : z ≡ x = cc in
+        let one : one_if (test z) ≡ 1 = ap one_if (ap test is ∙ s) in
+        let more : 0 < count_by test zs =
+        counted test zs x (k, slice_get_within zs k x b, get_or_from_slice_get zs k x x b) s in
+        omega (arith, few, split, one, more)
+
+    at : (k n : ℕ) → slice_get (z ∷ zs) k ≡ Some x → slice_get (z ∷ zs) n ≡ Some x
+        → ((a b : ℕ) → slice_get zs a ≡ Some x → slice_get zs b ≡ Some x → a ≡ b) → k ≡ n
+    at zero zero a b rest = refl
+    at zero (suc n) a b rest = absurd (two n a b)
+    at (suc k) zero a b rest = absurd (two k b a)
+    at (suc k) (suc n) a b rest = ap (λ m. suc m) (rest k n a b)
+
+-- what a member of a mapped list comes of
+pub record Source {X Y : Type 0} (f : X → Y) (xs : List X) (y : Y) : Type 0 where
+  pub source : X
+  pub among : Contains xs source
+  pub gives : f source ≡ y
+
+pub in_mapped : {X Y : Type 0} (f : X → Y) (xs : List X) (y : Y) → Contains (map f xs) y → Source f xs y
+in_mapped f [] y c = absurd (none_in_nil y c)
+in_mapped {X} {Y} f (x ∷ xs) y c = go (first_or_later (f x) (map f xs) y c) (λ d. in_mapped f xs y d)
+  where
+    go : (f x ≡ y) ⊎ Contains (map f xs) y → (Contains (map f xs) y → Source f xs y) → Source f (x ∷ xs) y
+    go (inl same) rest = record { source = x; among = (zero, omega arith, refl); gives = same }
+    go (inr d) rest =
+        let h : Source f xs y = rest d in
+        record {
+          source = h.source;
+          among = (suc h.among.0, omega (arith, h.among.1), h.among.2);
+          gives = h.gives;
+        }

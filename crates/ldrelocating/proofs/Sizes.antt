@@ -1,42 +1,49 @@
 -- An input section in the output has the size that it has in its object.
 use Rattle.std.proofs.Common.{◌≡◌, ◌<◌, ◌≤◌, ℕ, Bool, true, false, cond, not, ◌&&◌, List, [], length, map}
-use Rattle.std.proofs.Common.{filter, Some, None, get_or, refl, sym, ap, ◌∙◌, arith, IfSome}
+use Rattle.std.proofs.Common.{filter, Option, Some, None, get_or, refl, sym, ap, ◌∙◌, arith, IfSome}
 use Rattle.std.proofs.Common.{inl, inr, ◌⊎◌, bytes_eq, ◌==◌}
 use Rattle.std.specs.List.{All, Contains, enumerate_from, range_with_len}
+use Rattle.std.specs.Option.{option_map_or}
 use Rattle.std.specs.Prelude.{slice_get}
-use Rattle.std.proofs.lemmas.Bool.{cases_lt, eqb-true, false≢true}
+use Rattle.std.proofs.lemmas.Bool.{cases_lt, eq-eqb, eqb-true, false≢true}
 use Rattle.std.proofs.lemmas.List.{get_or-map, get_or_default, length-map}
 use Rattle.std.proofs.lemmas.List.Elements.{All-append, All-contains_itself, All-filter, All-map, All-same, All-weaker}
 use Rattle.std.proofs.lemmas.List.Elements.{All-contains, All-nil}
 use Rattle.std.proofs.lemmas.Option.{get_or_from_slice_get, slice_get_within}
 use Rattle.std.proofs.lemmas.Slice.Eq.{bytes_eq-Decides}
 use Rattle.elfobj.specs.Sections.{LinkedSection, section_of}
+use Rattle.elfobj.specs.declared.relocation.Relocation.{Relocation}
 use Rattle.elfobj.specs.declared.section.Section.{Section}
 use Rattle.elfobj.specs.declared.section.SectionIndex.{SectionIndex}
 use Rattle.ldtree.specs.Numbering.{InputStatementAt, input_statements, output_sections}
 use Rattle.ldmodel.specs.Edits.{AreNamesDistinct, has_name}
 use Rattle.ldmodel.specs.Gathering.{candidates, is_out}
-use Rattle.ldmodel.specs.Image.{section_numbered}
+use Rattle.ldmodel.specs.Image.{object_named, section_numbered}
 use Rattle.ldmodel.specs.InputSections.{block_at, block_of, common_block, common_blocks, input_sections, is_same_entry}
 use Rattle.ldmodel.specs.InputSections.{linked_section, sections_of}
 use Rattle.ldmodel.specs.Layout.{Layout, PlacedPiece, PlacedSection}
 use Rattle.ldmodel.specs.Live.{live}
 use Rattle.ldmodel.specs.Names.{Entry, Decision, Strong, Script, Common, Weak, Provided, Undefined, Duplicate, decision}
 use Rattle.ldmodel.specs.Project.{NamedObject, Project}
+use Rattle.ldmodel.specs.Relocations.{Site, is_evaluated}
 use Rattle.ldmodel.specs.Rows.{Piece, below, is_in_section, is_taken_by, piece_of, pieces_in, row, rows, sorted_pieces}
 use Rattle.ldmodel.specs.Rows.{taken}
 use Rattle.ldmodel.specs.Sections.{InputSection, is_same_part}
+use Rattle.ldmodel.specs.Segments.{segments}
+use Rattle.ldmodel.specs.Stayed.{LinkedPiece, linked_piece, linked_pieces, sites_in, sites_in_part}
+use Rattle.ldmodel.specs.Stayed.{sites_in_section}
 use Rattle.ldmodel.specs.SymbolValues.{is_part, placed_pieces}
 use Rattle.ldmodel.specs.declared.sections.Part.{Part}
-use Rattle.ldmodel.specs.declared.sections.Part.TheVariants.{InTable}
+use Rattle.ldmodel.specs.declared.sections.Part.TheVariants.{InTable, InCommon}
 use Rattle.ldlaws.specs.Spread.{entries_in}
 use Rattle.ldnaming.specs.Naming.{NamingState}
 use Rattle.ldtargets.specs.Filled.{EndBelow}
+use Rattle.ldtargets.specs.Patched.{AreSized}
 use Rattle.ldvalues.specs.LinkView.{known_link}
 use Rattle.ldrelocating.specs.Numbered.{AreAscending}
 use Rattle.ldrelocating.proofs.Ending.{AreBelow, EndsBelow}
 use Rattle.ldrelocating.proofs.Lists.{all_filter_map, all_flat_map, all_of_map, all_second, all_sorted, found}
-use Rattle.ldrelocating.proofs.Lists.{found_passes, one_passes}
+use Rattle.ldrelocating.proofs.Lists.{found_passes, in_mapped, none_in_nil, one_passes}
 
 -- of sections with ascending numbers one has a number
 one_numbered : (xs : List LinkedSection) → AreAscending xs → (x y : LinkedSection) → Contains xs x → Contains xs y
@@ -139,6 +146,44 @@ module _ (p : Project) (names : AreNamesDistinct p.objects)
       (enumerate_from 0 p.objects)
       (all_second (Contains p.objects) 0 p.objects (All-contains_itself p.objects)))
 
+  -- its sites have its size
+  abbrev IsSizedLinked : LinkedPiece → Type 0
+  IsSizedLinked x = (t : Site) → Contains (sites_in p x) t → x.size ≡ t.section.size
+
+  module _ (s : Layout) (q : PlacedSection) (z : PlacedPiece) (h : IsSizedPlace z) (t : Site) where
+    abbrev linked : LinkedPiece
+    linked = linked_piece p (segments s.sections) q z
+
+    in_section : (k : SectionIndex) (o : NamedObject) (y : Option LinkedSection) → z.piece.part ≡ InTable k
+        → object_named p z.piece.object ≡ Some o → section_numbered o k ≡ y
+        → Contains (sites_in_section o linked y) t → z.piece.size ≡ t.section.size
+    in_section k o None part named is c = absurd (none_in_nil t c)
+    in_section k o (Some y) part named is c =
+        let mapped = in_mapped (λ (r : Relocation). record { object = o; section = y; start = z.start; relocation = r })
+        (filter (λ (r : Relocation). is_evaluated r.kind) y.relocations) t c in
+        let passes : bytes_eq o.name z.piece.object ≡ true =
+        found_passes (λ (w : NamedObject). bytes_eq w.name z.piece.object) p.objects o named in
+        h o k y (found (Contains p.objects) (λ (w : NamedObject). bytes_eq w.name z.piece.object) p.objects o
+        (All-contains_itself p.objects) named) is
+        ((bytes_eq-Decides z.piece.object o.name).1 (sym ((bytes_eq-Decides o.name z.piece.object).0 passes)))
+        (ap (λ (w : Part). is_same_part w (InTable k)) part ∙ eq-eqb k.0 k.0 refl)
+        ∙ ap (λ (u : Site). u.section.size) mapped.gives
+
+    in_object : (k : SectionIndex) (o : Option NamedObject) → z.piece.part ≡ InTable k
+        → object_named p z.piece.object ≡ o
+        → Contains (option_map_or (λ (w : NamedObject). sites_in_section w linked (section_numbered w k)) o []) t
+        → z.piece.size ≡ t.section.size
+    in_object k None part named c = absurd (none_in_nil t c)
+    in_object k (Some o) part named c = in_section k o (section_numbered o k) part named refl c
+
+    in_part : (part : Part) → z.piece.part ≡ part → Contains (sites_in_part p linked part) t
+        → z.piece.size ≡ t.section.size
+    in_part (InTable k) is c = in_object k (object_named p z.piece.object) is refl c
+    in_part (InCommon k) is c = absurd (none_in_nil t c)
+
+    linked_sized : Contains (sites_in p linked) t → z.piece.size ≡ t.section.size
+    linked_sized c = in_part z.piece.part refl c
+
   module _ (order : (test : InputSection → Bool) × (live p ≡ filter test (candidates p))) where
     live_sized : All IsSized (live p)
     live_sized =
@@ -167,14 +212,31 @@ module _ (p : Project) (names : AreNamesDistinct p.objects)
         All-map (All IsSizedPiece) (row p) (range_with_len 0 (length (output_sections p.script)))
         (λ j d l. row_sized (get_or (range_with_len 0 (length (output_sections p.script))) j d))
 
-    places_sized : (s : Layout) → map entries_in s.sections ≡ rows p → All IsSizedPlace (placed_pieces s)
-    places_sized s placed =
-        all_flat_map IsSizedPlace (λ (q : PlacedSection). q.pieces) s.sections
+    sections_sized : (s : Layout) → map entries_in s.sections ≡ rows p
+        → All (λ (q : PlacedSection). All IsSizedPlace q.pieces) s.sections
+    sections_sized s placed =
         (All-weaker (λ (q : PlacedSection). All IsSizedPiece (entries_in q))
         (λ (q : PlacedSection). All IsSizedPlace q.pieces)
         (λ q h. all_of_map IsSizedPiece (λ (x : PlacedPiece). x.piece) q.pieces h) s.sections
         (all_of_map (All IsSizedPiece) entries_in s.sections
         (All-same (All IsSizedPiece) (map entries_in s.sections) (rows p) placed rows_sized)))
+
+    places_sized : (s : Layout) → map entries_in s.sections ≡ rows p → All IsSizedPlace (placed_pieces s)
+    places_sized s placed =
+        all_flat_map IsSizedPlace (λ (q : PlacedSection). q.pieces) s.sections (sections_sized s placed)
+
+    pub pieces_sized : (s : Layout) → map entries_in s.sections ≡ rows p
+        → AreSized (record { project = p; layout = s })
+    unfolding linked_pieces
+    pieces_sized s placed = λ x t c d.
+        All-contains IsSizedLinked (linked_pieces p s) x
+        (all_flat_map IsSizedLinked (λ (q : PlacedSection). map (linked_piece p (segments s.sections) q) q.pieces)
+        s.sections
+        (All-weaker (λ (q : PlacedSection). All IsSizedPlace q.pieces)
+        (λ (q : PlacedSection). All IsSizedLinked (map (linked_piece p (segments s.sections) q) q.pieces))
+        (λ q h. All-map IsSizedLinked (linked_piece p (segments s.sections) q) q.pieces
+        (All-weaker IsSizedPlace (λ z. IsSizedLinked (linked_piece p (segments s.sections) q z))
+        (λ z k t d. linked_sized s q z k t d) q.pieces h)) s.sections (sections_sized s placed))) c t d
 
     pub end_below : (s : Layout) → map entries_in s.sections ≡ rows p → All AreBelow s.sections → (a : NamingState)
         → EndBelow (known_link p s a)
@@ -182,8 +244,8 @@ module _ (p : Project) (names : AreNamesDistinct p.objects)
         let part : is_part o.name (InTable x.number) y ≡ true =
         found_passes (is_part o.name (InTable x.number)) (placed_pieces s) y g in
         let size : y.piece.size ≡ x.size =
-        found IsSizedPlace (is_part o.name (InTable x.number)) (placed_pieces s) y (places_sized s placed) g o x.number x
-        (get_in p.objects key.0 o e) f
+        found IsSizedPlace (is_part o.name (InTable x.number)) (placed_pieces s) y (places_sized s placed) g o x.number
+        x (get_in p.objects key.0 o e) f
         (and_left (bytes_eq y.piece.object o.name) (is_same_part y.piece.part (InTable x.number)) part)
         (and_right (bytes_eq y.piece.object o.name) (is_same_part y.piece.part (InTable x.number)) part) in
         let under : EndsBelow y =

@@ -1,2 +1,4 @@
 pub mod Relocated
 pub mod Numbered
+pub mod Runs
+pub mod Beside

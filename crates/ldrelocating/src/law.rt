@@ -1,4 +1,4 @@
-//! A law of layouts.
+//! Laws of layouts.
 
 ghost use Rattle.std.specs.Prelude.{◌≡◌, All, Ok};
 ghost use Rattle.ldmodel.specs.Edits.{AreNamesDistinct};
@@ -10,6 +10,7 @@ ghost use Rattle.ldmodel.specs.Rows.{rows};
 ghost use Rattle.ldnaming.specs.Naming.{NamingState};
 ghost use Rattle.ldrelocating.specs.Numbered.{AreAscending};
 ghost use Rattle.ldtargets.specs.Filled.{EndBelow};
+ghost use Rattle.ldtargets.specs.Patched.{AreSized};
 ghost use Rattle.ldvalues.specs.LinkView.{known_link};
 
 use ldlaws::gathering::live_by_path;
@@ -20,6 +21,16 @@ pub(crate) fn sections_end_below()
     ensures { (p : Project) (s : Layout) (a : NamingState) → AreNamesDistinct p.objects
         → All (λ (o : NamedObject). AreAscending o.object.sections) p.objects
         → placement p.script (rows p) (provided p) ≡ Ok s → EndBelow (known_link p s a) }
+{
+    placed_are_rows();
+    live_by_path();
+}
+
+/// An input section in the output has the size of its section.
+pub(crate) fn pieces_are_sized()
+    ensures { (p : Project) (s : Layout) → AreNamesDistinct p.objects
+        → All (λ (o : NamedObject). AreAscending o.object.sections) p.objects
+        → placement p.script (rows p) (provided p) ≡ Ok s → AreSized (record { project = p; layout = s }) }
 {
     placed_are_rows();
     live_by_path();

@@ -21,7 +21,7 @@ use Rattle.ldtargets.specs.Sites.{IsPlaced}
 use Rattle.ldtargets.specs.declared.site.PlacedSection.{PlacedSection}
 use Rattle.ldtargets.proofs.Runs.{within}
 
-raise_none : (m : Counts) → m.fields < 2 ^ 64 → m ≡ raised m count.Fields 0
+pub raise_none : (m : Counts) → m.fields < 2 ^ 64 → m ≡ raised m count.Fields 0
 raise_none m h =
     let e : m.fields ≡ capped m.fields 0 = omega arith in
     ap (λ n. record m { fields = n }) e

@@ -6,3 +6,10 @@ mod Places
 mod Kept
 mod Found
 mod Filling
+mod Lists
+mod Moving
+mod Changing
+mod Settling
+mod Renewing
+mod Fewer
+mod Patching

@@ -1,14 +1,16 @@
 -- An index: what is known of its places while sites are added and taken out.
 use Rattle.std.proofs.Common.{◌≡◌, ◌≢◌, inl, inr, ◌<◌, ◌≤◌, ℕ, ◌+◌, zero, suc, List, [], ◌∷◌, length, map, filter, set}
 use Rattle.std.proofs.Common.{get_or, Bool, true, false, not, nat_eq, Option, Some, None, refl, ap, sym, ◌∙◌, arith}
-use Rattle.std.proofs.Common.{if◌then◌else◌}
+use Rattle.std.proofs.Common.{if◌then◌else◌, ◌||◌, take, ◌≤◌, ◌-◌, Vec, Global, vec_capacity, vec_len}
 use Rattle.std.specs.List.{cons_option, filter_map}
 use Rattle.std.proofs.lemmas.Bool.{cases_eq, eqb-true, ne_eqb}
 use Rattle.std.proofs.lemmas.List.{get_or-map, get_or-set_other, get_or-set_same, get_or_past, length-map, set-get_or}
+use Rattle.std.proofs.lemmas.List.Folds.{list_any_more}
 use Rattle.slab.specs.Slab.{entries_from, values}
 use Rattle.ldmodel.specs.declared.fault.SiteKey.{SiteKey}
 use Rattle.ldmodel.specs.declared.names.ObjectKey.{ObjectKey}
-use Rattle.ldtargets.specs.Index.{IsSound, cleared, has_spot, is_of_object, is_owner, room_at, room_of, slot, slots_at}
+use Rattle.ldtargets.specs.Index.{IsSound, cleared, cleared_one, has_spot, is_of_object, is_owner, is_spot, room_at}
+use Rattle.ldtargets.specs.Index.{room_of, slot, slots_at}
 use Rattle.ldtargets.specs.declared.bucket.Bucket.{Bucket}
 use Rattle.ldtargets.specs.declared.index.Spot.{Spot}
 
@@ -47,6 +49,30 @@ module _ {X Y : Type 0} (f : X → Y) where
 
   pub past : (xs : List X) (i : ℕ) (d : Y) → length xs ≤ i → get_or (map f xs) i d ≡ d
   past xs i d high = get_or_past (map f xs) i d (omega (arith, length-map xs f, high))
+
+-- the room of an object's list, where one of the lists is written
+abbrev room : Vec Spot Global → ℕ
+room v = vec_capacity v - vec_len v
+
+pub no_less_room : (os : List (Vec Spot Global)) (k o : ℕ) (old new : Vec Spot Global) → k < length os
+    → old ≡ get_or os k old → room old ≤ room new → get_or (map room os) o 0 ≤ get_or (map room (set os k new)) o 0
+no_less_room os k o old new low is more = elim (cases_eq o k) [
+  | inl same ↦ rw (same, mapped_at room os k old 0 low is, written_at room os k new 0 low) more
+  | inr differs ↦ rw (written_elsewhere room os k o new 0 differs) (omega arith)
+]
+
+-- one place more is cleared
+pub cleared_more : (spots : List Spot) (i t k : ℕ) (d : Spot) (x : Option SiteKey) → i < length spots
+    → cleared_one t k (get_or spots i d) (cleared t k (take i spots) x) ≡ cleared t k (take (i + 1) spots) x
+cleared_more spots i t k d x low =
+    rw (list_any_more (is_spot t k) spots i d low)
+    (either (has_spot t k (take i spots)) (is_spot t k (get_or spots i d)))
+  where
+    either : (b c : Bool) → (if c then None else (if b then None else x)) ≡ (if (b || c) then None else x)
+    either true true = refl
+    either true false = refl
+    either false true = refl
+    either false false = refl
 
 -- an object is dropped
 emptied : {X : Type 0} (xs : List (List X)) (o : ℕ) → get_or (set xs o []) o [] ≡ []

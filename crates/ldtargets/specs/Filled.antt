@@ -1,13 +1,12 @@
--- The fields and faults of all input sections of objects, in their order.
+-- The fields of input sections of objects, in their order.
 use Rattle.std.specs.Prelude.{◌≡◌, ℕ, ◌+◌, ◌<◌, ◌^◌, List, [], ◌∷◌, ◌++◌, length, map, flat_map, Option, Some, None}
-use Rattle.std.specs.List.{AllZip}
 use Rattle.elfobj.specs.Sections.{LinkedSection}
 use Rattle.ldfields.specs.declared.patch.Patch.{Patch}
 use Rattle.ldmodel.specs.Counts.{Counts}
 use Rattle.ldmodel.specs.Image.{section_numbered}
 use Rattle.ldmodel.specs.Layout.{PlacedPiece}
 use Rattle.ldmodel.specs.Project.{NamedObject}
-use Rattle.ldmodel.specs.Relocations.{Site, sites_of_section}
+use Rattle.ldmodel.specs.Relocations.{sites_of_section}
 use Rattle.ldmodel.specs.SymbolValues.{placed_part}
 use Rattle.ldmodel.specs.declared.fault.Fault as code
 use Rattle.ldmodel.specs.declared.names.ObjectKey.{ObjectKey}
@@ -26,9 +25,6 @@ sections_of o xs = map (λ x. record { object = o; section = x }) xs
 -- those of objects, in their order
 abbrev pub sections_in : List NamedObject → List ObjectSection
 sections_in os = flat_map (λ (o : NamedObject). sections_of o o.object.sections) os
-
-abbrev pub sites_in : KnownLink → List ObjectSection → List Site
-sites_in l ss = flat_map (λ (s : ObjectSection). sites_of_section l.layout s.object s.section) ss
 
 -- the fields of an input section; none where it is not in the output
 abbrev pub IsRunAt : KnownLink → ObjectSection → Option PlacedPiece → List Patch → Type 0
@@ -50,16 +46,6 @@ pub record IsRunAdded (l : KnownLink) (s : ObjectSection) (old new : List Patch)
 abbrev pub ends_of : ℕ → List (List Patch) → List ℕ
 ends_of n [] = []
 ends_of n (run ∷ runs) = (n + length run) ∷ ends_of (n + length run) runs
-
--- the fields of these input sections were added one after another, the places where those of each end, the faults of
--- their sites, and their number
-pub record AreFilled (l : KnownLink) (ss : List ObjectSection) (old new : List Patch) (old_ends new_ends : List ℕ)
-    (old_faults new_faults : List code.Fault) (before after : Counts) : Type 0 where
-  pub runs : List (List Patch)
-  pub fields : new ≡ old ++ flat_map (λ run. run) runs
-  pub ends : new_ends ≡ old_ends ++ ends_of (length old) runs
-  pub each : AllZip (IsRunOf l) ss runs
-  pub counts : IsCounted l (sites_in l ss) old_faults new_faults before after
 
 -- each input section in the output ends below 2^64, as a layout without faults has it
 abbrev pub EndBelow : KnownLink → Type 0

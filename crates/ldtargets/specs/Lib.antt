@@ -1,6 +1,9 @@
 pub mod Values
 pub mod KnownLink
+pub mod Earlier
 pub mod Sites
 pub mod Fields
 pub mod Index
 pub mod Filled
+pub mod Changes
+pub mod Patched

@@ -1,7 +1,7 @@
 //! The sites of one target.
 
-ghost use Rattle.std.specs.Prelude.{◌≡◌, ◌≤◌, ◌<◌, ◌+◌, ◌++◌, ◌^◌, [], None, OnOk, Some, length};
-ghost use Rattle.slab.specs.Slab.{HasRoomFor, Updates, get, slab_len, values};
+ghost use Rattle.std.specs.Prelude.{◌≡◌, ◌≤◌, ◌<◌, ◌+◌, ◌-◌, ◌^◌, [], None, OnOk, Some, length};
+ghost use Rattle.slab.specs.Slab.{HasRoomFor, Updates, get, slab_len};
 
 use ldmodel::fault::SiteKey;
 use ldmodel::memory::NoMemory;
@@ -63,17 +63,9 @@ impl Bucket {
     pub(crate) fn remove(&mut self, place: usize)
         ensures sites { Updates self.old.sites self.new.sites place None }
         ensures len { length self.new.sites.slots ≡ length self.old.sites.slots }
+        ensures room { self.old.sites.capacity - slab_len self.old.sites
+            ≤ self.new.sites.capacity - slab_len self.new.sites }
     {
         let _site = self.sites.try_remove(place);
-    }
-
-    /// Adds its sites to a list, in any order.
-    pub(crate) fn append_to(&self, list: &mut Vec<SiteKey>) -> Result<(), NoMemory>
-        ensures { OnOk result (list.new.items ≡ list.old.items ++ values self.now.sites) }
-    {
-        for (_place, site) in self.sites.iter() {
-            list.push(*site)?;
-        }
-        Ok(())
     }
 }

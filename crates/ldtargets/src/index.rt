@@ -1,12 +1,15 @@
 //! Which relocations are against a target.
 
-ghost use Rattle.std.specs.Prelude.{◌≡◌, ◌≢◌, ◌≤◌, ◌<◌, ◌+◌, ◌++◌, ℕ, List, [], ◌∷◌, All, OnOk, count_by, filter};
+ghost use Rattle.std.specs.Prelude.{◌≡◌, ◌≢◌, ◌≤◌, ◌<◌, ◌+◌, ◌++◌, ℕ, [], ◌∷◌, List, All, OnOk, count_by, filter};
 ghost use Rattle.std.specs.Prelude.{length, map, not, slice_index};
 ghost use Rattle.std.specs.List.Sorted.{IsPermutation};
 ghost use Rattle.ldtargets.specs.Index.{HasRoomFor, cleared, cleared_one, is_against, is_of_object, site_of, room_at};
 ghost use Rattle.ldtargets.specs.Index.{sites_at, slot, slots_at, spot_room, spots_at, wanted_at};
+ghost use Rattle.ldtargets.specs.declared.index.TargetSite.{TargetSite};
+ghost use Rattle.ldmodel.specs.declared.names.ObjectKey.{ObjectKey};
 
 use crate::bucket::Bucket;
+use crate::walk::Sites;
 use elfobj::section::SectionIndex;
 use ldmodel::fault::SiteKey;
 use ldmodel::memory::NoMemory;
@@ -65,6 +68,7 @@ impl Model for Index {
 fn remove_one(targets: &mut Vec<Bucket>, spot: Spot)
     ensures slots { (t k : ℕ) → slot targets.new.items t k ≡ cleared_one t k spot (slot targets.old.items t k) }
     ensures lengths { (t : ℕ) → length (slots_at targets.new.items t) ≡ length (slots_at targets.old.items t) }
+    ensures rooms { (t : ℕ) → room_at targets.old.items t ≤ room_at targets.new.items t }
 {
     if spot.target >= targets.len() {
         return;
@@ -76,6 +80,7 @@ fn remove_one(targets: &mut Vec<Bucket>, spot: Spot)
 fn remove_all(targets: &mut Vec<Bucket>, spots: &[Spot])
     ensures slots { (t k : ℕ) → slot targets.new.items t k ≡ cleared t k spots.now (slot targets.old.items t k) }
     ensures lengths { (t : ℕ) → length (slots_at targets.new.items t) ≡ length (slots_at targets.old.items t) }
+    ensures rooms { (t : ℕ) → room_at targets.old.items t ≤ room_at targets.new.items t }
 {
     for spot in spots {
         remove_one(targets, *spot);
@@ -182,19 +187,23 @@ impl Index {
         }
     }
 
-    /// Adds the sites of a target to a list, in any order.
-    pub fn sites_of(&self, target: TargetIndex, list: &mut Vec<SiteKey>) -> Result<(), NoMemory>
-        ensures { OnOk result (list.new.items ≡ list.old.items ++ sites_at self.now target.0) }
+    /// The sites of a target, in any order. It takes no memory.
+    pub fn sites_of(&self, target: TargetIndex) -> Sites<'_>
+        ensures { result ≡ sites_at self.now target.0 }
     {
         match self.targets.get(target.0) {
-            None => Ok(()),
-            Some(bucket) => bucket.append_to(list),
+            None => Sites::none(),
+            Some(bucket) => Sites::of(bucket),
         }
     }
 
-    /// Takes the sites of an object out. It takes no memory, and time in the number of these sites.
+    /// Takes the sites of an object out. It takes no memory, and time in the number of these sites. What there was room
+    /// for, of any object, there still is.
     pub fn drop_object(&mut self, object: ObjectKey)
-        ensures { (t : ℕ) → sites_at self.new t ≡ filter (λ s. not (is_of_object object s)) (sites_at self.old t) }
+        ensures sites { (t : ℕ) → sites_at self.new t
+            ≡ filter (λ s. not (is_of_object object s)) (sites_at self.old t) }
+        ensures rooms { (o : ObjectKey) (sites : List TargetSite) → HasRoomFor self.old o sites
+            → HasRoomFor self.new o sites }
     {
         if object.0 >= self.objects.len() {
             return;

@@ -1,84 +1,105 @@
 -- The drawing is that of the link.
-use Rattle.std.proofs.Common.{◌∙◌, sym, ap, subst, length, arith}
-use Rattle.std.specs.List.{AllZip}
-use Rattle.ldmodel.specs.Lent.{AreSegments}
+use Rattle.std.proofs.Common.{sym, subst}
+use Rattle.std.specs.List.{All, AllZip}
+use Rattle.ldimage.specs.InMemory.{IsSectionFilled}
+use Rattle.ldimage.specs.OfLink.{loaded}
 use Rattle.ldmodel.specs.Names.{provided}
 use Rattle.ldmodel.specs.Rows.{rows}
 use Rattle.ldmodel.specs.SectionHeaders.{image_length}
-use Rattle.ldmodel.specs.Segments.{segments}
-use Rattle.ldmodel.specs.SymbolValues.{number_or_0}
-use Rattle.ldmodel.specs.Tail.{table_symbols}
-use Rattle.ldtail.specs.Tables.{IsTableSection, IsTableSymbol}
-use Rattle.lddrawing.proofs.Whole.{below_64, drawing_of}
+use Rattle.lddrawing.proofs.Lists.{on_ok}
+use Rattle.lddrawing.proofs.Staying.{are_kept, have_stayed, none_stays}
+use Rattle.lddrawing.proofs.Whole.{below_64, drawing_of, ends_in}
 use Rattle.lddrawing.proofs.image.draw_outputs.Goals as goal
-use Rattle.lddrawing.specs.Output.{AreDrawn}
+use Rattle.lddrawing.specs.Output.{IsSectionKept}
+use Rattle.lddrawing.specs.Parts.{ArePartsOf}
 
-pub draw-requires-clause-drawing : goal.draw-requires-clause-drawing
-draw-requires-clause-drawing c =
+pub redraw-requires-clause-drawing : goal.redraw-requires-clause-drawing
+redraw-requires-clause-drawing c =
     let p = c.args.project.now in
-    let s = c.requires.layout in
-    let are = c.requires.are in
-    let gs = subst (λ xs. AreSegments s.sections (segments s.sections) xs) (sym c.as_slice-segments.ensures.value)
-    are.laying.segments in
-    let drawn = subst (AreDrawn p s) (sym c.deref-4.ensures.value)
-    (c.in_ok-sections.ensures s are.laying are.outputs) in
+    let h = c.requires.outputs in
+    let s = h.layout in
+    let are = c.in_ok-parts.ensures s h.stays h.are in
     c.drawing_stands.ensures p s _
-    (drawing_of p s c.as_slice-segments.result.now c.in_ok-end.end c.number_or_0-entry.result c.offset.result
-    c.len.result c.deref.result.now c.deref-2.result.now c.in_ok-tail.tail.symbols c.in_ok-tail.tail.symbol_names
-    c.in_ok-tail.tail.header_names c.in_ok-tail.tail.headers _
-    (record {
-      symbols = subst (λ xs. AllZip (IsTableSymbol p s) (table_symbols p s) xs) (sym c.deref.ensures.value)
-          (c.in_ok-symbols.ensures s are.names are.starts are.values);
-      headings = subst (λ ys. AllZip (IsTableSection s) s.sections ys) (sym c.deref-2.ensures.value)
-          (c.in_ok-headings.ensures p s are.outputs);
-      ends = c.in_ok-end.ensures s.sections (segments s.sections) gs;
-      parts = c.in_ok-tail.ensures.of_link p s;
-      entry_is = c.number_or_0-entry.ensures ∙ ap number_or_0 are.values.entry;
-      table_is = c.offset.ensures;
-      count_is =
-          omega (
-            arith,
-            c.len.ensures,
-            c.in_ok-headings.headings.ok.0,
-            c.in_ok-headings.headings.ok.1,
-            ap length c.deref-2.ensures.value,
-          );
-      headers = λ e t n. c.deref-3.ensures.value ∙ c.in_ok-headers.ensures p s gs e t n;
-      drawn = drawn;
-      tail_is = c.image_parts-parts.ensures;
-    }))
-    (c.placement_is_in_memory.ensures p.script (rows p) (provided p) s are.laying.placed) drawn.filled
-    (below_64 (image_length p s) are.short)
+    (drawing_of p s h.stays c.in_ok-parts.parts _ (record {
+      headers = c.deref.ensures.value;
+      sections = c.deref-2.ensures.value;
+      tail = c.image_parts-tail.ensures;
+    }) are)
+    (c.placement_is_in_memory.ensures p.script (rows p) (provided p) s h.are.laying.placed)
+    (subst (All IsSectionFilled) (sym c.deref-2.ensures.value) are.drawn.filled)
+    (below_64 (image_length p s) h.are.short)
 
-pub returns : goal.returns
-returns c s are =
+pub redraw-requires-clause-patches : goal.redraw-requires-clause-patches
+redraw-requires-clause-patches c =
     let p = c.args.project.now in
-    let gs = subst (λ xs. AreSegments s.sections (segments s.sections) xs) (sym c.as_slice-segments.ensures.value)
-    are.laying.segments in
-    let drawn = subst (AreDrawn p s) (sym c.deref-4.ensures.value)
-    (c.in_ok-sections.ensures s are.laying are.outputs) in
-    c.in_ok-draw.ensures.image p s
-    (drawing_of p s c.as_slice-segments.result.now c.in_ok-end.end c.number_or_0-entry.result c.offset.result
-    c.len.result c.deref.result.now c.deref-2.result.now c.in_ok-tail.tail.symbols c.in_ok-tail.tail.symbol_names
-    c.in_ok-tail.tail.header_names c.in_ok-tail.tail.headers _
-    (record {
-      symbols = subst (λ xs. AllZip (IsTableSymbol p s) (table_symbols p s) xs) (sym c.deref.ensures.value)
-          (c.in_ok-symbols.ensures s are.names are.starts are.values);
-      headings = subst (λ ys. AllZip (IsTableSection s) s.sections ys) (sym c.deref-2.ensures.value)
-          (c.in_ok-headings.ensures p s are.outputs);
-      ends = c.in_ok-end.ensures s.sections (segments s.sections) gs;
-      parts = c.in_ok-tail.ensures.of_link p s;
-      entry_is = c.number_or_0-entry.ensures ∙ ap number_or_0 are.values.entry;
-      table_is = c.offset.ensures;
-      count_is =
-          omega (
-            arith,
-            c.len.ensures,
-            c.in_ok-headings.headings.ok.0,
-            c.in_ok-headings.headings.ok.1,
-            ap length c.deref-2.ensures.value,
-          );
-      headers = λ e t n. c.deref-3.ensures.value ∙ c.in_ok-headers.ensures p s gs e t n;
-      drawn = drawn;
-      tail_is = c.image_parts-parts.ensures;
-    }))
+    let h = c.requires.outputs in
+    let s = h.layout in
+    ends_in p s h.stays c.in_ok-parts.parts c.deref.result c.deref-2.result c.image_parts-tail.result c.args.patches.now
+    (c.drawing_is_image.ensures.end p s) c.deref.ensures.value c.deref-2.ensures.value c.image_parts-tail.ensures
+    (c.in_ok-parts.ensures s h.stays h.are) (c.requires.patches s h.are.laying)
+
+pub returns-clause-image : goal.returns-clause-image
+returns-clause-image c =
+    let p = c.args.project.now in
+    let x = c.in_ok-parts.parts in
+    on_ok _ _ c.redraw.result
+    (λ h s stays outputs none.
+    let are = c.in_ok-parts.ensures s stays outputs in
+    h p s
+    (none_stays p s stays c.deref-2.result.now none
+    (subst (AllZip (IsSectionKept p stays) (loaded s)) (sym c.deref-2.ensures.value) are.drawn.kept))
+    (drawing_of p s stays x _ (record {
+      headers = c.deref.ensures.value;
+      sections = c.deref-2.ensures.value;
+      tail = c.image_parts-tail.ensures;
+    }) are))
+    c.redraw.ensures.image
+
+pub returns-clause-redrawn : goal.returns-clause-redrawn
+returns-clause-redrawn c =
+    let p = c.args.project.now in
+    let x = c.in_ok-parts.parts in
+    on_ok _ _ c.redraw.result
+    (λ h old new stays same outputs good_old good_new said patched before.
+    let are = subst (λ pr. ArePartsOf pr new.layout stays x) (sym same)
+    (c.in_ok-parts.ensures new.layout stays outputs) in
+    h old new good_old good_new (record {
+      drawing = drawing_of new.project new.layout stays x _ (record {
+        headers = c.deref.ensures.value;
+        sections = c.deref-2.ensures.value;
+        tail = c.image_parts-tail.ensures;
+      }) are;
+      kept = have_stayed
+          (record { linked = c.stayed_in_both.ensures.linked; all = c.sections_in_file.ensures.all })
+          old new stays c.deref-2.result.now
+          (subst (AllZip (IsSectionKept new.project stays) (loaded new.layout)) (sym c.deref-2.ensures.value)
+          are.drawn.kept)
+          said;
+      patched = patched;
+    }) before)
+    c.redraw.ensures.redrawn
+
+pub returns-clause-work : goal.returns-clause-work
+returns-clause-work c =
+    let p = c.args.project.now in
+    let x = c.in_ok-parts.parts in
+    on_ok _ _ c.redraw.result
+    (λ h old new stays same outputs good all few.
+    let are = subst (λ pr. ArePartsOf pr new.layout stays x) (sym same)
+    (c.in_ok-parts.ensures new.layout stays outputs) in
+    h old new good
+    (drawing_of new.project new.layout stays x _ (record {
+      headers = c.deref.ensures.value;
+      sections = c.deref-2.ensures.value;
+      tail = c.image_parts-tail.ensures;
+    }) are)
+    (are_kept (record { linked = c.stayed_in_both.ensures.linked; all = c.sections_in_file.ensures.all })
+    old new stays c.deref-2.result.now
+    (subst (AllZip (IsSectionKept new.project stays) (loaded new.layout)) (sym c.deref-2.ensures.value)
+    are.drawn.kept)
+    all)
+    few)
+    c.redraw.ensures.work
+
+pub returns-clause-counted : goal.returns-clause-counted
+returns-clause-counted c = on_ok _ _ c.redraw.result (λ h. (_, h)) c.redraw.ensures.counted

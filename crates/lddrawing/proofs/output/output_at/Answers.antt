@@ -12,7 +12,7 @@ use Rattle.lddrawing.proofs.output.output_at.Goals as goal
 use Rattle.lddrawing.specs.Output.{IsRow}
 
 pub returns : goal.returns
-returns c p s q at =
+returns c p s stays q at =
     let show : code_section.OutputSectionAt → OutputSectionAt =
     λ o. record { line = o.line; section = o.section.now } in
     let now : Bor (List PlacedData) → List PlacedData = λ run. run.now in
@@ -31,6 +31,6 @@ returns c p s q at =
       fill = λ i. c.fill_of.ensures.fill i ∙ ap (λ f. fill_byte f i) (at.fill _ found);
       some_fill = c.fill_of.ensures.some;
       short_fill = c.fill_of.ensures.few;
-      row = subst (IsRow p s q) (sym c.as_slice.ensures.value) (at.row _ row);
+      row = subst (IsRow p s stays q) (sym c.as_slice.ensures.value) (at.row _ row);
       data_commands = at.data_commands _ run;
     }

@@ -24,14 +24,14 @@ returns c =
     let p = c.args.project.now in
     let now : Bor (List PlacedData) → List PlacedData = λ run. run.now in
     if_ok c.join.result
-    (λ v h s laying pieces.
+    (λ v h s stays laying pieces.
     let outputs = c.outputs_are_of_script.ensures p (rows p) (provided p) s laying.placed in
     let named : AreNamed s.sections =
     are_named p s.sections (subst IsSound c.script-script.ensures c.statements-statements.ensures.sound) outputs in
     let placed = sym (c.laid-laid.ensures.sections ∙ laying.places.sections) in
     let tree = ap shown_sections c.deref-2.ensures.value ∙ c.in_ok-sections.ensures
     ∙ ap output_sections c.script-script.ensures in
-    h p s (record {
+    h p s stays (record {
       placed = placed;
       names = outputs ∙ ap (map (λ (o : OutputSectionAt). o.section.name)) (sym tree);
       fills = fills_are p (rows p) (provided p) s laying.placed

@@ -13,10 +13,10 @@ use Rattle.lddrawing.specs.Numbers.{AreFirsts}
 use Rattle.lddrawing.specs.Pieces.{IsSized}
 
 pub returns : goal.returns
-returns c =
+returns g c =
     let p = c.args.project.now in
     if_ok c.image_rows.result
-    (λ v h s a laying relocated.
+    (λ v h s a laying fields.
     let placed = c.placed_are_rows.ensures p (provided p) s laying.placed in
     let many = sym (length-map c.inputs.result.now shown_input) ∙ ap length c.inputs.ensures.same in
     h (known_link p s a) refl
@@ -26,7 +26,7 @@ returns c =
           (subst (λ n. AreFirsts p.objects n c.in_ok-firsts.firsts.items) many
           (subst (λ os. AreFirsts os (length c.inputs.result.now) c.in_ok-firsts.firsts.items) c.inputs.ensures.same
           c.in_ok-firsts.ensures.firsts));
-      runs = relocated.fields;
+      runs = fields;
     })
     (record {
       placed = placed ∙ sym c.requires;

@@ -1,11 +1,13 @@
 -- One row a step.
 use Rattle.std.proofs.Common.{◌≡◌, ◌≤◌, ◌+◌, ◌-◌, ◌∙◌, sym, ap, subst, List, length, map, take, drop, slice_get, Some}
-use Rattle.std.proofs.Common.{arith}
+use Rattle.std.proofs.Common.{Bool, arith}
+use Rattle.std.specs.Prelude.{is_some}
 use Rattle.std.specs.Option.{option_map}
 use Rattle.std.specs.Vec.{vec_items}
 use Rattle.std.proofs.lemmas.List.{length-drop, length-map, map-append, take_all}
 use Rattle.std.proofs.lemmas.Option.{slice_get-map}
 use Rattle.ldmodel.specs.Rows.{Piece}
+use Rattle.ldmodel.specs.declared.sections.SectionKey.{SectionKey}
 use Rattle.ldproject.specs.ByPlace.{piece_in, rows_in}
 use Rattle.lddrawing.proofs.AllRows.{RowsSoFar, all_rows, one_row}
 use Rattle.lddrawing.proofs.Lists.{mapped_at}
@@ -13,8 +15,9 @@ use Rattle.lddrawing.proofs.pieces.image_rows.Goals as goal
 use Rattle.lddrawing.specs.Pieces.{IsRowAt}
 
 pub loop-row-preserved : goal.loop-row-preserved
-loop-row-preserved c =
+loop-row-preserved g c =
     let p = c.args.project.now in
+    let stays : SectionKey → Bool = λ k. is_some (g.E.Earlier.range c.args.earlier.now k) in
     let rs = c.args.rows.now in
     let starts = c.args.starts.now in
     let k = c.loop-row.row-index in
@@ -31,9 +34,9 @@ loop-row-preserved c =
     let left : length (drop at starts) ≡ length starts - at = length-drop at starts in
     let whole : take (length starts - at) (drop at starts) ≡ drop at starts =
     take_all (length starts - at) (drop at starts) (omega (arith, left)) in
-    subst (λ n. RowsSoFar p c.args.firsts.now c.args.relocated.now (rows_in p rs) starts (k + 1) (at + n)
+    subst (λ n. RowsSoFar p stays c.args.firsts.now c.args.relocated.now (rows_in p rs) starts (k + 1) (at + n)
     (map vec_items c.push.new.self.items)) long
-    (one_row p c.args.firsts.now c.args.relocated.now (rows_in p rs) starts k at row c.in_ok-drawn.drawn.items
+    (one_row p stays c.args.firsts.now c.args.relocated.now (rows_in p rs) starts k at row c.in_ok-drawn.drawn.items
     (map vec_items c.loop-row.pieces.items) _ here (omega (arith, c.loop-row-test.true, many))
     (omega (arith, c.if-starts-at.false, within, long))
     (λ l q same sources placed.
@@ -42,11 +45,12 @@ loop-row-preserved c =
     c.loop-row.invariant)
 
 pub returns : goal.returns
-returns c l same sources placed =
+returns g c l same sources placed =
     let p = c.args.project.now in
+    let stays : SectionKey → Bool = λ k. is_some (g.E.Earlier.range c.args.earlier.now k) in
     let rs = c.args.rows.now in
     let many : length (rows_in p rs) ≡ length rs = length-map (map vec_items rs) _ ∙ length-map rs vec_items in
-    all_rows p c.args.firsts.now c.args.relocated.now (rows_in p rs) c.args.starts.now l c.loop-row.row-index
+    all_rows p stays c.args.firsts.now c.args.relocated.now (rows_in p rs) c.args.starts.now l c.loop-row.row-index
     c.loop-row.at (map vec_items c.loop-row.pieces.items)
     (omega (arith, c.loop-row-test.false, many)) same sources placed
     c.loop-row.invariant

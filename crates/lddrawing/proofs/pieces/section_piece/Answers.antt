@@ -7,7 +7,7 @@ use Rattle.lddrawing.proofs.OfSections.{all_at, bytes_are, full_piece, nobits_pi
 use Rattle.lddrawing.proofs.pieces.section_piece.Goals as goal
 
 pub returns-in-Nobits : goal.returns-in-Nobits
-returns-in-Nobits c l o x w sources there same here placed at sized =
+returns-in-Nobits c l stays o x w sources there same here new placed at sized =
     let ob = c.args.object.now in
     let i = c.args.index.0 in
     let own : slice_get ob.sections i ≡ Some x = ap (λ (b : ObjectData). slice_get b.sections i) (sym same) ∙ here in
@@ -19,7 +19,7 @@ returns-in-Nobits c l o x w sources there same here placed at sized =
     c.zeros.ensures
 
 pub returns-in-Some : goal.returns-in-Some
-returns-in-Some c l o x w sources there same here placed at sized =
+returns-in-Some c l stays o x w sources there same here new placed at sized =
     let ob = c.args.object.now in
     let i = c.args.index.0 in
     let own : slice_get ob.sections i ≡ Some x = ap (λ (b : ObjectData). slice_get b.sections i) (sym same) ∙ here in
@@ -31,4 +31,4 @@ returns-in-Some c l o x w sources there same here placed at sized =
     w (λ e. c.in_default.not-Nobits (ap (λ (z : Section). z.kind) is ∙ e))
     sized placed at refl refl
     (bytes_are ob i x c.section_bytes-bytes.result.now own c.section_bytes-bytes.ensures)
-    (c.in-Some.ensures l o x sources.firsts sources.runs there here) refl
+    (c.in-Some.ensures l stays o x sources.firsts sources.runs there here c.args.key there new) refl

@@ -5,11 +5,11 @@ use Rattle.lddrawing.proofs.Numbering.{run_found}
 use Rattle.lddrawing.proofs.section_numbers.fields_of.Goals as goal
 
 pub returns : goal.returns
-returns c l o x are runs there own =
+returns c l stays o x are runs there own =
     let ends = c.args.relocated.now.ends.items in
     let number = c.in_ok-number.number in
     let lent = sym c.as_slice-ends.ensures.value in
-    run_found l o x c.args.firsts.now ends c.args.relocated.now.patches.items _ c.args.place c.args.section.0
+    run_found l stays o x c.args.firsts.now ends c.args.relocated.now.patches.items _ c.args.place c.args.section.0
     c.in_ok-first.field-0.now number c.in_ok-begin.begin c.in_ok-end.end are runs there own
     (slice_get_read c.args.firsts.now (length c.args.firsts.now) c.args.place c.in_ok-first.field-0.now refl
     c.in_ok-first.ensures.lookup.3.0 c.in_ok-first.ensures.lookup.1)

@@ -6,6 +6,12 @@ bool_cases : (b : Bool) → (b ≡ true) ⊎ (b ≡ false)
 bool_cases true = inl refl
 bool_cases false = inr refl
 
+pub returns-clause-drawn : goal.returns-clause-drawn
+returns-clause-drawn c = λ o l s.
+    let sized = c.resize_reserved.ensures.len in
+    let long = c.write_patches.ensures.len in
+    c.write_stretches.ensures.written o (omega (arith, sized, long)) s
+
 pub returns-clause-image : goal.returns-clause-image
 returns-clause-image c = λ image plan o l.
     let sized = c.resize_reserved.ensures.len in

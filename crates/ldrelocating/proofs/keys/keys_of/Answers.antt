@@ -1,5 +1,5 @@
 use Rattle.std.proofs.Common.{arith}
-use Rattle.ldrelocating.proofs.Ordering.{all_ascend, ascending_more, keys_more}
+use Rattle.ldrelocating.proofs.Ordering.{all_read, keys_more, read_more}
 use Rattle.ldrelocating.proofs.keys.keys_of.Goals as goal
 
 pub loop-place-preserved : goal.loop-place-preserved
@@ -7,12 +7,12 @@ loop-place-preserved c = record {
   keys = keys_more c.inputs-inputs.result.now c.loop-place.place c.index-inputs-place.result
       (omega (arith, c.loop-place-test.true)) c.loop-place.keys.items c.push.new.self.items c.in_ok-push.ensures.items
       c.loop-place.invariant.keys;
-  ascending = ascending_more c.inputs-inputs.result.now c.loop-place.place c.index-inputs-place.result
-      (omega (arith, c.loop-place-test.true)) c.index-inputs-place.is c.loop-place.invariant.ascending
-      c.sections_ascend.ensures;
+  read = read_more c.inputs-inputs.result.now c.loop-place.place c.index-inputs-place.result
+      (omega (arith, c.loop-place-test.true)) c.index-inputs-place.is c.loop-place.invariant.read
+      c.as_read.ensures;
 }
 
-pub returns-clause-ascending : goal.returns-clause-ascending
-returns-clause-ascending c =
-    all_ascend c.inputs-inputs.result.now c.loop-place.place c.args.project.now.objects
-    (omega (arith, c.loop-place-test.false)) c.inputs-inputs.ensures.same c.loop-place.invariant.ascending
+pub returns-clause-read : goal.returns-clause-read
+returns-clause-read c =
+    all_read c.inputs-inputs.result.now c.loop-place.place c.args.project.now.objects
+    (omega (arith, c.loop-place-test.false)) c.inputs-inputs.ensures.same c.loop-place.invariant.read

@@ -2,12 +2,12 @@ use Rattle.std.proofs.Common.{take}
 use Rattle.std.specs.List.{All}
 use Rattle.ldmodel.specs.Project.{NamedObject}
 use Rattle.ldproject.specs.Inputs.{shown_inputs}
-use Rattle.ldrelocating.specs.Numbered.{AreAscending, AreKeysOf}
+use Rattle.ldrelocating.specs.Numbered.{AreKeysOf, IsRead}
 use Rattle.ldrelocating.proofs.keys.keys_of.Given as goal
 
--- the objects before this one have their keys
+-- the objects before this one have their keys, and were read
 abbrev pub invariant-loop-place : goal.invariant-loop-place
 invariant-loop-place l = record {
   keys : AreKeysOf (take l.place (shown_inputs l.inputs)) (shown_inputs l.inputs) l.keys.items;
-  ascending : All (λ (o : NamedObject). AreAscending o.object.sections) (take l.place (shown_inputs l.inputs));
+  read : All (λ (o : NamedObject). IsRead o.object) (take l.place (shown_inputs l.inputs));
 }

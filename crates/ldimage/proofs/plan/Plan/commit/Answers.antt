@@ -5,9 +5,17 @@ use Rattle.ldbase.specs.declared.meter.Count.TheVariants.{Bytes}
 use Rattle.ldimage.specs.Drawing.{drawing_end, drawing_spot}
 use Rattle.ldmodel.specs.Image.{byte_at}
 use Rattle.ldimage.specs.Plan.{IsDrawnFor, count_unstayed}
-use Rattle.ldimage.specs.Stretches.{IsPlanFor, patch_bytes, written}
+use Rattle.ldimage.specs.Stretches.{IsPlanFor, Spot, patch_bytes, spot_at, written}
 use Rattle.ldimage.proofs.Planned.{planned, written_all}
 use Rattle.ldimage.proofs.plan.Plan.commit.Goals as goal
+
+pub returns-clause-drawn : goal.returns-clause-drawn
+returns-clause-drawn c = λ d patches p o l s.
+    let q = rw (← c.self.view_is) at p in
+    let same : spot_at c.deref.result.now o ≡ drawing_spot d o = ap (λ xs. spot_at xs o) c.deref.ensures.value
+    ∙ q.drawn.own o (omega arith) l in
+    c.write_image.ensures.drawn o (omega (arith, q.end, l)) (ap (λ (x : Spot). x.stays) same ∙ s)
+    ∙ ap (λ (x : Spot). x.byte) same
 
 pub returns-clause-image : goal.returns-clause-image
 returns-clause-image c = λ d patches image p w o l.

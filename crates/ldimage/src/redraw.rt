@@ -1,0 +1,64 @@
+//! The image of a link, over what the canvas holds of the image of an earlier one.
+
+ghost use Rattle.std.specs.Prelude.{◌≡◌, ◌≤◌, ◌+◌, All, OnErr, OnOk};
+ghost use Rattle.ldbase.specs.Raised.{raised};
+ghost use Rattle.ldbase.specs.declared.meter.Count.TheVariants as counts;
+ghost use Rattle.ldlaws.specs.Untouched.{IsGood};
+ghost use Rattle.ldmodel.specs.Image.{image};
+ghost use Rattle.ldmodel.specs.Layout.{Layout};
+ghost use Rattle.ldmodel.specs.Project.{Project};
+ghost use Rattle.ldmodel.specs.SectionHeaders.{image_length};
+ghost use Rattle.ldmodel.specs.Stayed.{GoodLink};
+ghost use Rattle.ldmodel.specs.WorkBound.{bytes_stayed, retargeted_bytes};
+ghost use Rattle.ldimage.specs.Drawing.{IsDrawing, drawing_end, drawing_spot};
+ghost use Rattle.ldimage.specs.Kept.{EachPiece, IsKept, IsRedrawing};
+ghost use Rattle.ldimage.specs.OfLink.{AreUnstayed, IsDrawingOf};
+ghost use Rattle.ldimage.specs.Plan.{count_unstayed};
+ghost use Rattle.ldimage.specs.Stretches.{EndsBy, patch_bytes};
+
+use crate::law::drawing_is_image;
+use crate::plan::plan_image;
+use crate::section::Drawing;
+use ldbase::meter::Meter;
+use ldfields::canvas::Canvas;
+use ldfields::patch::Patch;
+use ldmodel::memory::NoMemory;
+use std::alloc::Global;
+
+/// Writes the image that is drawn from these parts onto a canvas: all of it but the bytes that stay, in which the
+/// patches, whose offsets are places in the file, are written. It plans, and then commits: so of the calls of an edit
+/// that may fail it can be the last.
+///
+/// Where nothing stays, the canvas may hold anything before. Where it holds the image of an old link, only input
+/// sections that stayed are kept, and the patches are the fields of their sites whose symbol has another value, it then
+/// holds that of the new link; and where all that stayed are kept, no more bytes are written than the image has outside
+/// of them and these fields have.
+///
+/// An error says that there was no memory; then the canvas is as it was.
+pub fn redraw(
+    alloc: Global,
+    canvas: &mut Canvas,
+    drawing: &Drawing<'_>,
+    patches: &[Patch],
+    meter: &mut Meter,
+) -> Result<(), NoMemory>
+    requires drawing { IsDrawing drawing.now }
+    requires patches { All (EndsBy (drawing_end drawing.now)) patches.now }
+    ensures image { OnOk result ((p : Project) (s : Layout) → AreUnstayed drawing.now → IsDrawingOf p s drawing.now
+        → canvas.new.bytes ≡ image p s) }
+    ensures redrawn { OnOk result ((old new : GoodLink) → IsGood old → IsGood new
+        → IsRedrawing old new drawing.now patches.now → canvas.old.bytes ≡ image old.project old.layout
+        → canvas.new.bytes ≡ image new.project new.layout) }
+    ensures work { OnOk result ((old new : GoodLink) → IsGood new → IsDrawingOf new.project new.layout drawing.now
+        → EachPiece (IsKept old new) new.layout drawing.now → patch_bytes patches.now ≤ retargeted_bytes old new
+        → meter.new.bytes + bytes_stayed old new
+        ≤ meter.old.bytes + (image_length new.project new.layout + retargeted_bytes old new)) }
+    ensures counted { OnOk result (meter.new ≡ raised meter.old counts.Bytes
+        (patch_bytes patches.now + count_unstayed (drawing_spot drawing.now) (drawing_end drawing.now))) }
+    ensures unchanged { OnErr result (canvas.new.bytes ≡ canvas.old.bytes) }
+{
+    drawing_is_image();
+    let plan = plan_image(alloc, canvas, drawing, patches)?;
+    plan.commit(canvas, meter);
+    Ok(())
+}

@@ -1,0 +1,80 @@
+//! What a linker knows of an earlier link when it evaluates relocations of a new one.
+
+ghost use Rattle.std.specs.Prelude.{◌≡◌, Option, IfSome, None, false};
+ghost use Rattle.elfobj.specs.Symbols.{NamedSymbol};
+ghost use Rattle.ldmodel.specs.Project.{NamedObject};
+ghost use Rattle.ldmodel.specs.Stayed.{GoodLink};
+ghost use Rattle.ldmodel.specs.Targets.{referenced_value};
+ghost use Rattle.ldmodel.specs.declared.sections.SectionKey.{SectionKey};
+ghost use Rattle.ldtargets.specs.Earlier.{HasSameValues, HasStayedAt, IsKept};
+ghost use Rattle.ldtargets.specs.KnownLink.{IsSymbolOf, KnownLink};
+ghost use Rattle.ldtargets.specs.Values.{value_of};
+ghost use Rattle.ldtargets.specs.declared.earlier.FileRange.{FileRange};
+
+use crate::value::SymbolValue;
+use elfobj::relocation::SymbolIndex;
+use elfobj::symbol::Symbol;
+use ldmodel::names::ObjectKey;
+use ldmodel::sections::SectionKey;
+
+/// Bytes of a file.
+#[derive(Clone, Copy, Debug, PartialEq, Eq)]
+pub struct FileRange {
+    /// Where they begin.
+    pub offset: u64,
+    /// How many they are.
+    pub length: u64,
+}
+
+/// What a linker knows of an earlier link beside a new one: which input sections of the new one stayed where they were,
+/// and what symbols were worth. The keys are those of the new link. What is said of two links holds of each two that
+/// they may be.
+pub trait Earlier {
+    /// The links that they may be: the earlier one, and the new one with what its keys stand for.
+    ghost knows: { Self → GoodLink → KnownLink → Type 0 };
+
+    /// Which input sections stayed, as far as is known, and where their bytes stand in the file.
+    ghost range: { Self → SectionKey → Option FileRange };
+
+    /// Where the bytes of an input section stand in the file, if it stayed there: no bytes, where its output section
+    /// has none. Nothing is said of a section that is not in the output.
+    fn stayed(&self, section: SectionKey) -> Option<FileRange>
+        ensures range { result ≡ range self.now section }
+        ensures stayed { (old : GoodLink) (l : KnownLink) → knows self.now old l
+            → IfSome result (HasStayedAt old l section) };
+
+    /// Whether a symbol of an object of which a section stayed may have another value than it had. Where it says no,
+    /// none has.
+    fn is_marked(&self, object: ObjectKey) -> bool
+        ensures { (old : GoodLink) (l : KnownLink) → knows self.now old l → IsKept (range self.now) object
+            → result ≡ false → HasSameValues old l object };
+
+    /// What a symbol of an object of which a section stayed was worth to a relocation of its object.
+    fn value(&self, object: ObjectKey, index: SymbolIndex, symbol: &Symbol) -> SymbolValue
+        ensures { (old : GoodLink) (l : KnownLink) (o : NamedObject) (x : NamedSymbol) → knows self.now old l
+            → IsKept (range self.now) object → IsSymbolOf l object index symbol.now o x
+            → value_of result ≡ referenced_value old.project old.layout o x };
+}
+
+/// No earlier link: nothing stayed.
+#[derive(Clone, Copy, Debug)]
+pub struct Nothing;
+
+impl Earlier for Nothing {
+    // what it says, that nothing is known to have stayed, is true of any two links
+    ghost knows = { λ _ _ _. Unit {0} };
+
+    ghost range = { λ _ _. None };
+
+    fn stayed(&self, _section: SectionKey) -> Option<FileRange> {
+        None
+    }
+
+    fn is_marked(&self, _object: ObjectKey) -> bool {
+        false
+    }
+
+    fn value(&self, _object: ObjectKey, _index: SymbolIndex, _symbol: &Symbol) -> SymbolValue {
+        SymbolValue::NotDefined
+    }
+}
