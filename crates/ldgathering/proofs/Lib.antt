@@ -1,7 +1,9 @@
 pub mod Seen
 pub mod Lists
-pub mod Owning
 pub mod Owners
+pub mod Merging
+pub mod Owning
+pub mod Collecting
 pub mod ByNumber
 pub mod Named
 pub mod Preparing

@@ -1,9 +1,8 @@
 -- Lists of objects and of symbols with their numbers.
-use Rattle.std.proofs.Common.{◌≡◌, ◌∙◌, ℕ, zero, suc, ◌+◌, ◌<◌, ◌≤◌, List, [], ◌∷◌, ◌++◌, length, get_or, map, take, ap}
+use Rattle.std.proofs.Common.{◌≡◌, ◌∙◌, ℕ, zero, suc, ◌+◌, ◌<◌, ◌≤◌, List, [], ◌∷◌, ◌++◌, length, get_or, take, ap}
 use Rattle.std.proofs.Common.{sym, subst, arith, refl, add-zero}
 use Rattle.std.specs.Prelude.{Option, Some, None, slice_get, flat_map, option_to_list}
 use Rattle.std.specs.List.{All, AllZip, cons_option, enumerate_from, filter_map}
-use Rattle.std.specs.Option.{option_map}
 use Rattle.std.proofs.Math.Seq.{take-suc}
 use Rattle.std.proofs.lemmas.List.{take_all}
 use Rattle.std.proofs.lemmas.List.Concat.{flat_map-cons}
@@ -12,15 +11,16 @@ use Rattle.std.proofs.lemmas.List.FromFn.{length-enumerate_from, get_or-enumerat
 use Rattle.std.proofs.lemmas.Option.{slice_get-get_or, slice_get_within, get_or_from_slice_get}
 use Rattle.std.proofs.lemmas.Slice.Zip.{all_zipped_more}
 
--- one more of a list with numbers
-pub enumerate_more : {X : Type 0} (a n : ℕ) (xs : List X) (d : X) → n < length xs → enumerate_from a (take (suc n) xs)
-    ≡ enumerate_from a (take n xs) ++ (a + n, get_or xs n d) ∷ []
-enumerate_more a n [] d h = absurd (omega (arith, h))
-enumerate_more {X} a zero (x ∷ xs) d h = ap (λ (k : ℕ). let y : ℕ × X = (k, x) in y ∷ []) (sym (add-zero a))
-enumerate_more {X} a (suc n) (x ∷ xs) d h =
-    let shift : a + 1 + n ≡ a + suc n = omega arith in
-    ap (λ (l : List (ℕ × X)). (a, x) ∷ l) (enumerate_more (a + 1) n xs d (omega (arith, h))
-    ∙ ap (λ (k : ℕ). enumerate_from (a + 1) (take n xs) ++ (k, get_or xs n d) ∷ []) shift)
+-- one more member, and what belongs to it
+pub zip_next : {X Y : Type 0} (R : X → Y → Type 0) (os : List X) (xs : List Y) (n : ℕ) (o : X) (x : Y)
+    → slice_get os n ≡ Some o → R o x → AllZip R (take n os) xs → AllZip R (take (n + 1) os) (xs ++ x ∷ [])
+zip_next R os xs n o x e r h =
+    let within : n < length os = slice_get_within os n o e in
+    let suc_is : suc n ≡ n + 1 = omega arith in
+    let more : take (n + 1) os ≡ take n os ++ o ∷ [] =
+    ap (λ (k : ℕ). take k os) (sym suc_is)
+    ∙ (take-suc os n o within ∙ ap (λ y. take n os ++ y ∷ []) (get_or_from_slice_get os n o o e)) in
+    subst (λ l. AllZip R l (xs ++ x ∷ [])) (sym more) (all_zipped_more R (take n os) xs o x h r)
 
 -- a member with its number
 pub numbered : {X : Type 0} (xs : List X) (n : ℕ) (x : X) (d : ℕ × X) → slice_get xs n ≡ Some x
@@ -51,6 +51,21 @@ module _ {X Y : Type 0} (R : ℕ × X → Y → Type 0) (os : List X) where
       subst (λ (l : List (ℕ × X)). AllZip R l xs)
       (take_all n (enumerate_from 0 os) (omega (arith, past, length-enumerate_from 0 os))) h
 
+-- of each member, what belongs to it
+pub zip_from : {X Y : Type 0} (R : ℕ × X → Y → Type 0) (a : ℕ) (os : List X) (xs : List Y) → length xs ≡ length os
+    → ((n : ℕ) (o : X) (d : Y) → slice_get os n ≡ Some o → R (a + n, o) (get_or xs n d))
+    → AllZip R (enumerate_from a os) xs
+zip_from R a [] [] long each = tt
+zip_from R a [] (x ∷ xs) long each = absurd (omega (arith, long))
+zip_from R a (o ∷ os) [] long each = absurd (omega (arith, long))
+zip_from R a (o ∷ os) (x ∷ xs) long each = (
+  subst (λ (m : ℕ). R (m, o) x) (add-zero a) (each zero o x refl),
+  zip_from R (a + 1) os xs (omega (arith, long))
+      (λ n y d at.
+      let shift : a + suc n ≡ a + 1 + n = omega arith in
+      subst (λ (m : ℕ). R (m, y) (get_or xs n d)) shift (each (suc n) y d at)),
+)
+
 zip_get : {A B : Type 0} (R : A → B → Type 0) (xs : List A) (ys : List B) (k : ℕ) (d : A) (e : B) → AllZip R xs ys
     → k < length xs → R (get_or xs k d) (get_or ys k e)
 zip_get R [] [] k d e h l = absurd (omega (arith, l))
@@ -60,6 +75,13 @@ zip_get R (x ∷ xs) (y ∷ ys) zero d e h l = h.0
 zip_get R (x ∷ xs) (y ∷ ys) (suc k) d e h l = zip_get R xs ys k d e h.1 (omega (arith, l))
 
 -- what belongs to a member
+pub zip_member : {X Y : Type 0} (R : X → Y → Type 0) (os : List X) (xs : List Y) (n : ℕ) (o : X) (d : Y)
+    → slice_get os n ≡ Some o → AllZip R os xs → R o (get_or xs n d)
+zip_member R os xs n o d e h =
+    subst (λ y. R y (get_or xs n d)) (get_or_from_slice_get os n o o e)
+    (zip_get R os xs n o d h (slice_get_within os n o e))
+
+-- the same where it has its number
 pub zip_at : {X Y : Type 0} (R : ℕ × X → Y → Type 0) (os : List X) (xs : List Y) (n : ℕ) (o : X) (d : Y)
     → slice_get os n ≡ Some o → AllZip R (enumerate_from 0 os) xs → R (n, o) (get_or xs n d)
 zip_at {X} R os xs n o d e h =
@@ -98,12 +120,3 @@ filter_map_one {X} {Y} f x = go (f x)
     go : (o : Option Y) → cons_option o [] ≡ option_to_list o
     go None = refl
     go (Some y) = refl
-
-pub map_option : {X Y : Type 0} (f : X → Y) (o : Option X) → map f (option_to_list o)
-    ≡ option_to_list (option_map f o)
-map_option f None = refl
-map_option f (Some x) = refl
-
-pub map_twice : {X Y Z : Type 0} (g : Y → Z) (f : X → Y) (xs : List X) → map g (map f xs) ≡ map (λ x. g (f x)) xs
-map_twice g f [] = refl
-map_twice g f (x ∷ xs) = ap (λ l. g (f x) ∷ l) (map_twice g f xs)

@@ -1,4 +1,5 @@
 pub mod Symbols
+pub mod Matches
 pub mod Members
 pub mod Found
 pub mod Numbers

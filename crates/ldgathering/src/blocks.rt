@@ -1,74 +1,111 @@
-//! The common blocks of an object.
+//! The common blocks of objects.
 
-ghost use Rattle.std.specs.Prelude.{◌≡◌, ◌++◌, IfOk, OnOk, map, option_to_list};
-ghost use Rattle.gather.specs.Members.{block_of};
-ghost use Rattle.ldgathering.specs.Members.{IsOwned};
-ghost use Rattle.ldgathering.specs.Symbols.{IsObjectAt};
-ghost use Rattle.ldmodel.specs.InputSections.{common_blocks};
-ghost use Rattle.ldmodel.specs.Project.{NamedObject};
+ghost use Rattle.std.specs.Prelude.{◌≡◌, ◌<◌, ◌++◌, ℕ, [], IfOk, OnOk, length, option_to_list};
+ghost use Rattle.std.specs.List.{filter_map};
+ghost use Rattle.ldgathering.specs.Members.{AreBlocks, IsInOrder, block_here, blocks_at};
 ghost use Rattle.ldnaming.specs.Naming.{IsNaming};
 
-use crate::cases::case_of_symbol;
-use elfobj::object::Object;
 use elfobj::relocation::SymbolIndex;
 use gather::member::CommonBlock;
 use ldmodel::memory::NoMemory;
-use ldmodel::names::Case;
+use ldmodel::names::{Case, NameKey};
 use ldnaming::naming::Naming;
 use ldproject::view::ProjectView;
 use std::alloc::Global;
 
-/// The common block that an entry of the object at a place owns by what its name stands for, if it owns one.
-fn owned_block(place: usize, symbol: u32, case: Option<Case>) -> Option<CommonBlock>
-    ensures { IsOwned place symbol case result }
+/// No common blocks, of this many objects.
+fn no_blocks(alloc: Global, count: usize) -> Result<Vec<Vec<CommonBlock>>, NoMemory>
+    ensures len { IfOk result (λ all. length all.items ≡ count) }
+    ensures none { IfOk result (λ all. (i : ℕ) → blocks_at all.items i ≡ []) }
+{
+    let mut all = Vec::with_capacity(alloc, count)?;
+    for _ in 0..count {
+        all.push(Vec::new(alloc))?;
+    }
+    Ok(all)
+}
+
+/// Adds the common block that a name stands for, if it stands for one, to those of the object that owns it.
+fn add_block(all: &mut Vec<Vec<CommonBlock>>, case: Case) -> Result<(), NoMemory>
+    ensures len { length all.new.items ≡ length all.old.items }
+    ensures added { OnOk result ((i : ℕ) → i < length all.old.items → blocks_at all.new.items i
+        ≡ blocks_at all.old.items i ++ option_to_list (block_here i (Some case))) }
 {
     match case {
-        Some(Case::Common { owner, size, align }) => {
-            if owner.key == place && owner.symbol == symbol {
-                Some(CommonBlock {
-                    symbol: SymbolIndex(symbol),
-                    size,
-                    alignment: align,
-                })
-            } else {
-                None
+        Case::Common { owner, size, align } => {
+            if owner.key >= all.len() {
+                return Ok(());
             }
+            all[owner.key].push(CommonBlock {
+                symbol: SymbolIndex(owner.symbol),
+                size,
+                alignment: align,
+            })?;
+            Ok(())
         }
-        _ => None,
+        _ => Ok(()),
     }
 }
 
-/// Adds a block, if there is one.
-fn add_block(blocks: &mut Vec<CommonBlock>, block: Option<CommonBlock>) -> Result<(), NoMemory>
-    ensures { OnOk result (blocks.new.items ≡ blocks.old.items ++ option_to_list block) }
+/// The same where a key has a name.
+fn add_if_named(all: &mut Vec<Vec<CommonBlock>>, case: Option<Case>) -> Result<(), NoMemory>
+    ensures len { length all.new.items ≡ length all.old.items }
+    ensures added { OnOk result ((i : ℕ) → i < length all.old.items → blocks_at all.new.items i
+        ≡ blocks_at all.old.items i ++ option_to_list (block_here i case)) }
 {
-    match block {
-        Some(block) => {
-            blocks.push(block)?;
-            Ok(())
-        }
+    match case {
+        Some(case) => add_block(all, case),
         None => Ok(()),
     }
 }
 
-/// The common blocks that the object at a place owns, in the order of its symbol table. An error says that memory ran
-/// out.
-pub(crate) fn blocks_of(
+/// The common blocks that names stand for, each with the object that owns it, of this many objects.
+fn collected(
+    alloc: Global,
+    naming: &Naming,
+    count: usize,
+) -> Result<Vec<Vec<CommonBlock>>, NoMemory>
+    ensures len { IfOk result (λ all. length all.items ≡ count) }
+    ensures blocks { IfOk result (λ all. (i : ℕ) → i < count → blocks_at all.items i
+        ≡ filter_map (block_here i) naming.now.cases) }
+{
+    let mut all = no_blocks(alloc, count)?;
+    for key in 0..naming.limit() {
+        add_if_named(&mut all, naming.case_of(NameKey(key)))?;
+    }
+    Ok(all)
+}
+
+/// Puts blocks of an object in the order of its symbol table.
+fn sort(blocks: &mut Vec<CommonBlock>)
+    ensures { IsInOrder blocks.old.items blocks.new.items }
+{
+    blocks.sort_unstable_by_key(|block| block.symbol.0);
+}
+
+/// The same for each object.
+fn sort_all(all: &mut Vec<Vec<CommonBlock>>)
+    ensures len { length all.new.items ≡ length all.old.items }
+    ensures sorted { (i : ℕ) → i < length all.old.items
+        → IsInOrder (blocks_at all.old.items i) (blocks_at all.new.items i) }
+{
+    for place in 0..all.len() {
+        sort(&mut all[place]);
+    }
+}
+
+/// The common blocks of each object of a project, by what its names stand for. The time grows with the number of names.
+/// An error says that memory ran out.
+pub(crate) fn common_blocks(
     alloc: Global,
     project: &ProjectView<'_>,
     naming: &Naming,
-    place: usize,
-    object: &Object,
-) -> Result<Vec<CommonBlock>, NoMemory>
-    requires naming { IsNaming project.now naming.now }
-    requires object { IsObjectAt project.now place object.now }
-    ensures { IfOk result (λ blocks. (o : NamedObject) → o.object ≡ object.now
-        → map (block_of place o.name) blocks.items ≡ common_blocks project.now place o) }
+) -> Result<Vec<Vec<CommonBlock>>, NoMemory>
+    requires { IsNaming project.now naming.now }
+    ensures { IfOk result (λ all. AreBlocks project.now all.items) }
 {
-    let mut blocks = Vec::new(alloc);
-    for number in 0..object.symbols().len() {
-        let case = case_of_symbol(project, naming, place, object, number);
-        add_block(&mut blocks, owned_block(place, number as u32, case))?;
-    }
-    Ok(blocks)
+    let mut all = collected(alloc, naming, project.inputs().len())?;
+    sort_all(&mut all);
+    naming.all_keyed();
+    Ok(all)
 }

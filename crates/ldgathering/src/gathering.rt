@@ -1,17 +1,20 @@
 //! What gathering finds.
 
-ghost use Rattle.std.specs.Prelude.{◌≡◌, IfOk};
+ghost use Rattle.std.specs.Prelude.{◌≡◌, IfOk, map};
 ghost use Rattle.gather.specs.Apart.{AscendingSections};
 ghost use Rattle.gather.specs.Gathered.{AreGathered};
 ghost use Rattle.gather.specs.LiveMarks.{marked};
 ghost use Rattle.ldgathering.specs.Gathering.{IsGathering};
+ghost use Rattle.ldgathering.specs.Matches.{AreMatched};
 ghost use Rattle.ldgathering.specs.Members.{by_place};
 ghost use Rattle.ldmodel.specs.InputSections.{input_sections};
 ghost use Rattle.ldmodel.specs.Live.{live};
 ghost use Rattle.ldnaming.specs.Naming.{IsNaming};
 
+use crate::blocks::common_blocks;
 use crate::live::mark_live;
-use crate::members::{members, prepare_all};
+use crate::matches::Matches;
+use crate::members::members;
 use gather::gathered::Gathered;
 use gather::left_out::left_out;
 use gather::live_sections::{orphans, taken};
@@ -54,17 +57,20 @@ fn sorted_out(
 }
 
 impl Gathering {
-    /// Gathers the input sections of a project whose names are decided. An error says that memory ran out.
+    /// Gathers the input sections of a project whose names are decided. `matches` has the statements that take the
+    /// sections of each object, in object order. An error says that memory ran out.
     pub fn of(
         alloc: Global,
         project: &ProjectView<'_>,
         naming: &Naming,
+        matches: &[&Matches],
     ) -> Result<Gathering, NoMemory>
-        requires { IsNaming project.now naming.now }
+        requires naming { IsNaming project.now naming.now }
+        requires matches { AreMatched project.now (map (λ x. x.now) matches.now) }
         ensures { IfOk result (λ g. IsGathering project.now g) }
     {
-        let prepared = prepare_all(alloc, project, naming)?;
-        let members = members(alloc, project, &prepared)?;
+        let blocks = common_blocks(alloc, project, naming)?;
+        let members = members(alloc, project, matches, &blocks)?;
         let sections = input_sections(alloc, &members)?;
         let options = project.options();
         let out = left_out(alloc, project.script(), options.orphans(), &sections)?;

@@ -6,6 +6,7 @@ mod blocks;
 mod cases;
 pub mod gathering;
 mod live;
+pub mod matches;
 mod members;
 mod numbers;
 mod references;

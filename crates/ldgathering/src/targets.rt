@@ -13,7 +13,6 @@ use crate::cases::case_of_symbol;
 use elfobj::object::Object;
 use elfobj::relocation::{Relocation, SymbolIndex};
 use elfobj::symbol::SymbolPlace;
-use ldbase::meter::Meter;
 use ldmodel::names::{Case, Entry, ObjectKey};
 use ldmodel::sections::{Part, SectionKey};
 use ldnaming::naming::Naming;
@@ -96,20 +95,14 @@ pub(crate) fn target_section(
     }
 }
 
-/// The section of the entry symbol, if it is in one. The symbol's name is hashed and decided once more.
+/// The section of the entry symbol, if it is in one. The symbol's name is hashed and looked up.
 #[tactic(auto, unfolding(ldmodel::specs::Live::entry_section))]
 pub(crate) fn entry_section(project: &ProjectView<'_>, naming: &Naming) -> Option<SectionKey>
     requires { IsNaming project.now naming.now }
     ensures { option_map (section_id (λ key. key)) result ≡ entry_section project.now }
 {
     match project.entry_symbol() {
-        Some(name) => {
-            let mut meter = Meter::new();
-            section_of_case(
-                project,
-                naming.case_named(project.script(), name, &mut meter),
-            )
-        }
+        Some(name) => section_of_case(project, naming.case_named(project.script(), name)),
         None => None,
     }
 }

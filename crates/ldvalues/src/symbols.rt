@@ -15,7 +15,6 @@ ghost use Rattle.ldvalues.specs.Values.{shown_symbol};
 use crate::candidate::Candidate;
 use crate::script_values::ScriptValues;
 use crate::values::OutputSymbol;
-use ldbase::meter::Meter;
 use ldmodel::memory::NoMemory;
 use ldmodel::names::{Case, NameKey};
 use ldnaming::naming::Naming;
@@ -106,19 +105,18 @@ fn add_named<'a>(
     )
 }
 
-/// Adds the symbol of a name without a key. It is decided and counted.
+/// Adds the symbol of a name without a key. It is looked up.
 fn add_unnamed<'a>(
     sources: &Sources<'_>,
     name: &'a [u8],
     list: &mut Vec<OutputSymbol<'a>>,
-    meter: &mut Meter,
 ) -> Result<(), NoMemory>
     ensures { OnOk result ((p : Project) (s : Layout) → AreSources p s sources.now
         → AddsSymbols p s (name.now ∷ []) list.old.items list.new.items) }
 {
     let naming = sources.naming;
     let given = sources.given;
-    let case = naming.case_named(sources.script, name, meter);
+    let case = naming.case_named(sources.script, name);
     let Some(value) = value_by_script(case, given.value(name)) else {
         // it does not come to this: a name that an object defines has a key
         return Err(AllocError);
@@ -131,7 +129,6 @@ fn add_symbol<'a>(
     sources: &Sources<'_>,
     candidate: &Candidate<'a>,
     list: &mut Vec<OutputSymbol<'a>>,
-    meter: &mut Meter,
 ) -> Result<(), NoMemory>
     ensures { OnOk result ((p : Project) (s : Layout) → AreSources p s sources.now
         → HasKeyOr sources.now.naming.now candidate.now.name.now candidate.now.key
@@ -139,7 +136,7 @@ fn add_symbol<'a>(
 {
     match candidate.key {
         Some(key) => add_named(sources, candidate.name, key, list),
-        None => add_unnamed(sources, candidate.name, list, meter),
+        None => add_unnamed(sources, candidate.name, list),
     }
 }
 
@@ -160,7 +157,6 @@ fn add_unless_repeat<'a>(
     candidates: &[Candidate<'a>],
     place: usize,
     list: &mut Vec<OutputSymbol<'a>>,
-    meter: &mut Meter,
 ) -> Result<(), NoMemory>
     requires place { place < length candidates.now }
     requires candidates { AreCandidates sources.now.naming.now sources.now.script.now candidates.now }
@@ -170,7 +166,7 @@ fn add_unless_repeat<'a>(
     if is_repeat(candidates, place) {
         return Ok(());
     }
-    add_symbol(sources, &candidates[place], list, meter)
+    add_symbol(sources, &candidates[place], list)
 }
 
 /// The symbols of the output. An error says that memory ran out.
@@ -178,7 +174,6 @@ pub(crate) fn symbols_of<'a>(
     alloc: Global,
     sources: &Sources<'_>,
     candidates: &[Candidate<'a>],
-    meter: &mut Meter,
 ) -> Result<Vec<OutputSymbol<'a>>, NoMemory>
     requires { AreCandidates sources.now.naming.now sources.now.script.now candidates.now }
     ensures { IfOk result (λ list. (p : Project) (s : Layout) → AreSources p s sources.now → shown list.items
@@ -186,7 +181,7 @@ pub(crate) fn symbols_of<'a>(
 {
     let mut list = Vec::new(alloc);
     for place in 0..candidates.len() {
-        add_unless_repeat(sources, candidates, place, &mut list, meter)?;
+        add_unless_repeat(sources, candidates, place, &mut list)?;
     }
     Ok(list)
 }

@@ -14,7 +14,6 @@ use crate::candidate::candidates;
 use crate::link_view::LinkView;
 use crate::script_values::ScriptValues;
 use crate::symbols::{Sources, symbols_of};
-use ldbase::meter::Meter;
 use ldlaying::laying::Laying;
 use ldmodel::memory::NoMemory;
 use ldmodel::names::Case;
@@ -46,13 +45,12 @@ pub struct Values<'a> {
     pub symbols: Vec<OutputSymbol<'a>>,
 }
 
-/// The value of the entry symbol, which is decided and counted.
+/// The value of the entry symbol, which is looked up.
 fn entry_value(
     project: &ProjectView<'_>,
     naming: &Naming,
     given: &ScriptValues<'_>,
     link: &LinkView<'_, '_>,
-    meter: &mut Meter,
 ) -> SymbolValue
     ensures { (s : Layout) → IsNaming project.now naming.now → AreScriptValues s given.now
         → IsLinkView (known_link project.now s naming.now) link.now
@@ -61,22 +59,21 @@ fn entry_value(
     match project.entry_symbol() {
         None => entry_point(link, None, None),
         Some(name) => {
-            let case = naming.case_named(project.script(), name, meter);
+            let case = naming.case_named(project.script(), name);
             entry_point(link, Some(case), given.value(name))
         }
     }
 }
 
 impl<'a> Values<'a> {
-    /// The values of the symbols of a link. The names that the script alone gives, and the entry symbol, are decided and
-    /// counted. An error says that memory ran out.
+    /// The values of the symbols of a link. The names that the script alone gives, and the entry symbol, are
+    /// looked up. An error says that memory ran out.
     pub fn of(
         alloc: Global,
         project: &'a ProjectView<'_>,
         naming: &'a Naming,
         laying: &Laying,
         link: &LinkView<'_, '_>,
-        meter: &mut Meter,
     ) -> Result<Values<'a>, NoMemory>
         requires { IsNaming project.now naming.now }
         ensures { IfOk result (λ v. (s : Layout) → IsLaying project.now s laying.now
@@ -86,7 +83,7 @@ impl<'a> Values<'a> {
         let script = project.script();
         let given = ScriptValues::of(alloc, script, &laying.placement)?;
         let names = name_values(alloc, link)?;
-        let entry = entry_value(project, naming, &given, link, meter);
+        let entry = entry_value(project, naming, &given, link);
         let candidates = candidates(alloc, naming, script)?;
         let sources = Sources {
             script,
@@ -94,7 +91,7 @@ impl<'a> Values<'a> {
             names: &names,
             given: &given,
         };
-        let symbols = symbols_of(alloc, &sources, &candidates, meter)?;
+        let symbols = symbols_of(alloc, &sources, &candidates)?;
         Ok(Values {
             names,
             entry,

@@ -1,16 +1,25 @@
-use Rattle.std.proofs.Common.{◌≡◌, ◌<◌, ◌≤◌, arith, sym, refl, Some}
+use Rattle.std.proofs.Common.{◌≡◌, ◌∙◌, ◌≤◌, arith, sym, Some}
 use Rattle.std.specs.Prelude.{slice_get, length}
-use Rattle.gather.specs.declared.member.Member.{Member}
 use Rattle.ldproject.specs.Inputs.{shown_input}
-use Rattle.ldgathering.proofs.Preparing.{all_members, as_many, many_prepared, more_members, object_here}
+use Rattle.ldgathering.proofs.Preparing.{all_ascending, all_members, as_many, as_many_blocks, as_many_matched}
+use Rattle.ldgathering.proofs.Preparing.{blocks_given, matched_at, more_members, object_here}
 use Rattle.ldgathering.proofs.members.members.Goals as goal
 
-pub bounds-inputs-place : goal.bounds-inputs-place
-bounds-inputs-place c =
+pub bounds-matches-place : goal.bounds-matches-place
+bounds-matches-place c =
     omega (
       arith,
       c.loop-place-test.true,
-      many_prepared c.args.project.now c.args.prepared.now c.requires,
+      as_many_matched c.args.project.now c.args.matches.now c.requires.matches,
+      as_many c.args.project.now c.inputs-inputs.result.now c.inputs-inputs.ensures.same,
+    )
+
+pub bounds-blocks-place : goal.bounds-blocks-place
+bounds-blocks-place c =
+    omega (
+      arith,
+      c.loop-place-test.true,
+      as_many_blocks c.args.project.now c.args.blocks.now c.requires.blocks,
       as_many c.args.project.now c.inputs-inputs.result.now c.inputs-inputs.ensures.same,
     )
 
@@ -18,39 +27,39 @@ pub loop-place-preserved : goal.loop-place-preserved
 loop-place-preserved c =
     let p = c.args.project.now in
     let x = c.index-inputs-place.result in
-    let low : c.loop-place.place < length c.inputs-inputs.result.now =
-    omega (
-      arith,
-      c.loop-place-test.true,
-      many_prepared c.args.project.now c.args.prepared.now c.requires,
-      as_many c.args.project.now c.inputs-inputs.result.now c.inputs-inputs.ensures.same,
-    ) in
     let at : slice_get c.args.project.now.objects c.loop-place.place ≡ Some (shown_input x) =
-    object_here c.args.project.now c.inputs-inputs.result.now c.loop-place.place x c.inputs-inputs.ensures.same
-    low (sym c.index-inputs-place.is) in
-    let m : Member = record {
-      key = record { 0 = c.loop-place.place };
-      object = x.object;
-      matches = c.deref.result;
-      blocks = c.deref-in-loop-place.result;
-      common = c.index-prepared-place.result.common;
-    } in
-    more_members p c.loop-place.place (shown_input x) c.args.prepared.now c.index-prepared-place.result
-    c.loop-place.all.items c.push.new.self.items m c.requires (sym c.index-prepared-place.is) at
+    object_here p c.inputs-inputs.result.now c.loop-place.place x c.inputs-inputs.ensures.same
+    (omega (arith, c.loop-place-test.true)) (sym c.index-inputs-place.is) in
+    more_members p c.loop-place.place (shown_input x) c.index-matches-place.result.now
+    c.index-blocks-place.result.items c.loop-place.all.items c.push.new.self.items c.member.result at
+    (matched_at p c.loop-place.place (shown_input x) c.args.matches.now c.index-matches-place.result c.requires.matches
+    c.index-matches-place.is at)
+    (blocks_given p c.loop-place.place (shown_input x) c.args.blocks.now c.index-blocks-place.result c.requires.blocks
+    c.index-blocks-place.is at)
     (record {
-      key = refl;
-      object = refl;
-      matches = c.deref.ensures.value;
-      blocks = c.deref-in-loop-place.ensures.value;
-      common = refl;
-    }) c.in_ok-push.ensures.items c.loop-place.invariant
+      key = c.member.ensures.key;
+      object = c.member.ensures.object;
+      matches = c.member.ensures.matches;
+      blocks = c.member.ensures.blocks ∙ c.deref.ensures.value;
+      common = c.member.ensures.common;
+    }) c.member.ensures.ascending c.in_ok-push.ensures.items c.loop-place.invariant
 
-pub returns : goal.returns
-returns c =
+pub returns-clause-members : goal.returns-clause-members
+returns-clause-members c =
     let past : length c.args.project.now.objects ≤ c.loop-place.place =
     omega (
       arith,
       c.loop-place-test.false,
-      many_prepared c.args.project.now c.args.prepared.now c.requires,
+      as_many c.args.project.now c.inputs-inputs.result.now c.inputs-inputs.ensures.same,
     ) in
     all_members c.args.project.now c.loop-place.place c.loop-place.all.items past c.loop-place.invariant
+
+pub returns-clause-ascending : goal.returns-clause-ascending
+returns-clause-ascending c =
+    let past : length c.args.project.now.objects ≤ c.loop-place.place =
+    omega (
+      arith,
+      c.loop-place-test.false,
+      as_many c.args.project.now c.inputs-inputs.result.now c.inputs-inputs.ensures.same,
+    ) in
+    all_ascending c.args.project.now c.loop-place.place c.loop-place.all.items past c.loop-place.invariant

@@ -11,8 +11,8 @@ mark_live-requires-clause-sections c =
     let p = c.args.project.now in
     subst (AreGathered p (by_place p)) (sym c.deref-4.ensures.value)
     (c.in_ok-sections.ensures p (by_place p)
-    (subst (AreMembers p (by_place p)) (sym c.deref-2.ensures.value) c.in_ok-members.ensures)
-    (names_sections p c.in_ok-prepared.ensures.ascending))
+    (subst (AreMembers p (by_place p)) (sym c.deref-2.ensures.value) c.in_ok-members.ensures.members)
+    (names_sections p c.in_ok-members.ensures.ascending))
 
 pub mark_live-requires-clause-out : goal.mark_live-requires-clause-out
 mark_live-requires-clause-out c =
@@ -20,8 +20,8 @@ mark_live-requires-clause-out c =
     let sections : AreGathered p (by_place p) c.deref-3.result.now =
     subst (AreGathered p (by_place p)) (sym c.deref-3.ensures.value)
     (c.in_ok-sections.ensures p (by_place p)
-    (subst (AreMembers p (by_place p)) (sym c.deref-2.ensures.value) c.in_ok-members.ensures)
-    (names_sections p c.in_ok-prepared.ensures.ascending)) in
+    (subst (AreMembers p (by_place p)) (sym c.deref-2.ensures.value) c.in_ok-members.ensures.members)
+    (names_sections p c.in_ok-members.ensures.ascending)) in
     c.deref-5.ensures.value
     ∙ c.in_ok-out.ensures p (by_place p) (sym c.script.ensures)
     (ap (λ (o : LinkOptions). o.orphans) (sym c.options-options.ensures) ∙ sym c.orphans.ensures) sections
@@ -31,5 +31,5 @@ sorted_out-requires-clause-sections c =
     let p = c.args.project.now in
     subst (AreGathered p (by_place p)) (sym c.deref-6.ensures.value)
     (c.in_ok-sections.ensures p (by_place p)
-    (subst (AreMembers p (by_place p)) (sym c.deref-2.ensures.value) c.in_ok-members.ensures)
-    (names_sections p c.in_ok-prepared.ensures.ascending))
+    (subst (AreMembers p (by_place p)) (sym c.deref-2.ensures.value) c.in_ok-members.ensures.members)
+    (names_sections p c.in_ok-members.ensures.ascending))
