@@ -1,4 +1,4 @@
-//! A session: commands are read, edits linked from scratch, and each command answered.
+//! A session: commands are read, edits made and linked, and each command answered.
 
 ghost use Rattle.std.specs.Prelude.{List, ℕ, IfOk, IfSome};
 ghost use Rattle.std.specs.Io.KnownBytes.{Appends};
@@ -9,10 +9,10 @@ ghost use Rattle.ldi.specs.Session.{Leaves};
 
 use ldmodel::memory::NoMemory;
 use ldmodel::options::Options;
+use ldsession::session::Session;
 use ldstream::devices::{AnswerWriter, CommandReader};
 use ldstream::fault::RunFault;
 use ldstream::{Status, run};
-use relink::plain::Plain;
 use std::alloc::Global;
 use std::hash::RandomState;
 use std::io::{Read, Write};
@@ -50,7 +50,7 @@ pub fn session<R: Read + Drop, W: Write + Drop>(
 {
     let mut source = CommandReader::new(alloc, reader)?;
     let mut sink = AnswerWriter::new(alloc, writer)?;
-    let mut linker = Plain::new(alloc, seed, options)?;
+    let mut linker = Session::new(alloc, seed, options)?;
     let outcome = run(alloc, &mut source, &mut sink, &mut linker);
     let writer = sink.into_writer();
     Ok(Ended { outcome, writer })

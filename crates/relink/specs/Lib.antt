@@ -1,4 +1,5 @@
 pub mod Applied
 pub mod Phases
+pub mod Reads
 pub mod Stops
 pub mod Unbounded

@@ -18,6 +18,9 @@ use Rattle.ldvalues.specs.OwnedValues.{AreOwnedValues}
 use Rattle.ldvalues.specs.Values.{AreValues}
 use Rattle.ldvalues.specs.declared.link_view.LinkView.{LinkView}
 use Rattle.ldvalues.specs.declared.values.Values.{Values}
+use Rattle.ldproject.specs.ByPlace.{rows_in}
+use Rattle.ldmodel.specs.Rows as rows_model
+use Rattle.relink.specs.declared.link.Ready.{Ready}
 use Rattle.relink.specs.declared.passes.Evaluation.{Evaluation}
 
 -- all parts have their places
@@ -65,3 +68,8 @@ pub record IsEvaluated (p : Project) (l : Laying) (t : Starts) (e : Evaluation) 
   pub values : AreOwnedValues p layout naming e.values
   pub fields : IsRelocated p layout naming e.fields
   pub rest : link p ≡ good p layout
+
+-- and its rows, from which it is drawn
+pub record IsReady (p : Project) (r : Ready) : Type 0 where
+  pub rows : rows_in p r.rows.items ≡ rows_model.rows p
+  pub evaluated : IsEvaluated p r.laying r.starts r.evaluation

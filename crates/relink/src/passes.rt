@@ -1,6 +1,7 @@
 //! The phases of a link that may have faults, each with an early end.
 
 ghost use Rattle.std.specs.Prelude.{◌≡◌, IfErr, IfOk, OnOk, map};
+ghost use Rattle.ldgathering.specs.Matches.{AreMatched};
 ghost use Rattle.ldlaying.specs.Laying.{HasLayout};
 ghost use Rattle.ldmodel.specs.Link.{gathering_faults, layout, link, placed, unless};
 ghost use Rattle.ldmodel.specs.Rows as model;
@@ -8,12 +9,14 @@ ghost use Rattle.ldmodel.specs.declared.fault.Fault.TheVariants.{Orphan};
 ghost use Rattle.ldnaming.specs.Naming.{IsNaming};
 ghost use Rattle.ldproject.specs.ByPlace.{rows_in};
 ghost use Rattle.relink.specs.Phases.{IsEvaluated, IsFaultless, IsFilled, IsPlaced, IsShort, IsStarted};
+ghost use Rattle.relink.specs.Reads.{EndsReadingNothing, ReadsNothing};
 ghost use Rattle.relink.specs.Stops.{IsStop};
 
 use crate::stop::{Stop, end_if_faulty, faulty_link};
 use ldasserting::asserting::assertion_faults;
 use lddrawing::length::image_length;
 use ldgathering::gathering::Gathering;
+use ldgathering::matches::Matches;
 use ldlaying::laying::{LayFault, Laying};
 use ldmodel::fault::Fault;
 use ldmodel::memory::NoMemory;
@@ -25,29 +28,23 @@ use ldproject::view::ProjectView;
 use ldrelocating::relocated::Relocated;
 use ldsegments::length::length_fault;
 use ldstarts::starts::Starts;
+use ldtargets::earlier::Nothing;
 use ldvalues::link_view::LinkView;
 use ldvalues::owned_values::OwnedValues;
 use ldvalues::values::Values;
 use std::alloc::Global;
-use std::hash::RandomState;
 
-/// Names: what each stands for.
+/// Names: no fault of names ends the link.
 #[tactic(auto, unfolding(ldmodel::specs::Link::link))]
-pub(crate) fn named(
-    alloc: Global,
-    seed: RandomState,
-    project: &ProjectView<'_>,
-    meter: &mut Meter,
-) -> Result<Naming, Stop>
-    ensures naming { IfOk result (λ naming. IsNaming project.now naming) }
+pub(crate) fn named(alloc: Global, project: &ProjectView<'_>, naming: &Naming) -> Result<(), Stop>
+    requires { IsNaming project.now naming.now }
     ensures rest { OnOk result (link project.now
         ≡ unless (gathering_faults project.now) (placed project.now (layout project.now))) }
     ensures stop { IfErr result (λ stop. IsStop (link project.now) stop) }
 {
-    let naming = Naming::of(alloc, seed, project.inputs(), project.script(), meter)?;
-    let faults = naming.faults(alloc, project, meter)?;
+    let faults = naming.faults(alloc, project)?;
     match end_if_faulty(alloc, project, &faults) {
-        Ok(()) => Ok(naming),
+        Ok(()) => Ok(()),
         Err(stop) => Err(stop),
     }
 }
@@ -64,15 +61,17 @@ pub(crate) fn gathered(
     alloc: Global,
     project: &ProjectView<'_>,
     naming: &Naming,
+    matches: &[&Matches],
 ) -> Result<Vec<Vec<Piece>>, Stop>
     requires naming { IsNaming project.now naming.now }
+    requires matches { AreMatched project.now (map (λ x. x.now) matches.now) }
     requires rest { link project.now
         ≡ unless (gathering_faults project.now) (placed project.now (layout project.now)) }
     ensures rows { IfOk result (λ v. rows_in project.now v.items ≡ model.rows project.now) }
     ensures rest { OnOk result (link project.now ≡ placed project.now (layout project.now)) }
     ensures stop { IfErr result (λ stop. IsStop (link project.now) stop) }
 {
-    let gathering = Gathering::of(alloc, project, naming)?;
+    let gathering = Gathering::of(alloc, project, naming, matches)?;
     let faults = orphan_faults(alloc, &gathering.orphans)?;
     match end_if_faulty(alloc, project, &faults) {
         Ok(()) => Ok(gathering.rows),
@@ -93,6 +92,7 @@ pub(crate) fn laid(
     requires rest { link project.now ≡ placed project.now (layout project.now) }
     ensures good { IfOk result (λ laying. HasLayout project.now laying) }
     ensures stop { IfErr result (λ stop. IsStop (link project.now) stop) }
+    ensures reads { ReadsNothing meter.old meter.new }
 {
     match Laying::of(alloc, project, naming, rows, meter) {
         Ok(laying) => Ok(laying),
@@ -149,8 +149,10 @@ fn relocated(
     requires { IsShort project.now laying.now starts.now view.now values.now }
     ensures good { IfOk result (λ r. IsFilled project.now laying.now starts.now view.now values.now r) }
     ensures stop { IfErr result (λ stop. IsStop (link project.now) stop) }
+    ensures reads { OnOk result (ReadsNothing meter.old meter.new) }
+    ensures early { IfErr result (λ stop. EndsReadingNothing meter.old meter.new stop) }
 {
-    let relocated = Relocated::of(alloc, project, view, values, meter)?;
+    let relocated = Relocated::of(alloc, project, view, &Nothing, values, meter)?;
     match end_if_faulty(alloc, project, &relocated.faults) {
         Ok(()) => Ok(relocated),
         Err(stop) => Err(stop),
@@ -178,24 +180,25 @@ fn asserted(
     }
 }
 
-/// Evaluation: what the symbols are worth, the length of the image, the fields of relocations, and the assertions. The
-/// names of the objects end here: what is drawn needs them no more, and they take much memory. `&*project` and `&*starts`
-/// lend these for the time of the locals, as the borrow checker wants it.
+/// Evaluation: what the symbols are worth, the length of the image, the fields of relocations, and the assertions.
+/// `&*project`, `&*naming` and `&*starts` lend these for the time of the locals, as the borrow checker wants it.
 pub(crate) fn evaluated(
     alloc: Global,
     project: &ProjectView<'_>,
-    naming: Naming,
+    naming: &Naming,
     laying: &Laying,
     starts: &Starts,
     meter: &mut Meter,
 ) -> Result<Evaluation, Stop>
-    requires naming { IsNaming project.now naming }
+    requires naming { IsNaming project.now naming.now }
     requires started { IsStarted project.now laying.now starts.now }
     ensures good { IfOk result (λ e. IsEvaluated project.now laying.now starts.now e) }
     ensures stop { IfErr result (λ stop. IsStop (link project.now) stop) }
+    ensures reads { OnOk result (ReadsNothing meter.old meter.new) }
+    ensures early { IfErr result (λ stop. EndsReadingNothing meter.old meter.new stop) }
 {
-    let view = LinkView::new(alloc, &*project, &naming, laying, &*starts)?;
-    let values = Values::of(alloc, &*project, &naming, laying, &view, meter)?;
+    let view = LinkView::new(alloc, &*project, &*naming, laying, &*starts)?;
+    let values = Values::of(alloc, &*project, &*naming, laying, &view)?;
     fits(alloc, project, laying, starts, &view, &values)?;
     let fields = relocated(alloc, project, laying, starts, &view, &values, meter)?;
     asserted(alloc, project, laying, starts, &view, &values, &fields)?;

@@ -6,7 +6,7 @@ fits-requires c =
     let view = c.in_ok-view.ensures is.layout is.laying is.starts in
     record {
       layout = is.layout;
-      naming = c.args.naming;
+      naming = c.args.naming.now;
       laying = is.laying;
       starts = is.starts;
       view = view;

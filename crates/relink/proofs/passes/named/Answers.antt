@@ -1,14 +1,7 @@
-use Rattle.std.proofs.Common.{◌≡◌, ◌∙◌, ap, sym}
+use Rattle.std.proofs.Common.{◌≡◌, ◌∙◌, ap}
 use Rattle.ldmodel.specs.Link.{gathering_faults, layout, link, name_faults, placed, unless}
 use Rattle.ldproject.specs.ByPlace.{faults_in}
 use Rattle.relink.proofs.passes.named.Goals as goal
-
-pub faults-requires : goal.faults-requires
-faults-requires c = c.in_ok-naming.ensures c.args.project.now (sym c.inputs.ensures.same) (sym c.script.ensures)
-
-pub returns-in-Ok-clause-naming : goal.returns-in-Ok-clause-naming
-returns-in-Ok-clause-naming c =
-    c.in_ok-naming.ensures c.args.project.now (sym c.inputs.ensures.same) (sym c.script.ensures)
 
 pub returns-in-Ok-clause-rest : goal.returns-in-Ok-clause-rest
 unfolding link
@@ -17,9 +10,9 @@ returns-in-Ok-clause-rest c =
     c.in-Ok.ensures.good (name_faults p) (unless (gathering_faults p) (placed p (layout p)))
     (ap (faults_in p) c.deref.ensures.value ∙ c.in_ok-faults.ensures)
 
-pub returns-in-Err-clause-stop : goal.returns-in-Err-clause-stop
+pub returns-clause-stop : goal.returns-clause-stop
 unfolding link
-returns-in-Err-clause-stop c =
+returns-clause-stop c =
     let p = c.args.project.now in
     c.in-Err.ensures.stop (name_faults p) (unless (gathering_faults p) (placed p (layout p)))
     (ap (faults_in p) c.deref.ensures.value ∙ c.in_ok-faults.ensures)

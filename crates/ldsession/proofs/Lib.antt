@@ -1,0 +1,7 @@
+mod Lists
+mod Exchanged
+mod Changing
+mod Following
+mod Finding
+mod Same
+mod Working

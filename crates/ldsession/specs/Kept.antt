@@ -1,0 +1,16 @@
+-- What a session keeps of a project beside the project and its link.
+use Rattle.std.specs.Prelude.{◌≡◌, List}
+use Rattle.std.specs.List.{AllZip}
+use Rattle.ldgathering.specs.Matches.{IsMatched}
+use Rattle.ldgathering.specs.declared.matches.Matches.{Matches}
+use Rattle.ldnames.specs.Decisions.{AreKept}
+use Rattle.ldnaming.specs.Naming.{NamingState}
+use Rattle.ldproject.specs.Holding.{Listing}
+use Rattle.ldproject.specs.Listing.{objects_of}
+use Rattle.ldproject.specs.Tables.{tables_under}
+
+-- what names stand for over the objects under their keys, and which statements take the input sections of each object
+pub record IsKept (l : Listing) (a : NamingState) (ms : List Matches) : Type 0 where
+  pub tables : a.kept.names.objects ≡ tables_under l.entries
+  pub names : AreKept l.script a.kept
+  pub matches : AllZip (IsMatched l.script) (objects_of l.entries) ms

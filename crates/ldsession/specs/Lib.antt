@@ -1,0 +1,4 @@
+pub mod Matches
+pub mod Change
+pub mod Kept
+pub mod Work

@@ -1,0 +1,15 @@
+-- Passes that read no object and decide no name.
+use Rattle.std.specs.Prelude.{◌≡◌, ⊤}
+use Rattle.ldmodel.specs.Counts.{Counts}
+use Rattle.relink.specs.declared.stop.Stop.{Stop}
+use Rattle.relink.specs.declared.stop.Stop.TheVariants.{Faulty, NoMemory}
+
+-- the numbers of objects read and of names decided stay
+pub record ReadsNothing (old new : Counts) : Type 0 where
+  pub objects : new.objects ≡ old.objects
+  pub names : new.names ≡ old.names
+
+-- they stay where faults end the link
+abbrev pub EndsReadingNothing : (old new : Counts) → Stop → Type 0
+EndsReadingNothing old new (Faulty o) = ReadsNothing old new
+EndsReadingNothing old new NoMemory = ⊤
