@@ -443,6 +443,19 @@ class Streams:
                                    b"Remove a\n")
         return self
 
+    def make_list(self, count):
+        """A script and some objects, and then this number of edits, all five kinds among them, each followed by all three
+        queries."""
+        maker = self.maker
+        start = [self.script] + [self.add] * maker.random.randint(1, 5)
+        kinds = [self.add, self.replace, self.move, self.remove, self.script]
+        kinds += [self.edit] * (count - len(kinds))
+        for step in maker.random.sample(start, len(start)) + maker.random.sample(kinds, len(kinds)):
+            self.send(step())
+            for query in (rows.MAP, rows.FAULTS, rows.IMAGE):
+                self.data += query
+        return self
+
     def edit(self):
         """One of the five edits."""
         return self.maker.one(self.add, self.replace, self.replace, self.move, self.remove, self.script)()

@@ -1,5 +1,6 @@
 """Whole streams of commands: the calculator's worked rows and its rows for images (all but those of more than 2^17
-bytes), and random streams. What must be printed is made of the calculator's answers (tools/calculator/answers.py)."""
+bytes), random streams, and lists of edits, all five kinds in each, of whose answers a checksum is printed. What must be
+printed is made of the calculator's answers (tools/calculator/answers.py)."""
 import re
 import sys
 
@@ -8,6 +9,8 @@ from calculator import answers, rows, streams, worked
 LONGEST_STREAM = 2 ** 17
 LONGEST_TITLE = 48
 SEEDS = range(1, 31)
+LISTS = range(1, 25)
+EDITS = 50
 
 
 def frames():
@@ -22,10 +25,19 @@ def frames():
         yield f"random-{seed:02}", made.options, made.data
 
 
+def lists():
+    """The same of each list of edits."""
+    sys.setrecursionlimit(10_000)
+    for seed in LISTS:
+        made = streams.Streams(seed).make_list(EDITS)
+        yield f"edits-{seed:02}", made.options, made.data
+
+
 def cases(stream):
-    for name, options, data in frames():
-        stream.line("stream", name, len(data), *rows.words(options))
-        stream.data += data
+    for kind, found in (("stream", frames()), ("list", lists())):
+        for name, options, data in found:
+            stream.line(kind, name, len(data), *rows.words(options))
+            stream.data += data
 
 
 def checksum(data):
@@ -62,6 +74,14 @@ def printed(options, data):
     return bytes(lines) + b"status %d\n" % status
 
 
+def summed(options, data):
+    """The checksum of all answers, and the status."""
+    found = []
+    status = answers.answers(options, data, found.append)
+    return b"sum %016x\nstatus %d\n" % (checksum(b"".join(found)), status)
+
+
 def expected(_stream):
-    return b"".join(b"stream " + name.encode() + b"\n" + printed(options, data) + b"same\n"
-                    for name, options, data in frames())
+    shown = (b"stream " + name.encode() + b"\n" + printed(options, data) for name, options, data in frames())
+    unseen = (b"list " + name.encode() + b"\n" + summed(options, data) for name, options, data in lists())
+    return b"".join(text + b"same\n" for text in (*shown, *unseen))

@@ -50,9 +50,10 @@ class Wanted:
         self.stream, self.lines = stream, []
         self.rows = []
 
-    def lay_out(self, title, text, pieces=(), provided=(), by_hand=None, first=None):
-        """A case: pieces are (output section, input statement, kind, flags, size, alignment). With `first` an earlier
-        placement is kept before that row; without a title the case goes on with other rows."""
+    def lay_out(self, title, text, pieces=(), provided=(), by_hand=None, first=None, anew=None):
+        """A case: pieces are (output section, input statement, kind, flags, size, alignment). With `first` the earlier
+        placement is kept before that row: the last without a fault, with its PROVIDEs. Without a title the case goes on
+        with other rows and PROVIDEs. Of a layout with faults, `anew` pieces are placed before the first."""
         if title is not None:
             self.stream.case(title)
             self.lines += ["", "case " + title]
@@ -68,9 +69,9 @@ class Wanted:
             rows[section].append(RowEntry(statement, Piece(0, "o", 1, False, ".s", kind, flags, size, max(1, alignment), b"")))
         if first is not None:
             self.stream.line("changed", 1, 0)
-            changed = next((k for k, row in enumerate(rows) if row != self.rows[k]), len(rows))
+            given = max((section for section, *_ in pieces), default=-1) + 1
+            changed = next((k for k, row in enumerate(rows[:given]) if row != self.rows[k]), given)
             self.lines.append(f"row {changed} changed first")
-        self.rows = rows
         commands = numbers(script)
         for name in provided:
             self.stream.line("provided", next(k for k, c in enumerate(commands)
@@ -79,13 +80,18 @@ class Wanted:
         placement, faults = layout.place(Project(script), Decisions(provided), rows)
         if by_hand is not None:
             assert by_hand == (faults if faults else [placed.start for placed in placement.sections]), (title, faults, by_hand)
-        if faults:
-            # no case places a piece before its first fault
-            placed = len(pieces) if faults[0].startswith(("F9", "F10")) else 0
-            self.lines += [self.fault(script, outputs, fault) for fault in faults] + [f"{placed} placed"]
+        entries = sum(first is None or section >= first for section, *_ in pieces)
+        if placement is None:
+            placed = anew or 0
         else:
-            anew = sum(first is None or section >= first for section, *_ in pieces)
-            self.lines += self.printed(script, commands, placement) + [f"{anew} placed"]
+            assert anew in (None, entries), (title, anew, entries)
+            placed = entries
+        if faults:
+            self.lines += [self.fault(script, outputs, fault) for fault in faults]
+        else:
+            self.rows = rows
+            self.lines += self.printed(script, commands, placement)
+        self.lines.append(f"{placed} placed")
 
     @staticmethod
     def fault(script, outputs, text):
@@ -211,6 +217,120 @@ RESUMED = [
         ([(0, 0, BYTES, CODE, 5, 1), (1, 1, BYTES, DATA, 9, 8), (2, 2, NONE, DATA, 8, 4)], [16, 24, 36], 0),
     ]),
 ]
+COMING = ("PROVIDE(a = 1); SECTIONS { PROVIDE(b = . + 2); . = 0x1000; .t : { *(.a) PROVIDE(c = .); *(.b) BYTE(7)"
+          " PROVIDE(d = .); } PROVIDE(e = SIZEOF(.t)); . = ALIGN(32); .d : { *(.d) } PROVIDE(f = .); .z : { *(.z) }"
+          " PROVIDE(g = .); } PROVIDE(h = ADDR(.d));")
+OF_TEXT = [(0, 0, BYTES, CODE, 3, 1), (0, 0, BYTES, CODE, 5, 4), (0, 1, BYTES, CODE, 2, 8)]
+
+
+def coming(text=3, data=8, last=4):
+    """The rows of COMING, with this number of input sections in .text, and these sizes of the others."""
+    return OF_TEXT[3 - text:] + [(1, 2, BYTES, DATA, data, 8), (2, 3, NONE, DATA, last, 4)]
+
+
+IN_REGIONS = ("MEMORY { rom : ORIGIN = 0x8000, LENGTH = 4K ram : ORIGIN = 0x20000, LENGTH = 4K }"
+              " PROVIDE(r = ORIGIN(ram)); SECTIONS { .text : { *(.text) PROVIDE(etext = .); } >rom"
+              " .data : ALIGN(8) { *(.data) PROVIDE(edata = .); } >ram AT>rom PROVIDE(load = LOADADDR(.data));"
+              " /DISCARD/ : { *(.note) *(.comment) } .bss : { PROVIDE(sbss = .); *(.bss) } >ram"
+              " .more : { *(.more) BYTE(1) } >rom PROVIDE(end = .); }")
+
+
+def in_regions(text=9, data=8, bss=16, more=3):
+    """The rows of IN_REGIONS, with these sizes of its input sections."""
+    return [(0, 0, BYTES, CODE, text, 1), (1, 1, BYTES, DATA, data, 4),
+            (2, 4, NONE, DATA, bss, 8), (3, 5, BYTES, DATA, more, 2)]
+
+
+def three(*sizes):
+    """One input section of bytes, not aligned, in each output section, of which each has one input statement."""
+    return [(number, number, BYTES, DATA, size, 1) for number, size in enumerate(sizes)]
+
+
+READ = ("SECTIONS { . = 0x100; .a : { *(.a) } PROVIDE(p = 5);\nPROVIDE(q = p + 1);\n.b : { *(.b) BYTE(p) }\n"
+        " .c : { *(.c) }\nx = q; }")
+NOT_READ = ("SECTIONS { . = 1 ? 0x100 : p; PROVIDE(p = 7); .a : ALIGN(0 ? p : 16) { *(.a) . += 0 && p; BYTE(1 || p) }"
+            " .b : AT(1 ? 0x900 : p) { *(.b) } x = 0 && p; }")
+FAULTY = ("SECTIONS { .a : { *(.a) }\nPROVIDE(p = gone);\nPROVIDE(q = 1 / (SIZEOF(.a) - 4));"
+          " .b : { *(.b) PROVIDE(r = .); } }")
+EMPTY = ("SECTIONS { .e : { *(.e) PROVIDE(p = .); } /DISCARD/ : { *(.x) } .a : { *(.a) *(.b) } .m : { *(.m) }"
+         " PROVIDE(q = ADDR(.m)); .z : { *(.y) *(.z) } }")
+A, B, M = (1, 2, BYTES, CODE, 4, 1), (1, 3, BYTES, CODE, 6, 4), (2, 4, BYTES, CODE, 3, 1)
+Y, Z = (3, 5, BYTES, DATA, 3, 4), (3, 6, BYTES, DATA, 1, 2)
+MEETING = "SECTIONS { .a 0 : { *(.a) } PROVIDE(p = .); .b 8 : { *(.b) } .c 32 : { *(.c) } }"
+OTHER_PROVIDES = [
+    # title, script, then rows, PROVIDEs in force, starts or faults by hand, the number of the first row that differs
+    # from the rows before, and how many pieces are placed anew
+    ("PROVIDEs come and go", COMING, [
+        (coming(), "", [0x1000, 0x1020, 0x1028], None, 5),
+        (coming(), "aceh", [0x1000, 0x1020, 0x1028], 3, 0),
+        (coming(), "bdfg", [0x1000, 0x1020, 0x1028], 3, 0),
+        (coming(), "bdfg", [0x1000, 0x1020, 0x1028], 3, 0),
+        (coming(), "bdf", [0x1000, 0x1020, 0x1028], 3, 0),
+        (coming(), "", [0x1000, 0x1020, 0x1028], 3, 0),
+        (coming(), "abcdefgh", [0x1000, 0x1020, 0x1028], 3, 0),
+        (coming(data=12), "cg", [0x1000, 0x1020, 0x102c], 1, 2),
+        (coming(data=12, last=6), "bcf", [0x1000, 0x1020, 0x102c], 2, 1),
+        (coming(text=2, data=12, last=6), "dh", [0x1000, 0x1020, 0x102c], 0, 4),
+        (coming(text=2, data=12, last=6), "h", [0x1000, 0x1020, 0x102c], 1, 2),
+        (coming(text=2, data=12, last=6), "a", [0x1000, 0x1020, 0x102c], 3, 0),
+    ]),
+    ("PROVIDEs come and go beside regions", IN_REGIONS, [
+        (in_regions(), [], [0x8000, 0x20000, 0x20008, 0x8018], None, 4),
+        (in_regions(), ["r", "etext", "edata", "load", "sbss", "end"], [0x8000, 0x20000, 0x20008, 0x8018], 4, 0),
+        (in_regions(bss=20), ["etext", "end"], [0x8000, 0x20000, 0x20008, 0x8018], 2, 2),
+        (in_regions(bss=20, data=12), ["sbss"], [0x8000, 0x20000, 0x20010, 0x801c], 1, 3),
+        (in_regions(bss=20, data=12, more=4), ["r", "load"], [0x8000, 0x20000, 0x20010, 0x801c], 3, 1),
+        (in_regions(bss=20, data=12, more=4), ["r", "load"], [0x8000, 0x20000, 0x20010, 0x801c], 4, 0),
+        (in_regions(bss=20, data=12, more=4), [], [0x8000, 0x20000, 0x20010, 0x801c], 4, 0),
+        (in_regions(bss=20, data=12, more=4, text=17), ["edata"], [0x8000, 0x20000, 0x20010, 0x8024], 0, 4),
+        (in_regions(bss=0x1000, data=12, more=4, text=17), ["r"], ["F7 .bss ram"], 2, 1),
+        (in_regions(bss=20, data=0xff4, more=4, text=17), ["edata"], ["F7 .data rom"], 1, 1),
+        (in_regions(bss=20, data=12, more=4, text=17), ["end"], [0x8000, 0x20000, 0x20010, 0x8024], 4, 0),
+    ]),
+    ("a symbol that is read goes and comes again", READ, [
+        (three(4, 8, 2), "pq", [0x100, 0x104, 0x10d], None, 3),
+        (three(4, 8, 2), "q", ["F4 2 p"], 3, 0),
+        (three(4, 8, 2), "", ["F4 3 p"], 3, 0),
+        (three(4, 8, 2), "p", ["F4 5 q"], 3, 0),
+        (three(4, 8, 3), "p", ["F4 5 q"], 2, 1),
+        (three(4, 9, 2), "", ["F4 3 p"], 1, 1),
+        (three(4, 9, 2), "p", ["F4 5 q"], 1, 2),
+        (three(5, 8, 2), "", ["F4 3 p"], 0, 2),
+        (three(4, 8, 2), "pq", [0x100, 0x104, 0x10d], 3, 0),
+        (three(4, 8, 3), "pq", [0x100, 0x104, 0x10d], 2, 1),
+    ]),
+    ("a symbol that is not read goes and comes again", NOT_READ, [
+        (three(4, 8), "p", [0x100, 0x105], None, 2),
+        (three(4, 8), "", [0x100, 0x105], 2, 0),
+        (three(4, 8), "p", [0x100, 0x105], 2, 0),
+        (three(4, 9), "", [0x100, 0x105], 1, 1),
+        (three(5, 9), "p", [0x100, 0x106], 0, 2),
+    ]),
+    ("a PROVIDE whose value is a fault comes", FAULTY, [
+        (three(5, 8), "", [0, 5], None, 2),
+        (three(5, 8), "p", ["F4 2 gone"], 2, 0),
+        (three(5, 8), "q", [0, 5], 2, 0),
+        (three(4, 8), "q", ["F5 3"], 0, 1),
+        (three(4, 8), "r", [0, 4], 0, 2),
+        (three(4, 8), "q", ["F5 3"], 2, 0),
+        (three(4, 9), "", [0, 4], 1, 1),
+    ]),
+    ("rows without entries, other PROVIDEs", EMPTY, [
+        ([A, B, Z], "p", [0, 0, 10, 10], None, 3),
+        ([A, B, Z], "q", [0, 0, 10, 10], 4, 0),
+        ([A, B, Y, Z], "p", [0, 0, 10, 12], 3, 2),
+        ([A, B, M, Y, Z], "", [0, 0, 10, 16], 2, 3),
+        ([B, M], "pq", [0, 0, 6, 9], 1, 2),
+        ([B, M], "", [0, 0, 6, 9], 3, 0),
+        ([(0, 0, BYTES, CODE, 2, 1), B, M], "q", [0, 4, 10, 13], 0, 3),
+    ]),
+    ("sections that meet, other PROVIDEs", MEETING, [
+        (three(8, 8, 8), "p", [0, 8, 32], None, 3),
+        (three(8, 25, 8), "", ["F9 .c .b", "F10 .c .b"], 1, 2),
+        (three(9, 8, 8), "", ["F9 .b .a", "F10 .b .a"], 0, 3),
+        (three(8, 8, 8), "", [0, 8, 32], 3, 0),
+    ]),
+]
 
 
 def cases(stream):
@@ -221,6 +341,10 @@ def cases(stream):
     for title, text, steps in RESUMED:
         for pieces, starts, *more in steps:
             wanted.lay_out(title, text, pieces, (), starts, *more)
+            title = None
+    for title, text, steps in OTHER_PROVIDES:
+        for step in steps:
+            wanted.lay_out(title, text, *step)
             title = None
 
 

@@ -41,7 +41,7 @@ class Project:
         self.lines.append(f"accepted:{shown}; {statements} statements")
         names = 1 if any(content == B for _, _, content in objects) else 0
         provides = 2 if statements == 4 else 0
-        self.lines.append(f"  names {names}, provided {names if provides else 0}, decided {names + provides}")
+        self.lines.append(f"  names {names}, provided {names if provides else 0}, decided {names}")
         if self.made:
             self.objects, self.statements, self.free, self.most = objects, statements, free, most
 

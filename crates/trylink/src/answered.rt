@@ -1,4 +1,4 @@
-//! What a whole stream is answered, and whether two ways agree.
+//! What a whole stream is answered, and whether the ways agree.
 
 use std::io;
 use std::io::Write;
@@ -38,20 +38,37 @@ fn print_from<W: Write>(label: &str, run: &Answered, at: usize, out: &mut W) -> 
     out.write_all(b"\n")
 }
 
-/// Prints the status, and whether a session and the calls gave the same.
+/// Whether two ways gave the same answers and one status.
+fn are_same(a: &Answered, b: &Answered) -> bool {
+    a.status == b.status && a.answers.as_slice() == b.answers.as_slice()
+}
+
+/// Prints where two ways differ.
+fn print_difference<W: Write>(
+    labels: [&str; 2],
+    a: &Answered,
+    b: &Answered,
+    out: &mut W,
+) -> io::Result<()> {
+    let at = common_length(&a.answers, &b.answers);
+    writeln!(out, "DIFFERENT from byte {at} of the answers on")?;
+    print_from(labels[0], a, at, out)?;
+    print_from(labels[1], b, at, out)
+}
+
+/// Prints the status, and whether a session, the plain linker and the calls gave the same.
 pub fn print_agreement<W: Write>(
     by_session: &Answered,
+    by_plain: &Answered,
     by_calls: &Answered,
     out: &mut W,
 ) -> io::Result<()> {
     writeln!(out, "status {}", by_session.status)?;
-    if by_session.status == by_calls.status
-        && by_session.answers.as_slice() == by_calls.answers.as_slice()
-    {
-        return out.write_all(b"same\n");
+    if !are_same(by_session, by_calls) {
+        return print_difference(["session", "calls"], by_session, by_calls, out);
     }
-    let at = common_length(&by_session.answers, &by_calls.answers);
-    writeln!(out, "DIFFERENT from byte {at} of the answers on")?;
-    print_from("session", by_session, at, out)?;
-    print_from("calls", by_calls, at, out)
+    if !are_same(by_session, by_plain) {
+        return print_difference(["session", "plain"], by_session, by_plain, out);
+    }
+    out.write_all(b"same\n")
 }

@@ -16,11 +16,26 @@ pub struct Frame<'a> {
     pub words: Option<&'a str>,
     /// The stream.
     pub commands: &'a [u8],
+    /// Whether each answer is printed; else their checksum is.
+    pub is_shown: bool,
 }
 
-/// What a frame's line says: the name, the length of the stream, and the words.
+/// The words of a frame's line that say whether answers are printed, with what they say.
+const KINDS: [(&str, bool); 2] = [("stream ", true), ("list ", false)];
+
+/// Whether a frame's line says that answers are printed, and what comes after that.
+fn read_kind(line: &str) -> Option<(bool, &str)> {
+    for (word, is_shown) in KINDS {
+        if let Some(rest) = line.strip_prefix(word) {
+            return Some((is_shown, rest));
+        }
+    }
+    None
+}
+
+/// What it says after that: the name, the length of the stream, and the words.
 fn read_line(line: &str) -> Option<(&str, usize, Option<&str>)> {
-    let (name, rest) = line.strip_prefix("stream ")?.split_once(' ')?;
+    let (name, rest) = line.split_once(' ')?;
     let (length, words) = match rest.split_once(' ') {
         Some((length, words)) => (length, Some(words)),
         None => (rest, None),
@@ -32,6 +47,7 @@ fn read_line(line: &str) -> Option<(&str, usize, Option<&str>)> {
 pub fn split_frame(input: &[u8]) -> Option<(Frame<'_>, &[u8])> {
     let end = input.iter().position(|b| *b == b'\n')?;
     let line = str::from_utf8(&input[..end]).ok()?;
+    let (is_shown, line) = read_kind(line)?;
     let (name, length, words) = read_line(line)?;
     let (commands, rest) = input[end + 1..].split_at_checked(length)?;
     Some((
@@ -39,6 +55,7 @@ pub fn split_frame(input: &[u8]) -> Option<(Frame<'_>, &[u8])> {
             name,
             words,
             commands,
+            is_shown,
         },
         rest,
     ))

@@ -1,5 +1,6 @@
-//! `trylink`: answers whole streams of commands twice, and compares the answers: as `ldi session` does, and by the calls
-//! that `ldi link` makes (`Project::edit` and `Output::of`).
+//! `trylink`: answers whole streams of commands three times, and compares the answers: as `ldi session` does; over the
+//! plain linker, which keeps nothing from link to link; and by the calls that `ldi link` makes (`Project::edit` and
+//! `Output::of`).
 //!
 //! It reads frames from standard input, one after another:
 //!
@@ -8,9 +9,11 @@
 //! and a line feed, and then the LEN bytes of a stream. The WORDS, one space between each two, are those after
 //! `ldi session`.
 //!
+//! `list` in place of `stream` asks for a checksum in place of the answers.
+//!
 //! For each frame it prints `stream NAME`, and then for each command the line of its answer. Under that of a map or of
 //! fault lines stands the text; that of an image goes on with a checksum (`answer::checksum`). Then it prints
-//! `status S`, and `same` where both ways give one status and the same bytes, or else where they differ.
+//! `status S`, and `same` where all ways give one status and the same bytes, or else where they differ.
 #![tactic(auto)]
 
 mod answer;
@@ -20,10 +23,11 @@ mod command;
 mod frame;
 mod session;
 
+use crate::answer::checksum;
 use crate::answered::print_agreement;
 use crate::calls::answer_by_calls;
 use crate::frame::{Frame, split_frame};
-use crate::session::answer_by_session;
+use crate::session::{answer_by_plain, answer_by_session};
 use std::alloc::Global;
 use std::hash::RandomState;
 use std::io;
@@ -32,22 +36,38 @@ use std::process::ExitCode;
 use trystream::layer::{CUT, DONE, FAILED};
 use trystream::printing::print_bytes;
 
-/// Answers the stream of a frame in both ways.
+/// Answers the stream of a frame in all ways.
 fn try_frame<W: Write>(
     alloc: Global,
     seed: RandomState,
     frame: &Frame<'_>,
     out: &mut W,
 ) -> io::Result<()> {
-    out.write_all(b"stream ")?;
+    if frame.is_shown {
+        out.write_all(b"stream ")?;
+    } else {
+        out.write_all(b"list ")?;
+    }
     print_bytes(out, frame.name.as_bytes())?;
     out.write_all(b"\n")?;
-    let (Some(options), Some(same_options)) = (frame.options(alloc)?, frame.options(alloc)?) else {
+    let (Some(first), Some(second), Some(third)) = (
+        frame.options(alloc)?,
+        frame.options(alloc)?,
+        frame.options(alloc)?,
+    ) else {
         return out.write_all(b"bad words\n");
     };
-    let by_session = answer_by_session(alloc, seed, options, frame.commands)?;
-    let by_calls = answer_by_calls(alloc, seed, same_options, frame.commands, out)?;
-    print_agreement(&by_session, &by_calls, out)
+    let by_session = answer_by_session(alloc, seed, first, frame.commands)?;
+    let by_plain = answer_by_plain(alloc, seed, second, frame.commands)?;
+    let by_calls = if frame.is_shown {
+        answer_by_calls(alloc, seed, third, frame.commands, out)?
+    } else {
+        let mut unseen = Vec::new(alloc);
+        let run = answer_by_calls(alloc, seed, third, frame.commands, &mut unseen)?;
+        writeln!(out, "sum {:016x}", checksum(&run.answers))?;
+        run
+    };
+    print_agreement(&by_session, &by_plain, &by_calls, out)
 }
 
 /// Tries all frames, and gives the status to end with.

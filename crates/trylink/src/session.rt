@@ -1,7 +1,10 @@
-//! The way of `ldi session`: a stream is run over the plain linker.
+//! The ways of linkers: a stream is run over the linker of `ldi session`, or over the plain one, which keeps nothing
+//! from link to link.
 
 use crate::answered::{Answered, MALFORMED};
+use ldmodel::linker::Linker;
 use ldmodel::options::Options;
+use ldsession::session::Session;
 use ldstream::devices::{AnswerWriter, CommandReader};
 use ldstream::{Status, run};
 use relink::plain::Plain;
@@ -11,21 +14,41 @@ use std::hash::RandomState;
 /// The status after a device failed.
 const DEVICE: u8 = 3;
 
-/// The answers of a session to a stream.
-pub fn answer_by_session(
+/// The answers of a linker to a stream.
+fn answer_by<L: Linker>(
     alloc: Global,
-    seed: RandomState,
-    options: Options,
+    linker: &mut L,
     stream: &[u8],
 ) -> Result<Answered, AllocError> {
     let mut source = CommandReader::new(alloc, stream)?;
     let mut sink = AnswerWriter::new(alloc, Vec::new(alloc))?;
-    let mut linker = Plain::new(alloc, seed, options)?;
-    let status = match run(alloc, &mut source, &mut sink, &mut linker) {
+    let status = match run(alloc, &mut source, &mut sink, linker) {
         Ok(Status::Done(status)) => status,
         Ok(Status::Malformed) => MALFORMED,
         Err(_) => DEVICE,
     };
     let answers = sink.into_writer();
     Ok(Answered { answers, status })
+}
+
+/// Those of a session.
+pub fn answer_by_session(
+    alloc: Global,
+    seed: RandomState,
+    options: Options,
+    stream: &[u8],
+) -> Result<Answered, AllocError> {
+    let mut linker = Session::new(alloc, seed, options)?;
+    answer_by(alloc, &mut linker, stream)
+}
+
+/// Those of the plain linker.
+pub fn answer_by_plain(
+    alloc: Global,
+    seed: RandomState,
+    options: Options,
+    stream: &[u8],
+) -> Result<Answered, AllocError> {
+    let mut linker = Plain::new(alloc, seed, options)?;
+    answer_by(alloc, &mut linker, stream)
 }

@@ -67,7 +67,8 @@ fn print_next<W: Write>(next: &Next<'_>, out: &mut W) -> io::Result<()> {
     writeln!(out, "; {} statements", next.script().statements().len())
 }
 
-/// How many names the next project declares, how many PROVIDEs are in force, and how many names were decided for both.
+/// How many names the next project declares, how many PROVIDEs are in force, and how many names were decided: those
+/// that objects declare, each once.
 fn print_names<W: Write>(
     alloc: Global,
     seed: RandomState,
@@ -78,7 +79,7 @@ fn print_names<W: Write>(
     let inputs = next.inputs(alloc)?;
     let naming = Naming::of(alloc, seed, &inputs, next.script(), &mut meter)?;
     let limit = naming.limit();
-    let provided = naming.provided(alloc, next.script(), &mut meter)?;
+    let provided = naming.provided(alloc, next.script())?;
     let decided = meter.names();
     writeln!(
         out,

@@ -1,6 +1,7 @@
 //! The layer that commands are for.
 
 use crate::edits::Edits;
+use crate::lists::Lists;
 use crate::names::Tried;
 use crate::targets::Targets;
 use std::alloc::Global;
@@ -15,6 +16,7 @@ use trystream::words::Words;
 /// The layer that was chosen, with what it keeps between commands.
 #[derive(Drop)]
 enum Chosen {
+    Lists(Lists),
     Names(Tried),
     Project(Edits),
     Targets(Targets),
@@ -30,7 +32,9 @@ pub struct Layers {
 impl Chosen {
     /// The layer of this name, which keeps nothing yet.
     fn named(alloc: Global, seed: RandomState, name: &[u8]) -> Option<Chosen> {
-        if name == b"names".as_slice() {
+        if name == b"lists".as_slice() {
+            Some(Chosen::Lists(Lists::new(alloc, seed)))
+        } else if name == b"names".as_slice() {
             Some(Chosen::Names(Tried::new(alloc, seed)))
         } else if name == b"project".as_slice() {
             Some(Chosen::Project(Edits::new(alloc, seed)))
@@ -61,6 +65,7 @@ impl Layers {
 impl Layer for Layers {
     fn forget(&mut self, alloc: Global) -> io::Result<()> {
         match &mut self.chosen {
+            Some(Chosen::Lists(layer)) => layer.forget(alloc),
             Some(Chosen::Names(layer)) => layer.forget(alloc),
             Some(Chosen::Project(layer)) => layer.forget(alloc),
             Some(Chosen::Targets(layer)) => layer.forget(alloc),
@@ -80,6 +85,7 @@ impl Layer for Layers {
             return Ok(self.choose(alloc, command.words));
         }
         match &mut self.chosen {
+            Some(Chosen::Lists(layer)) => layer.run(alloc, state, word, command, out),
             Some(Chosen::Names(layer)) => layer.run(alloc, state, word, command, out),
             Some(Chosen::Project(layer)) => layer.run(alloc, state, word, command, out),
             Some(Chosen::Targets(layer)) => layer.run(alloc, state, word, command, out),

@@ -13,6 +13,16 @@
 //!     decide_keys         decides all known names by their keys, and prints how many were decided
 //!     repeat N KEY AT     withdraws and enters an object N times
 //!
+//! `layer lists` is for the crate `ldnaming` (names that are kept while objects change):
+//!
+//!     text +LEN                keeps one more script
+//!     lists COUNT STEPS SEED   makes COUNT lists of STEPS steps by a fixed rule, each list from no objects on
+//!
+//! A step adds, replaces, moves or removes an object of those given, or sets a script of those kept; some are undone.
+//! After each the names that are kept are compared with a filter of all symbols of the objects: each name by itself and
+//! at each of its symbols, and the PROVIDEs in force. `lists` prints how many lists and steps that was, how many steps
+//! were undone, how many answers were compared, how many names were decided; and `same`, or the first difference.
+//!
 //! `layer project` is for the crate `ldproject` (edits of a project):
 //!
 //!     add NAME AT +LEN        adds an object
@@ -24,7 +34,7 @@
 //!
 //! Each prints `refused N M`, or the keys and names of the next project, and how many statements its script has; and,
 //! by the crate `ldnaming`, how many names its objects declare, how many PROVIDEs are in force, and how many names were
-//! decided for both.
+//! decided, those that objects declare.
 //!
 //! `layer targets` is for the crate `ldtargets` (values of names, fields, the index of sites), and of `ldfields` below
 //! it for single fields and the canvas; numbers stand for what the values of `ldmodel` have:
@@ -48,6 +58,7 @@
 
 mod edits;
 mod layers;
+mod lists;
 mod names;
 mod targets;
 

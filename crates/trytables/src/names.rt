@@ -20,7 +20,8 @@ pub struct Tried {
     names: Names,
 }
 
-fn print_case<W: Write>(out: &mut W, case: &Case) -> io::Result<()> {
+/// A case, with the key and the number of its entry.
+pub fn print_case<W: Write>(out: &mut W, case: &Case) -> io::Result<()> {
     match case {
         Case::Strong(entry) => write!(out, "strong {} {}", entry.key, entry.symbol),
         Case::Script => write!(out, "script"),

@@ -11,7 +11,8 @@ use ldmodel::fault::{Fault, SiteKey};
 use ldmodel::meter::Meter;
 use ldmodel::names::{Case, Entry, ObjectKey};
 use ldmodel::sections::{Part, SectionKey};
-use ldtargets::all_fields::{Fields, all_fields};
+use ldtargets::changed_fields::{ChangedFields, changed_fields};
+use ldtargets::earlier::Nothing;
 use ldtargets::index::{Index, TargetIndex, TargetSite};
 use ldtargets::symbol::name_values;
 use ldtargets::value::SymbolValue;
@@ -138,7 +139,7 @@ fn print_fault<W: Write>(out: &mut W, fault: Fault) -> io::Result<()> {
 /// `OFFSET BYTES` of the fields of one section.
 fn print_fields<W: Write>(
     out: &mut W,
-    fields: &Fields,
+    fields: &ChangedFields,
     place: usize,
     from: usize,
 ) -> io::Result<usize> {
@@ -172,7 +173,7 @@ fn print_all<W: Write>(
     out: &mut W,
     state: &State,
     keys: &[ObjectKey],
-    fields: &Fields,
+    fields: &ChangedFields,
 ) -> io::Result<()> {
     let mut place = 0;
     let mut from = 0;
@@ -255,10 +256,10 @@ impl Targets {
         state: &State,
         keys: &[ObjectKey],
         meter: &mut Meter,
-    ) -> Result<Fields, AllocError> {
+    ) -> Result<ChangedFields, AllocError> {
         let link = self.by_hand(state);
         let values = name_values(alloc, &link)?;
-        all_fields(alloc, &link, &values, keys, meter)
+        changed_fields(alloc, &link, &Nothing, &values, keys, meter)
     }
 
     /// `fields [KEY]`
@@ -348,8 +349,7 @@ impl Targets {
         let Some(target) = words.size() else {
             return Ok(false);
         };
-        let mut sites = Vec::new(alloc);
-        self.index.sites_of(TargetIndex(target), &mut sites)?;
+        let mut sites: Vec<SiteKey> = self.index.sites_of(TargetIndex(target)).collect(alloc)?;
         sites.sort_by_key(|site| (site.object.0, site.section.0, site.entry))?;
         for site in &sites {
             print_site(out, "site", *site)?;
