@@ -1,6 +1,7 @@
 mod AllRows
 mod Fills
 mod Joining
+mod Faultless
 mod Lists
 mod Named
 mod Numbering

@@ -2,9 +2,10 @@
 #![tactic(auto)]
 
 mod data_runs;
+pub mod good;
 pub mod image;
 pub mod length;
-mod offsets;
+pub mod offsets;
 mod output;
 mod parts;
 mod pieces;

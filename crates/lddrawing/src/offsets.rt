@@ -68,7 +68,7 @@ fn step(segments: &[Segment], number: usize, section: &Placed) -> Result<Place, 
 
 /// Where these output sections, which these segments are made of, begin in the file, each one of size 0 at 0. An error
 /// says that memory ran out, or that one begins past any file.
-pub(crate) fn offsets(
+pub fn offsets(
     alloc: Global,
     sections: &[Placed],
     segments: &[Segment],

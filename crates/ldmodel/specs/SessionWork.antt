@@ -1,7 +1,7 @@
 -- How much an incremental link may do, by count (this project's own), where neither the link before an edit nor the one
 -- after it has faults: objects read, names decided, input sections placed, and what `WorkBound` says of the image.
-use Rattle.std.specs.Prelude.{◌≡◌, ℕ, ◌-◌, ◌≤◌, List, [], ◌∷◌, ◌++◌, flat_map, length, take, drop, Option, Some, None, Ok}
-use Rattle.std.specs.Prelude.{option_to_list}
+use Rattle.std.specs.Prelude.{◌≡◌, ℕ, ◌-◌, ◌≤◌, List, [], ◌∷◌, ◌++◌, flat_map, length, take, drop, Option}
+use Rattle.std.specs.Prelude.{Some, None, Ok, option_to_list}
 use Rattle.std.specs.Option.{option_map_or}
 use Rattle.ldbase.specs.Counts.{Counts}
 use Rattle.ldexpr.specs.Expressions.{Expr, Number, Dot, Name, Unary, Binary, Choice, OfRegion, OfSection, AlignDot}

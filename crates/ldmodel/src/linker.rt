@@ -27,7 +27,8 @@ pub trait Linker {
     fn apply(&mut self, edit: Edit<'_>, meter: &mut Meter) -> Result<Linked, EditRefusal>
         ensures accepted { IfOk result (λ l. After (project self.old) (change_of edit.entry) (Ok (project self.new))) }
         ensures linked { IfOk result (λ l. l ≡ linked_of (link (project self.new))) }
-        ensures counted { OnOk result (bound (project self.old) (change_of edit.entry) (project self.new) meter.old meter.new) }
+        ensures counted { OnOk result (bound (project self.old) (change_of edit.entry) (project self.new) meter.old
+            meter.new) }
         ensures refused { IfErr result (λ r. RefusedAs (project self.old) (change_of edit.entry) (refusal_of r)) }
         ensures unchanged { OnErr result (project self.new ≡ project self.old) };
 

@@ -1,5 +1,5 @@
 -- A change of one object, from its first step to its last.
-use Rattle.std.proofs.Common.{◌≡◌, ◌∙◌, ◌+◌, ℕ, List, [], ◌++◌, Option, Some, None, length, ap, sym}
+use Rattle.std.proofs.Common.{◌≡◌, ◌∙◌, ◌+◌, ℕ, Bool, List, [], ◌++◌, Option, Some, None, length, ap, sym}
 use Rattle.std.proofs.Common.{subst, arith}
 use Rattle.ldbase.specs.Counts.{Counts}
 use Rattle.ldbase.specs.Raised.{raised}
@@ -12,7 +12,7 @@ use Rattle.ldnames.specs.Change.{reversed}
 use Rattle.ldnames.specs.Change.{put_in, symbols_at, symbols_or}
 use Rattle.ldnames.specs.Counted.{CountsNames}
 use Rattle.ldnames.specs.Decided.{AreCases, HasCase}
-use Rattle.ldnames.specs.Decisions.{IsWhole}
+use Rattle.ldnames.specs.Decisions.{IsNoted, IsWhole}
 use Rattle.ldnames.specs.Texts.{AreDone, DecidedFor, HasPlaces, IsCleared, IsWhere}
 use Rattle.ldnames.specs.declared.change.ObjectAt.{ObjectAt}
 use Rattle.ldnames.specs.declared.change.ObjectChange.{ObjectChange}
@@ -103,9 +103,12 @@ module _ (script : List Statement) (c : ObjectChange) (s0 s1 s2 : State)
         h.whole.complete h.cleared h.cleared_new
         (λ k x e. new_decided.kept k x (old_decided.kept k x e)) new_decided.done;
     only = λ k has. (kept_after k has.0 has.1).named;
-    order = subst IsInByteOrder
-        (sym (in_order s1 s2 c.key.0 c.into h.into ∙ out_order s0 s1 c.key.0 c.out h.out)) h.whole.order;
   }
+
+  pub noted_after : (noted : Bool) → IsNoted s0 noted → IsNoted s2 noted
+  noted_after noted is sure =
+      subst IsInByteOrder
+      (sym (in_order s1 s2 c.key.0 c.into h.into ∙ out_order s0 s1 c.key.0 c.out h.out)) (is sure)
 
   pub counted_after : CountsNames m0 m2 (declared_by c.out ++ declared_by c.into)
   counted_after = (

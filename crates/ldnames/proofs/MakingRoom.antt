@@ -22,7 +22,7 @@ use Rattle.symres.specs.State.{State, comes_before, entries_of, slot}
 use Rattle.ldnames.specs.Change.{Fits, IsReadyFor, MayFollow, symbols_at}
 use Rattle.ldnames.specs.Counted.{is_used}
 use Rattle.ldnames.specs.Decided.{AreCases, HasCase, IsCase, case_at}
-use Rattle.ldnames.specs.Decisions.{IsWhole}
+use Rattle.ldnames.specs.Decisions.{IsNoted, IsWhole}
 use Rattle.ldnames.specs.Room.{AreKeptWhere, AreUnused, HaveCasesBelow, HaveCasesFrom, KeepsUsed, kept_where}
 use Rattle.ldnames.specs.declared.change.ObjectAt.{ObjectAt}
 use Rattle.ldnames.specs.declared.change.ObjectChange.{ObjectChange}
@@ -30,9 +30,6 @@ use Rattle.ldnames.proofs.Listed.{Listed, StandsIn, named_listed, stands_in}
 use Rattle.ldnames.proofs.OneName.{one_name}
 
 -- ---- names are only added
-
-pub keeps_equal : (a b : State) → b.names ≡ a.names → KeepsNames a.names b.names
-keeps_equal a b e n name h = ap (λ (ns : List (Option (List ℕ))). slot ns n) e ∙ h
 
 pub sound_more : (script : List Statement) (a b : State) (cases : List (Option Case)) → KeepsNames a.names b.names
     → b.objects ≡ a.objects → AreCases script a cases → AreCases script b cases
@@ -79,10 +76,38 @@ whole_same a b cases more l keeps order count below h = record {
       let at : StandsIn b.order k = stands_in b.names b.order k l n in
       subst (HasCase cases) (at.is ([], 0)) (below at.at ([], 0) (omega (arith, at.within, count)) at.within);
   only = λ k has. let n : HasName a.names k = h.only k has in (n.0, keeps k n.0 n.1);
-  order =
-      let same : b.order ≡ a.order = order ∙ none_more a.order more (ap length (sym order) ∙ count) in
-      subst IsInByteOrder (sym same) h.order;
 }
+
+-- ---- the order of names
+
+-- it is as it was
+pub noted_same : (a b : State) (noted : Bool) → b.order ≡ a.order → IsNoted a noted → IsNoted b noted
+noted_same a b noted same is sure = subst IsInByteOrder (sym same) (is sure)
+
+-- no name became known
+pub noted_none_more : (a b : State) (noted : Bool) (more : List Listed) → b.order ≡ a.order ++ more
+    → length b.order ≡ length a.order → IsNoted a noted → IsNoted b noted
+noted_none_more a b noted more order count =
+    noted_same a b noted (order ∙ none_more a.order more (ap length (sym order) ∙ count))
+
+-- names that only stand in another order
+pub whole_ordered : (a b : State) (cases : List (Option Case)) → b ≡ record a { order = b.order } → IsWhole a cases
+    → IsWhole b cases
+whole_ordered a b cases same h =
+    let names : b.names ≡ a.names = ap (λ (s : State). s.names) same in
+    record {
+      complete = λ k n. h.complete k (subst (λ (ns : List (Option (List ℕ))). HasName ns k) names n);
+      only = λ k has. subst (λ (ns : List (Option (List ℕ))). HasName ns k) (sym names) (h.only k has);
+    }
+
+pub sound_ordered : (script : List Statement) (a b : State) (cases : List (Option Case))
+    → b ≡ record a { order = b.order } → AreCases script a cases → AreCases script b cases
+sound_ordered script a b cases same =
+    sound_more script a b cases (λ n name h. ap (λ (s : State). slot s.names n) same ∙ h)
+    (ap (λ (s : State). s.objects) same)
+
+pub noted_not : (s : State) → IsNoted s false
+noted_not s sure = absurd (cc)
 
 -- ---- new names get cases
 
@@ -137,21 +162,17 @@ both_ok (Ok x) a f = f a
 both_ok (Err e) a f = tt
 
 -- all known names have cases
-pub whole_settled : (script : List Statement) (a b : State) (old new : List (Option Case)) (from : ℕ)
-    → IsListing a.names a.order → b.names ≡ a.names → HaveCasesBelow a.order from old
-    → HaveCasesFrom a.order from new → ((k : ℕ) → HasCase old k → HasCase new k) → AreCases script a new
-    → IsInByteOrder b.order → IsWhole b new
-whole_settled script a b old new from l same below above kept sound order = record {
+pub whole_settled : (script : List Statement) (a : State) (old new : List (Option Case)) (from : ℕ)
+    → IsListing a.names a.order → HaveCasesBelow a.order from old → HaveCasesFrom a.order from new
+    → ((k : ℕ) → HasCase old k → HasCase new k) → AreCases script a new → IsWhole a new
+whole_settled script a old new from l below above kept sound = record {
   complete = λ k n.
-      let at : StandsIn a.order k =
-      stands_in a.names a.order k l (subst (λ (ns : List (Option (List ℕ))). HasName ns k) same n) in
+      let at : StandsIn a.order k = stands_in a.names a.order k l n in
       let e : Listed = ([], 0) in
       subst (HasCase new) (at.is e)
       (⊎_elim (λ lt. kept (get_or a.order at.at e).1 (below at.at e lt at.within)) (λ ge. above at.at e ge at.within)
       (cases_lt at.at from));
-  only = λ k has.
-      subst (λ (ns : List (Option (List ℕ))). HasName ns k) (sym same) (sound k has.0 has.1).named;
-  order = order;
+  only = λ k has. (sound k has.0 has.1).named;
 }
 
 -- ---- names are forgotten
@@ -280,14 +301,13 @@ same_objects a b f = ap (λ (s : State). s.objects) f.rest
 
 pub whole_forgotten : (a b : State) (old new : List (Option Case)) → Forgets a b → AreKeptWhere b.names old new
     → ((k : ℕ) (name : List ℕ) → IsNamed a.names k name → is_used a.objects name ≡ true → HasCase old k)
-    → IsInByteOrder (filter (λ (e : Listed). is_used a.objects e.0) a.order) → IsWhole b new
-whole_forgotten a b old new f kept complete order = record {
+    → IsWhole b new
+whole_forgotten a b old new f kept complete = record {
   complete = λ k n.
       let r : Remained a k n.0 = remained a b k n.0 f n.1 in
       let has : HasCase old k = complete k n.0 r.was r.used in
       (has.0, kept k ∙ ap (λ (o : Option (List ℕ)). kept_where o (case_at old k)) n.1 ∙ has.1);
   only = λ k has. (kept_some (slot b.names k) (case_at old k) has.0 (sym (kept k) ∙ has.1)).0;
-  order = subst IsInByteOrder (sym f.order) order;
 }
 
 pub sound_forgotten : (script : List Statement) (a b : State) (old new : List (Option Case)) → Forgets a b
@@ -312,46 +332,27 @@ used_twice a b d keeps same f k name h used =
     used_forgotten b d f k name (keeps k name h)
     (subst (λ (ts : List (ℕ × List NamedSymbol)). is_used ts name ≡ true) (sym same) used)
 
-pub sorted_filter : (p : Listed → Bool) (order : List Listed) → IsInByteOrder order → IsInByteOrder (filter p order)
+sorted_filter : (p : Listed → Bool) (order : List Listed) → IsInByteOrder order → IsInByteOrder (filter p order)
 sorted_filter p order h =
     IsSortedBy-filter comes_before (ranks_by nat_list_cmp_total (λ (x : Listed). x.0)) p order h
 
--- ---- memory was refused after names became known
+pub noted_forgotten : (a b : State) (noted : Bool) → Forgets a b → IsNoted a noted → IsNoted b noted
+noted_forgotten a b noted f is sure =
+    subst IsInByteOrder (sym f.order) (sorted_filter (λ (e : Listed). is_used a.objects e.0) a.order (is sure))
 
-filter_none : (p : Listed → Bool) (xs : List Listed) → All (λ (x : Listed). p x ≡ false) xs → filter p xs ≡ []
-filter_none p [] h = refl
-filter_none p (x ∷ xs) h =
-    ap (λ (b : Bool). cond b (x ∷ filter p xs) (filter p xs)) (All-head (λ (x : Listed). p x ≡ false) x xs h)
-    ∙ filter_none p xs (All-tail (λ (x : Listed). p x ≡ false) x xs h)
+-- ---- memory was refused after names became known
 
 used_not : (tables : List (ℕ × List NamedSymbol)) (name : List ℕ) → entries_of name tables ≡ []
     → is_used tables name ≡ false
 used_not tables name e = ap (λ (ds : List Declaration). nat_lt 0 (length ds)) e
 
-pub order_refused : (a b : State) (more : List Listed) → b.order ≡ a.order ++ more → b.objects ≡ a.objects
-    → All (λ (e : Listed). entries_of e.0 a.objects ≡ []) (drop (length a.order) b.order) → IsInByteOrder a.order
-    → IsInByteOrder (filter (λ (e : Listed). is_used b.objects e.0) b.order)
-order_refused a b more order same unused h =
-    let p : Listed → Bool = λ (e : Listed). is_used b.objects e.0 in
-    let rest : drop (length a.order) b.order ≡ more =
-    ap (drop (length a.order)) order ∙ drop-append_seam a.order more in
-    let none : filter p more ≡ [] =
-    filter_none p more (λ j e l.
-    used_not b.objects (get_or more j e).0
-    (ap (entries_of (get_or more j e).0) same
-    ∙ subst (All (λ (e : Listed). entries_of e.0 a.objects ≡ [])) rest unused j e l)) in
-    let is : filter p b.order ≡ filter p a.order =
-    ap (filter p) order ∙ filter-append p a.order more
-    ∙ ap (λ (xs : List Listed). filter p a.order ++ xs) none ∙ append-nil (filter p a.order) in
-    subst IsInByteOrder (sym is) (sorted_filter p a.order h)
-
-pub complete_refused : (s : State) (cases : List (Option Case)) (from : ℕ) → IsListing s.names s.order
-    → HaveCasesBelow s.order from cases → AreUnused s from → (k : ℕ) (name : List ℕ) → IsNamed s.names k name
-    → is_used s.objects name ≡ true → HasCase cases k
-complete_refused s cases from l below unused k name n used =
+pub complete_refused : (s : State) (cases new : List (Option Case)) (from : ℕ) → IsListing s.names s.order
+    → HaveCasesBelow s.order from cases → AreUnused s from → ((k : ℕ) → HasCase cases k → HasCase new k)
+    → (k : ℕ) (name : List ℕ) → IsNamed s.names k name → is_used s.objects name ≡ true → HasCase new k
+complete_refused s cases new from l below unused kept k name n used =
     let at : StandsIn s.order k = stands_in s.names s.order k l (name, n) in
     let e : Listed = ([], 0) in
-    ⊎_elim (λ lt. subst (HasCase cases) (at.is e) (below at.at e lt at.within))
+    ⊎_elim (λ lt. kept k (subst (HasCase cases) (at.is e) (below at.at e lt at.within)))
     (λ ge.
     absurd (clash (is_used s.objects name) used
     (used_not s.objects name (unused_at s from at.at k e l unused ge at.within (at.is e) name n))))

@@ -1,5 +1,5 @@
 -- What names stand for, as callers see it.
-use Rattle.std.specs.Prelude.{ℕ, ◌≡◌, ◌⊎◌, List, [], Option, Some}
+use Rattle.std.specs.Prelude.{ℕ, ◌≡◌, ◌⊎◌, Bool, true, List, [], Option, Some}
 use Rattle.ldtree.specs.declared.statement.Statement.{Statement}
 use Rattle.ldmodel.specs.HandedOver.{decision_of}
 use Rattle.ldmodel.specs.Names.{decided}
@@ -13,11 +13,14 @@ pub record DecisionsState : Type 0 where
   pub names : State
   pub cases : List (Option Case)
 
--- each known name has a case, and nothing else has one; the names stand in byte order
+-- each known name has a case, and nothing else has one
 pub record IsWhole (names : State) (cases : List (Option Case)) : Type 0 where
   pub complete : (k : ℕ) → HasName names.names k → HasCase cases k
   pub only : (k : ℕ) → HasCase cases k → HasName names.names k
-  pub order : IsInByteOrder names.order
+
+-- where this is noted, the names stand in byte order
+abbrev pub IsNoted : State → Bool → Type 0
+IsNoted names in_order = in_order ≡ true → IsInByteOrder names.order
 
 -- each case is what its name stands for over the entered objects and this script
 abbrev pub AreKept : List Statement → DecisionsState → Type 0

@@ -5,12 +5,13 @@ ghost use Rattle.std.specs.Prelude.{length, count_by};
 ghost use Rattle.std.specs.Prelude.{slice_get};
 ghost use Rattle.std.specs.Option.{option_map};
 ghost use Rattle.ldmodel.specs.HandedOver.{decision_of};
+ghost use Rattle.ldtree.specs.declared.statement.Statement.{Statement};
 ghost use Rattle.ldnames.specs.Counted.{CountsNames, declared_names};
 ghost use Rattle.ldnames.specs.Decided.{case_at, decision_in, HasCase, is_doubled};
 ghost use Rattle.ldnames.specs.Decisions.{AreKept, IsCaseNamed};
 ghost use Rattle.ldnames.specs.Keyed.{AreApart, tables_of};
 ghost use Rattle.symres.specs.Known.{entry_spelled};
-ghost use Rattle.symres.specs.State.{entries_of, HasName, IsInByteOrder, IsListing, IsNameAt};
+ghost use Rattle.symres.specs.State.{entries_of, HasName, IsListing, IsNameAt};
 ghost use Rattle.symres.specs.State.{IsNamed, IsSeenAt, object_key};
 ghost use Rattle.symres.specs.Tally.{declaration_of};
 
@@ -37,16 +38,18 @@ use symres::symbol::Declared;
 pub struct Decisions {
     pub(crate) names: Names,
     pub(crate) cases: Cases,
+    // whether the names are known to stand in byte order
+    pub(crate) in_order: bool,
 }
 
 impl Model for Decisions {
-    ghost use Rattle.ldnames.specs.Decisions.{DecisionsState, IsWhole};
+    ghost use Rattle.ldnames.specs.Decisions.{DecisionsState, IsNoted, IsWhole};
 
     ghost Value = { DecisionsState };
 
     ghost view = { λ a. record { names = a.names; cases = a.cases } };
 
-    ghost invariant = { λ a. IsWhole a.names a.cases };
+    ghost invariant = { λ a. IsWhole a.names a.cases × IsNoted a.names a.in_order };
 }
 
 impl Decisions {
@@ -67,7 +70,11 @@ impl Decisions {
         let names = enter_all(alloc, seed, objects)?;
         let mut cases = places_for(alloc, &names)?;
         decide_all(&names, script, &mut cases, meter);
-        Ok(Decisions { names, cases })
+        Ok(Decisions {
+            names,
+            cases,
+            in_order: true,
+        })
     }
 
     /// Gives each known name the case that it has under another script. Those that have entries are decided and
@@ -178,12 +185,29 @@ impl Decisions {
         self.names.entries(name)
     }
 
-    /// Every known name once, with the number of its key, in byte order. It takes no memory.
-    pub fn in_byte_order(&self) -> Iter<'_, Vec<u8>, usize>
+    /// Every known name once, with the number of its key, in no promised order. It takes no memory. The time is linear
+    /// in the number of names.
+    pub fn listed(&self) -> Iter<'_, Vec<u8>, usize>
         ensures names { map entry_spelled result ≡ self.now.names.order }
         ensures listing { IsListing self.now.names.names self.now.names.order }
-        ensures order { IsInByteOrder self.now.names.order }
     {
-        self.names.in_byte_order()
+        self.names.listed()
+    }
+
+    /// Puts the names into byte order, so that listings after this need not be sorted. Where memory is refused they
+    /// stand as before. Where they stand so, the time is constant.
+    pub fn put_in_order(&mut self)
+        ensures names { self.new.names ≡ record self.old.names { order = self.new.names.order } }
+        ensures cases { self.new.cases ≡ self.old.cases }
+        ensures objects { self.new.names.objects ≡ self.old.names.objects }
+        ensures kept { (script : List Statement) → AreKept script self.old → AreKept script self.new }
+    {
+        if self.in_order {
+            return;
+        }
+        match self.names.sort_names() {
+            Ok(()) => self.in_order = true,
+            Err(_refused) => {}
+        }
     }
 }

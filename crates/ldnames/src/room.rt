@@ -1,13 +1,13 @@
 //! Room for names that become known, and names that are forgotten.
 
-ghost use Rattle.std.specs.Prelude.{◌≡◌, ◌<◌, ◌≤◌, ◌==◌, ℕ, List, [], true, filter, if◌then◌else◌, length, OnErr, OnOk};
+ghost use Rattle.std.specs.Prelude.{◌≡◌, ◌<◌, ◌≤◌, ◌==◌, ℕ, List, [], true, if◌then◌else◌, length, OnOk};
 ghost use Rattle.ldtree.specs.declared.statement.Statement.{Statement};
 ghost use Rattle.ldnames.specs.Change.{CanGo, Fits, IsReadyFor};
 ghost use Rattle.ldnames.specs.Counted.{is_used};
 ghost use Rattle.ldnames.specs.Decided.{AreCases, case_at, HasCase};
-ghost use Rattle.ldnames.specs.Decisions.{AreKept, IsWhole};
+ghost use Rattle.ldnames.specs.Decisions.{AreKept, IsNoted, IsWhole};
 ghost use Rattle.ldnames.specs.Room.{AreKeptWhere, AreUnused, HaveCasesBelow, HaveCasesFrom, kept_where, KeepsUsed};
-ghost use Rattle.symres.specs.State.{entries_of, Forgets, HasName, IsInByteOrder, IsNamed, MayEnter, slot};
+ghost use Rattle.symres.specs.State.{entries_of, Forgets, HasName, IsNamed, MayEnter, slot};
 
 use crate::cases::Cases;
 use crate::change::ObjectChange;
@@ -57,25 +57,22 @@ fn add_all_given(
     Ok(())
 }
 
-/// Gives names that became known their cases, and their places in byte order.
+/// Gives names that became known their cases.
 fn settle_new(
-    names: &mut Names,
+    names: &Names,
     script: &Script,
     from: usize,
     cases: &mut Cases,
 ) -> Result<(), NoMemory>
-    requires unused { AreUnused names.old from }
-    requires below { HaveCasesBelow names.old.order from cases.old }
-    requires sound { AreCases script.now names.old cases.old }
-    ensures same { names.new ≡ record names.old { order = names.new.order } }
-    ensures sound { AreCases script.now names.new cases.new }
+    requires unused { AreUnused names.now from }
+    requires below { HaveCasesBelow names.now.order from cases.old }
+    requires sound { AreCases script.now names.now cases.old }
+    ensures sound { AreCases script.now names.now cases.new }
     ensures kept { (k : ℕ) → HasCase cases.old k → HasCase cases.new k }
-    ensures ok { OnOk result (IsWhole names.new cases.new) }
-    ensures refused { OnErr result (names.new ≡ names.old) }
+    ensures ok { OnOk result (IsWhole names.now cases.new) }
 {
     let _known = names.known();
-    add_all_given(names, script, from, cases)?;
-    names.sort_names()
+    add_all_given(names, script, from, cases)
 }
 
 /// Clears the case of a key without a name.
@@ -105,7 +102,6 @@ fn clear_unnamed(names: &Names, cases: &mut Cases)
 fn drop_unused(names: &mut Names, cases: &mut Cases)
     requires complete { (k : ℕ) (name : List ℕ) → IsNamed names.old.names k name
         → is_used names.old.objects name ≡ true → HasCase cases.old k }
-    requires order { IsInByteOrder (filter (λ (e : List ℕ × ℕ). is_used names.old.objects e.0) names.old.order) }
     ensures forgets { Forgets names.old names.new }
     ensures whole { IsWhole names.new cases.new }
     ensures sound { (script : List Statement) → AreCases script names.old cases.old
@@ -121,11 +117,14 @@ fn make_room(
     script: &Script,
     object: &Object,
     cases: &mut Cases,
+    in_order: &mut bool,
 ) -> Result<(), NoMemory>
     requires whole { IsWhole names.old cases.old }
+    requires order { IsNoted names.old in_order.old }
     requires sound { AreCases script.now names.old cases.old }
     ensures objects { names.new.objects ≡ names.old.objects }
     ensures whole { IsWhole names.new cases.new }
+    ensures order { IsNoted names.new in_order.new }
     ensures sound { AreCases script.now names.new cases.new }
     ensures used { KeepsUsed names.old names.new }
     ensures ready { OnOk result (MayEnter names.new object.now.symbols) }
@@ -135,6 +134,7 @@ fn make_room(
     if names.known() == from {
         return Ok(());
     }
+    *in_order = false;
     match settle_new(names, script, from, cases) {
         Ok(()) => Ok(()),
         Err(refused) => {
@@ -156,7 +156,13 @@ impl Decisions {
         ensures ready { OnOk result (IsReadyFor self.new change.now) }
     {
         match change.into {
-            Some(at) => make_room(&mut self.names, script, at.object, &mut self.cases),
+            Some(at) => make_room(
+                &mut self.names,
+                script,
+                at.object,
+                &mut self.cases,
+                &mut self.in_order,
+            ),
             None => Ok(()),
         }
     }

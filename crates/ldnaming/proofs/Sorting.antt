@@ -1,8 +1,9 @@
 -- The names of a link in byte order.
 use Rattle.std.proofs.Common.{◌≡◌, ◌∙◌, ℕ, ◌<◌, zero, suc, Bool, true, false, List, [], ◌∷◌, length, map, get_or}
-use Rattle.std.proofs.Common.{refl, ap, sym, subst, arith, Vec, Global}
-use Rattle.std.specs.Prelude.{Contains, IfOk, Result, Ok, Err, Option, Some, bytes_eq}
+use Rattle.std.proofs.Common.{refl, ap, sym, subst, arith}
+use Rattle.std.specs.Prelude.{Contains, Option, Some, bytes_eq}
 use Rattle.std.specs.List.{AllByRecursion, IsDistinct}
+use Rattle.std.specs.List.Sorted.{IsPermutation, IsSortedBy}
 use Rattle.std.specs.Cmp.Lexicographic.{slice_cmp, nat_list_cmp_total}
 use Rattle.std.specs.Ordering.{is_lt, is_eq, nat_cmp, ordering_reverse}
 use Rattle.std.specs.declared.cmp.Ordering.{Ordering}
@@ -10,14 +11,15 @@ use Rattle.std.specs.declared.cmp.Ordering.TheVariants.{Less, Equal, Greater}
 use Rattle.std.proofs.lemmas.List.{get_or-map, length-map}
 use Rattle.std.proofs.lemmas.Simd.{map-map}
 use Rattle.std.proofs.lemmas.List.MinMax.{ranks_by}
-use Rattle.std.proofs.lemmas.List.Sorted.{sorted_far}
+use Rattle.std.proofs.lemmas.List.Sorted.{All-permutation, Contains-permutation, IsPermutation-map, sorted_far}
+use Rattle.std.proofs.lemmas.Map.Keys.{IsDistinct-IsPermutation}
 use Rattle.std.proofs.lemmas.Map.Text.{is_eq-slice_cmp}
 use Rattle.std.proofs.lemmas.Map.Views.{Contains-from_lookup}
 use Rattle.std.proofs.lemmas.Slice.Eq.{bytes_eq-Decides}
 use Rattle.ldmodel.specs.Names.{names_in_objects, symbol_tables}
 use Rattle.ldmodel.specs.OutputSymbols.{is_before}
 use Rattle.ldmodel.specs.Project.{NamedObject, Project}
-use Rattle.symres.specs.State.{AreDistinct, IsInByteOrder, IsListing, IsNamed, comes_before}
+use Rattle.symres.specs.State.{AreDistinct, IsListing, IsNamed}
 use Rattle.ldnames.specs.Counted.{declared_names}
 use Rattle.ldnames.specs.Decisions.{DecisionsState}
 use Rattle.ldnaming.specs.Naming.{IsNaming, NamingState, state_of}
@@ -28,6 +30,10 @@ use Rattle.ldnaming.proofs.Placing.{same_tables}
 
 abbrev Listed : Type 0
 Listed = List ℕ × ℕ
+
+-- the order of the sort
+abbrev pub is_first : NamedKey → NamedKey → Bool
+is_first x y = is_lt (slice_cmp nat_cmp x.name.now y.name.now)
 
 -- ---- the order
 
@@ -55,13 +61,35 @@ before_from a b n m =
     less_from (slice_cmp nat_cmp a b) (slice_cmp nat_cmp b a) (nat_list_cmp_total.antisymm b a)
     (is_eq-slice_cmp a b ∙ n) m
 
-in_order : (order : List Listed) (i j : ℕ) (d : Listed) → IsInByteOrder order
-    → IsDistinct (λ (x y : Listed). bytes_eq x.0 y.0) order → i < j → j < length order
-    → is_before (get_or order i d).0 (get_or order j d).0 ≡ true
-in_order order i j d up once l m =
-    before_from (get_or order i d).0 (get_or order j d).0
-    (apart (λ (x y : Listed). bytes_eq x.0 y.0) order i j d once l m)
-    (sorted_far comes_before (ranks_by nat_list_cmp_total (λ (x : Listed). x.0)) order up i j d (omega (arith, l)) m)
+both_bools : (p q : Bool) → (p ≡ true → q ≡ true) → (q ≡ true → p ≡ true) → p ≡ q
+both_bools true q f g = sym (f refl)
+both_bools false true f g = g refl
+both_bools false false f g = refl
+
+bytes_eq_flips : (x y : List ℕ) → bytes_eq x y ≡ bytes_eq y x
+bytes_eq_flips x y =
+    both_bools (bytes_eq x y) (bytes_eq y x) (λ h. (bytes_eq-Decides y x).1 (sym ((bytes_eq-Decides x y).0 h)))
+    (λ h. (bytes_eq-Decides x y).1 (sym ((bytes_eq-Decides y x).0 h)))
+
+abbrev have_one_name : Listed → Listed → Bool
+have_one_name x y = bytes_eq x.0 y.0
+
+once_moved : (xs ys : List Listed) → IsPermutation xs ys → IsDistinct have_one_name xs → IsDistinct have_one_name ys
+once_moved xs ys = IsDistinct-IsPermutation have_one_name (λ x y. bytes_eq_flips x.0 y.0) xs ys
+
+-- names that differ, each not before the one that stands before it
+in_order : (xs : List NamedKey) (i j : ℕ) (d : NamedKey) → IsSortedBy is_first xs
+    → IsDistinct have_one_name (map named_number xs) → i < j → j < length xs
+    → is_before (get_or xs i d).name.now (get_or xs j d).name.now ≡ true
+in_order xs i j d up once l m =
+    let first = get_or-map named_number xs i d (named_number d) (omega (arith, l, m)) in
+    let second = get_or-map named_number xs j d (named_number d) m in
+    before_from (get_or xs i d).name.now (get_or xs j d).name.now
+    (subst (λ (e : Listed). bytes_eq (get_or xs i d).name.now e.0 ≡ false) second
+    (subst (λ (e : Listed). bytes_eq e.0 (get_or (map named_number xs) j (named_number d)).0 ≡ false) first
+    (apart have_one_name (map named_number xs) i j (named_number d) once l
+    (subst (λ (n : ℕ). j < n) (sym (length-map xs named_number)) m))))
+    (sorted_far is_first (ranks_by nat_list_cmp_total (λ (x : NamedKey). x.name.now)) xs up i j d (omega (arith, l)) m)
 
 -- ---- the names
 
@@ -110,35 +138,30 @@ differ names order l m n name a b = some_one m n (sym (l.complete m name a) ∙ 
 
 -- ---- both
 
--- a list of the names in byte order has all that callers are told
-pub are_sorted : (a : NamingState) (order : List Listed) (xs : List NamedKey)
+-- a list of the names has all that callers are told, once it is sorted
+pub are_sorted : (a : NamingState) (order : List Listed) (list sorted : List NamedKey)
     → ((p : Project) (name : List ℕ) → IsNaming p a → Contains (names_in_objects p.objects) name
     → (k : ℕ) × IsNamed a.names k name)
-    → IsInByteOrder order → IsListing a.names order → map named_number xs ≡ order → AreSorted a xs
-are_sorted a order xs known up listing same =
-    let l : IsListing a.names (map named_number xs) =
+    → IsListing a.names order → map named_number list ≡ order → IsPermutation list sorted
+    → IsSortedBy is_first sorted → AreSorted a sorted
+are_sorted a order list sorted known listing same moved up =
+    let l : IsListing a.names (map named_number list) =
     subst (λ (es : List Listed). IsListing a.names es) (sym same) listing in
-    let u : IsInByteOrder (map named_number xs) = subst IsInByteOrder (sym same) up in record {
-      named = λ k d h.
-          subst (λ (e : Listed). IsNamed a.names e.1 e.0) (get_or-map named_number xs k d (named_number d) h)
-          (l.sound k (named_number d) (subst (λ (n : ℕ). k < n) (sym (length-map xs named_number)) h));
-      distinct = differ a.names (map named_number xs) l;
-      order = λ i j d below h.
-          let first = get_or-map named_number xs i d (named_number d) (omega (arith, below, h)) in
-          let second = get_or-map named_number xs j d (named_number d) h in
-          subst (λ (e : Listed). is_before (get_or xs i d).name.now e.0 ≡ true) second
-          (subst (λ (e : Listed). is_before e.0 (get_or (map named_number xs) j (named_number d)).0 ≡ true) first
-          (in_order (map named_number xs) i j (named_number d) u l.once below
-          (subst (λ (n : ℕ). j < n) (sym (length-map xs named_number)) h)));
-      keys = λ k name h. key_listed a.names xs k name l h;
-      declared = λ p naming name c.
-          let named = known p name naming c in key_listed a.names xs named.0 name l named.1;
+    let has : (k : ℕ) (name : List ℕ) → IsNamed a.names k name
+    → Contains (map (λ (x : NamedKey). x.name.now) sorted) name =
+    λ k name h.
+    Contains-permutation (map (λ (x : NamedKey). x.name.now) list) (map (λ (x : NamedKey). x.name.now) sorted) name
+    (IsPermutation-map (λ (x : NamedKey). x.name.now) list sorted moved) (key_listed a.names list k name l h) in
+    let once : IsDistinct have_one_name (map named_number sorted) =
+    once_moved (map named_number list) (map named_number sorted)
+    (IsPermutation-map named_number list sorted moved) l.once in
+    record {
+      named = All-permutation (λ (x : NamedKey). IsNamed a.names x.key.0 x.name.now) list sorted moved
+          (λ k d h.
+          subst (λ (e : Listed). IsNamed a.names e.1 e.0) (get_or-map named_number list k d (named_number d) h)
+          (l.sound k (named_number d) (subst (λ (n : ℕ). k < n) (sym (length-map list named_number)) h)));
+      distinct = differ a.names order listing;
+      order = λ i j d below h. in_order sorted i j d up once below h;
+      keys = has;
+      declared = λ p naming name c. let named = known p name naming c in has named.0 name named.1;
     }
-
-pub list_sorted : {E : Type 0} (a : NamingState) (order : List Listed) (r : Result (Vec NamedKey Global) E)
-    → ((p : Project) (name : List ℕ) → IsNaming p a → Contains (names_in_objects p.objects) name
-    → (k : ℕ) × IsNamed a.names k name)
-    → IsInByteOrder order → IsListing a.names order → IfOk r (λ list. map named_number list.items ≡ order)
-    → IfOk r (λ list. AreSorted a list.items)
-list_sorted a order (Ok list) known up listing same = are_sorted a order list.items known up listing same
-list_sorted a order (Err e) known up listing same = tt

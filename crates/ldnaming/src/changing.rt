@@ -87,6 +87,17 @@ impl Naming {
         self.decisions.redecide(script, meter);
     }
 
+    /// Puts the names into byte order, so that they need not be sorted after this. Where memory is refused they stand
+    /// as before. Where they stand so, the time is constant.
+    pub fn put_in_order(&mut self)
+        ensures objects { self.new.kept.names.objects ≡ self.old.kept.names.objects }
+        ensures names { self.new.kept.names ≡ record self.old.kept.names { order = self.new.kept.names.order } }
+        ensures cases { self.new.kept.cases ≡ self.old.kept.cases }
+        ensures kept { (script : List Statement) → AreKept script self.old.kept → AreKept script self.new.kept }
+    {
+        self.decisions.put_in_order();
+    }
+
     /// Forgets the names without entries. The others keep their keys and their cases. The time is linear in the number
     /// of names. It takes no memory.
     pub fn forget(&mut self)

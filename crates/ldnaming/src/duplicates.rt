@@ -104,7 +104,7 @@ impl Naming {
     fn names_differ(&self)
         ensures { AreDistinct self.now.names }
     {
-        let _names = self.decisions.in_byte_order();
+        let _names = self.decisions.listed();
     }
 
     /// Where no case is that of a name that is defined twice, no name of the project is. The call does nothing.

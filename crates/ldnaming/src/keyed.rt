@@ -11,6 +11,6 @@ impl Naming {
         ensures { AreKeyed self.now }
     {
         let _count = self.decisions.known();
-        let _names = self.decisions.in_byte_order();
+        let _names = self.decisions.listed();
     }
 }

@@ -2,7 +2,7 @@
 
 ghost use Rattle.std.specs.Prelude.{◌≡◌, IfOk, map};
 ghost use Rattle.ldnaming.specs.Sorted.{named_number, AreSorted};
-ghost use Rattle.symres.specs.State.{IsInByteOrder, IsListing};
+ghost use Rattle.symres.specs.State.{IsListing};
 
 use crate::naming::Naming;
 use ldmodel::memory::NoMemory;
@@ -20,14 +20,13 @@ pub struct NamedKey<'a> {
     pub key: NameKey,
 }
 
-/// All known names in byte order, each with its key.
+/// All known names, each with its key, in no promised order.
 fn listed(alloc: Global, decisions: &Decisions) -> Result<Vec<NamedKey<'_>>, NoMemory>
     ensures list { IfOk result (λ list. map named_number list.items ≡ decisions.now.names.order) }
     ensures listing { IsListing decisions.now.names.names decisions.now.names.order }
-    ensures order { IsInByteOrder decisions.now.names.order }
 {
     let mut list = Vec::new(alloc);
-    for (name, key) in decisions.in_byte_order() {
+    for (name, key) in decisions.listed() {
         list.push(NamedKey {
             name: name.as_slice(),
             key: NameKey(*key),
@@ -37,13 +36,16 @@ fn listed(alloc: Global, decisions: &Decisions) -> Result<Vec<NamedKey<'_>>, NoM
 }
 
 impl Naming {
-    /// All known names in byte order, each with its key: all that objects declare are among them. An error says that
-    /// memory ran out.
+    /// All known names in byte order, each with its key: all that objects declare are among them. The time is linear in
+    /// their number where the names were put in order, and no name became known since. An error says that memory ran
+    /// out.
     pub fn sorted(&self, alloc: Global) -> Result<Vec<NamedKey<'_>>, NoMemory>
         ensures { IfOk result (λ list. AreSorted self.now list.items) }
     {
         names_of_objects();
         let _count = self.decisions.known();
-        listed(alloc, &self.decisions)
+        let mut list = listed(alloc, &self.decisions)?;
+        list.sort_by(|x, y| x.name.cmp(y.name))?;
+        Ok(list)
     }
 }

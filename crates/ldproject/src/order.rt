@@ -4,7 +4,7 @@ ghost use Rattle.std.specs.Prelude.{◌≡◌, ◌==◌, IfOk, OnOk, length, nat
 ghost use Rattle.std.specs.Option.{option_map};
 ghost use Rattle.ldmodel.specs.declared.names.ObjectKey.{ObjectKey};
 ghost use Rattle.ldproject.specs.Listing.{AreKeysDistinct};
-ghost use Rattle.ldproject.specs.Order.{IsNoted};
+ghost use Rattle.ldproject.specs.Order.{HasPlaces, IsNoted};
 
 use ldmodel::memory::NoMemory;
 use ldmodel::names::ObjectKey;
@@ -44,6 +44,19 @@ fn note_place(places: &mut Vec<Option<usize>>, key: usize, place: usize) -> Resu
     Ok(())
 }
 
+/// Where each of these keys stands among them, under its number. An error says that memory ran out: it takes some for
+/// each number up to the greatest key.
+pub fn places_of(alloc: Global, keys: &[usize]) -> Result<Vec<Option<usize>>, NoMemory>
+    requires { AreKeysDistinct keys.now }
+    ensures { IfOk result (λ v. HasPlaces keys.now v.items) }
+{
+    let mut places = Vec::new(alloc);
+    for (place, key) in keys.iter().enumerate() {
+        note_place(&mut places, *key, place)?;
+    }
+    Ok(places)
+}
+
 impl Order {
     /// These keys, in this order. An error says that memory ran out: it takes some for each key and for each number up
     /// to the greatest key.
@@ -51,10 +64,7 @@ impl Order {
         requires { AreKeysDistinct keys.now }
         ensures { IfOk result (λ o. o ≡ keys.now) }
     {
-        let mut places = Vec::new(alloc);
-        for (place, key) in keys.iter().enumerate() {
-            note_place(&mut places, *key, place)?;
-        }
+        let places = places_of(alloc, keys)?;
         let keys = Vec::from_slice(alloc, keys)?;
         Ok(Order { keys, places })
     }

@@ -1,5 +1,5 @@
 -- What is evaluated of a link beside an earlier one, of which input sections stayed.
-use Rattle.std.specs.Prelude.{◌≡◌, ◌≤◌, ◌+◌, Option, None, is_some, length}
+use Rattle.std.specs.Prelude.{◌≡◌, ◌≤◌, ◌+◌, ℕ, Option, None, is_some, length}
 use Rattle.std.specs.List.{All}
 use Rattle.ldbase.specs.Raised.{raised}
 use Rattle.ldbase.specs.declared.meter.Count.TheVariants.{Fields}
@@ -29,7 +29,7 @@ new_link p s = record { project = p; layout = s }
 -- the fields of input sections that are not known to have stayed; the faults of all relocations, where the earlier link
 -- is good; and patches of what stayed. Where each section that stayed is known to have stayed, these are the fields of
 -- its sites whose symbol has another value, and what is counted are these sites and those outside of what stayed. Where
--- nothing is known to have stayed, all is evaluated and counted
+-- nothing is known to have stayed, all is evaluated and counted. Nothing else is counted in any case
 pub record IsRelocatedBeside (old : GoodLink) (range : SectionKey → Option FileRange) (p : Project) (s : Layout)
     (a : NamingState) (r : Relocated) (before after : Counts) : Type 0 where
   pub fields : AreRunsUnless (known_link p s a) (λ k. is_some (range k)) r.patches.items r.ends.items
@@ -40,6 +40,7 @@ pub record IsRelocatedBeside (old : GoodLink) (range : SectionKey → Option Fil
   pub few :
       IsComplete range old (known_link p s a) → IsGood old → IsGood (new_link p s)
       → patch_bytes r.retargeted.items ≤ retargeted_bytes old (new_link p s)
+  pub counts : (n : ℕ) × (after ≡ raised before Fields n)
   pub counted :
       IsComplete range old (known_link p s a) → IsGood old → IsGood (new_link p s)
       → after

@@ -93,7 +93,8 @@ may_stand h s key c a ms arranged touched is kept =
 
     taken : AllZip (IsMatched h.script) (objects_of (untouched (Some key) entries)) (taken_at ms (place_at c.out))
     taken =
-        subst (λ (p : Option ℕ). AllZip (IsMatched h.script) (objects_of (untouched (Some key) entries)) (taken_at ms p))
+        subst (λ (p : Option ℕ). AllZip (IsMatched h.script) (objects_of (untouched (Some key) entries))
+        (taken_at ms p))
         (sym is.before)
         (zip_taken h.script key s.objects.places.before entries ms
         (subst (λ (t : Option ℕ). IsAmong t s.objects.places.before entries) touched arranged.before) kept.matches)
@@ -106,7 +107,8 @@ may_stand h s key c a ms arranged touched is kept =
           i.0,
           ap (λ (l : List Entry). length l) others,
           length-map (untouched (Some key) entries) (λ (e : Entry). e.named),
-          zip_length (IsMatched h.script) (objects_of (untouched (Some key) entries)) (taken_at ms (place_at c.out)) taken,
+          zip_length (IsMatched h.script) (objects_of (untouched (Some key) entries)) (taken_at ms (place_at c.out))
+          taken,
         )
 
 -- what is kept after an edit of an object
@@ -237,3 +239,13 @@ same_held old new same =
     λ es h. record { objects = objects_of es; script = h.script; options = h.options } in
     ap (λ (es : List Entry). project es new) (ap (λ (c : Contents). c.entries) same.contents.same)
     ∙ ap (project old.contents.entries) same.rest
+
+-- names that no object declares may be forgotten
+pub kept_forgetting : (l : Listing) (a b : NamingState) (ms : List Matches)
+    → b.kept.names.objects ≡ a.kept.names.objects
+    → ((script : List Statement) → AreKept script a.kept → AreKept script b.kept) → IsKept l a ms → IsKept l b ms
+kept_forgetting l a b ms same names kept = record {
+  tables = same ∙ kept.tables;
+  names = names l.script kept.names;
+  matches = kept.matches;
+}

@@ -4,4 +4,6 @@ mod Changing
 mod Following
 mod Finding
 mod Same
+mod Since
+mod Lending
 mod Working

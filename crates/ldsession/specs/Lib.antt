@@ -2,3 +2,5 @@ pub mod Matches
 pub mod Change
 pub mod Kept
 pub mod Work
+pub mod Last
+pub mod Answer

@@ -1,7 +1,8 @@
 //! What a session keeps of a project beside the project and its link, and how it follows an edit.
 
-ghost use Rattle.std.specs.Prelude.{◌≡◌, ◌+◌, ◌≤◌, IfOk, None, OnErr, OnOk, Some, vec_capacity, vec_len};
-ghost use Rattle.ldmodel.specs.Link.{link};
+ghost use Rattle.std.specs.Prelude.{◌≡◌, ◌+◌, ◌≤◌, IfOk, IfSome, List, None, OnErr, OnOk, Some};
+ghost use Rattle.std.specs.Prelude.{vec_capacity, vec_len};
+ghost use Rattle.ldkept.specs.Stays.{last_of};
 ghost use Rattle.ldnames.specs.Change.{Fits as FitsTables, IsReadyFor};
 ghost use Rattle.ldnames.specs.Decisions.{AreKept};
 ghost use Rattle.ldproject.specs.Holding.{TouchesOne, listing_of, next_listing, project_of};
@@ -10,13 +11,19 @@ ghost use Rattle.ldproject.specs.Next.{Fits, touched_key};
 ghost use Rattle.ldproject.specs.Touched.{IsArranged};
 ghost use Rattle.ldsession.specs.Change.{names_of_edit};
 ghost use Rattle.ldsession.specs.Kept.{IsKept};
+ghost use Rattle.ldsession.specs.Last.{HasFollowed};
 ghost use Rattle.ldsession.specs.Matches.{IsMatchedOr};
 ghost use Rattle.ldsession.specs.Work.{DecidesFew};
-ghost use Rattle.relink.specs.Reads.{ReadsNothing};
+ghost use Rattle.ldtree.specs.declared.statement.Statement.{Statement};
+ghost use Rattle.relink.specs.Ended.{HasLast};
 
 use crate::change::{object_change, place_of};
+use crate::last::Followed;
+use crate::linking::link_next;
 use crate::match_table::{exchange, match_under};
-use ldgathering::matches::{Matches, lend_all, match_all};
+use ldfields::canvas::Canvas;
+use ldgathering::matches::{Matches, match_all};
+use ldkept::stays::Last;
 use ldmodel::memory::NoMemory;
 use ldmodel::meter::Meter;
 use ldmodel::names::ObjectKey;
@@ -25,7 +32,6 @@ use ldnaming::naming::Naming;
 use ldproject::order::Order;
 use ldproject::project::{Next, Project};
 use ldproject::staged::Staged;
-use relink::output::Output;
 use std::alloc::Global;
 
 /// What names stand for, under the keys of the objects, and which statements take the input sections of each object.
@@ -42,22 +48,25 @@ struct Coming {
     matches: Option<Matches>,
 }
 
-/// Links the next project over what is kept of it. An error says that memory ran out.
-fn link_over(
-    alloc: Global,
-    next: &Next<'_>,
-    naming: &Naming,
-    matches: &[Matches],
-    meter: &mut Meter,
-) -> Result<Output, NoMemory>
-    requires { IsKept next.now naming.now matches.now }
-    ensures good { IfOk result (λ o. o ≡ link (project_of next.now)) }
-    ensures reads { OnOk result (ReadsNothing meter.old meter.new) }
+/// Forgets the names that no object declares any more, where an object went. It takes no memory.
+fn forget_if(naming: &mut Naming, went: bool)
+    ensures tables { naming.new.kept.names.objects ≡ naming.old.kept.names.objects }
+    ensures kept { (script : List Statement) → AreKept script naming.old.kept → AreKept script naming.new.kept }
 {
-    naming.names_kept();
-    let inputs = next.inputs(alloc)?;
-    let lent = lend_all(alloc, matches)?;
-    Output::by(alloc, &next.view(&inputs), naming, &lent, meter)
+    if went {
+        naming.forget();
+    }
+}
+
+/// Puts the names into byte order after a link without faults, so that the next one need not sort them. Where memory is
+/// refused, they stay as they are.
+fn put_in_order_if(naming: &mut Naming, is_good: bool)
+    ensures tables { naming.new.kept.names.objects ≡ naming.old.kept.names.objects }
+    ensures kept { (script : List Statement) → AreKept script naming.old.kept → AreKept script naming.new.kept }
+{
+    if is_good {
+        naming.put_in_order();
+    }
 }
 
 impl Kept {
@@ -94,14 +103,20 @@ impl Kept {
         project: &Project,
         staged: &Staged,
         key: ObjectKey,
+        last: Option<Last<'_>>,
+        canvas: &mut Canvas,
         meter: &mut Meter,
-    ) -> Result<Output, NoMemory>
+    ) -> Result<Followed, NoMemory>
         requires fits { Fits project.now.contents staged.now.objects }
         requires arranged { IsArranged project.now.contents.entries staged.now.objects }
         requires one { TouchesOne staged.now }
         requires touched { touched_key staged.now.objects.step ≡ Some key.0 }
         requires kept { IsKept (listing_of project.now) self.old.naming self.old.matches.items }
-        ensures good { IfOk result (λ o. o ≡ link (project_of (next_listing project.now staged.now))) }
+        requires last { IfSome (last_of last)
+            (HasLast (project_of (next_listing project.now staged.now)) canvas.old.bytes) }
+        ensures followed { IfOk result (HasFollowed (next_listing project.now staged.now) canvas.old.bytes
+            canvas.new.bytes) }
+        ensures unchanged { OnErr result (canvas.new.bytes ≡ canvas.old.bytes) }
         ensures kept { OnOk result (IsKept (next_listing project.now staged.now) self.new.naming
             self.new.matches.items) }
         ensures back { OnErr result (IsKept (listing_of project.now) self.new.naming self.new.matches.items) }
@@ -116,8 +131,20 @@ impl Kept {
         let into = place_of(change.into);
         let order = self.naming.change(next.script(), &change, order, meter);
         let gone = exchange(&mut self.matches, out, into, matches);
-        match link_over(alloc, &next, &self.naming, &self.matches, meter) {
-            Ok(output) => Ok(output),
+        match link_next(
+            alloc,
+            &next,
+            &self.naming,
+            &self.matches,
+            last,
+            canvas,
+            meter,
+        ) {
+            Ok(followed) => {
+                forget_if(&mut self.naming, out.is_some());
+                put_in_order_if(&mut self.naming, followed.is_good());
+                Ok(followed)
+            }
             Err(refused) => {
                 exchange(&mut self.matches, into, out, gone);
                 self.naming.undo(next.script(), &change, order, meter);
@@ -133,13 +160,19 @@ impl Kept {
         alloc: Global,
         project: &Project,
         staged: &Staged,
+        last: Option<Last<'_>>,
+        canvas: &mut Canvas,
         meter: &mut Meter,
-    ) -> Result<Output, NoMemory>
+    ) -> Result<Followed, NoMemory>
         requires fits { Fits project.now.contents staged.now.objects }
         requires arranged { IsArranged project.now.contents.entries staged.now.objects }
         requires touched { touched_key staged.now.objects.step ≡ None }
         requires kept { IsKept (listing_of project.now) self.old.naming self.old.matches.items }
-        ensures good { IfOk result (λ o. o ≡ link (project_of (next_listing project.now staged.now))) }
+        requires last { IfSome (last_of last)
+            (HasLast (project_of (next_listing project.now staged.now)) canvas.old.bytes) }
+        ensures followed { IfOk result (HasFollowed (next_listing project.now staged.now) canvas.old.bytes
+            canvas.new.bytes) }
+        ensures unchanged { OnErr result (canvas.new.bytes ≡ canvas.old.bytes) }
         ensures kept { OnOk result (IsKept (next_listing project.now staged.now) self.new.naming
             self.new.matches.items) }
         ensures back { OnErr result (IsKept (listing_of project.now) self.new.naming self.new.matches.items) }
@@ -150,10 +183,10 @@ impl Kept {
         let inputs = next.inputs(alloc)?;
         let matches = match_all(alloc, &next.view(&inputs))?;
         self.naming.redecide(next.script(), meter);
-        match link_over(alloc, &next, &self.naming, &matches, meter) {
-            Ok(output) => {
+        match link_next(alloc, &next, &self.naming, &matches, last, canvas, meter) {
+            Ok(followed) => {
                 self.matches = matches;
-                Ok(output)
+                Ok(followed)
             }
             Err(refused) => {
                 self.naming.redecide(project.script(), meter);
@@ -169,13 +202,19 @@ impl Kept {
         alloc: Global,
         project: &Project,
         staged: &Staged,
+        last: Option<Last<'_>>,
+        canvas: &mut Canvas,
         meter: &mut Meter,
-    ) -> Result<Output, NoMemory>
+    ) -> Result<Followed, NoMemory>
         requires fits { Fits project.now.contents staged.now.objects }
         requires arranged { IsArranged project.now.contents.entries staged.now.objects }
         requires one { TouchesOne staged.now }
         requires kept { IsKept (listing_of project.now) self.old.naming self.old.matches.items }
-        ensures good { IfOk result (λ o. o ≡ link (project_of (next_listing project.now staged.now))) }
+        requires last { IfSome (last_of last)
+            (HasLast (project_of (next_listing project.now staged.now)) canvas.old.bytes) }
+        ensures followed { IfOk result (HasFollowed (next_listing project.now staged.now) canvas.old.bytes
+            canvas.new.bytes) }
+        ensures unchanged { OnErr result (canvas.new.bytes ≡ canvas.old.bytes) }
         ensures kept { OnOk result (IsKept (next_listing project.now staged.now) self.new.naming
             self.new.matches.items) }
         ensures back { OnErr result (IsKept (listing_of project.now) self.new.naming self.new.matches.items) }
@@ -183,8 +222,8 @@ impl Kept {
             (names_of_edit project.now.contents.entries staged.now.objects)) }
     {
         match staged.touched() {
-            Some(key) => self.follow_object(alloc, project, staged, key, meter),
-            None => self.follow_script(alloc, project, staged, meter),
+            Some(key) => self.follow_object(alloc, project, staged, key, last, canvas, meter),
+            None => self.follow_script(alloc, project, staged, last, canvas, meter),
         }
     }
 }

@@ -1,4 +1,4 @@
-//! The linker of a session: it keeps objects, names and matches from one link to the next.
+//! The linker of a session: it keeps objects, names, matches and the last link without faults.
 
 ghost use Rattle.std.specs.Prelude.{◌≡◌, [], IfOk, OnOk};
 ghost use Rattle.ldmodel.specs.EditMeaning.{change_of};
@@ -9,8 +9,12 @@ ghost use Rattle.ldsession.specs.Kept.{IsKept};
 ghost use Rattle.ldsession.specs.Work.{IsReadingWork};
 ghost use Rattle.relink.specs.Applied.{Applied};
 
+use crate::answer::Answer;
 use crate::keeping::Kept;
+use crate::last::{LastGood, changed_key, end, is_known, lend, origins_for};
+use crate::linking::link_first;
 use crate::unchanged::is_unchanged;
+use ldfields::canvas::Canvas;
 use ldmodel::edit::{Edit, EditRefusal, Linked};
 use ldmodel::linker::Linker;
 use ldmodel::memory::NoMemory;
@@ -19,29 +23,34 @@ use ldmodel::options::Options;
 use ldnames::law::{distinct_more, names_of_objects};
 use ldnaming::naming::Naming;
 use ldproject::project::Project;
-use relink::output::Output;
 use std::alloc::Global;
 use std::hash::RandomState;
 use std::marker::Model;
 
-/// A linker that keeps what names stand for and which statements take the input sections of each object. An edit of an
-/// object reads at most that object, and decides its names alone; layout and image are made anew.
+/// A linker that keeps what names stand for, which statements take the input sections of each object, and the last link
+/// without faults. An edit of an object reads at most that object, and decides its names alone; its image is drawn over
+/// the last one, but for the input sections that stayed. The layout is made anew.
 #[derive(Drop)]
 pub struct Session {
     alloc: Global,
     project: Project,
     kept: Kept,
-    output: Output,
+    // the last link without faults, whose image is on the canvas
+    last: Option<LastGood>,
+    canvas: Canvas,
+    answer: Answer,
 }
 
 impl Model for Session {
     ghost use Rattle.std.specs.Coded.{codes};
-    ghost use Rattle.std.specs.Prelude.{◌≡◌};
+    ghost use Rattle.std.specs.Prelude.{◌≡◌, IfSome};
     ghost use Rattle.ldtree.specs.contracts.formula.Formula as formula;
     ghost use Rattle.ldmodel.specs.Link.{link};
     ghost use Rattle.ldmodel.specs.Project.{Project};
     ghost use Rattle.ldproject.specs.Holding.{held, listing_of};
+    ghost use Rattle.ldsession.specs.Answer.{shown};
     ghost use Rattle.ldsession.specs.Kept.{IsKept};
+    ghost use Rattle.ldsession.specs.Last.{HasKept};
 
     ghost Value = { Project };
 
@@ -49,8 +58,9 @@ impl Model for Session {
 
     ghost view = { λ s. held s.project };
 
-    ghost invariant = { λ s. (s.output ≡ link (held s.project))
-        × IsKept (listing_of s.project) s.kept.naming s.kept.matches.items };
+    ghost invariant = { λ s. (shown s.canvas.bytes s.answer ≡ link (held s.project))
+        × IsKept (listing_of s.project) s.kept.naming s.kept.matches.items
+        × IfSome s.last (HasKept (listing_of s.project) s.canvas.bytes) };
 }
 
 /// What is kept of a project without objects. An error says that memory ran out.
@@ -65,14 +75,6 @@ fn kept_of_none(alloc: Global, seed: RandomState, project: &Project) -> Result<K
     })
 }
 
-/// The link of a project that is kept, from scratch. An error says that memory ran out.
-fn first_link(alloc: Global, seed: RandomState, project: &Project) -> Result<Output, NoMemory>
-    ensures { IfOk result (λ o. o ≡ link (held project.now)) }
-{
-    let inputs = project.inputs(alloc)?;
-    Output::of(alloc, seed, &project.view(&inputs), &mut Meter::new())
-}
-
 impl Session {
     /// A linker that holds the link of the empty project. `seed` is for hash tables; no link depends on it.
     ///
@@ -84,12 +86,17 @@ impl Session {
     {
         let project = Project::new(alloc, options);
         let kept = kept_of_none(alloc, seed, &project)?;
-        let output = first_link(alloc, seed, &project)?;
+        let mut canvas = Canvas::new(alloc);
+        let followed = link_first(alloc, &project, &kept.naming, &kept.matches, &mut canvas)?;
+        let mut last = None;
+        let answer = end(followed, &mut last, true, None);
         Ok(Session {
             alloc,
             project,
             kept,
-            output,
+            last,
+            canvas,
+            answer,
         })
     }
 
@@ -106,14 +113,30 @@ impl Session {
             Ok(staged) => staged,
         };
         if is_unchanged(&self.project, &staged) {
-            return Ok(self.output.summary());
+            return Ok(self.answer.summary(&self.canvas));
         }
-        match self.kept.follow(self.alloc, &self.project, &staged, meter) {
+        let known = is_known(&self.last, &self.project, &staged);
+        let next = self.project.next(&staged);
+        let _keys = next.keys();
+        let gone = changed_key(&staged);
+        let from = match origins_for(self.alloc, &self.last, known, &next, gone) {
+            Err(_) => return Err(EditRefusal::NoMemory),
+            Ok(from) => from,
+        };
+        let last = lend(&self.last, &from);
+        match self.kept.follow(
+            self.alloc,
+            &self.project,
+            &staged,
+            last,
+            &mut self.canvas,
+            meter,
+        ) {
             Err(_) => Err(EditRefusal::NoMemory),
-            Ok(output) => {
+            Ok(followed) => {
                 self.project.commit(staged);
-                self.output = output;
-                Ok(self.output.summary())
+                self.answer = end(followed, &mut self.last, known, gone);
+                Ok(self.answer.summary(&self.canvas))
             }
         }
     }
@@ -129,18 +152,18 @@ impl Linker for Session {
     }
 
     fn image(&self) -> &[u8] {
-        self.output.image()
+        self.answer.image(&self.canvas)
     }
 
     fn map(&self) -> &[u8] {
-        self.output.map()
+        self.answer.map()
     }
 
     fn faults(&self) -> &[u8] {
-        self.output.faults()
+        self.answer.faults()
     }
 
     fn status(&self) -> u8 {
-        self.output.status()
+        self.answer.status()
     }
 }

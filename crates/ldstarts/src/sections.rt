@@ -78,7 +78,7 @@ impl Sections {
         })
     }
 
-    /// That of these input sections, of so many objects. An error says that memory ran out.
+    /// That of these input sections, of this number of objects. An error says that memory ran out.
     pub(crate) fn of(alloc: Global, entries: &[Entry], objects: usize) -> Result<Sections, NoMemory>
         requires { All (λ e. e.object < objects) entries.now }
         ensures { IfOk result (λ t. HasSections entries.now t) }

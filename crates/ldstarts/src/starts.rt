@@ -8,7 +8,6 @@ ghost use Rattle.ldlaying.specs.Laying.{IsLaying};
 ghost use Rattle.ldmodel.specs.Rows as model;
 ghost use Rattle.ldproject.specs.ByPlace.{rows_in};
 ghost use Rattle.ldstarts.specs.Entries.{rank_cmp, rank_in};
-ghost use Rattle.ldstarts.specs.Starts.{AreStarts, IsPartPlace, part_in};
 
 use crate::collected::collect;
 use crate::entry::{Entry, blocks_among, find_rank, rank};
@@ -41,9 +40,12 @@ pub struct Starts {
     sections: Sections,
     /// The common blocks, by rank.
     blocks: Vec<Entry>,
+    ghost sorted: { IsSortedByKey rank_in rank_cmp blocks.items },
 }
 
 impl Starts {
+    ghost use Rattle.ldstarts.specs.Starts.{AreStarts, IsPartPlace, part_in, place_in};
+
     /// Where the input sections of these rows stand, by their layout. An error says that memory ran out.
     pub fn of(
         alloc: Global,
@@ -70,7 +72,7 @@ impl Starts {
 
     /// Where a part of the object of a number stands, if it is in the output.
     fn part(&self, object: usize, part: Part) -> Option<PartPlace>
-        ensures { IsSortedByKey rank_in rank_cmp self.now.blocks.items → result ≡ part_in self.now object part }
+        ensures { result ≡ part_in self.now object part }
     {
         match part {
             Part::InCommon(_) => find_rank(&self.blocks, rank(object, part)),
@@ -81,7 +83,8 @@ impl Starts {
     /// Where an input section stands, if it is in the output. For a section the time is constant, for a common block it
     /// is logarithmic in the number of common blocks.
     pub fn find(&self, section: SectionKey) -> Option<PartPlace>
-        ensures { (p : Project) (s : Layout) → AreStarts p s self.now → IsPartPlace p s section result }
+        ensures is { result ≡ place_in self.now section }
+        ensures place { (p : Project) (s : Layout) → AreStarts p s self.now → IsPartPlace p s section result }
     {
         self.part(self.objects.number(section.object), section.part)
     }

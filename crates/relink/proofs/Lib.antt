@@ -1,3 +1,3 @@
-pub mod Fields
+pub mod Beside
 pub mod Reading
 pub mod Stopping

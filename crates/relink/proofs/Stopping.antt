@@ -1,13 +1,14 @@
 -- Early ends of a link, and its end.
-use Rattle.std.proofs.Common.{◌≡◌, ◌∙◌, ◌<◌, ◌≤◌, ℕ, Bool, true, false, cond, List, [], ◌∷◌, length, map, arith, ap, refl, subst, sym}
-use Rattle.std.specs.Prelude.{Option, Some, None, Ok, Err, nat_lt}
+use Rattle.std.proofs.Common.{◌≡◌, ◌∙◌, ◌<◌, ◌≤◌, ℕ, Bool, true, false, cond, List, [], ◌∷◌, length, map, arith}
+use Rattle.std.proofs.Common.{ap, refl, sym}
+use Rattle.std.specs.Prelude.{Some, None, Ok, Err, nat_lt}
 use Rattle.std.proofs.lemmas.Bool.{ltb-false}
 use Rattle.std.proofs.lemmas.Simd.{map-map}
 use Rattle.ldmodel.specs.Fault as model
 use Rattle.ldmodel.specs.FaultCode.{fault_of}
 use Rattle.ldmodel.specs.Image.{image}
 use Rattle.ldmodel.specs.Layout.{Layout}
-use Rattle.ldmodel.specs.Link.{Link, faulty, good, layout, link, max_image_length, of_length, placed, relocated, unless}
+use Rattle.ldmodel.specs.Link.{Link, faulty, good, link, max_image_length, of_length, placed, relocated, unless}
 use Rattle.ldmodel.specs.MapText.{map_text}
 use Rattle.ldmodel.specs.Project.{Project}
 use Rattle.ldmodel.specs.declared.fault.Fault as code
@@ -26,6 +27,13 @@ pub unless_some : (p : Project) (xs : List code.Fault) (fs : List model.Fault) (
     → faults_in p xs ≡ fs → faulty (faults_in p xs) ≡ unless fs next
 unless_some p [] fs next h e = absurd (omega arith)
 unless_some p (x ∷ xs) fs next h e = ap (λ (ys : List model.Fault). unless ys next) e
+
+-- where a link goes on whatever comes next there are none
+pub none_of : (fs : List model.Fault) → ((next : Link) → unless fs next ≡ next) → fs ≡ []
+none_of [] h = refl
+none_of (f ∷ fs) h =
+    let none : ⊥ = cc (ap (λ (l : Link). l.status) (h (record { status = 0; image = []; map = []; faults = [] }))) in
+    absurd none
 
 -- orphans as faults
 pub orphans_as_faults : (p : Project) (keys : List SectionKey)

@@ -1,4 +1,5 @@
 pub mod Applied
+pub mod Ended
 pub mod Phases
 pub mod Reads
 pub mod Stops

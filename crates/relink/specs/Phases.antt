@@ -1,75 +1,120 @@
--- What is known of a link after each phase that follows the layout.
-use Rattle.std.specs.Prelude.{◌≡◌, ◌≤◌}
+-- What is known of a link after each phase that follows its gathering.
+use Rattle.std.specs.Prelude.{◌≡◌, ◌≤◌, ℕ, IfSome, IsSome, List, [], None, is_some}
+use Rattle.std.specs.List.{All}
+use Rattle.ldimage.specs.Kept.{ArePatchesOf}
+use Rattle.ldimage.specs.Stretches.{EndsBy}
+use Rattle.ldkept.specs.FileStarts.{AreFileStarts}
+use Rattle.ldkept.specs.Stays.{IsLastOf, LastState, kept_range, last_of, range_of}
+use Rattle.ldkept.specs.Table.{IsTable}
+use Rattle.ldkept.specs.declared.stays.Stays.{Stays}
+use Rattle.ldlaws.specs.Untouched.{IsGood}
 use Rattle.ldlaying.specs.Laying.{IsLaying}
 use Rattle.ldlaying.specs.declared.laying.Laying.{Laying}
 use Rattle.ldmodel.specs.Assertions.{assertion_faults}
+use Rattle.ldmodel.specs.Image.{image}
 use Rattle.ldmodel.specs.Layout.{Layout}
 use Rattle.ldmodel.specs.Link as model
-use Rattle.ldmodel.specs.Link.{good, link, max_image_length, placed, unless}
+use Rattle.ldmodel.specs.Link.{link, max_image_length, placed, unless}
 use Rattle.ldmodel.specs.Project.{Project}
+use Rattle.ldmodel.specs.Rows as rows_model
 use Rattle.ldmodel.specs.SectionHeaders.{image_length}
+use Rattle.ldmodel.specs.Stayed.{GoodLink}
 use Rattle.ldnaming.specs.Naming.{NamingState}
-use Rattle.ldrelocating.specs.Relocated.{IsRelocated}
+use Rattle.ldproject.specs.ByPlace.{rows_in}
+use Rattle.ldrelocating.specs.Beside.{new_link}
+use Rattle.ldrelocating.specs.Runs.{AreRunsUnless}
 use Rattle.ldrelocating.specs.declared.relocated.Relocated.{Relocated}
 use Rattle.ldstarts.specs.Starts.{AreStarts}
-use Rattle.ldstarts.specs.declared.starts.Starts.{Starts}
 use Rattle.ldvalues.specs.LinkView.{IsLinkView, known_link}
 use Rattle.ldvalues.specs.OwnedValues.{AreOwnedValues}
 use Rattle.ldvalues.specs.Values.{AreValues}
 use Rattle.ldvalues.specs.declared.link_view.LinkView.{LinkView}
 use Rattle.ldvalues.specs.declared.values.Values.{Values}
-use Rattle.ldproject.specs.ByPlace.{rows_in}
-use Rattle.ldmodel.specs.Rows as rows_model
+use Rattle.relink.specs.declared.again.Drawn.{Drawn}
+use Rattle.relink.specs.declared.link.OwnEvaluation.{OwnEvaluation}
 use Rattle.relink.specs.declared.link.Ready.{Ready}
-use Rattle.relink.specs.declared.passes.Evaluation.{Evaluation}
+use Rattle.relink.specs.declared.passes.Arrangement.{Arrangement}
 
 -- all parts have their places
-pub record IsStarted (p : Project) (l : Laying) (t : Starts) : Type 0 where
+pub record IsArranged (p : Project) (x : Arrangement) : Type 0 where
+  pub rows : rows_in p x.rows.items ≡ rows_model.rows p
   pub layout : Layout
-  pub laying : IsLaying p layout l
-  pub starts : AreStarts p layout t
+  pub laying : IsLaying p layout x.laying
+  pub starts : AreStarts p layout x.starts
+  pub files : AreFileStarts p layout x.files
   pub rest : link p ≡ placed p (model.layout p)
 
--- and all names their values
-pub record IsPlaced (p : Project) (l : Laying) (t : Starts) (w : LinkView) (v : Values) : Type 0 where
+-- the earlier link is one without faults
+pub record HasOld (new : Project) (x : LastState) : Type 0 where
+  pub old : GoodLink
+  pub is : IsLastOf old new x
+
+-- a link whose parts have their places is known, and the earlier one, if there is one
+pub record IsKnown (p : Project) (a : NamingState) (l : Laying) (y : Stays) (w : LinkView) : Type 0 where
   pub layout : Layout
-  pub naming : NamingState
   pub laying : IsLaying p layout l
-  pub starts : AreStarts p layout t
-  pub view : IsLinkView (known_link p layout naming) w
-  pub values : AreValues p layout naming v
+  pub starts : AreStarts p layout y.starts.now
+  pub files : AreFileStarts p layout y.files.now
+  pub view : IsLinkView (known_link p layout a) w
+  pub last : IfSome (last_of y.last) (HasOld p)
   pub rest : link p ≡ placed p (model.layout p)
+
+-- and all names have their values
+pub record IsPlaced (p : Project) (l : Laying) (y : Stays) (w : LinkView) (v : Values) : Type 0 where
+  pub naming : NamingState
+  pub known : IsKnown p naming l y w
+  pub values : AreValues p known.layout naming v
 
 -- the image is not too long either
-pub record IsShort (p : Project) (l : Laying) (t : Starts) (w : LinkView) (v : Values) : Type 0 where
-  pub placed : IsPlaced p l t w v
-  pub length : image_length p placed.layout ≤ max_image_length
-  pub rest : link p ≡ model.relocated p placed.layout
+pub record IsShort (p : Project) (l : Laying) (y : Stays) (w : LinkView) (v : Values) : Type 0 where
+  pub placed : IsPlaced p l y w v
+  pub length : image_length p placed.known.layout ≤ max_image_length
+  pub rest : link p ≡ model.relocated p placed.known.layout
 
--- all relocations have their fields
-pub record IsFilled (p : Project) (l : Laying) (t : Starts) (w : LinkView) (v : Values) (r : Relocated) : Type 0 where
-  pub short : IsShort p l t w v
-  pub fields : IsRelocated p short.placed.layout short.placed.naming r
-  pub rest : link p ≡ unless (assertion_faults p short.placed.layout) (good p short.placed.layout)
+-- patches of what stayed: they end within the image, and are those of each earlier link that this one may be
+pub record ArePatches (p : Project) (s : Layout) (y : Stays) (r : Relocated) : Type 0 where
+  pub ends : All (EndsBy (image_length p s)) r.retargeted.items
+  pub patches : (old : GoodLink) → IfSome (last_of y.last) (IsLastOf old p) → IsSome y.last
+      → ArePatchesOf old (new_link p s) r.retargeted.items
+
+-- all relocations have their fields, but those of what stayed
+pub record IsFilled (p : Project) (l : Laying) (y : Stays) (w : LinkView) (v : Values) (r : Relocated) : Type 0 where
+  pub short : IsShort p l y w v
+  pub fields :
+      AreRunsUnless (known_link p short.placed.known.layout short.placed.naming) (λ k. is_some (range_of y k))
+      r.patches.items r.ends.items
+  pub patches : ArePatches p short.placed.known.layout y r
+  pub good : IsGood (new_link p short.placed.known.layout)
+  pub rest : link p
+      ≡ unless (assertion_faults p short.placed.known.layout) (model.good p short.placed.known.layout)
 
 -- all assertions hold
-pub record IsFaultless (p : Project) (l : Laying) (t : Starts) (w : LinkView) (v : Values) (r : Relocated)
+pub record IsFaultless (p : Project) (l : Laying) (y : Stays) (w : LinkView) (v : Values) (r : Relocated)
     : Type 0 where
-  pub filled : IsFilled p l t w v r
-  pub rest : link p ≡ good p filled.short.placed.layout
+  pub filled : IsFilled p l y w v r
+  pub rest : link p ≡ model.good p filled.short.placed.known.layout
 
--- the same of what is kept of them when the names of the objects are gone
-pub record IsEvaluated (p : Project) (l : Laying) (t : Starts) (e : Evaluation) : Type 0 where
+-- what is kept of an evaluation beside no earlier link when the names of the objects are gone
+pub record IsEvaluated (p : Project) (x : Arrangement) (e : OwnEvaluation) : Type 0 where
   pub layout : Layout
   pub naming : NamingState
-  pub laying : IsLaying p layout l
-  pub starts : AreStarts p layout t
+  pub laying : IsLaying p layout x.laying
+  pub starts : AreStarts p layout x.starts
   pub length : image_length p layout ≤ max_image_length
   pub values : AreOwnedValues p layout naming e.values
-  pub fields : IsRelocated p layout naming e.fields
-  pub rest : link p ≡ good p layout
+  pub fields :
+      AreRunsUnless (known_link p layout naming) (λ k. is_some (kept_range None x.starts x.files k))
+      e.fields.patches.items e.fields.ends.items
+  pub rest : link p ≡ model.good p layout
 
 -- and its rows, from which it is drawn
 pub record IsReady (p : Project) (r : Ready) : Type 0 where
-  pub rows : rows_in p r.rows.items ≡ rows_model.rows p
-  pub evaluated : IsEvaluated p r.laying r.starts r.evaluation
+  pub rows : rows_in p r.arranged.rows.items ≡ rows_model.rows p
+  pub evaluated : IsEvaluated p r.arranged r.evaluation
+
+-- a link without faults was drawn: these bytes are its image
+pub record IsDrawn (p : Project) (x : Arrangement) (bytes : List ℕ) (d : Drawn) : Type 0 where
+  pub layout : Layout
+  pub link : link p ≡ record { status = 0; image = bytes; map = d.map.items; faults = [] }
+  pub table : IsTable (new_link p layout) (record { starts = x.starts; files = x.files; symbols = d.symbols })
+  pub image : bytes ≡ image p layout

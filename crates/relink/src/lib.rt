@@ -1,6 +1,7 @@
-//! Linkers: `Plain` links from scratch after every edit.
+//! Links, from scratch or over an earlier one, and `Plain`, a linker that links from scratch after every edit.
 #![tactic(auto)]
 
+pub mod again;
 mod link;
 pub mod output;
 mod passes;

@@ -1,19 +1,14 @@
 //! What a link gives.
 
-ghost use Rattle.std.specs.Prelude.{◌≡◌, [], IfOk, OnOk, map};
-ghost use Rattle.ldgathering.specs.Matches.{AreMatched};
+ghost use Rattle.std.specs.Prelude.{◌≡◌, [], IfOk};
 ghost use Rattle.ldmodel.specs.EditMeaning.{linked_of};
 ghost use Rattle.ldmodel.specs.Link.{link};
-ghost use Rattle.ldnaming.specs.Naming.{IsNaming};
-ghost use Rattle.relink.specs.Reads.{ReadsNothing};
 
-use crate::link::{link, link_by};
+use crate::link::link;
 use ldfields::canvas::Canvas;
-use ldgathering::matches::Matches;
 use ldmodel::edit::Linked;
 use ldmodel::memory::NoMemory;
 use ldmodel::meter::Meter;
-use ldnaming::naming::Naming;
 use ldproject::view::ProjectView;
 use std::alloc::Global;
 use std::hash::RandomState;
@@ -56,27 +51,6 @@ impl Output {
         ensures { IfOk result (λ o. o ≡ link project.now) }
     {
         link(alloc, seed, project, meter)
-    }
-
-    /// Links a project over what is kept of it: what its names stand for, and which statements take the input sections
-    /// of each object, in the order of the objects. No object is read and no name decided.
-    ///
-    /// # Errors
-    ///
-    /// Where memory runs out.
-    pub fn by(
-        alloc: Global,
-        project: &ProjectView<'_>,
-        naming: &Naming,
-        matches: &[&Matches],
-        meter: &mut Meter,
-    ) -> Result<Output, NoMemory>
-        requires naming { IsNaming project.now naming.now }
-        requires matches { AreMatched project.now (map (λ x. x.now) matches.now) }
-        ensures good { IfOk result (λ o. o ≡ link project.now) }
-        ensures reads { OnOk result (ReadsNothing meter.old meter.new) }
-    {
-        link_by(alloc, project, naming, matches, meter)
     }
 
     /// A good link.

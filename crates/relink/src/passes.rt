@@ -8,16 +8,20 @@ ghost use Rattle.ldmodel.specs.Rows as model;
 ghost use Rattle.ldmodel.specs.declared.fault.Fault.TheVariants.{Orphan};
 ghost use Rattle.ldnaming.specs.Naming.{IsNaming};
 ghost use Rattle.ldproject.specs.ByPlace.{rows_in};
-ghost use Rattle.relink.specs.Phases.{IsEvaluated, IsFaultless, IsFilled, IsPlaced, IsShort, IsStarted};
+ghost use Rattle.relink.specs.Phases.{IsArranged, IsFaultless, IsFilled, IsKnown, IsPlaced, IsShort};
 ghost use Rattle.relink.specs.Reads.{EndsReadingNothing, ReadsNothing};
 ghost use Rattle.relink.specs.Stops.{IsStop};
 
-use crate::stop::{Stop, end_if_faulty, faulty_link};
+use crate::stop::{Stop, end_if_faulty};
 use ldasserting::asserting::assertion_faults;
+use lddrawing::good::is_good;
 use lddrawing::length::image_length;
 use ldgathering::gathering::Gathering;
 use ldgathering::matches::Matches;
+use ldkept::file_starts::FileStarts;
+use ldkept::stays::Stays;
 use ldlaying::laying::{LayFault, Laying};
+use ldlisting::fault_lines::fault_text;
 use ldmodel::fault::Fault;
 use ldmodel::memory::NoMemory;
 use ldmodel::meter::Meter;
@@ -28,9 +32,7 @@ use ldproject::view::ProjectView;
 use ldrelocating::relocated::Relocated;
 use ldsegments::length::length_fault;
 use ldstarts::starts::Starts;
-use ldtargets::earlier::Nothing;
 use ldvalues::link_view::LinkView;
-use ldvalues::owned_values::OwnedValues;
 use ldvalues::values::Values;
 use std::alloc::Global;
 
@@ -98,19 +100,51 @@ pub(crate) fn laid(
         Ok(laying) => Ok(laying),
         Err(LayFault::NoMemory) => Err(Stop::NoMemory),
         Err(LayFault::Faulty(faults)) => {
-            let output = faulty_link(alloc, project, &faults)?;
-            Err(Stop::Faulty(output))
+            let lines = fault_text(alloc, project, &faults)?;
+            Err(Stop::Faulty(lines))
         }
     }
 }
 
-/// What a link without faults is drawn from, beside its rows and its layout.
+/// A link whose parts have their places.
 #[derive(Drop)]
-pub(crate) struct Evaluation {
-    /// The values of names, and the symbols of the output.
-    pub values: OwnedValues,
-    /// The fields of relocations.
-    pub fields: Relocated,
+pub(crate) struct Arrangement {
+    /// The row of each output section.
+    pub rows: Vec<Vec<Piece>>,
+    /// Where everything stands.
+    pub laying: Laying,
+    /// Where each input section starts.
+    pub starts: Starts,
+    /// Where each output section stands in the file.
+    pub files: FileStarts,
+}
+
+/// Names, gathering and layout: where everything stands, over names that are decided and matches that are found.
+pub(crate) fn arranged(
+    alloc: Global,
+    project: &ProjectView<'_>,
+    naming: &Naming,
+    matches: &[&Matches],
+    meter: &mut Meter,
+) -> Result<Arrangement, Stop>
+    requires naming { IsNaming project.now naming.now }
+    requires matches { AreMatched project.now (map (λ x. x.now) matches.now) }
+    ensures good { IfOk result (λ x. IsArranged project.now x) }
+    ensures stop { IfErr result (λ stop. IsStop (link project.now) stop) }
+    ensures reads { OnOk result (ReadsNothing meter.old meter.new) }
+    ensures early { IfErr result (λ stop. EndsReadingNothing meter.old meter.new stop) }
+{
+    named(alloc, project, naming)?;
+    let rows = gathered(alloc, project, naming, matches)?;
+    let laying = laid(alloc, project, naming, &rows, meter)?;
+    let starts = Starts::of(alloc, project, &rows, &laying)?;
+    let files = FileStarts::of(alloc, project, &laying)?;
+    Ok(Arrangement {
+        rows,
+        laying,
+        starts,
+        files,
+    })
 }
 
 /// The end of layout: the image is not too long.
@@ -118,41 +152,44 @@ fn fits(
     alloc: Global,
     project: &ProjectView<'_>,
     laying: &Laying,
-    starts: &Starts,
+    stays: &Stays<'_>,
     view: &LinkView<'_, '_>,
     values: &Values<'_>,
 ) -> Result<(), Stop>
-    requires { IsPlaced project.now laying.now starts.now view.now values.now }
-    ensures good { OnOk result (IsShort project.now laying.now starts.now view.now values.now) }
+    requires { IsPlaced project.now laying.now stays.now view.now values.now }
+    ensures good { OnOk result (IsShort project.now laying.now stays.now view.now values.now) }
     ensures stop { IfErr result (λ stop. IsStop (link project.now) stop) }
 {
     let length = image_length(alloc, project, laying, values)?;
     match length_fault(length) {
         None => Ok(()),
         Some(fault) => {
-            let output = faulty_link(alloc, project, &[fault])?;
-            Err(Stop::Faulty(output))
+            let lines = fault_text(alloc, project, &[fault])?;
+            Err(Stop::Faulty(lines))
         }
     }
 }
 
-/// Relocation: the fields of all relocations.
+/// Relocation: the fields of all relocations, but those of what stayed whose symbols have the values that they had.
 fn relocated(
     alloc: Global,
     project: &ProjectView<'_>,
     laying: &Laying,
-    starts: &Starts,
+    stays: &Stays<'_>,
     view: &LinkView<'_, '_>,
     values: &Values<'_>,
     meter: &mut Meter,
 ) -> Result<Relocated, Stop>
-    requires { IsShort project.now laying.now starts.now view.now values.now }
-    ensures good { IfOk result (λ r. IsFilled project.now laying.now starts.now view.now values.now r) }
+    requires { IsShort project.now laying.now stays.now view.now values.now }
+    ensures good { IfOk result (λ r. IsFilled project.now laying.now stays.now view.now values.now r) }
     ensures stop { IfErr result (λ stop. IsStop (link project.now) stop) }
     ensures reads { OnOk result (ReadsNothing meter.old meter.new) }
     ensures early { IfErr result (λ stop. EndsReadingNothing meter.old meter.new stop) }
 {
-    let relocated = Relocated::of(alloc, project, view, &Nothing, values, meter)?;
+    stays.is_complete();
+    is_good(project, laying);
+    let _inputs = project.inputs();
+    let relocated = Relocated::of(alloc, project, view, stays, values, meter)?;
     match end_if_faulty(alloc, project, &relocated.faults) {
         Ok(()) => Ok(relocated),
         Err(stop) => Err(stop),
@@ -164,13 +201,13 @@ fn asserted(
     alloc: Global,
     project: &ProjectView<'_>,
     laying: &Laying,
-    starts: &Starts,
+    stays: &Stays<'_>,
     view: &LinkView<'_, '_>,
     values: &Values<'_>,
     fields: &Relocated,
 ) -> Result<(), Stop>
-    requires { IsFilled project.now laying.now starts.now view.now values.now fields.now }
-    ensures good { OnOk result (IsFaultless project.now laying.now starts.now view.now values.now fields.now) }
+    requires { IsFilled project.now laying.now stays.now view.now values.now fields.now }
+    ensures good { OnOk result (IsFaultless project.now laying.now stays.now view.now values.now fields.now) }
     ensures stop { IfErr result (λ stop. IsStop (link project.now) stop) }
 {
     let faults = assertion_faults(alloc, project, laying, values)?;
@@ -180,31 +217,35 @@ fn asserted(
     }
 }
 
+/// What a link without faults is drawn from, beside its rows and its layout.
+#[derive(Drop)]
+pub(crate) struct Evaluation<'a> {
+    /// The values of names, and the symbols of the output.
+    pub values: Values<'a>,
+    /// The fields of relocations, but those of what stayed whose symbols have the values that they had.
+    pub fields: Relocated,
+}
+
 /// Evaluation: what the symbols are worth, the length of the image, the fields of relocations, and the assertions.
-/// `&*project`, `&*naming` and `&*starts` lend these for the time of the locals, as the borrow checker wants it.
-pub(crate) fn evaluated(
+pub(crate) fn evaluated<'a>(
     alloc: Global,
-    project: &ProjectView<'_>,
-    naming: &Naming,
+    project: &'a ProjectView<'_>,
+    naming: &'a Naming,
     laying: &Laying,
-    starts: &Starts,
+    stays: &Stays<'_>,
+    view: &LinkView<'_, '_>,
     meter: &mut Meter,
-) -> Result<Evaluation, Stop>
+) -> Result<Evaluation<'a>, Stop>
     requires naming { IsNaming project.now naming.now }
-    requires started { IsStarted project.now laying.now starts.now }
-    ensures good { IfOk result (λ e. IsEvaluated project.now laying.now starts.now e) }
+    requires known { IsKnown project.now naming.now laying.now stays.now view.now }
+    ensures good { IfOk result (λ e. IsFaultless project.now laying.now stays.now view.now e.values e.fields) }
     ensures stop { IfErr result (λ stop. IsStop (link project.now) stop) }
     ensures reads { OnOk result (ReadsNothing meter.old meter.new) }
     ensures early { IfErr result (λ stop. EndsReadingNothing meter.old meter.new stop) }
 {
-    let view = LinkView::new(alloc, &*project, &*naming, laying, &*starts)?;
-    let values = Values::of(alloc, &*project, &*naming, laying, &view)?;
-    fits(alloc, project, laying, starts, &view, &values)?;
-    let fields = relocated(alloc, project, laying, starts, &view, &values, meter)?;
-    asserted(alloc, project, laying, starts, &view, &values, &fields)?;
-    let owned = OwnedValues::of(alloc, &values)?;
-    Ok(Evaluation {
-        values: owned,
-        fields,
-    })
+    let values = Values::of(alloc, project, naming, laying, view)?;
+    fits(alloc, project, laying, stays, view, &values)?;
+    let fields = relocated(alloc, project, laying, stays, view, &values, meter)?;
+    asserted(alloc, project, laying, stays, view, &values, &fields)?;
+    Ok(Evaluation { values, fields })
 }

@@ -6,7 +6,6 @@ ghost use Rattle.ldmodel.specs.Link.{Link, faulty, unless};
 ghost use Rattle.ldproject.specs.ByPlace.{faults_in};
 ghost use Rattle.relink.specs.Stops.{IsStop};
 
-use crate::output::Output;
 use ldlisting::fault_lines::fault_text;
 use ldmodel::fault::Fault;
 use ldmodel::memory::NoMemory;
@@ -16,8 +15,8 @@ use std::alloc::{AllocError, Global};
 /// Why a link ends before its last phase.
 #[derive(Drop)]
 pub(crate) enum Stop {
-    /// A phase has faults, and this is the link.
-    Faulty(Output),
+    /// A phase has faults, and these are their lines.
+    Faulty(Vec<u8>),
     /// Out of memory.
     NoMemory,
 }
@@ -31,18 +30,6 @@ impl From<AllocError> for Stop {
     fn from(_error: AllocError) -> Stop {
         Stop::NoMemory
     }
-}
-
-/// The link of a project with these faults. An error says that memory ran out.
-pub(crate) fn faulty_link(
-    alloc: Global,
-    project: &ProjectView<'_>,
-    faults: &[Fault],
-) -> Result<Output, NoMemory>
-    ensures { IfOk result (λ o. o ≡ faulty (faults_in project.now faults.now)) }
-{
-    let text = fault_text(alloc, project, faults)?;
-    Ok(Output::faulty(alloc, text))
 }
 
 /// Ends the link if a phase has faults.
@@ -60,6 +47,6 @@ pub(crate) fn end_if_faulty(
     if faults.is_empty() {
         return Ok(());
     }
-    let output = faulty_link(alloc, project, faults)?;
-    Err(Stop::Faulty(output))
+    let lines = fault_text(alloc, project, faults)?;
+    Err(Stop::Faulty(lines))
 }

@@ -296,13 +296,21 @@ impl Names {
         self.known.sort()
     }
 
-    /// Every known name once, with the number of its key, in byte order. It takes no memory.
+    /// Every known name once, with the number of its key, as they stand in the list of names. It takes no memory.
+    pub fn listed(&self) -> Iter<'_, Vec<u8>, usize>
+        ensures names { map entry_spelled result ≡ self.now.order }
+        ensures listing { IsListing self.now.names self.now.order }
+    {
+        self.known.iter()
+    }
+
+    /// The same, in byte order.
     pub fn in_byte_order(&self) -> Iter<'_, Vec<u8>, usize>
         requires { IsInByteOrder self.now.order }
         ensures names { map entry_spelled result ≡ self.now.order }
         ensures listing { IsListing self.now.names self.now.order }
     {
-        self.known.iter()
+        self.listed()
     }
 
     /// The key of the name of a symbol that isn't local, of an entered object. Nothing is hashed: the time is

@@ -18,7 +18,7 @@ use std::alloc::Global;
 use std::hash::RandomState;
 use trystream::state::KeptObject;
 
-/// At most so many objects are there at one time.
+/// At most this number of objects are there at one time.
 const MOST_OBJECTS: usize = 6;
 
 /// The first key from some one on that no object has.

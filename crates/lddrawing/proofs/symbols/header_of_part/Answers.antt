@@ -15,7 +15,7 @@ weaker (Err e) P Q h each = h
 
 pub returns-in-None : goal.returns-in-None
 returns-in-None c p s starts =
-    sym (header_none s (object_name p c.args.section.object.0) c.args.section.part (c.in-None.ensures p s starts))
+    sym (header_none s (object_name p c.args.section.object.0) c.args.section.part (c.in-None.ensures.place p s starts))
 
 pub returns-in-Some : goal.returns-in-Some
 returns-in-Some c =
@@ -26,4 +26,4 @@ returns-in-Some c =
     (λ n e p s starts.
     e
     ∙ sym (header_some s (object_name p c.args.section.object.0) c.args.section.part c.in-Some.place.section.0
-    (c.in-Some.ensures p s starts).1))
+    (c.in-Some.ensures.place p s starts).1))

@@ -9,10 +9,10 @@ use Rattle.ldvalues.proofs.known.start_in.Goals as goal
 pub returns-in-None : goal.returns-in-None
 returns-in-None c p s h =
     let q : placed_part s (object_name p c.args.section.object.0) c.args.section.part ≡ None =
-    subst (IsPartPlace p s c.args.section) c.in-None.is (c.find.ensures p s h) in
+    subst (IsPartPlace p s c.args.section) c.in-None.is (c.find.ensures.place p s h) in
     sym (ap (option_map (λ (x : PlacedPiece). x.start)) q)
 
 pub returns-in-Some : goal.returns-in-Some
 returns-in-Some c p s h =
-    let q = subst (IsPartPlace p s c.args.section) c.in-Some.is (c.find.ensures p s h) in
+    let q = subst (IsPartPlace p s c.args.section) c.in-Some.is (c.find.ensures.place p s h) in
     sym (q.0)

@@ -1,6 +1,4 @@
 use Rattle.std.proofs.Common.{◌∙◌, refl}
-use Rattle.ldvalues.specs.LinkView.{known_link}
-use Rattle.relink.proofs.Fields.{all_drawn}
 use Rattle.relink.proofs.Stopping.{ends_well}
 use Rattle.relink.proofs.link.drawn.Goals as goal
 
@@ -15,13 +13,13 @@ draw_image-requires-clause-drawable c =
         laying = x.laying;
         starts = x.starts;
         values = c.in_ok-values.ensures p x.layout x.naming x.values;
-        fields = all_drawn (known_link p x.layout x.naming) _ _ _ x.fields.fields;
+        fields = x.fields;
         short = x.length;
       };
     }
 
-pub returns-clause-good : goal.returns-clause-good
-returns-clause-good c =
+pub returns : goal.returns
+returns c =
     let p = c.args.project.now in
     let x = c.requires.evaluated in
     let values = c.in_ok-values.ensures p x.layout x.naming x.values in
@@ -31,7 +29,7 @@ returns-clause-good c =
       laying = x.laying;
       starts = x.starts;
       values = values;
-      fields = all_drawn (known_link p x.layout x.naming) _ _ _ x.fields.fields;
+      fields = x.fields;
       short = x.length;
-    }) (λ k. refl))
+    }) (c.is_complete.ensures.none refl))
     (c.in_ok-map.ensures x.layout x.naming x.laying values) x.rest

@@ -1,12 +1,13 @@
+use Rattle.std.proofs.Common.{◌∙◌, ap, map, subst, sym}
+use Rattle.ldgathering.specs.Matches.{AreMatched}
 use Rattle.relink.proofs.link.prepared.Goals as goal
 
-pub evaluated-requires-clause-started : goal.evaluated-requires-clause-started
-evaluated-requires-clause-started c =
-    let s = c.in_ok-laying.ensures.good.layout in
-    let is = c.in_ok-laying.ensures.good.is in
-    record {
-      layout = s;
-      laying = is;
-      starts = c.in_ok-starts.ensures s is;
-      rest = c.in_ok-rows.ensures.rest;
-    }
+pub arranged-requires-clause-naming : goal.arranged-requires-clause-naming
+arranged-requires-clause-naming c =
+    c.in_ok-naming.ensures.naming c.args.project.now (sym c.inputs.ensures.same) (sym c.script.ensures)
+
+pub arranged-requires-clause-matches : goal.arranged-requires-clause-matches
+arranged-requires-clause-matches c =
+    subst (AreMatched c.args.project.now)
+    (sym c.deref.ensures.value ∙ (sym c.in_ok-lent.ensures ∙ ap (map (λ x. x.now)) (sym c.deref-2.ensures.value)))
+    c.in_ok-matches.ensures

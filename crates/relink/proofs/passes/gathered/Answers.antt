@@ -1,4 +1,4 @@
-use Rattle.std.proofs.Common.{◌≡◌, ◌∙◌, ap, map, subst, sym}
+use Rattle.std.proofs.Common.{◌∙◌, ap, map, subst, sym}
 use Rattle.ldmodel.specs.Link.{Link, gathering_faults, layout, placed}
 use Rattle.ldmodel.specs.declared.fault.Fault.TheVariants.{Orphan}
 use Rattle.ldproject.specs.ByPlace.{faults_in}

@@ -1,4 +1,4 @@
-use Rattle.std.proofs.Common.{◌≡◌, ◌∙◌, ap}
+use Rattle.std.proofs.Common.{◌∙◌, ap}
 use Rattle.ldmodel.specs.Link.{gathering_faults, layout, link, name_faults, placed, unless}
 use Rattle.ldproject.specs.ByPlace.{faults_in}
 use Rattle.relink.proofs.passes.named.Goals as goal

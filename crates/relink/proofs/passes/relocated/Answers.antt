@@ -1,54 +1,51 @@
-use Rattle.std.proofs.Common.{◌∙◌, ap, refl, subst, sym}
+use Rattle.std.proofs.Common.{◌∙◌, ap, subst, sym}
 use Rattle.ldmodel.specs.Assertions.{assertion_faults}
 use Rattle.ldmodel.specs.Link.{Link, good, unless}
 use Rattle.ldmodel.specs.Relocations.{relocation_faults}
 use Rattle.ldproject.specs.ByPlace.{faults_in}
 use Rattle.relink.specs.Stops.{IsStop}
-use Rattle.relink.proofs.Reading.{ends_reading, fields_read_nothing}
+use Rattle.relink.proofs.Beside.{known_beside}
+use Rattle.relink.proofs.Reading.{ends_reading}
+use Rattle.relink.proofs.Stopping.{none_of}
 use Rattle.relink.proofs.passes.relocated.Goals as goal
 
 pub returns-in-Ok-clause-good : goal.returns-in-Ok-clause-good
 returns-in-Ok-clause-good c =
     let p = c.args.project.now in
-    let h = c.requires.placed in
+    let h = c.requires.placed.known in
     let s = h.layout in
-    let beside = c.in_ok-relocated.ensures s h.naming (record { project = p; layout = s }) h.laying.placed h.view
-    h.values tt in
-    let r = beside.anew (λ key. refl) in
+    let b = known_beside p _ _ _ _ _ _ _ c.requires c.inputs-inputs.ensures.distinct c.in_ok-relocated.ensures
+    c.is_complete.ensures.complete c.is_complete.ensures.none in
+    let same = ap (faults_in p) c.deref.ensures.value ∙ b.faults in
+    let new = c.is_good.ensures.good s h.laying c.requires.length
+    (none_of (relocation_faults p s) (λ next. c.in-Ok.ensures.good (relocation_faults p s) next same)) in
     record {
       short = c.requires;
-      fields = r;
+      fields = b.fields;
+      patches = b.patches new;
+      good = new;
       rest = c.requires.rest
-          ∙ c.in-Ok.ensures.good (relocation_faults p s) (unless (assertion_faults p s) (good p s))
-          (ap (faults_in p) c.deref.ensures.value ∙ r.faults);
+          ∙ c.in-Ok.ensures.good (relocation_faults p s) (unless (assertion_faults p s) (good p s)) same;
     }
 
 pub returns-in-Err-clause-stop : goal.returns-in-Err-clause-stop
 returns-in-Err-clause-stop c =
     let p = c.args.project.now in
-    let h = c.requires.placed in
-    let s = h.layout in
-    let beside = c.in_ok-relocated.ensures s h.naming (record { project = p; layout = s }) h.laying.placed h.view
-    h.values tt in
-    let r = beside.anew (λ key. refl) in
+    let s = c.requires.placed.known.layout in
+    let b = known_beside p _ _ _ _ _ _ _ c.requires c.inputs-inputs.ensures.distinct c.in_ok-relocated.ensures
+    c.is_complete.ensures.complete c.is_complete.ensures.none in
     subst (λ (l : Link). IsStop l c.in-Err.stop) (sym c.requires.rest)
     (c.in-Err.ensures.stop (relocation_faults p s) (unless (assertion_faults p s) (good p s))
-    (ap (faults_in p) c.deref.ensures.value ∙ r.faults))
+    (ap (faults_in p) c.deref.ensures.value ∙ b.faults))
 
 pub returns-in-Ok-clause-reads : goal.returns-in-Ok-clause-reads
 returns-in-Ok-clause-reads c =
-    let p = c.args.project.now in
-    let h = c.requires.placed in
-    let s = h.layout in
-    let beside = c.in_ok-relocated.ensures s h.naming (record { project = p; layout = s }) h.laying.placed h.view
-    h.values tt in
-    fields_read_nothing _ _ _ (beside.all_counted (λ key. refl))
+    let b = known_beside _ _ _ _ _ _ _ _ c.requires c.inputs-inputs.ensures.distinct c.in_ok-relocated.ensures
+    c.is_complete.ensures.complete c.is_complete.ensures.none in
+    b.reads
 
 pub returns-in-Err-clause-early : goal.returns-in-Err-clause-early
 returns-in-Err-clause-early c =
-    let p = c.args.project.now in
-    let h = c.requires.placed in
-    let s = h.layout in
-    let beside = c.in_ok-relocated.ensures s h.naming (record { project = p; layout = s }) h.laying.placed h.view
-    h.values tt in
-    ends_reading _ _ c.in-Err.stop (fields_read_nothing _ _ _ (beside.all_counted (λ key. refl)))
+    let b = known_beside _ _ _ _ _ _ _ _ c.requires c.inputs-inputs.ensures.distinct c.in_ok-relocated.ensures
+    c.is_complete.ensures.complete c.is_complete.ensures.none in
+    ends_reading _ _ c.in-Err.stop b.reads

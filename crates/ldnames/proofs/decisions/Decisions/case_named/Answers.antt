@@ -5,7 +5,7 @@ use Rattle.ldnames.proofs.decisions.Decisions.case_named.Goals as goal
 pub unwrap-requires : goal.unwrap-requires
 unwrap-requires c =
     some_case c.self.inside.cases c.in-Some.key.0 c.get.result c.get.ensures
-    (c.self.invariant.complete c.in-Some.key.0 (c.args.name.now, c.in-Some.ensures.known))
+    (c.self.invariant.0.complete c.in-Some.key.0 (c.args.name.now, c.in-Some.ensures.known))
 
 pub returns-in-Some-clause-case : goal.returns-in-Some-clause-case
 returns-in-Some-clause-case c =

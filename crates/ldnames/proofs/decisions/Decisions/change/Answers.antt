@@ -1,6 +1,6 @@
 use Rattle.std.proofs.Common.{◌∙◌, refl, subst, sym}
 use Rattle.symres.specs.State.{AreDistinct, IsFresh}
-use Rattle.ldnames.proofs.Changed.{Steps, back_after, counted_after, kept_after, places_after, whole_after}
+use Rattle.ldnames.proofs.Changed.{Steps, back_after, counted_after, kept_after, noted_after, places_after, whole_after}
 use Rattle.ldnames.proofs.Clearing.{listed_apart}
 use Rattle.ldnames.proofs.Exchanging.{in_names, out_known, out_names, out_objects}
 use Rattle.ldnames.proofs.Tables.{out_fresh}
@@ -13,7 +13,7 @@ clear_names_of-requires-clause-distinct c =
 pub clear_names_of-requires-clause-room : goal.clear_names_of-requires-clause-room
 clear_names_of-requires-clause-room c =
     places_after c.self.inside.names c.self.inside.names c.self.inside.cases c.self.inside.cases refl
-    c.self.invariant.complete refl
+    c.self.invariant.0.complete refl
 
 pub put_in-requires-clause-fresh : goal.put_in-requires-clause-fresh
 put_in-requires-clause-fresh c =
@@ -39,7 +39,7 @@ clear_names_of-requires-2-clause-room c =
     places_after s c.put_in.new.names c.self.inside.cases c.clear_names_of.new.cases
     (in_names c.take_out.new.names c.put_in.new.names ch.key.0 ch.into c.put_in.ensures
     ∙ out_names s c.take_out.new.names ch.key.0 ch.out c.take_out.ensures)
-    c.self.invariant.complete c.clear_names_of.ensures.long
+    c.self.invariant.0.complete c.clear_names_of.ensures.long
 
 pub decide_gone-requires-clause-known : goal.decide_gone-requires-clause-known
 decide_gone-requires-clause-known c =
@@ -65,7 +65,7 @@ decide_gone-requires-clause-room c =
     places_after s c.put_in.new.names c.self.inside.cases c.clear_names_of-2.new.cases
     (in_names c.take_out.new.names c.put_in.new.names ch.key.0 ch.into c.put_in.ensures
     ∙ out_names s c.take_out.new.names ch.key.0 ch.out c.take_out.ensures)
-    c.self.invariant.complete (c.clear_names_of-2.ensures.long ∙ c.clear_names_of.ensures.long)
+    c.self.invariant.0.complete (c.clear_names_of-2.ensures.long ∙ c.clear_names_of.ensures.long)
 
 pub decide_come-requires-clause-distinct : goal.decide_come-requires-clause-distinct
 decide_come-requires-clause-distinct c =
@@ -83,7 +83,7 @@ decide_come-requires-clause-room c =
     places_after s c.put_in.new.names c.self.inside.cases c.decide_gone.new.cases
     (in_names c.take_out.new.names c.put_in.new.names ch.key.0 ch.into c.put_in.ensures
     ∙ out_names s c.take_out.new.names ch.key.0 ch.out c.take_out.ensures)
-    c.self.invariant.complete
+    c.self.invariant.0.complete
     (c.decide_gone.ensures.long ∙ c.clear_names_of-2.ensures.long ∙ c.clear_names_of.ensures.long)
 
 steps : (c : goal.After-decide_come)
@@ -93,7 +93,7 @@ steps : (c : goal.After-decide_come)
 steps c = record {
   ready = rw (← c.self.view_is) at c.requires.ready;
   kept = rw (← c.self.view_is) at c.requires.kept;
-  whole = c.self.invariant;
+  whole = c.self.invariant.0;
   cleared = c.clear_names_of.ensures;
   out = c.take_out.ensures;
   into = c.put_in.ensures;
@@ -103,7 +103,10 @@ steps c = record {
 }
 
 pub invariant_of-self : goal.invariant_of-self
-invariant_of-self c = whole_after _ _ _ _ _ _ _ _ _ _ _ _ _ (steps c)
+invariant_of-self c = (
+  whole_after _ _ _ _ _ _ _ _ _ _ _ _ _ (steps c),
+  noted_after _ _ _ _ _ _ _ _ _ _ _ _ _ (steps c) c.self.inside.in_order c.self.invariant.1,
+)
 
 pub returns-clause-kept : goal.returns-clause-kept
 returns-clause-kept c = kept_after _ _ _ _ _ _ _ _ _ _ _ _ _ (steps c)

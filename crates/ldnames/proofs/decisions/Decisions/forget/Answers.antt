@@ -1,12 +1,12 @@
-use Rattle.ldnames.specs.Counted.{is_used}
-use Rattle.ldnames.proofs.Listed.{Listed}
-use Rattle.ldnames.proofs.MakingRoom.{sorted_filter, used_forgotten}
+use Rattle.ldnames.proofs.MakingRoom.{noted_forgotten, used_forgotten}
 use Rattle.ldnames.proofs.decisions.Decisions.forget.Goals as goal
 
-pub drop_unused-requires-clause-order : goal.drop_unused-requires-clause-order
-drop_unused-requires-clause-order c =
-    let s = c.self.inside.names in
-    sorted_filter (λ (e : Listed). is_used s.objects e.0) s.order c.self.invariant.order
+pub invariant_of-self : goal.invariant_of-self
+invariant_of-self c = (
+  c.drop_unused.ensures.whole,
+  noted_forgotten c.self.inside.names c.drop_unused.new.names c.self.inside.in_order c.drop_unused.ensures.forgets
+      c.self.invariant.1,
+)
 
 pub returns-clause-used : goal.returns-clause-used
 returns-clause-used c =

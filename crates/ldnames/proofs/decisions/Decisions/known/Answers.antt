@@ -2,7 +2,7 @@ use Rattle.ldnames.proofs.KnownNames.{declared_known, seen_known}
 use Rattle.ldnames.proofs.decisions.Decisions.known.Goals as goal
 
 pub returns-clause-complete : goal.returns-clause-complete
-returns-clause-complete c = rw (← c.self.view_is) c.self.invariant.complete
+returns-clause-complete c = rw (← c.self.view_is) c.self.invariant.0.complete
 
 pub returns-clause-declared : goal.returns-clause-declared
 returns-clause-declared c =

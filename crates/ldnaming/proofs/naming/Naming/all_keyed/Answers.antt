@@ -7,7 +7,7 @@ returns c =
     let d = c.self.inside.decisions in
     rw (← c.self.view_is)
     (record {
-      distinct = differ d.names.names d.names.order c.in_byte_order-names.ensures.listing;
+      distinct = differ d.names.names d.names.order c.listed-names.ensures.listing;
       keyed = λ place number.
           has_key d c.self.inside.order place number c.known-count.ensures.complete
           (c.known-count.ensures.seen place number);

@@ -1,5 +1,9 @@
+use Rattle.std.proofs.Common.{rules}
+use Rattle.std.specs.Cmp.Lexicographic.{nat_list_cmp_total}
+use Rattle.std.proofs.lemmas.List.Sorted.{answers_always, ranks_by}
 use Rattle.ldnaming.specs.Naming.{state_of}
-use Rattle.ldnaming.proofs.Sorting.{declared_key, list_sorted}
+use Rattle.ldnaming.specs.declared.sorted.NamedKey.{NamedKey}
+use Rattle.ldnaming.proofs.Sorting.{are_sorted, declared_key, is_first}
 use Rattle.ldnaming.proofs.naming.Naming.sorted.Goals as goal
 
 pub returns : goal.returns
@@ -7,7 +11,9 @@ returns c =
     let d = c.self.inside.decisions in
     let order = c.self.inside.order in
     rw (← c.self.view_is)
-    (list_sorted (state_of d order) d.names.order c.listed.result
+    (are_sorted (state_of d order) d.names.order c.in_ok-list.list.items c.sort_by.new.self.items
     (λ p name.
     declared_key p d order name c.names_of_objects.ensures.all (c.known-count.ensures.declared name))
-    c.listed.ensures.order c.listed.ensures.listing c.listed.ensures.list)
+    c.listed.ensures.listing c.in_ok-list.ensures.list c.in_ok-sort_by.ensures.permutation
+    (c.in_ok-sort_by.ensures.sorted is_first (ranks_by nat_list_cmp_total (λ (x : NamedKey). x.name.now))
+    (answers_always _ _ _ (λ f a r f' k. search rules))))

@@ -51,6 +51,7 @@ returns g c =
       few = λ complete good after.
           let few = c.patches_are_those_retargeted.ensures.few old l range _ _ changed refl complete good after once in
           c.patches_are_few.ensures old new few.sites few.others _ few.parts few.widths;
+      counts = (_, changed.counts.counted);
       counted = λ complete good after.
           c.due_sites_count.ensures old l range _ _ changed complete good after once;
       anew = λ nothing.

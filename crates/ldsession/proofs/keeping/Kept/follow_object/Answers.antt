@@ -12,8 +12,8 @@ use Rattle.ldsession.specs.Kept.{IsKept}
 use Rattle.ldsession.specs.Matches.{exchanged, gone_at}
 use Rattle.ldsession.proofs.Exchanged.{MayStand, Stands, added_within, exchanged_as, gone_as, into_within, may_after}
 use Rattle.ldsession.proofs.Exchanged.{out_within, stands_after}
-use Rattle.ldsession.proofs.Following.{both_come, coming_of, kept_after, kept_back, keys_of_tables, may_stand}
-use Rattle.ldsession.proofs.Following.{same_script, stands}
+use Rattle.ldsession.proofs.Following.{both_come, coming_of, kept_after, kept_back, kept_forgetting}
+use Rattle.ldsession.proofs.Following.{keys_of_tables, may_stand, same_script, stands}
 use Rattle.ldsession.proofs.keeping.Kept.follow_object.Goals as goal
 
 pub change-order-requires-clause-order : goal.change-order-requires-clause-order
@@ -64,8 +64,8 @@ exchange-gone-requires-clause-added c =
     (subst (λ (q : Option ℕ). MayStand ms (place_at x.out) q) (sym c.place_of-into.ensures) may)
     (omega (arith, v.ok.0, v.ok.1, ap (λ (l : List Matches). length l) c.make_room.ensures.matches))
 
-pub link_over-requires : goal.link_over-requires
-link_over-requires c =
+pub link_next-requires-clause-kept : goal.link_next-requires-clause-kept
+link_next-requires-clause-kept c =
     let h = c.args.project.now in
     let s = c.args.staged.now in
     let x = c.object_change-change.result in
@@ -172,14 +172,18 @@ returns-in-Ok-clause-kept c =
     let items = c.exchange-gone.ensures.items
     ∙ exchanged_as c.make_room.new.self.matches.items ms c.place_of-out.result (place_at x.out) c.place_of-into.result
     (place_at x.into) coming coming c.make_room.ensures.matches c.place_of-out.ensures c.place_of-into.ensures refl in
-    subst (λ (l : List Matches). IsKept (next_listing h s) c.change-order.new.self l) (sym items)
+    let last : List Matches = exchanged ms (place_at x.out) (place_at x.into) coming in
+    subst (λ (l : List Matches). IsKept (next_listing h s) c.put_in_order_if.new.naming l) (sym items)
+    (kept_forgetting (next_listing h s) c.change-order.new.self c.put_in_order_if.new.naming last
+    (c.put_in_order_if.ensures.tables ∙ c.forget_if.ensures.tables)
+    (λ script kept. c.put_in_order_if.ensures.kept script (c.forget_if.ensures.kept script kept))
     (kept_after h s c.args.key.0 x c.args.self.now.naming c.change-order.new.self ms coming
     c.requires.arranged c.requires.one c.requires.touched c.object_change-change.ensures c.requires.kept
     (c.change-order.ensures.objects ∙ ap (λ (ts : List Table). changed_tables ts x) c.make_room.ensures.tables)
     (subst (λ (t : List Statement). AreKept t c.change-order.new.self.kept)
     (c.script.ensures ∙ ap (λ (l : Listing). l.script) c.next-next.ensures.next) c.change-order.ensures.kept)
     (coming_of h s c.args.key.0 c.next-next.result x coming c.next-next.ensures.next c.object_change-change.ensures.is
-    c.in_ok-coming.ensures.coming))
+    c.in_ok-coming.ensures.coming)))
 
 pub returns-in-Err-clause-back : goal.returns-in-Err-clause-back
 returns-in-Err-clause-back c =

@@ -20,12 +20,7 @@ of-requires c =
 
 pub returns : goal.returns
 returns c = λ s laid.
-    all_places c.args.project.now s c.args.rows.now c.pieces.result.now c.in_ok-entries.entries.items
-    (record {
-      objects = c.of-objects.result;
-      sections = c.in_ok-sections.sections;
-      blocks = c.sort_by_key.new.self;
-    })
+    all_places c.args.project.now s c.args.rows.now c.pieces.result.now c.in_ok-entries.entries.items _
     c.inputs-inputs.ensures.distinct (c.of-objects.ensures ∙ ap numbering_of c.inputs-inputs.ensures.same)
     (c.placed_are_rows.ensures c.args.project.now (provided c.args.project.now) s laid.placed ∙ sym c.requires)
     (c.pieces.ensures ∙ laid.places.starts) c.in_ok-entries.ensures
@@ -34,3 +29,8 @@ returns c = λ s laid.
     (subst (λ (l : List Entry). IsStableByKey rank_in rank_cmp l c.sort_by_key.new.self.items)
     (c.in_ok-blocks.ensures ∙ ap (filter is_block) c.deref-2.ensures.value)
     (c.in_ok-sort_by_key.ensures.stable rank_in (answers_always _ _ _ (λ f a r f' k. search rules))))
+
+pub invariant_of-result : goal.invariant_of-result
+invariant_of-result c = record {
+  sorted = c.in_ok-sort_by_key.ensures.sorted rank_in (answers_always _ _ _ (λ f a r f' k. search rules));
+}

@@ -1,5 +1,5 @@
 use Rattle.ldproject.proofs.Noting.{HasFirst}
-use Rattle.ldproject.proofs.order.Order.of.Given as goal
+use Rattle.ldproject.proofs.order.places_of.Given as goal
 
 -- the keys so far are noted
 abbrev pub invariant-loop-place : goal.invariant-loop-place

@@ -1,0 +1,9 @@
+mod Members
+mod Once
+mod Owned
+mod Inside
+mod Kept
+mod Standings
+mod Ranges
+mod Sections
+mod Symbols

@@ -1,0 +1,7 @@
+use Rattle.ldproject.specs.Inputs.{shown_inputs}
+use Rattle.ldkept.proofs.Symbols.{TableSoFar}
+use Rattle.ldkept.proofs.symbol_table.SymbolTable.of.Given as goal
+
+abbrev pub invariant-loop-place : goal.invariant-loop-place
+invariant-loop-place l =
+    TableSoFar l.project l.link l.names (shown_inputs l.inputs) l.place l.starts.items l.values.items

@@ -1,0 +1,91 @@
+-- Which input sections of a link stayed where an earlier link has them.
+use Rattle.std.specs.Prelude.{◌≡◌, ◌≤◌, ℕ, List, Option, Some, None, IfSome, option_and_then, slice_index_or}
+use Rattle.std.specs.Prelude.{if◌then◌else◌}
+use Rattle.std.specs.Option.{option_map}
+use Rattle.elfobj.specs.declared.relocation.SymbolIndex.{SymbolIndex}
+use Rattle.ldmodel.specs.Edits.{AreNamesDistinct}
+use Rattle.ldmodel.specs.Link.{max_image_length}
+use Rattle.ldmodel.specs.Project.{Project}
+use Rattle.ldmodel.specs.SectionHeaders.{image_length}
+use Rattle.ldmodel.specs.Stayed.{GoodLink}
+use Rattle.ldmodel.specs.declared.names.ObjectKey.{ObjectKey}
+use Rattle.ldmodel.specs.declared.sections.Part.{Part}
+use Rattle.ldmodel.specs.declared.sections.SectionKey.{SectionKey}
+use Rattle.ldnaming.specs.Naming.{NamingState}
+use Rattle.ldstarts.specs.Starts.{AreStarts}
+use Rattle.ldstarts.specs.declared.starts.Starts.{Starts}
+use Rattle.ldtargets.specs.KnownLink.{KnownLink}
+use Rattle.ldtargets.specs.declared.earlier.FileRange.{FileRange}
+use Rattle.ldtargets.specs.declared.value.SymbolValue.{SymbolValue}
+use Rattle.ldtargets.specs.declared.value.SymbolValue.TheVariants.{NotDefined}
+use Rattle.ldvalues.specs.LinkView.{known_link}
+use Rattle.ldkept.specs.FileStarts.{AreFileStarts}
+use Rattle.ldkept.specs.Origins.{AreOrigins}
+use Rattle.ldkept.specs.Standing.{same_standing, standing_in}
+use Rattle.ldkept.specs.SymbolTable.{value_at}
+use Rattle.ldkept.specs.Table.{IsTable}
+use Rattle.ldkept.specs.declared.file_starts.FileStarts.{FileStarts}
+use Rattle.ldkept.specs.declared.good.Good.{Good}
+use Rattle.ldkept.specs.declared.standing.Standing.{Standing}
+use Rattle.ldkept.specs.declared.stays.Last.{Last}
+use Rattle.ldkept.specs.declared.stays.Stays.{Stays}
+
+-- an earlier link without faults, and which of its objects are still there
+pub record LastState : Type 0 where
+  pub good : Good
+  pub from : List (Option ℕ)
+
+abbrev pub last_state : Last → LastState
+last_state x = record { good = x.good.now; from = x.from.now }
+
+abbrev pub last_of : Option Last → Option LastState
+last_of x = option_map last_state x
+
+-- where an object stood in the earlier link
+abbrev pub last_place : LastState → ObjectKey → Option ℕ
+last_place x k = slice_index_or x.from k.0 None
+
+-- where an input section did
+abbrev pub standing_from : LastState → Part → ℕ → Option Standing
+standing_from x part i =
+    standing_in x.good.starts x.good.files (record { object = record { 0 = i }; part = part })
+
+unfoldable pub last_standing : LastState → SectionKey → Option Standing
+last_standing x k = option_and_then (standing_from x k.part) (last_place x k.object)
+
+-- what a symbol of an object was worth in it
+abbrev pub value_from : LastState → SymbolIndex → Option ℕ → SymbolValue
+value_from x index None = NotDefined
+value_from x index (Some i) = value_at x.good.symbols i index.0
+
+abbrev pub last_value : LastState → ObjectKey → SymbolIndex → SymbolValue
+last_value x k index = value_from x index (last_place x k)
+
+-- it stayed where it stands as it stood
+abbrev pub kept_at : Option Standing → Option Standing → Option FileRange
+kept_at None now = None
+kept_at (Some before) None = None
+kept_at (Some before) (Some now) = if same_standing before now then Some now.range else None
+
+-- which input sections stayed, and where their bytes stand in the file
+unfoldable pub kept_range : Option LastState → Starts → FileStarts → SectionKey → Option FileRange
+kept_range None starts files k = None
+kept_range (Some x) starts files k = kept_at (last_standing x k) (standing_in starts files k)
+
+abbrev pub range_of : Stays → SectionKey → Option FileRange
+range_of s k = kept_range (last_of s.last) s.starts.now s.files.now k
+
+-- the earlier link is this one, and its objects are those of the next project as its origins say
+pub record IsLastOf (old : GoodLink) (new : Project) (x : LastState) : Type 0 where
+  pub table : IsTable old x.good
+  pub origins : AreOrigins old.project new x.from
+
+-- the new link, at a layout whose image is not too long, and the earlier one, if there is one
+pub record AreStays (s : Stays) (old : GoodLink) (l : KnownLink) : Type 0 where
+  pub naming : NamingState
+  pub link : l ≡ known_link l.project l.layout naming
+  pub names : AreNamesDistinct l.project.objects
+  pub starts : AreStarts l.project l.layout s.starts.now
+  pub files : AreFileStarts l.project l.layout s.files.now
+  pub short : image_length l.project l.layout ≤ max_image_length
+  pub last : IfSome (last_of s.last) (IsLastOf old l.project)

@@ -1,0 +1,15 @@
+-- What is kept of a link without faults.
+use Rattle.ldmodel.specs.Stayed.{GoodLink}
+use Rattle.ldlaws.specs.Untouched.{IsGood}
+use Rattle.ldmodel.specs.Edits.{AreNamesDistinct}
+use Rattle.ldstarts.specs.Starts.{AreStarts}
+use Rattle.ldkept.specs.FileStarts.{AreFileStarts}
+use Rattle.ldkept.specs.SymbolTable.{AreSymbolValues}
+use Rattle.ldkept.specs.declared.good.Good.{Good}
+
+pub record IsTable (l : GoodLink) (g : Good) : Type 0 where
+  pub good : IsGood l
+  pub names : AreNamesDistinct l.project.objects
+  pub starts : AreStarts l.project l.layout g.starts
+  pub files : AreFileStarts l.project l.layout g.files
+  pub symbols : AreSymbolValues l.project l.layout g.symbols

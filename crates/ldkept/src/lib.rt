@@ -1,0 +1,8 @@
+//! What is kept of a link without faults, and which input sections of a next link stayed where it has them.
+#![tactic(auto)]
+
+pub mod file_starts;
+pub mod good;
+mod standing;
+pub mod stays;
+pub mod symbol_table;

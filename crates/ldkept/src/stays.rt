@@ -1,0 +1,113 @@
+//! Which input sections of a link stayed where an earlier link has them.
+
+ghost use Rattle.std.specs.Prelude.{◌≡◌, IsSome, None, Option, slice_index_or};
+ghost use Rattle.lddrawing.specs.Kept.{IsSound};
+ghost use Rattle.ldmodel.specs.Stayed.{GoodLink};
+ghost use Rattle.ldtargets.specs.Earlier.{IsComplete};
+ghost use Rattle.ldtargets.specs.KnownLink.{KnownLink};
+ghost use Rattle.ldkept.specs.Stays.{AreStays, last_standing, last_state, last_value, range_of};
+
+use crate::file_starts::FileStarts;
+use crate::good::Good;
+use crate::standing::{Standing, find_standing};
+use elfobj::relocation::SymbolIndex;
+use elfobj::symbol::Symbol;
+use ldlaws::segments::{files_in_order, sections_in_file};
+use ldmodel::names::ObjectKey;
+use ldmodel::sections::SectionKey;
+use ldstarts::starts::Starts;
+use ldtargets::earlier::{Earlier, FileRange};
+use ldtargets::value::SymbolValue;
+
+/// An earlier link without faults, and at which place of it each object of the new one stood, by the new places; none
+/// where the object was not there, or was another.
+#[derive(Clone, Copy)]
+pub struct Last<'a> {
+    /// What is kept of that link.
+    pub good: &'a Good,
+    /// The places of objects in it.
+    pub from: &'a [Option<usize>],
+}
+
+impl<'a> Last<'a> {
+    /// The place that an object of the new link had in the earlier one.
+    fn place(&self, object: ObjectKey) -> Option<usize>
+        ensures { result ≡ slice_index_or self.now.from.now object.0 None }
+    {
+        self.from.get(object.0).copied().unwrap_or(None)
+    }
+
+    /// Where an input section of the new link stood in the earlier one.
+    #[tactic(auto, unfolding(crate::specs::Stays::last_standing))]
+    fn standing(&self, section: SectionKey) -> Option<Standing>
+        ensures { result ≡ last_standing (last_state self.now) section }
+    {
+        let place = self.place(section.object)?;
+        let section = SectionKey {
+            object: ObjectKey(place),
+            part: section.part,
+        };
+        find_standing(&self.good.starts, &self.good.files, section)
+    }
+
+    /// What a symbol of an object of the new link was worth in the earlier one.
+    fn value(&self, object: ObjectKey, index: SymbolIndex) -> SymbolValue
+        ensures { result ≡ last_value (last_state self.now) object index }
+    {
+        match self.place(object) {
+            None => SymbolValue::NotDefined,
+            Some(place) => self.good.symbols.value(place, index),
+        }
+    }
+}
+
+/// Which input sections of a link stayed where the last one has them, if there is one.
+#[derive(Clone, Copy)]
+pub struct Stays<'a> {
+    /// The last link, if there is one.
+    pub last: Option<Last<'a>>,
+    /// Where the input sections of the new one stand.
+    pub starts: &'a Starts,
+    /// Where its output sections stand.
+    pub files: &'a FileStarts,
+}
+
+impl<'a> Stays<'a> {
+    /// Each input section that stayed is known to have stayed, where there is an earlier link; each that is known to
+    /// have stayed has. The call does nothing.
+    pub fn is_complete(&self)
+        ensures complete { (old : GoodLink) (l : KnownLink) → AreStays self.now old l → IsSome self.now.last
+            → IsComplete (range_of self.now) old l }
+        ensures sound { (old : GoodLink) (l : KnownLink) → AreStays self.now old l → IsSound (range_of self.now) old l }
+        ensures none { self.now.last ≡ None → (k : SectionKey) → range_of self.now k ≡ None }
+    {
+        sections_in_file();
+        files_in_order();
+    }
+}
+
+impl<'a> Earlier for Stays<'a> {
+    ghost use Rattle.ldkept.specs.Stays.{AreStays, range_of};
+
+    ghost knows = { AreStays };
+
+    ghost range = { range_of };
+
+    fn stayed(&self, section: SectionKey) -> Option<FileRange> {
+        let last = self.last?;
+        let before = last.standing(section)?;
+        let now = find_standing(self.starts, self.files, section)?;
+        if before == now { Some(now.range) } else { None }
+    }
+
+    fn is_marked(&self, _object: ObjectKey) -> bool {
+        true
+    }
+
+    fn value(&self, object: ObjectKey, index: SymbolIndex, _symbol: &Symbol) -> SymbolValue {
+        match self.last {
+            None => SymbolValue::NotDefined,
+            Some(last) => last.value(object, index),
+        }
+    }
+}

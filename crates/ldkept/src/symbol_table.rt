@@ -1,0 +1,103 @@
+//! What each symbol of each object is worth in a link.
+
+ghost use Rattle.std.specs.Prelude.{◌≡◌, ◌+◌, ◌++◌, IfOk, OnOk, Some, length, map};
+ghost use Rattle.ldmodel.specs.Layout.{Layout};
+ghost use Rattle.ldmodel.specs.Project.{NamedObject};
+ghost use Rattle.ldmodel.specs.Targets.{referenced_value};
+ghost use Rattle.ldnaming.specs.Naming.{NamingState};
+ghost use Rattle.ldtargets.specs.KnownLink.{AreNameValues, KnownLink, named_object};
+ghost use Rattle.ldtargets.specs.Values.{value_of};
+ghost use Rattle.ldvalues.specs.LinkView.{IsLinkView, known_link};
+ghost use Rattle.ldkept.specs.SymbolTable.{AreSymbolValues, value_at};
+
+use elfobj::object::Object;
+use elfobj::relocation::SymbolIndex;
+use ldmodel::memory::NoMemory;
+use ldmodel::names::ObjectKey;
+use ldproject::input::Input;
+use ldproject::view::ProjectView;
+use ldtargets::target::referenced_value;
+use ldtargets::value::SymbolValue;
+use ldvalues::link_view::LinkView;
+use std::alloc::{AllocError, Global};
+
+/// What each symbol of each object is worth to the relocations of its object, under the object's place and the symbol's
+/// number.
+#[derive(Drop)]
+pub struct SymbolTable {
+    /// Where the values of each object begin.
+    pub(crate) starts: Vec<usize>,
+    /// The values, one object after another.
+    pub(crate) values: Vec<SymbolValue>,
+}
+
+/// How many symbols these objects have. An error says that they are too many for any memory.
+fn count_symbols(inputs: &[Input<'_>]) -> Result<usize, NoMemory> {
+    let mut count: usize = 0;
+    for input in inputs {
+        count = count
+            .checked_add(input.object.symbols().len())
+            .ok_or(AllocError)?;
+    }
+    Ok(count)
+}
+
+/// Adds the values of the symbols of an object.
+fn add_object(
+    link: &LinkView<'_, '_>,
+    names: &[SymbolValue],
+    key: ObjectKey,
+    object: &Object,
+    values: &mut Vec<SymbolValue>,
+) -> Result<(), NoMemory>
+    ensures long { OnOk result (length values.new.items ≡ length values.old.items + length object.now.symbols) }
+    ensures values { OnOk result ((l : KnownLink) (o : NamedObject) → IsLinkView l link.now → AreNameValues l names.now
+        → named_object l key ≡ Some o → o.object ≡ object.now
+        → map value_of values.new.items
+        ≡ map value_of values.old.items ++ map (referenced_value l.project l.layout o) o.object.symbols) }
+{
+    for (number, symbol) in object.symbols().iter().enumerate() {
+        let index = SymbolIndex(number as u32);
+        let value = referenced_value(link, names, key, index, symbol);
+        values.push(value)?;
+    }
+    Ok(())
+}
+
+impl SymbolTable {
+    /// The values of the symbols of a link, where those of names are these. An error says that memory ran out.
+    pub fn of(
+        alloc: Global,
+        project: &ProjectView<'_>,
+        link: &LinkView<'_, '_>,
+        names: &[SymbolValue],
+    ) -> Result<SymbolTable, NoMemory>
+        ensures { IfOk result (λ t. (s : Layout) (a : NamingState) → IsLinkView (known_link project.now s a) link.now
+            → AreNameValues (known_link project.now s a) names.now → AreSymbolValues project.now s t) }
+    {
+        let inputs = project.inputs();
+        let count = count_symbols(inputs)?;
+        let mut starts = Vec::with_capacity(alloc, inputs.len())?;
+        let mut values = Vec::with_capacity(alloc, count)?;
+        for (place, input) in inputs.iter().enumerate() {
+            starts.push(values.len())?;
+            add_object(link, names, ObjectKey(place), input.object, &mut values)?;
+        }
+        Ok(SymbolTable { starts, values })
+    }
+
+    /// The value of a symbol of the object of a place.
+    pub(crate) fn value(&self, place: usize, symbol: SymbolIndex) -> SymbolValue
+        ensures { result ≡ value_at self.now place symbol.0 }
+    {
+        let start = self.starts.get(place).copied().unwrap_or(0);
+        match start.checked_add(symbol.0 as usize) {
+            None => SymbolValue::NotDefined,
+            Some(at) => self
+                .values
+                .get(at)
+                .copied()
+                .unwrap_or(SymbolValue::NotDefined),
+        }
+    }
+}

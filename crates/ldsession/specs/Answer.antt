@@ -1,0 +1,10 @@
+-- What a session answers of its link.
+use Rattle.std.specs.Prelude.{ℕ, List, []}
+use Rattle.ldmodel.specs.Link.{Link}
+use Rattle.ldsession.specs.declared.answer.Answer.{Answer}
+use Rattle.ldsession.specs.declared.answer.Answer.TheVariants.{Good, Faulty}
+
+-- the link, where a canvas holds these bytes
+abbrev pub shown : List ℕ → Answer → Link
+shown bytes (Good map) = record { status = 0; image = bytes; map = map.items; faults = [] }
+shown bytes (Faulty text) = record { status = 1; image = []; map = []; faults = text.items }

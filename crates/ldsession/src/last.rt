@@ -1,0 +1,255 @@
+//! The last link without faults, which outlives edits: what is kept of it, and which of its objects are still there.
+
+ghost use Rattle.std.specs.Prelude.{◌≡◌, ℕ, IfOk, IfSome, List, Some, map, slice_get, true};
+ghost use Rattle.ldkept.specs.Stays.{last_of};
+ghost use Rattle.ldmodel.specs.Project.{NamedObject};
+ghost use Rattle.ldproject.specs.Listing.{keys_of};
+ghost use Rattle.ldsession.specs.Last.{IsAfterFault, IsEndOf, IsFrom, IsNamedAt, IsNoneOf, IsSince};
+ghost use Rattle.ldsession.specs.Last.{Knows, PutsNoneOf, changed_key, lent, origin_of, without};
+
+use crate::answer::Answer;
+use ldkept::good::Good;
+use ldkept::stays::Last;
+use ldmodel::memory::NoMemory;
+use ldmodel::names::ObjectKey;
+use ldproject::named::NamedObject;
+use ldproject::project::{Next, Project};
+use ldproject::staged::Staged;
+use std::alloc::Global;
+
+/// What is kept of the last link without faults.
+#[derive(Drop)]
+pub(crate) struct LastGood {
+    /// Its tables.
+    pub good: Good,
+    /// At which place of it each object stood that is still there with the same bytes, under the object's key.
+    pub origins: Vec<Option<usize>>,
+    /// The names of its objects, by their places.
+    pub names: Vec<Vec<u8>>,
+}
+
+/// What a link over the last one leads to.
+#[derive(Drop)]
+pub(crate) enum Followed {
+    /// These fault lines.
+    Faulty(Vec<u8>),
+    /// What is kept of the link, and its map.
+    Good(LastGood, Vec<u8>),
+}
+
+impl Followed {
+    /// Whether the link has no faults.
+    pub(crate) fn is_good(&self) -> bool {
+        match self {
+            Followed::Faulty(_) => false,
+            Followed::Good(..) => true,
+        }
+    }
+}
+
+/// Whether a name may stand at a place: it is another one, or this is the place where it may.
+fn is_allowed(is_same: bool, place: Option<usize>, at: usize) -> bool
+    ensures { result ≡ true → is_same ≡ true → place ≡ Some at }
+{
+    match place {
+        Some(place) if place == at => true,
+        _ => !is_same,
+    }
+}
+
+/// Whether each object of a name stands at this place, if any does.
+fn is_named_at(names: &[Vec<u8>], name: &[u8], place: Option<usize>) -> bool
+    ensures { result ≡ true → IsNamedAt (map (λ v. v.items) names.now) name.now place }
+{
+    for (at, other) in names.iter().enumerate() {
+        if !is_allowed(other.as_slice() == name, place, at) {
+            return false;
+        }
+    }
+    true
+}
+
+impl LastGood {
+    /// At which place of the last link the object under a key stood, if it is one of its.
+    fn origin(&self, key: usize) -> Option<usize>
+        ensures { result ≡ origin_of self.now.origins.items key }
+    {
+        match self.origins.get(key) {
+            Some(place) => *place,
+            None => None,
+        }
+    }
+
+    /// The same; none under one key.
+    fn origin_unless(&self, gone: Option<usize>, key: usize) -> Option<usize>
+        ensures { result ≡ without (origin_of self.now.origins.items) gone key }
+    {
+        match gone {
+            Some(gone) if key == gone => None,
+            _ => self.origin(key),
+        }
+    }
+
+    /// The place in the last link of the object under a key, if it is one of its and has other bytes than this one.
+    fn replaced(&self, project: &Project, key: ObjectKey, named: &NamedObject) -> Option<usize>
+        ensures { IfSome result (λ j. (old : List NamedObject) (y : NamedObject)
+            → IsSince old (origin_of self.now.origins.items) project.now.contents.entries → slice_get old j ≡ Some y
+            → y.object.text ≡ named.now.object.text → ⊥) }
+    {
+        let place = self.origin(key.0)?;
+        let before = project.named(key)?;
+        if before.object().data() == named.object().data() {
+            return None;
+        }
+        Some(place)
+    }
+
+    /// Whether an object that is put under a key is known to be none of the last link: it has another name than each
+    /// of its objects, or other bytes than the one in whose place it comes.
+    fn is_new(&self, project: &Project, key: ObjectKey, named: &NamedObject) -> bool
+        ensures { result ≡ true → (old : List NamedObject)
+            → map (λ v. v.items) self.now.names.items ≡ map (λ (o : NamedObject). o.name) old
+            → IsSince old (origin_of self.now.origins.items) project.now.contents.entries → IsNoneOf old named.now }
+    {
+        let replaced = self.replaced(project, key, named);
+        is_named_at(&self.names, named.name(), replaced)
+    }
+
+    /// Whether the object that an edit puts, if it puts one, is known to be none of the last link.
+    fn knows(&self, project: &Project, staged: &Staged) -> bool
+        ensures { result ≡ true → (old : List NamedObject)
+            → map (λ v. v.items) self.now.names.items ≡ map (λ (o : NamedObject). o.name) old
+            → IsSince old (origin_of self.now.origins.items) project.now.contents.entries
+            → PutsNoneOf old staged.now.objects.step }
+    {
+        match staged.put() {
+            None => true,
+            Some((key, named)) => self.is_new(project, key, named),
+        }
+    }
+
+    /// The origins of the objects of a next project, in their order; that which comes has none. An error says that
+    /// memory ran out.
+    fn origins_of(
+        &self,
+        alloc: Global,
+        next: &Next<'_>,
+        gone: Option<usize>,
+    ) -> Result<Vec<Option<usize>>, NoMemory>
+        ensures { IfOk result (λ v. v.items
+            ≡ map (without (origin_of self.now.origins.items) gone) (keys_of next.now.entries)) }
+    {
+        next.keys()
+            .iter()
+            .map(|key| self.origin_unless(gone, *key))
+            .collect(alloc)
+    }
+
+    /// The object under a key is none of the last link any more, if there is a key.
+    fn forget(&mut self, key: Option<usize>)
+        ensures good { self.new.good ≡ self.old.good }
+        ensures names { self.new.names ≡ self.old.names }
+        ensures origins { (k : ℕ) → origin_of self.new.origins.items k
+            ≡ without (origin_of self.old.origins.items) key k }
+    {
+        if let Some(key) = key {
+            if key < self.origins.len() {
+                self.origins[key] = None;
+            }
+        }
+    }
+}
+
+/// Whether there is a last link and the object that an edit puts, if it puts one, is known to be none of its.
+pub(crate) fn is_known(last: &Option<LastGood>, project: &Project, staged: &Staged) -> bool
+    ensures { result ≡ true → IfSome last.now (λ x. Knows x project.now.contents.entries staged.now.objects.step) }
+{
+    match last {
+        None => false,
+        Some(last) => last.knows(project, staged),
+    }
+}
+
+/// The origins of the objects of a next project in the last link, where that is known to have none of what comes. An
+/// error says that memory ran out.
+pub(crate) fn origins_for(
+    alloc: Global,
+    last: &Option<LastGood>,
+    known: bool,
+    next: &Next<'_>,
+    gone: Option<usize>,
+) -> Result<Option<Vec<Option<usize>>>, NoMemory>
+    ensures { IfOk result (λ from. IsFrom last.now known gone (keys_of next.now.entries) from) }
+{
+    match last {
+        Some(last) if known => Ok(Some(last.origins_of(alloc, next, gone)?)),
+        _ => Ok(None),
+    }
+}
+
+/// The last link with these origins, lent to the next link.
+pub(crate) fn lend<'a>(
+    last: &'a Option<LastGood>,
+    from: &'a Option<Vec<Option<usize>>>,
+) -> Option<Last<'a>>
+    ensures { last_of result ≡ lent last.now from.now }
+{
+    match last {
+        None => None,
+        Some(last) => match from {
+            None => None,
+            Some(from) => Some(Last {
+                good: &last.good,
+                from,
+            }),
+        },
+    }
+}
+
+/// Keeps the last link after an edit to a link with faults, without the origin of the object that came or went; where
+/// it isn't known to have none of what came, it goes.
+fn keep_after_fault(last: &mut Option<LastGood>, known: bool, gone: Option<usize>)
+    ensures { IsAfterFault known gone last.old last.new }
+{
+    if !known {
+        *last = None;
+        return;
+    }
+    if let Some(last) = last {
+        last.forget(gone);
+    }
+}
+
+/// What is answered of a link over the last one, which stays the last one where the link has faults.
+pub(crate) fn end(
+    followed: Followed,
+    last: &mut Option<LastGood>,
+    known: bool,
+    gone: Option<usize>,
+) -> Answer
+    ensures { IsEndOf followed known gone last.old last.new result }
+{
+    match followed {
+        Followed::Faulty(text) => {
+            keep_after_fault(last, known, gone);
+            Answer::Faulty(text)
+        }
+        Followed::Good(good, map) => {
+            *last = Some(good);
+            Answer::Good(map)
+        }
+    }
+}
+
+/// The key that an edit puts an object under, or removes.
+pub(crate) fn changed_key(staged: &Staged) -> Option<usize>
+    ensures { result ≡ changed_key staged.now.objects.step }
+{
+    match staged.put() {
+        Some((key, _named)) => Some(key.0),
+        None => match staged.removed() {
+            Some(key) => Some(key.0),
+            None => None,
+        },
+    }
+}

@@ -1,0 +1,149 @@
+-- A link beside an earlier one, if there is one.
+use Rattle.std.proofs.Common.{◌≡◌, ◌∙◌, ◌⊎◌, ℕ, inl, inr, refl, subst, sym, List}
+use Rattle.std.specs.Prelude.{IfSome, IsSome, Ok, Option, Some, None, is_some}
+use Rattle.std.specs.List.{All}
+use Rattle.ldfields.specs.declared.patch.Patch.{Patch}
+use Rattle.ldimage.specs.Kept.{ArePatchesOf}
+use Rattle.ldimage.specs.Stretches.{EndsBy}
+use Rattle.ldkept.specs.Stays.{AreStays, IsLastOf, LastState, last_of, range_of}
+use Rattle.ldkept.specs.declared.stays.Last.{Last}
+use Rattle.ldkept.specs.declared.stays.Stays.{Stays}
+use Rattle.lddrawing.specs.Kept.{IsSound}
+use Rattle.ldlaws.specs.Untouched.{IsGood}
+use Rattle.ldlaying.specs.declared.laying.Laying.{Laying}
+use Rattle.ldmodel.specs.Counts.{Counts}
+use Rattle.ldmodel.specs.Edits.{AreNamesDistinct}
+use Rattle.ldmodel.specs.Image.{image}
+use Rattle.ldmodel.specs.Layout.{Layout}
+use Rattle.ldmodel.specs.Names.{provided}
+use Rattle.ldmodel.specs.Placement.{placement}
+use Rattle.ldmodel.specs.Project.{Project}
+use Rattle.ldmodel.specs.Relocations.{relocation_faults}
+use Rattle.ldmodel.specs.Rows.{rows}
+use Rattle.ldmodel.specs.SectionHeaders.{image_length}
+use Rattle.ldmodel.specs.Stayed.{GoodLink}
+use Rattle.ldmodel.specs.declared.sections.SectionKey.{SectionKey}
+use Rattle.ldnaming.specs.Naming.{NamingState}
+use Rattle.ldproject.specs.ByPlace.{faults_in}
+use Rattle.ldrelocating.specs.Beside.{IsRelocatedBeside, new_link}
+use Rattle.ldrelocating.specs.Runs.{AreRunsUnless}
+use Rattle.ldrelocating.specs.declared.relocated.Relocated.{Relocated}
+use Rattle.ldtargets.specs.Earlier.{IsComplete}
+use Rattle.ldtargets.specs.KnownLink.{KnownLink}
+use Rattle.ldvalues.specs.LinkView.{IsLinkView, known_link}
+use Rattle.ldvalues.specs.Values.{AreValues}
+use Rattle.ldvalues.specs.declared.link_view.LinkView.{LinkView}
+use Rattle.ldvalues.specs.declared.values.Values.{Values}
+use Rattle.relink.specs.Ended.{HasLast}
+use Rattle.relink.specs.Phases.{ArePatches, HasOld, IsShort}
+use Rattle.relink.specs.Reads.{ReadsNothing}
+use Rattle.relink.proofs.Reading.{fields_read_nothing}
+
+-- the earlier link, whatever its image is
+pub has_old : (p : Project) (bytes : List ℕ) (last : Option LastState) → IfSome last (HasLast p bytes)
+    → IfSome last (HasOld p)
+has_old p bytes None h = tt
+has_old p bytes (Some x) h = record { old = h.old; is = h.is }
+
+-- some link that the earlier one may be: a good one, if there is one
+record Candidate (p : Project) (last : Option Last) : Type 0 where
+  old : GoodLink
+  is : IfSome (last_of last) (IsLastOf old p)
+  good : IsGood old ⊎ (last ≡ None)
+
+candidate : (p : Project) (any : GoodLink) (last : Option Last) → IfSome (last_of last) (HasOld p) → Candidate p last
+candidate p any None h = record { old = any; is = tt; good = inr refl }
+candidate p any (Some x) h = record { old = h.old; is = h.is; good = inl h.is.table.good }
+
+-- what is evaluated beside an earlier link, if there is one
+pub record IsKnownBeside (p : Project) (s : Layout) (a : NamingState) (y : Stays) (r : Relocated)
+    (before after : Counts) : Type 0 where
+  pub fields : AreRunsUnless (known_link p s a) (λ k. is_some (range_of y k)) r.patches.items r.ends.items
+  pub faults : faults_in p r.faults.items ≡ relocation_faults p s
+  pub patches : IsGood (new_link p s) → ArePatches p s y r
+  pub reads : ReadsNothing before after
+
+-- the new link, and the earlier one
+pub are_stays : (p : Project) (l : Laying) (y : Stays) (w : LinkView) (v : Values) (is : IsShort p l y w v)
+    → AreNamesDistinct p.objects → (old : GoodLink) → IfSome (last_of y.last) (IsLastOf old p)
+    → AreStays y old (known_link p is.placed.known.layout is.placed.naming)
+are_stays p l y w v is names old last = record {
+  naming = is.placed.naming;
+  link = refl;
+  names = names;
+  starts = is.placed.known.starts;
+  files = is.placed.known.files;
+  short = is.length;
+  last = last;
+}
+
+abbrev pub AreComplete : Stays → Type 0
+AreComplete y =
+    (old : GoodLink) (l : KnownLink) → AreStays y old l → IsSome y.last → IsComplete (range_of y) old l
+
+abbrev pub NoneStays : Stays → Type 0
+NoneStays y = y.last ≡ None → (k : SectionKey) → range_of y k ≡ None
+
+pub known_beside : (p : Project) (l : Laying) (y : Stays) (w : LinkView) (v : Values) (r : Relocated)
+    (before after : Counts) (is : IsShort p l y w v) → AreNamesDistinct p.objects
+    → ((s : Layout) (a : NamingState) (old : GoodLink) → placement p.script (rows p) (provided p) ≡ Ok s
+    → IsLinkView (known_link p s a) w → AreValues p s a v → AreStays y old (known_link p s a)
+    → IsRelocatedBeside old (range_of y) p s a r before after)
+    → AreComplete y → NoneStays y
+    → IsKnownBeside p is.placed.known.layout is.placed.naming y r before after
+known_beside p l y w v r before after is names relocated complete none =
+    let k = is.placed.known in
+    let s = k.layout in
+    let a = is.placed.naming in
+    let beside : (old : GoodLink) → IfSome (last_of y.last) (IsLastOf old p)
+    → IsRelocatedBeside old (range_of y) p s a r before after =
+    λ old last. relocated s a old k.laying.placed k.view is.placed.values (are_stays p l y w v is names old last) in
+    let one = candidate p (new_link p s) y.last k.last in
+    let b = beside one.old one.is in
+    record {
+      fields = b.fields;
+      faults = faults b one.good;
+      patches = λ good. record {
+        ends = b.ends good;
+        patches = λ old last some.
+            (beside old last).patches
+            (complete old (known_link p s a) (are_stays p l y w v is names old last) some);
+      };
+      reads = fields_read_nothing _ _ _ b.counts.1;
+    }
+  where
+    faults : {old : GoodLink} {s : Layout} {a : NamingState}
+        → IsRelocatedBeside old (range_of y) p s a r before after → IsGood old ⊎ (y.last ≡ None)
+        → faults_in p r.faults.items ≡ relocation_faults p s
+    faults b (inl good) = b.faults good
+    faults b (inr nothing) = (b.anew (none nothing)).faults
+
+-- the image that was drawn over that of the earlier link, if there is one
+pub drawn_image : (p : Project) (s : Layout) (a : NamingState) (y : Stays) (r : Relocated) (old_bytes bytes : List ℕ)
+    → IfSome (last_of y.last) (HasLast p old_bytes) → NoneStays y
+    → ((old : GoodLink) → IfSome (last_of y.last) (IsLastOf old p)
+    → IsSound (range_of y) old (known_link p s a))
+    → ArePatches p s y r
+    → (((k : SectionKey) → range_of y k ≡ None) → bytes ≡ image p s)
+    → ((old : GoodLink) → IsGood old → IsSound (range_of y) old (known_link p s a)
+    → ArePatchesOf old (new_link p s) r.retargeted.items → old_bytes ≡ image old.project old.layout
+    → bytes ≡ image p s)
+    → bytes ≡ image p s
+drawn_image p s a y r old_bytes bytes has none sound patches anew over = go y.last refl has
+  where
+    go : (last : Option Last) → y.last ≡ last → IfSome (last_of last) (HasLast p old_bytes) → bytes ≡ image p s
+    go None e h = anew (none e)
+    go (Some x) e h =
+        let is : IfSome (last_of y.last) (IsLastOf h.old p) =
+        subst (λ (z : Option Last). IfSome (last_of z) (IsLastOf h.old p)) (sym e) h.is in
+        over h.old h.is.table.good (sound h.old is)
+        (patches.patches h.old is (subst (λ (z : Option Last). IsSome z) (sym e) refl)) h.image
+
+-- a project has one placement, so patches that end within the image at one end within it at each
+pub end_within : (p : Project) (s t : Layout) (qs : List Patch) → placement p.script (rows p) (provided p) ≡ Ok s
+    → placement p.script (rows p) (provided p) ≡ Ok t → All (EndsBy (image_length p s)) qs
+    → All (EndsBy (image_length p t)) qs
+end_within p s t qs e f h =
+    let both = sym e ∙ f in
+    let same : s ≡ t = cc both in
+    subst (λ (z : Layout). All (EndsBy (image_length p z)) qs) same h

@@ -1,0 +1,162 @@
+//! A link over what is kept: names that are decided, matches that are found, and an earlier link, if there is one.
+
+ghost use Rattle.std.specs.Prelude.{◌≡◌, IfErr, IfOk, IfSome, OnErr, OnOk, map};
+ghost use Rattle.ldgathering.specs.Matches.{AreMatched};
+ghost use Rattle.ldkept.specs.Stays.{last_of};
+ghost use Rattle.ldmodel.specs.Link.{link};
+ghost use Rattle.ldnaming.specs.Naming.{IsNaming};
+ghost use Rattle.relink.specs.Ended.{HasEnded, HasLast};
+ghost use Rattle.relink.specs.Phases.{IsArranged, IsDrawn};
+ghost use Rattle.relink.specs.Reads.{EndsReadingNothing, ReadsNothing};
+ghost use Rattle.relink.specs.Stops.{IsStop};
+
+use crate::passes::{Arrangement, Evaluation, arranged, evaluated};
+use crate::stop::Stop;
+use lddrawing::image::draw_image;
+use ldfields::canvas::Canvas;
+use ldgathering::matches::Matches;
+use ldkept::good::Good;
+use ldkept::stays::{Last, Stays};
+use ldkept::symbol_table::SymbolTable;
+use ldlisting::map::map_text;
+use ldmodel::memory::NoMemory;
+use ldmodel::meter::Meter;
+use ldnaming::naming::Naming;
+use ldproject::view::ProjectView;
+use ldvalues::link_view::LinkView;
+use std::alloc::{AllocError, Global};
+
+/// How a link over an earlier one ends.
+#[derive(Drop)]
+pub enum Ended {
+    /// The project has faults, and these are their lines.
+    Faulty(Vec<u8>),
+    /// It has none: what is kept of the link, and its map.
+    Good(Good, Vec<u8>),
+}
+
+/// What a link without faults leaves beside its image.
+#[derive(Drop)]
+pub(crate) struct Drawn {
+    /// What the symbols of its objects are worth.
+    pub symbols: SymbolTable,
+    /// Its map.
+    pub map: Vec<u8>,
+}
+
+/// Evaluates a link whose parts have their places, and draws its image over that of the earlier one. `&*project` and
+/// the like lend these for the time of the locals, as the borrow checker wants it.
+fn drawn_over(
+    alloc: Global,
+    project: &ProjectView<'_>,
+    naming: &Naming,
+    arranged: &Arrangement,
+    last: Option<Last<'_>>,
+    canvas: &mut Canvas,
+    meter: &mut Meter,
+) -> Result<Drawn, Stop>
+    requires naming { IsNaming project.now naming.now }
+    requires arranged { IsArranged project.now arranged.now }
+    requires last { IfSome (last_of last) (HasLast project.now canvas.old.bytes) }
+    ensures good { IfOk result (λ d. IsDrawn project.now arranged.now canvas.new.bytes d) }
+    ensures stop { IfErr result (λ stop. IsStop (link project.now) stop) }
+    ensures reads { OnOk result (ReadsNothing meter.old meter.new) }
+    ensures early { IfErr result (λ stop. EndsReadingNothing meter.old meter.new stop) }
+    ensures unchanged { OnErr result (canvas.new.bytes ≡ canvas.old.bytes) }
+{
+    let Arrangement {
+        rows,
+        laying,
+        starts,
+        files,
+    } = arranged;
+    let view = LinkView::new(alloc, &*project, &*naming, laying, starts)?;
+    let stays = Stays {
+        last,
+        starts,
+        files,
+    };
+    stays.is_complete();
+    let _inputs = project.inputs();
+    let Evaluation { values, fields } = evaluated(
+        alloc, &*project, &*naming, laying, &stays, &view, meter,
+    )?;
+    let symbols = SymbolTable::of(alloc, project, &view, &values.names)?;
+    let map = map_text(alloc, project, rows, laying, &values)?;
+    // the last call that may fail, since it changes the canvas
+    draw_image(
+        alloc,
+        canvas,
+        &*project,
+        rows,
+        laying,
+        starts,
+        &values,
+        &fields,
+        &stays,
+        &fields.retargeted,
+        meter,
+    )?;
+    Ok(Drawn { symbols, map })
+}
+
+/// The phases of a link over an earlier one, in their order.
+fn relinked(
+    alloc: Global,
+    project: &ProjectView<'_>,
+    naming: &Naming,
+    matches: &[&Matches],
+    last: Option<Last<'_>>,
+    canvas: &mut Canvas,
+    meter: &mut Meter,
+) -> Result<Ended, Stop>
+    requires naming { IsNaming project.now naming.now }
+    requires matches { AreMatched project.now (map (λ x. x.now) matches.now) }
+    requires last { IfSome (last_of last) (HasLast project.now canvas.old.bytes) }
+    ensures ended { IfOk result (HasEnded project.now canvas.old.bytes canvas.new.bytes) }
+    ensures stop { IfErr result (λ stop. IsStop (link project.now) stop) }
+    ensures reads { OnOk result (ReadsNothing meter.old meter.new) }
+    ensures early { IfErr result (λ stop. EndsReadingNothing meter.old meter.new stop) }
+    ensures unchanged { OnErr result (canvas.new.bytes ≡ canvas.old.bytes) }
+{
+    let arranged = arranged(alloc, project, naming, matches, meter)?;
+    let drawn = drawn_over(alloc, project, naming, &arranged, last, canvas, meter)?;
+    let Arrangement { starts, files, .. } = arranged;
+    let Drawn { symbols, map } = drawn;
+    let good = Good {
+        starts,
+        files,
+        symbols,
+    };
+    Ok(Ended::Good(good, map))
+}
+
+/// Links a project over names that are decided, matches that are found, and an earlier link, if there is one, whose
+/// image the canvas holds. Where the project has no faults, the canvas then holds its image: of what stayed, only the
+/// fields are written whose symbols have other values. Where it has faults, the canvas is as it was.
+///
+/// # Errors
+///
+/// Where memory runs out. Then the canvas is as it was.
+pub fn relink(
+    alloc: Global,
+    project: &ProjectView<'_>,
+    naming: &Naming,
+    matches: &[&Matches],
+    last: Option<Last<'_>>,
+    canvas: &mut Canvas,
+    meter: &mut Meter,
+) -> Result<Ended, NoMemory>
+    requires naming { IsNaming project.now naming.now }
+    requires matches { AreMatched project.now (map (λ x. x.now) matches.now) }
+    requires last { IfSome (last_of last) (HasLast project.now canvas.old.bytes) }
+    ensures ended { IfOk result (HasEnded project.now canvas.old.bytes canvas.new.bytes) }
+    ensures reads { OnOk result (ReadsNothing meter.old meter.new) }
+    ensures unchanged { OnErr result (canvas.new.bytes ≡ canvas.old.bytes) }
+{
+    match relinked(alloc, project, naming, matches, last, canvas, meter) {
+        Ok(ended) => Ok(ended),
+        Err(Stop::Faulty(lines)) => Ok(Ended::Faulty(lines)),
+        Err(Stop::NoMemory) => Err(AllocError),
+    }
+}
