@@ -108,7 +108,7 @@ may_stand h s key c a ms arranged touched is kept =
           ap (λ (l : List Entry). length l) others,
           length-map (untouched (Some key) entries) (λ (e : Entry). e.named),
           zip_length (IsMatched h.script) (objects_of (untouched (Some key) entries)) (taken_at ms (place_at c.out))
-          taken,
+              taken,
         )
 
 -- what is kept after an edit of an object
