@@ -1,8 +1,10 @@
 //! A text that is made: measured first, and then written into room of that size.
 
-ghost use Rattle.std.specs.Prelude.{◌≡◌, [], OnOk, IfOk, false, true};
+ghost use Rattle.std.specs.Prelude.{◌≡◌, ◌∷◌, [], OnOk, IfOk, false, true};
+ghost use Rattle.ldmodel.specs.Lines.{hex};
 ghost use Rattle.ldtext.specs.Drafts.{added};
 
+use crate::hex::hex_digits;
 use ldmodel::memory::NoMemory;
 use std::alloc::{AllocError, Global};
 use std::marker::Model;
@@ -80,6 +82,36 @@ impl Draft {
             return Ok(());
         }
         self.bytes.extend_from_slice(bytes)?;
+        self.size = size;
+        Ok(())
+    }
+
+    /// Adds a byte at the end; an error as for `put`.
+    #[tactic(auto, unfolding(crate::specs::Drafts::added))]
+    pub fn put_byte(&mut self, byte: u8) -> Result<(), NoMemory>
+        ensures { OnOk result (self.new ≡ added self.old (byte ∷ [])) }
+    {
+        let Some(size) = self.size.checked_add(1) else {
+            return Err(AllocError);
+        };
+        if self.is_written {
+            self.bytes.push(byte)?;
+        }
+        self.size = size;
+        Ok(())
+    }
+
+    /// Adds a number as 16 hex digits at the end; an error as for `put`. Where the text is only measured, no digit is
+    /// worked out.
+    pub fn put_hex(&mut self, number: u64) -> Result<(), NoMemory>
+        ensures { OnOk result (self.new ≡ added self.old (hex number)) }
+    {
+        if self.is_written {
+            return self.put(&hex_digits(number));
+        }
+        let Some(size) = self.size.checked_add(16) else {
+            return Err(AllocError);
+        };
         self.size = size;
         Ok(())
     }

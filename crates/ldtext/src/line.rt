@@ -6,7 +6,6 @@ ghost use Rattle.ldtext.specs.Drafts.{added};
 ghost use Rattle.ldtext.specs.LineWords.{shown, spaced_words};
 
 use crate::draft::Draft;
-use crate::hex::hex_digits;
 use itoa::Buffer;
 use ldmodel::memory::NoMemory;
 
@@ -32,7 +31,7 @@ fn put_word(draft: &mut Draft, word: Word<'_>) -> Result<(), NoMemory>
             let mut buffer = Buffer::new();
             draft.put(buffer.format(number).as_bytes())
         }
-        Word::Hex(number) => draft.put(&hex_digits(number)),
+        Word::Hex(number) => draft.put_hex(number),
         Word::Hyphens => draft.put(b"----------------"),
     }
 }
@@ -43,7 +42,7 @@ fn put_others(draft: &mut Draft, words: &[Word<'_>]) -> Result<(), NoMemory>
     ensures { OnOk result (draft.new ≡ added draft.old (spaced_words words.now)) }
 {
     for word in words {
-        draft.put(b" ")?;
+        draft.put_byte(b' ')?;
         put_word(draft, *word)?;
     }
     Ok(())
@@ -55,9 +54,9 @@ pub fn put_line(draft: &mut Draft, words: &[Word<'_>]) -> Result<(), NoMemory>
     ensures { OnOk result (draft.new ≡ added draft.old (line_of (map shown words.now))) }
 {
     let Some((first, others)) = words.split_first() else {
-        return draft.put(b"\n");
+        return draft.put_byte(b'\n');
     };
     put_word(draft, *first)?;
     put_others(draft, others)?;
-    draft.put(b"\n")
+    draft.put_byte(b'\n')
 }

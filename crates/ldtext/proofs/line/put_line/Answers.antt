@@ -18,4 +18,4 @@ returns c =
     ∙ added_twice c.args.draft.now (shown first) (spaced_words others ++ 10 ∷ [])
     ∙ ap (added c.args.draft.now) (spelled first others
     ∙ ap (λ ws. line_of (map shown ws)) (sym c.in-Some.ensures.cases.0)) in
-    subst (λ d. OnOk c.put-2.result (c.put-2.new.self ≡ d)) whole c.put-2.ensures
+    subst (λ d. OnOk c.put_byte-2.result (c.put_byte-2.new.self ≡ d)) whole c.put_byte-2.ensures

@@ -7,7 +7,7 @@ use Rattle.ldtext.proofs.line.put_others.Goals as goal
 
 pub loop-word-preserved : goal.loop-word-preserved
 loop-word-preserved c =
-    added_step _ _ _ _ _ _ (added_both _ _ _ (32 ∷ []) _ c.in_ok-put.ensures c.in_ok-put_word.ensures)
+    added_step _ _ _ _ _ _ (added_both _ _ _ (32 ∷ []) _ c.in_ok-put_byte.ensures c.in_ok-put_word.ensures)
     (at_drop_more spaced_words c.args.words.now c.loop-word.word-index _ c.loop-word-test.true) c.loop-word.invariant
 
 pub returns : goal.returns
