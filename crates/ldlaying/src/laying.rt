@@ -1,6 +1,6 @@
 //! The layout of a project, or its faults.
 
-ghost use Rattle.std.specs.Prelude.{◌≡◌, IfErr, IfOk, map};
+ghost use Rattle.std.specs.Prelude.{◌≡◌, IfErr, IfOk, IfSome, map};
 ghost use Rattle.ldmodel.specs.Names.{provided};
 ghost use Rattle.ldmodel.specs.Project.{Project};
 ghost use Rattle.ldmodel.specs.Rows as model;
@@ -8,6 +8,7 @@ ghost use Rattle.ldlaying.specs.Laying.{HasLayout, HasPlaces, IsOne, IsWhy};
 ghost use Rattle.ldnaming.specs.Naming.{IsNaming};
 ghost use Rattle.ldproject.specs.ByPlace.{rows_in};
 ghost use Rattle.place.specs.Counted.{CountsPieces, entries};
+ghost use Rattle.place.specs.Kept.{IsKept};
 ghost use Rattle.place.specs.Outcomes as outcomes;
 
 use ldbase::meter::Meter;
@@ -80,19 +81,23 @@ fn place_rows(
     project: &ProjectView<'_>,
     naming: &Naming,
     rows: &[Vec<Piece>],
+    kept: Option<(&Placement, usize)>,
     meter: &mut Meter,
 ) -> Result<Placement, LayFault>
     ghost lent: { Project }
     requires project { project.now ≡ lent }
     requires naming { IsNaming lent naming.now }
     requires rows { rows_in lent rows.now ≡ model.rows lent }
+    requires kept { IfSome kept (λ k. IsKept lent.script (model.rows lent) k.0.now k.1) }
     ensures good { IfOk result (λ l. HasPlaces lent l) }
     ensures faulty { IfErr result (λ f. IsWhy lent f) }
     ensures counted { CountsPieces meter.old meter.new (entries 0 (map (λ v. v.items) rows.now)) }
+    ensures resumed { IfOk result (λ _. IfSome kept.entry (λ k.
+        CountsPieces meter.old meter.new (entries k.1 (map (λ v. v.items) rows.now)))) }
 {
     let script = project.script();
     let provided = naming.provided(alloc, script)?;
-    match place(alloc, script, rows, &provided, None, meter) {
+    match place(alloc, script, rows, &provided, kept, meter) {
         Ok(placement) => Ok(placement),
         Err(fault) => Err(reported(alloc, fault)),
     }
@@ -102,6 +107,9 @@ impl Laying {
     /// Lays the rows of a project out, whose names are decided. The length of the image isn't looked at: it is known
     /// only when the symbols have their values. At most the entries of the rows are counted as placed.
     ///
+    /// With `kept`, an earlier placement of the script and the number of a row before which no row differs from the
+    /// earlier ones, the layout is the same, and at most the entries of the rows from that one on are counted.
+    ///
     /// # Errors
     ///
     /// `Faulty` has the first fault of the layout, or else all output sections that meet.
@@ -110,15 +118,19 @@ impl Laying {
         project: &ProjectView<'_>,
         naming: &Naming,
         rows: &[Vec<Piece>],
+        kept: Option<(&Placement, usize)>,
         meter: &mut Meter,
     ) -> Result<Laying, LayFault>
         requires naming { IsNaming project.now naming.now }
         requires rows { rows_in project.now rows.now ≡ model.rows project.now }
+        requires kept { IfSome kept (λ k. IsKept project.now.script (model.rows project.now) k.0.now k.1) }
         ensures good { IfOk result (λ l. HasLayout project.now l) }
         ensures faulty { IfErr result (λ f. IsWhy project.now f) }
         ensures counted { CountsPieces meter.old meter.new (entries 0 (map (λ v. v.items) rows.now)) }
+        ensures resumed { IfOk result (λ _. IfSome kept.entry (λ k.
+            CountsPieces meter.old meter.new (entries k.1 (map (λ v. v.items) rows.now)))) }
     {
-        let placement = place_rows(alloc, project, naming, rows, meter)?;
+        let placement = place_rows(alloc, project, naming, rows, kept, meter)?;
         let segments = segments(alloc, placement.laid())?;
         Ok(Laying {
             placement,

@@ -13,7 +13,7 @@ returns-clause-faulty g c =
     ∙ (ap (λ ss. provided_names ss c.in_ok-provided.provided.items) script
     ∙ c.in_ok-provided.ensures g.lent c.requires.1.0 (sym script)) in
     c.reported.ensures g.lent
-    (why_of_project g.lent c.script-script.result.now _ _ c.in-Err.fault script c.requires.1.1 names
+    (why_of_project g.lent c.script-script.result.now _ _ c.in-Err.fault script c.requires.1.1.0 names
     c.in-Err.ensures.faulty)
 
 pub returns-in-Ok-clause-good : goal.returns-in-Ok-clause-good
@@ -23,5 +23,5 @@ returns-in-Ok-clause-good g c =
     ap (λ (ks : List CommonIndex). provided_names c.script-script.result.now ks) c.deref.ensures.value
     ∙ (ap (λ ss. provided_names ss c.in_ok-provided.provided.items) script
     ∙ c.in_ok-provided.ensures g.lent c.requires.1.0 (sym script)) in
-    places_of_project g.lent c.script-script.result.now _ _ c.in-Ok.placement script c.requires.1.1 names
+    places_of_project g.lent c.script-script.result.now _ _ c.in-Ok.placement script c.requires.1.1.0 names
     c.in-Ok.ensures.good c.in-Ok.ensures.placed
