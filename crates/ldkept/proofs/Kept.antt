@@ -26,7 +26,8 @@ use Rattle.ldkept.proofs.Once.{own_part}
 
 -- ---- the object of a name
 
-counted : {X : Type 0} (test : X → Bool) (xs : List X) (x : X) → Contains xs x → test x ≡ true → 0 < count_by test xs
+pub counted : {X : Type 0} (test : X → Bool) (xs : List X) (x : X) → Contains xs x → test x ≡ true
+    → 0 < count_by test xs
 counted test [] x c e = absurd (none_in_nil x c)
 counted {X} test (y ∷ ys) x c e = go (first_or_later y ys x c) (λ in_rest. counted test ys x in_rest e)
   where

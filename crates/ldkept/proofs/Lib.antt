@@ -7,3 +7,7 @@ mod Standings
 mod Ranges
 mod Sections
 mod Symbols
+mod Unmarked
+mod FoundSections
+mod SameRows
+mod Resumed

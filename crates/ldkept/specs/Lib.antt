@@ -3,4 +3,8 @@ pub mod FileStarts
 pub mod Standing
 pub mod SymbolTable
 pub mod Table
+pub mod Marks
 pub mod Stays
+pub mod Unmarked
+pub mod First
+pub mod SameRows

@@ -1,11 +1,12 @@
 -- Which input sections of a link stayed where an earlier link has them.
-use Rattle.std.specs.Prelude.{◌≡◌, ◌≤◌, ℕ, List, Option, Some, None, IfSome, option_and_then, slice_index_or}
-use Rattle.std.specs.Prelude.{if◌then◌else◌}
+use Rattle.std.specs.Prelude.{◌≡◌, ◌≤◌, ℕ, Bool, true, List, Option, Some, None, IfSome, option_and_then}
+use Rattle.std.specs.Prelude.{if◌then◌else◌, slice_get, slice_index_or}
 use Rattle.std.specs.Option.{option_map}
+use Rattle.elfobj.specs.Object.{ObjectData}
 use Rattle.elfobj.specs.declared.relocation.SymbolIndex.{SymbolIndex}
 use Rattle.ldmodel.specs.Edits.{AreNamesDistinct}
 use Rattle.ldmodel.specs.Link.{max_image_length}
-use Rattle.ldmodel.specs.Project.{Project}
+use Rattle.ldmodel.specs.Project.{NamedObject, Project}
 use Rattle.ldmodel.specs.SectionHeaders.{image_length}
 use Rattle.ldmodel.specs.Stayed.{GoodLink}
 use Rattle.ldmodel.specs.declared.names.ObjectKey.{ObjectKey}
@@ -20,6 +21,7 @@ use Rattle.ldtargets.specs.declared.value.SymbolValue.{SymbolValue}
 use Rattle.ldtargets.specs.declared.value.SymbolValue.TheVariants.{NotDefined}
 use Rattle.ldvalues.specs.LinkView.{known_link}
 use Rattle.ldkept.specs.FileStarts.{AreFileStarts}
+use Rattle.ldkept.specs.Marks.{AreMarks}
 use Rattle.ldkept.specs.Origins.{AreOrigins}
 use Rattle.ldkept.specs.Standing.{same_standing, standing_in}
 use Rattle.ldkept.specs.SymbolTable.{value_at}
@@ -28,15 +30,32 @@ use Rattle.ldkept.specs.declared.file_starts.FileStarts.{FileStarts}
 use Rattle.ldkept.specs.declared.good.Good.{Good}
 use Rattle.ldkept.specs.declared.standing.Standing.{Standing}
 use Rattle.ldkept.specs.declared.stays.Last.{Last}
+use Rattle.ldkept.specs.declared.stays.Replaced.{Replaced}
 use Rattle.ldkept.specs.declared.stays.Stays.{Stays}
 
--- an earlier link without faults, and which of its objects are still there
+-- an object of the earlier link, its place in it, and the place in the new one of the object that came in its place
+pub record ReplacedState : Type 0 where
+  pub old : ObjectKey
+  pub object : ObjectData
+  pub new : ObjectKey
+
+abbrev pub replaced_state : Replaced → ReplacedState
+replaced_state x = record { old = x.old; object = x.object.now; new = x.new }
+
+-- an earlier link without faults, which of its objects are still there, and which one was replaced
 pub record LastState : Type 0 where
   pub good : Good
   pub from : List (Option ℕ)
+  pub same_script : Bool
+  pub replaced : Option ReplacedState
 
 abbrev pub last_state : Last → LastState
-last_state x = record { good = x.good.now; from = x.from.now }
+last_state x = record {
+  good = x.good.now;
+  from = x.from.now;
+  same_script = x.same_script;
+  replaced = option_map replaced_state x.replaced;
+}
 
 abbrev pub last_of : Option Last → Option LastState
 last_of x = option_map last_state x
@@ -75,10 +94,22 @@ kept_range (Some x) starts files k = kept_at (last_standing x k) (standing_in st
 abbrev pub range_of : Stays → SectionKey → Option FileRange
 range_of s k = kept_range (last_of s.last) s.starts.now s.files.now k
 
--- the earlier link is this one, and its objects are those of the next project as its origins say
+-- this object of the earlier project was replaced by that of the new one which has its name
+pub record IsReplaced (p q : Project) (r : ReplacedState) : Type 0 where
+  pub before : NamedObject
+  pub after : NamedObject
+  pub old : slice_get p.objects r.old.0 ≡ Some before
+  pub new : slice_get q.objects r.new.0 ≡ Some after
+  pub object : before.object ≡ r.object
+  pub name : after.name ≡ before.name
+
+-- the earlier link is this one, its objects are those of the next project as its origins say, and its script is the
+-- same where it is said to be
 pub record IsLastOf (old : GoodLink) (new : Project) (x : LastState) : Type 0 where
   pub table : IsTable old x.good
   pub origins : AreOrigins old.project new x.from
+  pub script : x.same_script ≡ true → old.project.script ≡ new.script
+  pub replaced : IfSome x.replaced (IsReplaced old.project new)
 
 -- the new link, at a layout whose image is not too long, and the earlier one, if there is one
 pub record AreStays (s : Stays) (old : GoodLink) (l : KnownLink) : Type 0 where
@@ -89,3 +120,4 @@ pub record AreStays (s : Stays) (old : GoodLink) (l : KnownLink) : Type 0 where
   pub files : AreFileStarts l.project l.layout s.files.now
   pub short : image_length l.project l.layout ≤ max_image_length
   pub last : IfSome (last_of s.last) (IsLastOf old l.project)
+  pub marks : AreMarks old l.project l.layout s.marks.now

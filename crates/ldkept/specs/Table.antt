@@ -1,5 +1,9 @@
 -- What is kept of a link without faults.
+use Rattle.std.specs.Prelude.{◌≡◌}
+use Rattle.ldlaying.specs.Laying.{IsLaying}
+use Rattle.ldmodel.specs.Rows.{rows}
 use Rattle.ldmodel.specs.Stayed.{GoodLink}
+use Rattle.ldproject.specs.ByPlace.{rows_in}
 use Rattle.ldlaws.specs.Untouched.{IsGood}
 use Rattle.ldmodel.specs.Edits.{AreNamesDistinct}
 use Rattle.ldstarts.specs.Starts.{AreStarts}
@@ -10,6 +14,8 @@ use Rattle.ldkept.specs.declared.good.Good.{Good}
 pub record IsTable (l : GoodLink) (g : Good) : Type 0 where
   pub good : IsGood l
   pub names : AreNamesDistinct l.project.objects
+  pub rows : rows_in l.project g.rows.items ≡ rows l.project
+  pub laying : IsLaying l.project l.layout g.laying
   pub starts : AreStarts l.project l.layout g.starts
   pub files : AreFileStarts l.project l.layout g.files
   pub symbols : AreSymbolValues l.project l.layout g.symbols

@@ -2,12 +2,18 @@
 
 use crate::file_starts::FileStarts;
 use crate::symbol_table::SymbolTable;
+use ldlaying::laying::Laying;
+use ldmodel::rows::Piece;
 use ldstarts::starts::Starts;
 
-/// What is kept of a link without faults: where its input sections and its output sections stand, and what its symbols
-/// are worth, by its own places.
+/// What is kept of a link without faults: its rows, its layout, where its input sections and its output sections stand,
+/// and what its symbols are worth, by its own places.
 #[derive(Drop)]
 pub struct Good {
+    /// The row of each output section.
+    pub rows: Vec<Vec<Piece>>,
+    /// Where everything stands.
+    pub laying: Laying,
     /// Where its input sections stand.
     pub starts: Starts,
     /// Where its output sections stand.

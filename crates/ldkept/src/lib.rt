@@ -2,7 +2,11 @@
 #![tactic(auto)]
 
 pub mod file_starts;
+pub mod first;
 pub mod good;
+pub mod marks;
+mod names;
+mod same;
 mod standing;
 pub mod stays;
 pub mod symbol_table;

@@ -1,6 +1,6 @@
 //! Which input sections of a link stayed where an earlier link has them.
 
-ghost use Rattle.std.specs.Prelude.{◌≡◌, IsSome, None, Option, slice_index_or};
+ghost use Rattle.std.specs.Prelude.{◌≡◌, IsSome, None, Option, slice_index_or, true};
 ghost use Rattle.lddrawing.specs.Kept.{IsSound};
 ghost use Rattle.ldmodel.specs.Stayed.{GoodLink};
 ghost use Rattle.ldtargets.specs.Earlier.{IsComplete};
@@ -10,6 +10,7 @@ ghost use Rattle.ldkept.specs.Stays.{AreStays, last_standing, last_state, last_v
 use crate::file_starts::FileStarts;
 use crate::good::Good;
 use crate::standing::{Standing, find_standing};
+use elfobj::object::Object;
 use elfobj::relocation::SymbolIndex;
 use elfobj::symbol::Symbol;
 use ldlaws::segments::{files_in_order, sections_in_file};
@@ -19,6 +20,17 @@ use ldstarts::starts::Starts;
 use ldtargets::earlier::{Earlier, FileRange};
 use ldtargets::value::SymbolValue;
 
+/// An object of the earlier link in whose place another of its name came.
+#[derive(Clone, Copy)]
+pub struct Replaced<'a> {
+    /// Its place in the earlier link.
+    pub old: ObjectKey,
+    /// The object.
+    pub object: &'a Object,
+    /// The place in the new link of the object that came.
+    pub new: ObjectKey,
+}
+
 /// An earlier link without faults, and at which place of it each object of the new one stood, by the new places; none
 /// where the object was not there, or was another.
 #[derive(Clone, Copy)]
@@ -27,11 +39,15 @@ pub struct Last<'a> {
     pub good: &'a Good,
     /// The places of objects in it.
     pub from: &'a [Option<usize>],
+    /// Whether it is known to be one of the same script.
+    pub same_script: bool,
+    /// The object that was replaced, if one is known.
+    pub replaced: Option<Replaced<'a>>,
 }
 
 impl<'a> Last<'a> {
     /// The place that an object of the new link had in the earlier one.
-    fn place(&self, object: ObjectKey) -> Option<usize>
+    pub(crate) fn place(&self, object: ObjectKey) -> Option<usize>
         ensures { result ≡ slice_index_or self.now.from.now object.0 None }
     {
         self.from.get(object.0).copied().unwrap_or(None)
@@ -70,9 +86,19 @@ pub struct Stays<'a> {
     pub starts: &'a Starts,
     /// Where its output sections stand.
     pub files: &'a FileStarts,
+    /// Which of its objects name a symbol that may have another value than in the last one, by their places; those
+    /// without a mark may.
+    pub marks: &'a [bool],
 }
 
 impl<'a> Stays<'a> {
+    /// Whether an object has a mark; one of which nothing is known has.
+    fn mark(&self, object: ObjectKey) -> bool
+        ensures { result ≡ slice_index_or self.now.marks.now object.0 true }
+    {
+        self.marks.get(object.0).copied().unwrap_or(true)
+    }
+
     /// Each input section that stayed is known to have stayed, where there is an earlier link; each that is known to
     /// have stayed has. The call does nothing.
     pub fn is_complete(&self)
@@ -100,8 +126,8 @@ impl<'a> Earlier for Stays<'a> {
         if before == now { Some(now.range) } else { None }
     }
 
-    fn is_marked(&self, _object: ObjectKey) -> bool {
-        true
+    fn is_marked(&self, object: ObjectKey) -> bool {
+        self.mark(object)
     }
 
     fn value(&self, object: ObjectKey, index: SymbolIndex, _symbol: &Symbol) -> SymbolValue {

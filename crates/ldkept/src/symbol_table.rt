@@ -90,8 +90,15 @@ impl SymbolTable {
     pub(crate) fn value(&self, place: usize, symbol: SymbolIndex) -> SymbolValue
         ensures { result ≡ value_at self.now place symbol.0 }
     {
+        self.numbered(place, symbol.0 as usize)
+    }
+
+    /// The value of the symbol of a number of the object of a place.
+    pub(crate) fn numbered(&self, place: usize, number: usize) -> SymbolValue
+        ensures { result ≡ value_at self.now place number }
+    {
         let start = self.starts.get(place).copied().unwrap_or(0);
-        match start.checked_add(symbol.0 as usize) {
+        match start.checked_add(number) {
             None => SymbolValue::NotDefined,
             Some(at) => self
                 .values
