@@ -8,8 +8,10 @@ use Rattle.ldimage.specs.Stretches.{EndsBy}
 use Rattle.ldkept.specs.Stays.{AreStays, IsLastOf, LastState, last_of, range_of}
 use Rattle.ldkept.specs.declared.stays.Last.{Last}
 use Rattle.ldkept.specs.declared.stays.Stays.{Stays}
+use Rattle.lddrawing.specs.Drawable.{IsDrawableAt}
 use Rattle.lddrawing.specs.Kept.{IsSound}
 use Rattle.ldlaws.specs.Untouched.{IsGood}
+use Rattle.ldlaying.specs.Laying.{IsLaying}
 use Rattle.ldlaying.specs.declared.laying.Laying.{Laying}
 use Rattle.ldmodel.specs.Counts.{Counts}
 use Rattle.ldmodel.specs.Edits.{AreNamesDistinct}
@@ -34,8 +36,9 @@ use Rattle.ldvalues.specs.LinkView.{IsLinkView, known_link}
 use Rattle.ldvalues.specs.Values.{AreValues}
 use Rattle.ldvalues.specs.declared.link_view.LinkView.{LinkView}
 use Rattle.ldvalues.specs.declared.values.Values.{Values}
+use Rattle.relink.specs.Counted.{AreEvaluated, HasEvaluated}
 use Rattle.relink.specs.Ended.{HasLast}
-use Rattle.relink.specs.Phases.{ArePatches, HasOld, IsShort}
+use Rattle.relink.specs.Phases.{AreBeside, ArePatches, HasOld, IsBeside, IsFilled, IsShort}
 use Rattle.relink.specs.Reads.{ReadsNothing}
 use Rattle.relink.proofs.Reading.{fields_read_nothing}
 
@@ -61,20 +64,22 @@ pub record IsKnownBeside (p : Project) (s : Layout) (a : NamingState) (y : Stays
   pub fields : AreRunsUnless (known_link p s a) (λ k. is_some (range_of y k)) r.patches.items r.ends.items
   pub faults : faults_in p r.faults.items ≡ relocation_faults p s
   pub patches : IsGood (new_link p s) → ArePatches p s y r
+  pub counted : AreEvaluated p s y r before after
   pub reads : ReadsNothing before after
 
 -- the new link, and the earlier one
-pub are_stays : (p : Project) (l : Laying) (y : Stays) (w : LinkView) (v : Values) (is : IsShort p l y w v)
-    → AreNamesDistinct p.objects → (old : GoodLink) → IfSome (last_of y.last) (IsLastOf old p)
+pub are_stays : (p : Project) (l : Laying) (y : Stays) (w : LinkView) (v : Values) (is : IsShort p l w v)
+    → AreBeside p is.placed.known.layout y → AreNamesDistinct p.objects → (old : GoodLink) → IfSome (last_of y.last) (IsLastOf old p)
     → AreStays y old (known_link p is.placed.known.layout is.placed.naming)
-are_stays p l y w v is names old last = record {
+are_stays p l y w v is beside names old last = record {
   naming = is.placed.naming;
   link = refl;
   names = names;
-  starts = is.placed.known.starts;
-  files = is.placed.known.files;
+  starts = beside.starts;
+  files = beside.files;
   short = is.length;
   last = last;
+  marks = beside.marks old last;
 }
 
 abbrev pub AreComplete : Stays → Type 0
@@ -85,20 +90,21 @@ abbrev pub NoneStays : Stays → Type 0
 NoneStays y = y.last ≡ None → (k : SectionKey) → range_of y k ≡ None
 
 pub known_beside : (p : Project) (l : Laying) (y : Stays) (w : LinkView) (v : Values) (r : Relocated)
-    (before after : Counts) (is : IsShort p l y w v) → AreNamesDistinct p.objects
+    (before after : Counts) (is : IsShort p l w v) → AreBeside p is.placed.known.layout y
+    → AreNamesDistinct p.objects
     → ((s : Layout) (a : NamingState) (old : GoodLink) → placement p.script (rows p) (provided p) ≡ Ok s
     → IsLinkView (known_link p s a) w → AreValues p s a v → AreStays y old (known_link p s a)
     → IsRelocatedBeside old (range_of y) p s a r before after)
     → AreComplete y → NoneStays y
     → IsKnownBeside p is.placed.known.layout is.placed.naming y r before after
-known_beside p l y w v r before after is names relocated complete none =
+known_beside p l y w v r before after is tables names relocated complete none =
     let k = is.placed.known in
     let s = k.layout in
     let a = is.placed.naming in
     let beside : (old : GoodLink) → IfSome (last_of y.last) (IsLastOf old p)
     → IsRelocatedBeside old (range_of y) p s a r before after =
-    λ old last. relocated s a old k.laying.placed k.view is.placed.values (are_stays p l y w v is names old last) in
-    let one = candidate p (new_link p s) y.last k.last in
+    λ old last. relocated s a old k.laying.placed k.view is.placed.values (are_stays p l y w v is tables names old last) in
+    let one = candidate p (new_link p s) y.last tables.last in
     let b = beside one.old one.is in
     record {
       fields = b.fields;
@@ -107,7 +113,16 @@ known_beside p l y w v r before after is names relocated complete none =
         ends = b.ends good;
         patches = λ old last some.
             (beside old last).patches
-            (complete old (known_link p s a) (are_stays p l y w v is names old last) some);
+            (complete old (known_link p s a) (are_stays p l y w v is tables names old last) some);
+      };
+      counted = record {
+        fields = b.counts;
+        beside = λ old last some good new_good.
+            let all = complete old (known_link p s a) (are_stays p l y w v is tables names old last) some in
+            record {
+              counted = (beside old last).counted all good new_good;
+              few = (beside old last).few all good new_good;
+            };
       };
       reads = fields_read_nothing _ _ _ b.counts.1;
     }
@@ -139,11 +154,42 @@ drawn_image p s a y r old_bytes bytes has none sound patches anew over = go y.la
         over h.old h.is.table.good (sound h.old is)
         (patches.patches h.old is (subst (λ (z : Option Last). IsSome z) (sym e) refl)) h.image
 
--- a project has one placement, so patches that end within the image at one end within it at each
+-- a project has one placement
+pub one_placement : (p : Project) (s t : Layout) → placement p.script (rows p) (provided p) ≡ Ok s
+    → placement p.script (rows p) (provided p) ≡ Ok t → s ≡ t
+one_placement p s t e f =
+    let both = sym e ∙ f in
+    let same : s ≡ t = cc both in
+    same
+
+-- so tables that are beside those of an earlier link at one are so at each
+pub beside_at : (p : Project) (l : Laying) (y : Stays) (s : Layout) → IsLaying p s l → AreBeside p s y → IsBeside p l y
+beside_at p l y s is h =
+    λ t laying. subst (λ (z : Layout). AreBeside p z y) (one_placement p s t is.placed laying.placed) h
+
+-- patches that end within the image at one end within it at each
 pub end_within : (p : Project) (s t : Layout) (qs : List Patch) → placement p.script (rows p) (provided p) ≡ Ok s
     → placement p.script (rows p) (provided p) ≡ Ok t → All (EndsBy (image_length p s)) qs
     → All (EndsBy (image_length p t)) qs
 end_within p s t qs e f h =
-    let both = sym e ∙ f in
-    let same : s ≡ t = cc both in
-    subst (λ (z : Layout). All (EndsBy (image_length p z)) qs) same h
+    subst (λ (z : Layout). All (EndsBy (image_length p z)) qs) (one_placement p s t e f) h
+
+-- and what is counted at one is counted at each
+pub evaluated_at : (p : Project) (l : Laying) (y : Stays) (r : Relocated) (before after : Counts) (s : Layout)
+    → IsLaying p s l → AreEvaluated p s y r before after → HasEvaluated p l y r before after
+evaluated_at p l y r before after s is h =
+    λ t laying.
+    subst (λ (z : Layout). AreEvaluated p z y r before after) (one_placement p s t is.placed laying.placed) h
+
+-- a link that is filled can be drawn
+pub drawable_at : (p : Project) (l : Laying) (y : Stays) (w : LinkView) (v : Values) (r : Relocated)
+    (f : IsFilled p l y w v r)
+    → IsDrawableAt p f.short.placed.known.layout f.short.placed.naming l y.starts.now v r
+    (λ k. is_some (range_of y k))
+drawable_at p l y w v r f = record {
+  laying = f.short.placed.known.laying;
+  starts = f.beside.starts;
+  values = f.short.placed.values;
+  fields = f.fields;
+  short = f.short.length;
+}

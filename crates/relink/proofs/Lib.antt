@@ -1,3 +1,5 @@
 pub mod Beside
+pub mod Placing
 pub mod Reading
 pub mod Stopping
+pub mod Working

@@ -4,6 +4,7 @@ use Rattle.std.specs.List.{All}
 use Rattle.ldimage.specs.Kept.{ArePatchesOf}
 use Rattle.ldimage.specs.Stretches.{EndsBy}
 use Rattle.ldkept.specs.FileStarts.{AreFileStarts}
+use Rattle.ldkept.specs.Marks.{AreMarks}
 use Rattle.ldkept.specs.Stays.{IsLastOf, LastState, kept_range, last_of, range_of}
 use Rattle.ldkept.specs.Table.{IsTable}
 use Rattle.ldkept.specs.declared.stays.Stays.{Stays}
@@ -11,6 +12,7 @@ use Rattle.ldlaws.specs.Untouched.{IsGood}
 use Rattle.ldlaying.specs.Laying.{IsLaying}
 use Rattle.ldlaying.specs.declared.laying.Laying.{Laying}
 use Rattle.ldmodel.specs.Assertions.{assertion_faults}
+use Rattle.ldmodel.specs.Edits.{AreNamesDistinct}
 use Rattle.ldmodel.specs.Image.{image}
 use Rattle.ldmodel.specs.Layout.{Layout}
 use Rattle.ldmodel.specs.Link as model
@@ -49,27 +51,35 @@ pub record HasOld (new : Project) (x : LastState) : Type 0 where
   pub old : GoodLink
   pub is : IsLastOf old new x
 
--- a link whose parts have their places is known, and the earlier one, if there is one
-pub record IsKnown (p : Project) (a : NamingState) (l : Laying) (y : Stays) (w : LinkView) : Type 0 where
+-- a link whose parts have their places is known
+pub record IsKnown (p : Project) (a : NamingState) (l : Laying) (w : LinkView) : Type 0 where
   pub layout : Layout
   pub laying : IsLaying p layout l
-  pub starts : AreStarts p layout y.starts.now
-  pub files : AreFileStarts p layout y.files.now
   pub view : IsLinkView (known_link p layout a) w
-  pub last : IfSome (last_of y.last) (HasOld p)
   pub rest : link p ≡ placed p (model.layout p)
 
 -- and all names have their values
-pub record IsPlaced (p : Project) (l : Laying) (y : Stays) (w : LinkView) (v : Values) : Type 0 where
+pub record IsPlaced (p : Project) (l : Laying) (w : LinkView) (v : Values) : Type 0 where
   pub naming : NamingState
-  pub known : IsKnown p naming l y w
+  pub known : IsKnown p naming l w
   pub values : AreValues p known.layout naming v
 
 -- the image is not too long either
-pub record IsShort (p : Project) (l : Laying) (y : Stays) (w : LinkView) (v : Values) : Type 0 where
-  pub placed : IsPlaced p l y w v
+pub record IsShort (p : Project) (l : Laying) (w : LinkView) (v : Values) : Type 0 where
+  pub placed : IsPlaced p l w v
   pub length : image_length p placed.known.layout ≤ max_image_length
   pub rest : link p ≡ model.relocated p placed.known.layout
+
+-- the tables of a link at a layout beside those of the earlier one, if there is one
+pub record AreBeside (p : Project) (s : Layout) (y : Stays) : Type 0 where
+  pub starts : AreStarts p s y.starts.now
+  pub files : AreFileStarts p s y.files.now
+  pub last : IfSome (last_of y.last) (HasOld p)
+  pub marks : (old : GoodLink) → IfSome (last_of y.last) (IsLastOf old p) → AreMarks old p s y.marks.now
+
+-- at the layout of a laying
+abbrev pub IsBeside : Project → Laying → Stays → Type 0
+IsBeside p l y = (s : Layout) → IsLaying p s l → AreBeside p s y
 
 -- patches of what stayed: they end within the image, and are those of each earlier link that this one may be
 pub record ArePatches (p : Project) (s : Layout) (y : Stays) (r : Relocated) : Type 0 where
@@ -79,7 +89,8 @@ pub record ArePatches (p : Project) (s : Layout) (y : Stays) (r : Relocated) : T
 
 -- all relocations have their fields, but those of what stayed
 pub record IsFilled (p : Project) (l : Laying) (y : Stays) (w : LinkView) (v : Values) (r : Relocated) : Type 0 where
-  pub short : IsShort p l y w v
+  pub short : IsShort p l w v
+  pub beside : AreBeside p short.placed.known.layout y
   pub fields :
       AreRunsUnless (known_link p short.placed.known.layout short.placed.naming) (λ k. is_some (range_of y k))
       r.patches.items r.ends.items
@@ -112,9 +123,19 @@ pub record IsReady (p : Project) (r : Ready) : Type 0 where
   pub rows : rows_in p r.arranged.rows.items ≡ rows_model.rows p
   pub evaluated : IsEvaluated p r.arranged r.evaluation
 
--- a link without faults was drawn: these bytes are its image
+-- a link without faults was drawn: these bytes are its image, and this is its map
+pub record IsGoodImage (p : Project) (l : Laying) (bytes map : List ℕ) : Type 0 where
+  pub layout : Layout
+  pub laying : IsLaying p layout l
+  pub good : IsGood (new_link p layout)
+  pub names : AreNamesDistinct p.objects
+  pub link : link p ≡ record { status = 0; image = bytes; map = map; faults = [] }
+  pub image : bytes ≡ image p layout
+
+-- and what is kept of it is made
 pub record IsDrawn (p : Project) (x : Arrangement) (bytes : List ℕ) (d : Drawn) : Type 0 where
   pub layout : Layout
   pub link : link p ≡ record { status = 0; image = bytes; map = d.map.items; faults = [] }
-  pub table : IsTable (new_link p layout) (record { starts = x.starts; files = x.files; symbols = d.symbols })
+  pub table : IsTable (new_link p layout)
+      (record { rows = x.rows; laying = x.laying; starts = x.starts; files = x.files; symbols = d.symbols })
   pub image : bytes ≡ image p layout

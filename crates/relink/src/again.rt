@@ -4,18 +4,23 @@ ghost use Rattle.std.specs.Prelude.{◌≡◌, IfErr, IfOk, IfSome, OnErr, OnOk,
 ghost use Rattle.ldgathering.specs.Matches.{AreMatched};
 ghost use Rattle.ldkept.specs.Stays.{last_of};
 ghost use Rattle.ldmodel.specs.Link.{link};
+ghost use Rattle.ldmodel.specs.Rows as model;
 ghost use Rattle.ldnaming.specs.Naming.{IsNaming};
+ghost use Rattle.ldproject.specs.ByPlace.{rows_in};
+ghost use Rattle.relink.specs.Counted.{AreDrawn};
 ghost use Rattle.relink.specs.Ended.{HasEnded, HasLast};
-ghost use Rattle.relink.specs.Phases.{IsArranged, IsDrawn};
+ghost use Rattle.relink.specs.Phases.{IsArranged, IsBeside, IsDrawn, IsGoodImage, IsShort};
 ghost use Rattle.relink.specs.Reads.{EndsReadingNothing, ReadsNothing};
 ghost use Rattle.relink.specs.Stops.{IsStop};
+ghost use Rattle.relink.specs.Worked.{HasWorked};
 
-use crate::passes::{Arrangement, Evaluation, arranged, evaluated};
+use crate::passes::{Arrangement, arranged, evaluated, valued};
 use crate::stop::Stop;
 use lddrawing::image::draw_image;
 use ldfields::canvas::Canvas;
 use ldgathering::matches::Matches;
 use ldkept::good::Good;
+use ldkept::marks::marks_of;
 use ldkept::stays::{Last, Stays};
 use ldkept::symbol_table::SymbolTable;
 use ldlisting::map::map_text;
@@ -24,6 +29,7 @@ use ldmodel::meter::Meter;
 use ldnaming::naming::Naming;
 use ldproject::view::ProjectView;
 use ldvalues::link_view::LinkView;
+use ldvalues::values::Values;
 use std::alloc::{AllocError, Global};
 
 /// How a link over an earlier one ends.
@@ -44,9 +50,54 @@ pub(crate) struct Drawn {
     pub map: Vec<u8>,
 }
 
-/// Evaluates a link whose parts have their places, and draws its image over that of the earlier one. `&*project` and
-/// the like lend these for the time of the locals, as the borrow checker wants it.
+/// Evaluates a link whose symbols have their values, draws its image over that of the earlier one, and gives its map.
+/// `&*project` and the like lend these for the time of the locals, as the borrow checker wants it.
 fn drawn_over(
+    alloc: Global,
+    project: &ProjectView<'_>,
+    arranged: &Arrangement,
+    stays: &Stays<'_>,
+    view: &LinkView<'_, '_>,
+    values: &Values<'_>,
+    canvas: &mut Canvas,
+    meter: &mut Meter,
+) -> Result<Vec<u8>, Stop>
+    requires rows { rows_in project.now arranged.now.rows.items ≡ model.rows project.now }
+    requires short { IsShort project.now arranged.now.laying view.now values.now }
+    requires beside { IsBeside project.now arranged.now.laying stays.now }
+    requires last { IfSome (last_of stays.now.last) (HasLast project.now canvas.old.bytes) }
+    ensures good { IfOk result (λ map. IsGoodImage project.now arranged.now.laying canvas.new.bytes map.items) }
+    ensures stop { IfErr result (λ stop. IsStop (link project.now) stop) }
+    ensures reads { OnOk result (ReadsNothing meter.old meter.new) }
+    ensures worked { OnOk result (AreDrawn project.now (last_of stays.now.last) meter.old meter.new) }
+    ensures early { IfErr result (λ stop. EndsReadingNothing meter.old meter.new stop) }
+    ensures unchanged { OnErr result (canvas.new.bytes ≡ canvas.old.bytes) }
+{
+    let Arrangement { rows, laying, .. } = arranged;
+    stays.is_complete();
+    let _inputs = project.inputs();
+    let _bytes = meter.bytes();
+    let fields = evaluated(alloc, &*project, laying, stays, view, values, meter)?;
+    let map = map_text(alloc, project, rows, laying, values)?;
+    // the last call that may fail, since it changes the canvas
+    draw_image(
+        alloc,
+        canvas,
+        &*project,
+        rows,
+        laying,
+        stays.starts,
+        values,
+        &fields,
+        stays,
+        &fields.retargeted,
+        meter,
+    )?;
+    Ok(map)
+}
+
+/// Links a project whose parts have their places, and draws its image over that of the earlier link.
+fn linked_over(
     alloc: Global,
     project: &ProjectView<'_>,
     naming: &Naming,
@@ -61,41 +112,23 @@ fn drawn_over(
     ensures good { IfOk result (λ d. IsDrawn project.now arranged.now canvas.new.bytes d) }
     ensures stop { IfErr result (λ stop. IsStop (link project.now) stop) }
     ensures reads { OnOk result (ReadsNothing meter.old meter.new) }
+    ensures worked { OnOk result (AreDrawn project.now (last_of last.entry) meter.old meter.new) }
     ensures early { IfErr result (λ stop. EndsReadingNothing meter.old meter.new stop) }
     ensures unchanged { OnErr result (canvas.new.bytes ≡ canvas.old.bytes) }
 {
-    let Arrangement {
-        rows,
-        laying,
-        starts,
-        files,
-    } = arranged;
-    let view = LinkView::new(alloc, &*project, &*naming, laying, starts)?;
+    let laying = &arranged.laying;
+    let view = LinkView::new(alloc, &*project, &*naming, laying, &arranged.starts)?;
+    let values = valued(alloc, &*project, &*naming, laying, &view)?;
+    let symbols = SymbolTable::of(alloc, project, &view, &values.names)?;
+    let marks = marks_of(alloc, project, last, &symbols)?;
     let stays = Stays {
         last,
-        starts,
-        files,
+        starts: &arranged.starts,
+        files: &arranged.files,
+        marks: &marks,
     };
-    stays.is_complete();
-    let _inputs = project.inputs();
-    let Evaluation { values, fields } = evaluated(
-        alloc, &*project, &*naming, laying, &stays, &view, meter,
-    )?;
-    let symbols = SymbolTable::of(alloc, project, &view, &values.names)?;
-    let map = map_text(alloc, project, rows, laying, &values)?;
-    // the last call that may fail, since it changes the canvas
-    draw_image(
-        alloc,
-        canvas,
-        &*project,
-        rows,
-        laying,
-        starts,
-        &values,
-        &fields,
-        &stays,
-        &fields.retargeted,
-        meter,
+    let map = drawn_over(
+        alloc, &*project, arranged, &stays, &view, &values, canvas, meter,
     )?;
     Ok(Drawn { symbols, map })
 }
@@ -116,14 +149,22 @@ fn relinked(
     ensures ended { IfOk result (HasEnded project.now canvas.old.bytes canvas.new.bytes) }
     ensures stop { IfErr result (λ stop. IsStop (link project.now) stop) }
     ensures reads { OnOk result (ReadsNothing meter.old meter.new) }
+    ensures worked { IfOk result (HasWorked project.now (last_of last.entry) meter.old meter.new) }
     ensures early { IfErr result (λ stop. EndsReadingNothing meter.old meter.new stop) }
     ensures unchanged { OnErr result (canvas.new.bytes ≡ canvas.old.bytes) }
 {
-    let arranged = arranged(alloc, project, naming, matches, meter)?;
-    let drawn = drawn_over(alloc, project, naming, &arranged, last, canvas, meter)?;
-    let Arrangement { starts, files, .. } = arranged;
+    let arranged = arranged(alloc, project, naming, matches, last, meter)?;
+    let drawn = linked_over(alloc, project, naming, &arranged, last, canvas, meter)?;
+    let Arrangement {
+        rows,
+        laying,
+        starts,
+        files,
+    } = arranged;
     let Drawn { symbols, map } = drawn;
     let good = Good {
+        rows,
+        laying,
         starts,
         files,
         symbols,
@@ -134,6 +175,10 @@ fn relinked(
 /// Links a project over names that are decided, matches that are found, and an earlier link, if there is one, whose
 /// image the canvas holds. Where the project has no faults, the canvas then holds its image: of what stayed, only the
 /// fields are written whose symbols have other values. Where it has faults, the canvas is as it was.
+///
+/// The layout of the earlier link is resumed where its script was the same. Where the project has no faults, no more is
+/// counted than what did not stay: the input sections that are placed from the first row on that differs, the fields
+/// outside of what stayed and those in it whose symbols have other values, and the bytes of both.
 ///
 /// # Errors
 ///
@@ -152,6 +197,7 @@ pub fn relink(
     requires last { IfSome (last_of last) (HasLast project.now canvas.old.bytes) }
     ensures ended { IfOk result (HasEnded project.now canvas.old.bytes canvas.new.bytes) }
     ensures reads { OnOk result (ReadsNothing meter.old meter.new) }
+    ensures worked { IfOk result (HasWorked project.now (last_of last.entry) meter.old meter.new) }
     ensures unchanged { OnErr result (canvas.new.bytes ≡ canvas.old.bytes) }
 {
     match relinked(alloc, project, naming, matches, last, canvas, meter) {

@@ -7,7 +7,7 @@ ghost use Rattle.relink.specs.Phases.{IsArranged, IsEvaluated, IsReady};
 ghost use Rattle.relink.specs.Stops.{IsStop};
 
 use crate::output::Output;
-use crate::passes::{Arrangement, Evaluation, arranged, evaluated};
+use crate::passes::{Arrangement, arranged, evaluated, valued};
 use crate::stop::Stop;
 use lddrawing::image::draw_image;
 use ldfields::canvas::Canvas;
@@ -58,14 +58,14 @@ fn evaluated_alone(
 {
     let laying = &arranged.laying;
     let view = LinkView::new(alloc, &*project, &*naming, laying, &arranged.starts)?;
+    let values = valued(alloc, &*project, &*naming, laying, &view)?;
     let stays = Stays {
         last: None,
         starts: &arranged.starts,
         files: &arranged.files,
+        marks: &[],
     };
-    let Evaluation { values, fields } = evaluated(
-        alloc, &*project, &*naming, laying, &stays, &view, meter,
-    )?;
+    let fields = evaluated(alloc, &*project, laying, &stays, &view, &values, meter)?;
     let owned = OwnedValues::of(alloc, &values)?;
     Ok(OwnEvaluation {
         values: owned,
@@ -87,7 +87,7 @@ fn prepared(
     let naming = Naming::of(alloc, seed, project.inputs(), project.script(), meter)?;
     let matches = match_all(alloc, project)?;
     let lent = lend_all(alloc, &matches)?;
-    let arranged = arranged(alloc, project, &naming, &lent, meter)?;
+    let arranged = arranged(alloc, project, &naming, &lent, None, meter)?;
     let evaluation = evaluated_alone(alloc, project, &naming, &arranged, meter)?;
     Ok(Ready {
         arranged,
@@ -120,6 +120,7 @@ fn drawn(
         last: None,
         starts,
         files,
+        marks: &[],
     };
     stays.is_complete();
     let mut image = Canvas::new(alloc);

@@ -1,14 +1,16 @@
 //! The phases of a link that may have faults, each with an early end.
 
-ghost use Rattle.std.specs.Prelude.{◌≡◌, IfErr, IfOk, OnOk, map};
+ghost use Rattle.std.specs.Prelude.{◌≡◌, IfErr, IfOk, IfSome, OnOk, map};
 ghost use Rattle.ldgathering.specs.Matches.{AreMatched};
+ghost use Rattle.ldkept.specs.Stays.{last_of};
 ghost use Rattle.ldlaying.specs.Laying.{HasLayout};
 ghost use Rattle.ldmodel.specs.Link.{gathering_faults, layout, link, placed, unless};
 ghost use Rattle.ldmodel.specs.Rows as model;
 ghost use Rattle.ldmodel.specs.declared.fault.Fault.TheVariants.{Orphan};
 ghost use Rattle.ldnaming.specs.Naming.{IsNaming};
 ghost use Rattle.ldproject.specs.ByPlace.{rows_in};
-ghost use Rattle.relink.specs.Phases.{IsArranged, IsFaultless, IsFilled, IsKnown, IsPlaced, IsShort};
+ghost use Rattle.relink.specs.Counted.{ArePlaced, HasEvaluated};
+ghost use Rattle.relink.specs.Phases.{HasOld, IsArranged, IsBeside, IsFaultless, IsFilled, IsKnown, IsPlaced, IsShort};
 ghost use Rattle.relink.specs.Reads.{EndsReadingNothing, ReadsNothing};
 ghost use Rattle.relink.specs.Stops.{IsStop};
 
@@ -19,7 +21,8 @@ use lddrawing::length::image_length;
 use ldgathering::gathering::Gathering;
 use ldgathering::matches::Matches;
 use ldkept::file_starts::FileStarts;
-use ldkept::stays::Stays;
+use ldkept::first::resumed;
+use ldkept::stays::{Last, Stays};
 use ldlaying::laying::{LayFault, Laying};
 use ldlisting::fault_lines::fault_text;
 use ldmodel::fault::Fault;
@@ -81,22 +84,27 @@ pub(crate) fn gathered(
     }
 }
 
-/// Layout: where everything stands.
+/// Layout: where everything stands. That of the earlier link, if there is one of the same script, is resumed at the
+/// first row that differs.
 pub(crate) fn laid(
     alloc: Global,
     project: &ProjectView<'_>,
     naming: &Naming,
     rows: &[Vec<Piece>],
+    last: Option<Last<'_>>,
     meter: &mut Meter,
 ) -> Result<Laying, Stop>
     requires naming { IsNaming project.now naming.now }
     requires rows { rows_in project.now rows.now ≡ model.rows project.now }
     requires rest { link project.now ≡ placed project.now (layout project.now) }
+    requires last { IfSome (last_of last) (HasOld project.now) }
     ensures good { IfOk result (λ laying. HasLayout project.now laying) }
     ensures stop { IfErr result (λ stop. IsStop (link project.now) stop) }
     ensures reads { ReadsNothing meter.old meter.new }
+    ensures counted { OnOk result (ArePlaced project.now (last_of last.entry) meter.old meter.new) }
 {
-    match Laying::of(alloc, project, naming, rows, meter) {
+    let kept = resumed(last, project, rows);
+    match Laying::of(alloc, project, naming, rows, kept, meter) {
         Ok(laying) => Ok(laying),
         Err(LayFault::NoMemory) => Err(Stop::NoMemory),
         Err(LayFault::Faulty(faults)) => {
@@ -119,24 +127,28 @@ pub(crate) struct Arrangement {
     pub files: FileStarts,
 }
 
-/// Names, gathering and layout: where everything stands, over names that are decided and matches that are found.
+/// Names, gathering and layout: where everything stands, over names that are decided, matches that are found, and an
+/// earlier link, if there is one.
 pub(crate) fn arranged(
     alloc: Global,
     project: &ProjectView<'_>,
     naming: &Naming,
     matches: &[&Matches],
+    last: Option<Last<'_>>,
     meter: &mut Meter,
 ) -> Result<Arrangement, Stop>
     requires naming { IsNaming project.now naming.now }
     requires matches { AreMatched project.now (map (λ x. x.now) matches.now) }
+    requires last { IfSome (last_of last) (HasOld project.now) }
     ensures good { IfOk result (λ x. IsArranged project.now x) }
     ensures stop { IfErr result (λ stop. IsStop (link project.now) stop) }
     ensures reads { OnOk result (ReadsNothing meter.old meter.new) }
+    ensures counted { OnOk result (ArePlaced project.now (last_of last.entry) meter.old meter.new) }
     ensures early { IfErr result (λ stop. EndsReadingNothing meter.old meter.new stop) }
 {
     named(alloc, project, naming)?;
     let rows = gathered(alloc, project, naming, matches)?;
-    let laying = laid(alloc, project, naming, &rows, meter)?;
+    let laying = laid(alloc, project, naming, &rows, last, meter)?;
     let starts = Starts::of(alloc, project, &rows, &laying)?;
     let files = FileStarts::of(alloc, project, &laying)?;
     Ok(Arrangement {
@@ -152,12 +164,11 @@ fn fits(
     alloc: Global,
     project: &ProjectView<'_>,
     laying: &Laying,
-    stays: &Stays<'_>,
     view: &LinkView<'_, '_>,
     values: &Values<'_>,
 ) -> Result<(), Stop>
-    requires { IsPlaced project.now laying.now stays.now view.now values.now }
-    ensures good { OnOk result (IsShort project.now laying.now stays.now view.now values.now) }
+    requires { IsPlaced project.now laying.now view.now values.now }
+    ensures good { OnOk result (IsShort project.now laying.now view.now values.now) }
     ensures stop { IfErr result (λ stop. IsStop (link project.now) stop) }
 {
     let length = image_length(alloc, project, laying, values)?;
@@ -170,6 +181,24 @@ fn fits(
     }
 }
 
+/// Values: what the symbols are worth, and so the length of the image.
+pub(crate) fn valued<'a>(
+    alloc: Global,
+    project: &'a ProjectView<'_>,
+    naming: &'a Naming,
+    laying: &Laying,
+    view: &LinkView<'_, '_>,
+) -> Result<Values<'a>, Stop>
+    requires naming { IsNaming project.now naming.now }
+    requires known { IsKnown project.now naming.now laying.now view.now }
+    ensures good { IfOk result (λ values. IsShort project.now laying.now view.now values) }
+    ensures stop { IfErr result (λ stop. IsStop (link project.now) stop) }
+{
+    let values = Values::of(alloc, project, naming, laying, view)?;
+    fits(alloc, project, laying, view, &values)?;
+    Ok(values)
+}
+
 /// Relocation: the fields of all relocations, but those of what stayed whose symbols have the values that they had.
 fn relocated(
     alloc: Global,
@@ -180,10 +209,12 @@ fn relocated(
     values: &Values<'_>,
     meter: &mut Meter,
 ) -> Result<Relocated, Stop>
-    requires { IsShort project.now laying.now stays.now view.now values.now }
+    requires short { IsShort project.now laying.now view.now values.now }
+    requires beside { IsBeside project.now laying.now stays.now }
     ensures good { IfOk result (λ r. IsFilled project.now laying.now stays.now view.now values.now r) }
     ensures stop { IfErr result (λ stop. IsStop (link project.now) stop) }
     ensures reads { OnOk result (ReadsNothing meter.old meter.new) }
+    ensures counted { IfOk result (λ r. HasEvaluated project.now laying.now stays.now r meter.old meter.new) }
     ensures early { IfErr result (λ stop. EndsReadingNothing meter.old meter.new stop) }
 {
     stays.is_complete();
@@ -217,35 +248,26 @@ fn asserted(
     }
 }
 
-/// What a link without faults is drawn from, beside its rows and its layout.
-#[derive(Drop)]
-pub(crate) struct Evaluation<'a> {
-    /// The values of names, and the symbols of the output.
-    pub values: Values<'a>,
-    /// The fields of relocations, but those of what stayed whose symbols have the values that they had.
-    pub fields: Relocated,
-}
-
-/// Evaluation: what the symbols are worth, the length of the image, the fields of relocations, and the assertions.
-pub(crate) fn evaluated<'a>(
+/// Evaluation: the fields of relocations, but those of what stayed whose symbols have the values that they had, and the
+/// assertions.
+pub(crate) fn evaluated(
     alloc: Global,
-    project: &'a ProjectView<'_>,
-    naming: &'a Naming,
+    project: &ProjectView<'_>,
     laying: &Laying,
     stays: &Stays<'_>,
     view: &LinkView<'_, '_>,
+    values: &Values<'_>,
     meter: &mut Meter,
-) -> Result<Evaluation<'a>, Stop>
-    requires naming { IsNaming project.now naming.now }
-    requires known { IsKnown project.now naming.now laying.now stays.now view.now }
-    ensures good { IfOk result (λ e. IsFaultless project.now laying.now stays.now view.now e.values e.fields) }
+) -> Result<Relocated, Stop>
+    requires short { IsShort project.now laying.now view.now values.now }
+    requires beside { IsBeside project.now laying.now stays.now }
+    ensures good { IfOk result (λ r. IsFaultless project.now laying.now stays.now view.now values.now r) }
     ensures stop { IfErr result (λ stop. IsStop (link project.now) stop) }
     ensures reads { OnOk result (ReadsNothing meter.old meter.new) }
+    ensures counted { IfOk result (λ r. HasEvaluated project.now laying.now stays.now r meter.old meter.new) }
     ensures early { IfErr result (λ stop. EndsReadingNothing meter.old meter.new stop) }
 {
-    let values = Values::of(alloc, project, naming, laying, view)?;
-    fits(alloc, project, laying, stays, view, &values)?;
-    let fields = relocated(alloc, project, laying, stays, view, &values, meter)?;
-    asserted(alloc, project, laying, stays, view, &values, &fields)?;
-    Ok(Evaluation { values, fields })
+    let fields = relocated(alloc, project, laying, stays, view, values, meter)?;
+    asserted(alloc, project, laying, stays, view, values, &fields)?;
+    Ok(fields)
 }

@@ -1,4 +1,4 @@
-use Rattle.relink.proofs.passes.evaluated.Goals as goal
+use Rattle.relink.proofs.passes.valued.Goals as goal
 
 pub fits-requires : goal.fits-requires
 fits-requires c =
