@@ -1,7 +1,7 @@
 -- What goes and what comes under the key of the object that an edit touches.
-use Rattle.std.proofs.Common.{◌≡◌, ◌∙◌, ◌<◌, ◌≤◌, ◌+◌, ℕ, Bool, true, false, List, [], ◌∷◌, Option, Some, None, length}
-use Rattle.std.proofs.Common.{filter, get_or, not, eqb, ap, refl, sym, subst, arith}
-use Rattle.std.specs.List.{All, insert, remove}
+use Rattle.std.proofs.Common.{◌≡◌, ◌∙◌, ℕ, Bool, true, false, List, [], Option, Some, None, length}
+use Rattle.std.proofs.Common.{get_or, not, eqb, ap, refl, sym, subst, arith}
+use Rattle.std.specs.List.{insert, remove}
 use Rattle.std.specs.Option.{option_map}
 use Rattle.std.specs.Prelude.{is_some, nat_eq, position, unwrap_or}
 use Rattle.std.proofs.lemmas.List.Edits.{get_or-insert_at, length-insert}
@@ -10,13 +10,13 @@ use Rattle.elfobj.specs.Object.{ObjectData}
 use Rattle.elfobj.specs.Symbols.{NamedSymbol}
 use Rattle.ldmodel.specs.Edits.{unnamed}
 use Rattle.ldmodel.specs.Project.{NamedObject}
-use Rattle.ldnames.specs.Change.{CanCome, CanGo, Fits, StandsAt, Table, changed_tables, declared_by, put_in, reversed}
+use Rattle.ldnames.specs.Change.{CanCome, CanGo, Fits, Table, changed_tables, declared_by, put_in, reversed}
 use Rattle.ldnames.specs.Change.{taken_out}
 use Rattle.ldnames.specs.Counted.{declared_in}
 use Rattle.ldnames.specs.declared.change.ObjectAt.{ObjectAt}
 use Rattle.ldnames.specs.declared.change.ObjectChange.{ObjectChange}
 use Rattle.ldproject.specs.Listing.{Entry, found_under, keys_of}
-use Rattle.ldproject.specs.Next.{named_under, next_entries, touched_key}
+use Rattle.ldproject.specs.Next.{next_entries, touched_key}
 use Rattle.ldproject.specs.Tables.{HasTableAt, symbols_under, tables_under, without_table}
 use Rattle.ldproject.specs.Touched.{IsArranged, place_in}
 use Rattle.ldproject.specs.declared.staged.StagedObjects.{StagedObjects}

@@ -1,5 +1,5 @@
 -- The matches of all objects, while one object changes.
-use Rattle.std.proofs.Common.{◌≡◌, ◌∙◌, ◌<◌, ◌≤◌, ◌+◌, ℕ, true, false, List, Option, Some, None, length}
+use Rattle.std.proofs.Common.{◌≡◌, ◌∙◌, ◌<◌, ◌≤◌, ℕ, true, List, Option, Some, None, length}
 use Rattle.std.proofs.Common.{ap, arith, refl, subst, sym}
 use Rattle.std.specs.List.{AllZip, insert, remove}
 use Rattle.std.specs.Prelude.{IfSome, is_some, slice_get, unwrap_or}

@@ -1,18 +1,17 @@
 -- What is kept follows an edit, and goes back.
-use Rattle.std.proofs.Common.{◌≡◌, ◌∙◌, ◌<◌, ◌≤◌, ◌+◌, ℕ, Bool, true, false, List, [], ◌∷◌}
+use Rattle.std.proofs.Common.{◌≡◌, ◌∙◌, ◌≤◌, ℕ, List, [], ◌∷◌}
 use Rattle.std.proofs.Common.{Option, Some, None, length, map, suc}
-use Rattle.std.proofs.Common.{filter, refl, ap, sym, subst, arith}
+use Rattle.std.proofs.Common.{refl, ap, sym, subst, arith}
 use Rattle.std.specs.List.{AllZip}
 use Rattle.std.specs.Prelude.{IfSome, is_some, unwrap_or}
 use Rattle.std.proofs.lemmas.List.{length-map}
-use Rattle.std.proofs.lemmas.List.Edits.{length-remove}
 use Rattle.elfobj.specs.Symbols.{NamedSymbol}
 use Rattle.ldgathering.specs.Matches.{IsMatched}
 use Rattle.ldgathering.specs.declared.matches.Matches.{Matches}
 use Rattle.ldmodel.specs.Names.{symbol_tables}
 use Rattle.ldmodel.specs.Project.{NamedObject, Project}
-use Rattle.ldnames.specs.Change.{CanCome, CanGo, Table, changed_tables, reversed, taken_out}
-use Rattle.ldnames.specs.Decisions.{AreKept, DecisionsState}
+use Rattle.ldnames.specs.Change.{CanGo, Table, changed_tables, reversed}
+use Rattle.ldnames.specs.Decisions.{AreKept}
 use Rattle.ldnames.specs.declared.change.ObjectAt.{ObjectAt}
 use Rattle.ldnames.specs.declared.change.ObjectChange.{ObjectChange}
 use Rattle.ldnaming.specs.Naming.{NamingState}

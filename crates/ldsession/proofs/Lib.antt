@@ -3,7 +3,9 @@ mod Exchanged
 mod Changing
 mod Following
 mod Finding
-mod Same
 mod Since
+mod Putting
+mod Succession
 mod Lending
 mod Working
+mod Bounding

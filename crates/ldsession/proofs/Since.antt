@@ -3,7 +3,7 @@ use Rattle.std.proofs.Common.{◌≡◌, ◌∙◌, ◌<◌, ◌≤◌, ◌+◌,
 use Rattle.std.proofs.Common.{Option, Some, None}
 use Rattle.std.proofs.Common.{cond, length, ltb, map, get_or, refl, ap, sym, subst, arith}
 use Rattle.std.specs.List.{count_by, find, position, position_or_len}
-use Rattle.std.specs.Prelude.{Contains, IfSome, bytes_eq, if◌then◌else◌, is_some, nat_eq, slice_get}
+use Rattle.std.specs.Prelude.{IfSome, bytes_eq, if◌then◌else◌, is_some, nat_eq, slice_get}
 use Rattle.std.proofs.lemmas.Bool.{eq-eqb, eqb-true, ltb-false, ltb-true}
 use Rattle.std.proofs.lemmas.List.{get_or-map, length-map}
 use Rattle.std.proofs.lemmas.List.Sums.{sum_by-cons}
@@ -11,7 +11,7 @@ use Rattle.std.proofs.lemmas.Option.{slice_get-get_or}
 use Rattle.std.proofs.lemmas.Slice.Eq.{bytes_eq-Decides}
 use Rattle.ldmodel.specs.Project.{NamedObject}
 use Rattle.ldproject.specs.Listing.{AreKeysDistinct, Entry, found_under, keys_of, objects_of}
-use Rattle.ldproject.specs.Next.{next_found, put_under, removed_key}
+use Rattle.ldproject.specs.Next.{next_found, put_under, removed_key, touched_key}
 use Rattle.ldproject.specs.Touched.{is_other}
 use Rattle.ldproject.specs.declared.staged.Step.{Step}
 use Rattle.ldproject.specs.declared.staged.Step.TheVariants.{Put, Remove, Move, Stay}
@@ -19,11 +19,12 @@ use Rattle.ldkept.specs.Origins.{AreOrigins}
 use Rattle.ldproject.specs.Order.{HasPlaces}
 use Rattle.ldmodel.specs.Project.{Project}
 use Rattle.ldsession.proofs.Finding.{find_some}
-use Rattle.ldsession.specs.Last.{IsNamedAt, IsNoneOf, IsSince, PutsNoneOf, changed_key, origin_of, without}
+use Rattle.ldsession.specs.Last.{IsNamedAt, IsNoneOf, IsSince, PutsNoneOf, PutsSame, changed_key, lost_key, origin_of}
+use Rattle.ldsession.specs.Last.{replaced_in, without}
 
 -- ---- one list
 
-some_same : {X : Type 0} (x y : X) → Some x ≡ Some y → x ≡ y
+pub some_same : {X : Type 0} (x y : X) → Some x ≡ Some y → x ≡ y
 some_same x y h = cc
 
 counted_head : (key k : ℕ) (ks : List ℕ) → count_by (nat_eq key) (k ∷ ks)
@@ -42,7 +43,7 @@ one_at_least key (k ∷ ks) (suc i) h =
     omega (arith, head, one_at_least key ks i h)
 
 -- the key of the first is none of the others
-other_head : (key k : ℕ) (ks : List ℕ) (i : ℕ) → AreKeysDistinct (k ∷ ks) → slice_get ks i ≡ Some key
+pub other_head : (key k : ℕ) (ks : List ℕ) (i : ℕ) → AreKeysDistinct (k ∷ ks) → slice_get ks i ≡ Some key
     → nat_eq key k ≡ false
 other_head key k ks i distinct h = at (nat_eq key k) refl
   where
@@ -53,7 +54,7 @@ other_head key k ks i distinct h = at (nat_eq key k) refl
         absurd (omega (arith, head, here, one_at_least key ks i h, distinct key))
     at false e = refl
 
-rest_distinct : (k : ℕ) (ks : List ℕ) → AreKeysDistinct (k ∷ ks) → AreKeysDistinct ks
+pub rest_distinct : (k : ℕ) (ks : List ℕ) → AreKeysDistinct (k ∷ ks) → AreKeysDistinct ks
 rest_distinct k ks distinct = λ key. (
     let head = counted_head key k ks in omega (arith, head, distinct key))
 
@@ -166,6 +167,53 @@ none_changed (Remove old) none removed = removed
 none_changed (Move moved) none removed = refl
 none_changed Stay none removed = refl
 
+-- where nothing is put, nothing is replaced
+pub none_replaced : (origin : ℕ → Option ℕ) (es : List Entry) (step : Step) (after : Option ℕ)
+    → ((key : ℕ) → put_under step key ≡ None) → replaced_in origin es step after ≡ None
+none_replaced origin es (Put new named) after none =
+    let some : Some named ≡ None =
+    sym (ap (λ (b : Bool). if b then Some named else None) (eq-eqb new new refl)) ∙ none new in
+    absurd (cc)
+none_replaced origin es (Remove removed) after none = refl
+none_replaced origin es (Move moved) after none = refl
+none_replaced origin es Stay after none = refl
+
+-- a step touches the key that it puts an object under
+pub put_touches : (step : Step) (key : ℕ) (x : NamedObject) → put_under step key ≡ Some x
+    → touched_key step ≡ Some key
+put_touches (Put new named) key x put = at (nat_eq key new) refl
+  where
+    at : (b : Bool) → nat_eq key new ≡ b → Some new ≡ Some key
+    at true e = ap Some (sym (eqb-true key new e))
+    at false e =
+        let empty : None ≡ Some x = sym (ap (λ (b : Bool). if b then Some named else None) e) ∙ put in
+        absurd (cc)
+put_touches (Remove removed) key x put = absurd (cc)
+put_touches (Move moved) key x put = absurd (cc)
+put_touches Stay key x put = absurd (cc)
+
+-- what is under the key of a step that puts
+pub next_put : (es : List Entry) (new : ℕ) (named : NamedObject) → next_found es (Put new named) new ≡ Some named
+next_put es new named = ap (λ (b : Bool). if b then Some named else found_under es new) (eq-eqb new new refl)
+
+pub next_other : (es : List Entry) (new : ℕ) (named : NamedObject) (key : ℕ) → nat_eq key new ≡ false
+    → next_found es (Put new named) key ≡ found_under es key
+next_other es new named key is = ap (λ (b : Bool). if b then Some named else found_under es key) is
+
+-- where the same object is put, all are under their keys as before
+pub found_same : (es : List Entry) (step : Step) → PutsSame es step → (key : ℕ)
+    → next_found es step key ≡ found_under es key
+found_same es (Put new named) same key = at (nat_eq key new) refl
+  where
+    at : (b : Bool) → nat_eq key new ≡ b → next_found es (Put new named) key ≡ found_under es key
+    at true e =
+        ap (λ (b : Bool). if b then Some named else found_under es key) e
+        ∙ (sym same ∙ ap (found_under es) (sym (eqb-true key new e)))
+    at false e = next_other es new named key e
+found_same es (Remove removed) same key = absurd same
+found_same es (Move moved) same key = absurd same
+found_same es Stay same key = absurd same
+
 -- an object under another key than that of a step was there before
 found_before : (es : List Entry) (step : Step) (key : ℕ) (o : NamedObject) → is_other (changed_key step) key ≡ true
     → next_found es step key ≡ Some o → found_under es key ≡ Some o
@@ -230,6 +278,21 @@ since_after old es next step before after found since none but = record {
         since.fresh key o (found_before es step key o e h) (sym (given key true e) ∙ at)
     fresh key o h at false e = found_put old es step key o e h none
 
+-- the same where a step puts an object over the same one, which keeps its origin
+pub since_next : (old : List NamedObject) (es next : List Entry) (step : Step) (same : Bool)
+    (before after : ℕ → Option ℕ) → ((key : ℕ) → found_under next key ≡ next_found es step key) → IsSince old before es
+    → (same ≡ true → PutsSame es step) → (same ≡ false → PutsNoneOf old step)
+    → ((key : ℕ) → after key ≡ without before (lost_key same step) key) → IsSince old after next
+since_next old es next step true before after found since puts none but = record {
+  same = λ key j o h at. since.same key j o (there key o h) (sym (but key) ∙ at);
+  fresh = λ key o h at. since.fresh key o (there key o h) (sym (but key) ∙ at);
+}
+  where
+    there : (key : ℕ) (o : NamedObject) → found_under next key ≡ Some o → found_under es key ≡ Some o
+    there key o h = sym (found_same es step (puts refl) key) ∙ (sym (found key) ∙ h)
+since_next old es next step false before after found since puts none but =
+    since_after old es next step before after found since (none refl) but
+
 -- ---- places
 
 from_at : (origin : ℕ → Option ℕ) (keys : List ℕ) (i j : ℕ) → get_or (map origin keys) i None ≡ Some j
@@ -238,7 +301,7 @@ from_at origin [] i j h = absurd (cc)
 from_at origin (k ∷ ks) zero j h = (k, refl, h)
 from_at origin (k ∷ ks) (suc i) j h = from_at origin ks i j h
 
-from_none : (origin : ℕ → Option ℕ) (keys : List ℕ) (i key : ℕ) → slice_get keys i ≡ Some key
+pub from_none : (origin : ℕ → Option ℕ) (keys : List ℕ) (i key : ℕ) → slice_get keys i ≡ Some key
     → get_or (map origin keys) i None ≡ origin key
 from_none origin [] i key h = absurd (cc)
 from_none origin (k ∷ ks) zero key h = ap origin (some_same k key h)
@@ -278,7 +341,7 @@ within n m i true e h = subst (λ (k : ℕ). k < m) (some_same n i h) (ltb-true 
 within n m i false e h = absurd (cc)
 
 -- the key of a place is the one looked for
-stands_there : (key : ℕ) (keys : List ℕ) (j : ℕ) → position (nat_eq key) keys ≡ Some j → slice_get keys j ≡ Some key
+pub stands_there : (key : ℕ) (keys : List ℕ) (j : ℕ) → position (nat_eq key) keys ≡ Some j → slice_get keys j ≡ Some key
 stands_there key keys j h =
     let inside : j < length keys =
     within (position_or_len (nat_eq key) keys) (length keys) j

@@ -1,7 +1,7 @@
 -- How much an edit counts.
-use Rattle.std.proofs.Common.{◌≡◌, ◌∙◌, ◌<◌, ◌≤◌, ◌+◌, ◌-◌, ◌++◌, ◌⊎◌, ℕ, Bool, true, false, List, [], ◌∷◌}
+use Rattle.std.proofs.Common.{◌≡◌, ◌∙◌, ◌<◌, ◌≤◌, ◌+◌, ◌++◌, ◌⊎◌, ℕ, Bool, true, false, List, [], ◌∷◌}
 use Rattle.std.proofs.Common.{Option, Some, None, append-nil, ap, arith, cond, get_or, inl, inr, length, map, refl, subst, sym}
-use Rattle.std.specs.List.{count_by, find, insert, list_any}
+use Rattle.std.specs.List.{count_by, find, insert}
 use Rattle.std.specs.Option.{option_map_or}
 use Rattle.std.specs.Prelude.{Ok, is_some, nat_eq, nat_lt, slice_get}
 use Rattle.std.proofs.lemmas.Bool.{eq-eqb, ltb-false}
@@ -277,7 +277,7 @@ one_read m0 m1 (inr e) =
 none_read : (m0 m1 : Counts) → m1 ≡ m0 → (m1.objects ≤ m0.objects + 0) × (m1.names ≡ m0.names)
 none_read m0 m1 e = (omega (arith, ap (λ (m : Counts). m.objects) e), ap (λ (m : Counts). m.names) e)
 
-few_read : (change : Change) (m0 m1 : Counts) → ReadsFor change m0 m1
+pub few_read : (change : Change) (m0 m1 : Counts) → ReadsFor change m0 m1
     → (m1.objects ≤ m0.objects + objects_read change) × (m1.names ≡ m0.names)
 few_read (Add name at bytes) m0 m1 h = one_read m0 m1 h
 few_read (Replace name bytes) m0 m1 h = one_read m0 m1 h

@@ -1,5 +1,5 @@
 -- What a session answers of its link.
-use Rattle.std.specs.Prelude.{ℕ, List, []}
+use Rattle.std.specs.Prelude.{ℕ, Bool, true, false, List, []}
 use Rattle.ldmodel.specs.Link.{Link}
 use Rattle.ldsession.specs.declared.answer.Answer.{Answer}
 use Rattle.ldsession.specs.declared.answer.Answer.TheVariants.{Good, Faulty}
@@ -8,3 +8,8 @@ use Rattle.ldsession.specs.declared.answer.Answer.TheVariants.{Good, Faulty}
 abbrev pub shown : List ℕ → Answer → Link
 shown bytes (Good map) = record { status = 0; image = bytes; map = map.items; faults = [] }
 shown bytes (Faulty text) = record { status = 1; image = []; map = []; faults = text.items }
+
+-- it has no faults
+abbrev pub is_good : Answer → Bool
+is_good (Good map) = true
+is_good (Faulty text) = false

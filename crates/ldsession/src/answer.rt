@@ -2,7 +2,7 @@
 
 ghost use Rattle.std.specs.Prelude.{◌≡◌, ℕ, List};
 ghost use Rattle.ldmodel.specs.EditMeaning.{linked_of};
-ghost use Rattle.ldsession.specs.Answer.{shown};
+ghost use Rattle.ldsession.specs.Answer.{is_good, shown};
 
 use ldfields::canvas::Canvas;
 use ldmodel::edit::Linked;
@@ -17,6 +17,16 @@ pub(crate) enum Answer {
 }
 
 impl Answer {
+    /// Whether the link has no faults.
+    pub(crate) fn is_good(&self) -> bool
+        ensures { result ≡ is_good self.now }
+    {
+        match self {
+            Answer::Good(_) => true,
+            Answer::Faulty(_) => false,
+        }
+    }
+
     /// 0 where the link has no faults, else 1.
     pub(crate) fn status(&self) -> u8
         ensures { (bytes : List ℕ) → result ≡ (shown bytes self.now).status }

@@ -13,7 +13,7 @@ ghost use Rattle.ldsession.specs.Change.{names_of_edit};
 ghost use Rattle.ldsession.specs.Kept.{IsKept};
 ghost use Rattle.ldsession.specs.Last.{HasFollowed};
 ghost use Rattle.ldsession.specs.Matches.{IsMatchedOr};
-ghost use Rattle.ldsession.specs.Work.{DecidesFew};
+ghost use Rattle.ldsession.specs.Work.{DecidesFew, HasWorked};
 ghost use Rattle.ldtree.specs.declared.statement.Statement.{Statement};
 ghost use Rattle.relink.specs.Ended.{HasLast};
 
@@ -122,6 +122,8 @@ impl Kept {
         ensures back { OnErr result (IsKept (listing_of project.now) self.new.naming self.new.matches.items) }
         ensures few { OnOk result (DecidesFew meter.old meter.new
             (names_of_edit project.now.contents.entries staged.now.objects)) }
+        ensures worked { IfOk result (HasWorked (project_of (next_listing project.now staged.now))
+            (last_of last.entry) meter.old meter.new) }
     {
         let next = project.next(staged);
         let change = object_change(project, &next, staged, key);
@@ -178,6 +180,8 @@ impl Kept {
         ensures back { OnErr result (IsKept (listing_of project.now) self.new.naming self.new.matches.items) }
         ensures few { OnOk result (DecidesFew meter.old meter.new
             (names_of_edit project.now.contents.entries staged.now.objects)) }
+        ensures worked { IfOk result (HasWorked (project_of (next_listing project.now staged.now))
+            (last_of last.entry) meter.old meter.new) }
     {
         let next = project.next(staged);
         let inputs = next.inputs(alloc)?;
@@ -220,6 +224,8 @@ impl Kept {
         ensures back { OnErr result (IsKept (listing_of project.now) self.new.naming self.new.matches.items) }
         ensures few { OnOk result (DecidesFew meter.old meter.new
             (names_of_edit project.now.contents.entries staged.now.objects)) }
+        ensures worked { IfOk result (HasWorked (project_of (next_listing project.now staged.now))
+            (last_of last.entry) meter.old meter.new) }
     {
         match staged.touched() {
             Some(key) => self.follow_object(alloc, project, staged, key, last, canvas, meter),

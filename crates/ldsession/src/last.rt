@@ -1,15 +1,19 @@
 //! The last link without faults, which outlives edits: what is kept of it, and which of its objects are still there.
 
-ghost use Rattle.std.specs.Prelude.{◌≡◌, ℕ, IfOk, IfSome, List, Some, map, slice_get, true};
-ghost use Rattle.ldkept.specs.Stays.{last_of};
+ghost use Rattle.std.specs.Prelude.{◌≡◌, ℕ, IfOk, IfSome, List, None, Some, false, map, slice_get, true};
+ghost use Rattle.std.specs.Option.{option_copied, option_map};
+ghost use Rattle.ldkept.specs.Stays.{last_of, replaced_state};
 ghost use Rattle.ldmodel.specs.Project.{NamedObject};
 ghost use Rattle.ldproject.specs.Listing.{keys_of};
+ghost use Rattle.ldsession.specs.Answer.{is_good};
 ghost use Rattle.ldsession.specs.Last.{IsAfterFault, IsEndOf, IsFrom, IsNamedAt, IsNoneOf, IsSince};
-ghost use Rattle.ldsession.specs.Last.{Knows, PutsNoneOf, changed_key, lent, origin_of, without};
+ghost use Rattle.ldsession.specs.Last.{Knows, PutsNoneOf, changed_key, lent, lost_key, origin_of, replaced_by};
+ghost use Rattle.ldsession.specs.Last.{replaced_in, without};
 
 use crate::answer::Answer;
+use elfobj::object::Object;
 use ldkept::good::Good;
-use ldkept::stays::Last;
+use ldkept::stays::{Last, Replaced};
 use ldmodel::memory::NoMemory;
 use ldmodel::names::ObjectKey;
 use ldproject::named::NamedObject;
@@ -26,6 +30,19 @@ pub(crate) struct LastGood {
     pub origins: Vec<Option<usize>>,
     /// The names of its objects, by their places.
     pub names: Vec<Vec<u8>>,
+    /// Whether the script is known to be the same still.
+    pub same_script: bool,
+}
+
+/// What an edit means to the last link without faults.
+#[derive(Clone, Copy)]
+pub(crate) struct Effect {
+    /// Whether the object that it puts, if it puts one, is known to be none of that link.
+    pub known: bool,
+    /// The key whose object is none of that link any more, if there is one.
+    pub gone: Option<usize>,
+    /// Whether the script stays.
+    pub same_script: bool,
 }
 
 /// What a link over the last one leads to.
@@ -69,6 +86,30 @@ fn is_named_at(names: &[Vec<u8>], name: &[u8], place: Option<usize>) -> bool
     true
 }
 
+/// An object of the last link, and the place of the one that comes in its place, where there are both.
+fn replaced_at<'a>(
+    old: Option<usize>,
+    object: Option<&'a Object>,
+    new: Option<usize>,
+) -> Option<Replaced<'a>>
+    ensures { option_map replaced_state result ≡ replaced_by old (option_copied object.entry) new }
+{
+    match old {
+        None => None,
+        Some(old) => match object {
+            None => None,
+            Some(object) => match new {
+                None => None,
+                Some(new) => Some(Replaced {
+                    old: ObjectKey(old),
+                    object,
+                    new: ObjectKey(new),
+                }),
+            },
+        },
+    }
+}
+
 impl LastGood {
     /// At which place of the last link the object under a key stood, if it is one of its.
     fn origin(&self, key: usize) -> Option<usize>
@@ -91,7 +132,12 @@ impl LastGood {
     }
 
     /// The place in the last link of the object under a key, if it is one of its and has other bytes than this one.
-    fn replaced(&self, project: &Project, key: ObjectKey, named: &NamedObject) -> Option<usize>
+    fn place_of_other(
+        &self,
+        project: &Project,
+        key: ObjectKey,
+        named: &NamedObject,
+    ) -> Option<usize>
         ensures { IfSome result (λ j. (old : List NamedObject) (y : NamedObject)
             → IsSince old (origin_of self.now.origins.items) project.now.contents.entries → slice_get old j ≡ Some y
             → y.object.text ≡ named.now.object.text → ⊥) }
@@ -111,8 +157,8 @@ impl LastGood {
             → map (λ v. v.items) self.now.names.items ≡ map (λ (o : NamedObject). o.name) old
             → IsSince old (origin_of self.now.origins.items) project.now.contents.entries → IsNoneOf old named.now }
     {
-        let replaced = self.replaced(project, key, named);
-        is_named_at(&self.names, named.name(), replaced)
+        let place = self.place_of_other(project, key, named);
+        is_named_at(&self.names, named.name(), place)
     }
 
     /// Whether the object that an edit puts, if it puts one, is known to be none of the last link.
@@ -125,6 +171,21 @@ impl LastGood {
         match staged.put() {
             None => true,
             Some((key, named)) => self.is_new(project, key, named),
+        }
+    }
+
+    /// The object of the last link in whose place an edit puts one, if it is still there.
+    fn replaced<'a>(&self, project: &'a Project, staged: &Staged) -> Option<Replaced<'a>>
+        ensures { option_map replaced_state result ≡ replaced_in (origin_of self.now.origins.items)
+            project.now.contents.entries staged.now.objects.step staged.now.objects.places.after }
+    {
+        match staged.put() {
+            None => None,
+            Some((key, _named)) => replaced_at(
+                self.origin(key.0),
+                project.object(key),
+                staged.place_after(),
+            ),
         }
     }
 
@@ -149,6 +210,7 @@ impl LastGood {
     fn forget(&mut self, key: Option<usize>)
         ensures good { self.new.good ≡ self.old.good }
         ensures names { self.new.names ≡ self.old.names }
+        ensures script { self.new.same_script ≡ self.old.same_script }
         ensures origins { (k : ℕ) → origin_of self.new.origins.items k
             ≡ without (origin_of self.old.origins.items) key k }
     {
@@ -161,7 +223,7 @@ impl LastGood {
 }
 
 /// Whether there is a last link and the object that an edit puts, if it puts one, is known to be none of its.
-pub(crate) fn is_known(last: &Option<LastGood>, project: &Project, staged: &Staged) -> bool
+fn is_known(last: &Option<LastGood>, project: &Project, staged: &Staged) -> bool
     ensures { result ≡ true → IfSome last.now (λ x. Knows x project.now.contents.entries staged.now.objects.step) }
 {
     match last {
@@ -170,79 +232,8 @@ pub(crate) fn is_known(last: &Option<LastGood>, project: &Project, staged: &Stag
     }
 }
 
-/// The origins of the objects of a next project in the last link, where that is known to have none of what comes. An
-/// error says that memory ran out.
-pub(crate) fn origins_for(
-    alloc: Global,
-    last: &Option<LastGood>,
-    known: bool,
-    next: &Next<'_>,
-    gone: Option<usize>,
-) -> Result<Option<Vec<Option<usize>>>, NoMemory>
-    ensures { IfOk result (λ from. IsFrom last.now known gone (keys_of next.now.entries) from) }
-{
-    match last {
-        Some(last) if known => Ok(Some(last.origins_of(alloc, next, gone)?)),
-        _ => Ok(None),
-    }
-}
-
-/// The last link with these origins, lent to the next link.
-pub(crate) fn lend<'a>(
-    last: &'a Option<LastGood>,
-    from: &'a Option<Vec<Option<usize>>>,
-) -> Option<Last<'a>>
-    ensures { last_of result ≡ lent last.now from.now }
-{
-    match last {
-        None => None,
-        Some(last) => match from {
-            None => None,
-            Some(from) => Some(Last {
-                good: &last.good,
-                from,
-            }),
-        },
-    }
-}
-
-/// Keeps the last link after an edit to a link with faults, without the origin of the object that came or went; where
-/// it isn't known to have none of what came, it goes.
-fn keep_after_fault(last: &mut Option<LastGood>, known: bool, gone: Option<usize>)
-    ensures { IsAfterFault known gone last.old last.new }
-{
-    if !known {
-        *last = None;
-        return;
-    }
-    if let Some(last) = last {
-        last.forget(gone);
-    }
-}
-
-/// What is answered of a link over the last one, which stays the last one where the link has faults.
-pub(crate) fn end(
-    followed: Followed,
-    last: &mut Option<LastGood>,
-    known: bool,
-    gone: Option<usize>,
-) -> Answer
-    ensures { IsEndOf followed known gone last.old last.new result }
-{
-    match followed {
-        Followed::Faulty(text) => {
-            keep_after_fault(last, known, gone);
-            Answer::Faulty(text)
-        }
-        Followed::Good(good, map) => {
-            *last = Some(good);
-            Answer::Good(map)
-        }
-    }
-}
-
 /// The key that an edit puts an object under, or removes.
-pub(crate) fn changed_key(staged: &Staged) -> Option<usize>
+fn changed_key(staged: &Staged) -> Option<usize>
     ensures { result ≡ changed_key staged.now.objects.step }
 {
     match staged.put() {
@@ -251,5 +242,119 @@ pub(crate) fn changed_key(staged: &Staged) -> Option<usize>
             Some(key) => Some(key.0),
             None => None,
         },
+    }
+}
+
+/// The key under which an object comes or goes; none where the same one comes.
+fn lost_key(staged: &Staged, same: bool) -> Option<usize>
+    ensures { result ≡ lost_key same staged.now.objects.step }
+{
+    if same { None } else { changed_key(staged) }
+}
+
+/// Whether an edit leaves the script.
+fn leaves_script(staged: &Staged) -> bool
+    ensures yes { result ≡ true → staged.now.script ≡ None }
+    ensures no { staged.now.script ≡ None → result ≡ true }
+{
+    match staged.new_script() {
+        None => true,
+        Some(_) => false,
+    }
+}
+
+/// What an edit means to the last link, where `same` says whether it puts an object over the same one. Where the answer
+/// has no faults, the last link is that of the project before the edit, and what comes is none of its objects; else the
+/// names of these are looked through.
+pub(crate) fn effect_of(
+    last: &Option<LastGood>,
+    answer: &Answer,
+    project: &Project,
+    staged: &Staged,
+    same: bool,
+) -> Effect
+    ensures current { is_good answer.now ≡ true → result.known ≡ true }
+    ensures knows { is_good answer.now ≡ false → result.known ≡ true
+        → IfSome last.now (λ x. Knows x project.now.contents.entries staged.now.objects.step) }
+    ensures gone { result.gone ≡ lost_key same staged.now.objects.step }
+    ensures changed { result.same_script ≡ true → staged.now.script ≡ None }
+    ensures stays { staged.now.script ≡ None → result.same_script ≡ true }
+{
+    Effect {
+        known: answer.is_good() || is_known(last, project, staged),
+        gone: lost_key(staged, same),
+        same_script: leaves_script(staged),
+    }
+}
+
+/// The origins of the objects of a next project in the last link, where that is known to have none of what comes. An
+/// error says that memory ran out.
+pub(crate) fn origins_for(
+    alloc: Global,
+    last: &Option<LastGood>,
+    effect: Effect,
+    next: &Next<'_>,
+) -> Result<Option<Vec<Option<usize>>>, NoMemory>
+    ensures { IfOk result (λ from. IsFrom last.now effect.known effect.gone (keys_of next.now.entries) from) }
+{
+    match last {
+        Some(last) if effect.known => Ok(Some(last.origins_of(alloc, next, effect.gone)?)),
+        _ => Ok(None),
+    }
+}
+
+/// The last link with these origins, lent to the next link.
+pub(crate) fn lend<'a>(
+    last: &'a Option<LastGood>,
+    from: &'a Option<Vec<Option<usize>>>,
+    effect: Effect,
+    project: &'a Project,
+    staged: &Staged,
+) -> Option<Last<'a>>
+    ensures { last_of result ≡ lent last.now from.now effect.same_script project.now.contents.entries
+        staged.now.objects }
+{
+    match last {
+        None => None,
+        Some(last) => match from {
+            None => None,
+            Some(from) => Some(Last {
+                good: &last.good,
+                from,
+                same_script: last.same_script && effect.same_script,
+                replaced: last.replaced(project, staged),
+            }),
+        },
+    }
+}
+
+/// Keeps the last link after an edit to a link with faults, without the origin of the object that came or went; where
+/// it isn't known to have none of what came, it goes.
+fn keep_after_fault(last: &mut Option<LastGood>, effect: Effect)
+    ensures { IsAfterFault effect.known effect.gone effect.same_script last.old last.new }
+{
+    if !effect.known {
+        *last = None;
+        return;
+    }
+    if let Some(last) = last {
+        last.forget(effect.gone);
+        last.same_script = last.same_script && effect.same_script;
+    }
+}
+
+/// What is answered of a link over the last one, which stays the last one where the link has faults.
+pub(crate) fn end(followed: Followed, last: &mut Option<LastGood>, effect: Effect) -> Answer
+    ensures { IsEndOf followed effect last.old last.new result }
+{
+    match followed {
+        Followed::Faulty(text) => {
+            keep_after_fault(last, effect);
+            Answer::Faulty(text)
+        }
+        Followed::Good(good, map) => {
+            *last = Some(good);
+            Answer::Good(map)
+        }
     }
 }

@@ -1,5 +1,5 @@
 //! A linker that keeps, from one link to the next, what names stand for, which statements take input sections, and the
-//! last link without faults, over whose image the next one is drawn.
+//! last link without faults, whose layout the next one resumes, and over whose image it is drawn.
 #![tactic(auto)]
 
 mod answer;

@@ -10,6 +10,7 @@ ghost use Rattle.ldproject.specs.Inputs.{shown_inputs};
 ghost use Rattle.ldproject.specs.Listing.{AreKeysDistinct, keys_of};
 ghost use Rattle.ldsession.specs.Kept.{IsKept};
 ghost use Rattle.ldsession.specs.Last.{HasFollowed};
+ghost use Rattle.ldsession.specs.Work.{HasWorked};
 ghost use Rattle.relink.specs.Ended.{HasLast};
 ghost use Rattle.relink.specs.Reads.{ReadsNothing};
 
@@ -60,6 +61,7 @@ fn link_keyed(
         → HasFollowed l canvas.old.bytes canvas.new.bytes r) }
     ensures unchanged { OnErr result (canvas.new.bytes ≡ canvas.old.bytes) }
     ensures reads { OnOk result (ReadsNothing meter.old meter.new) }
+    ensures worked { IfOk result (HasWorked project.now (last_of last.entry) meter.old meter.new) }
 {
     found_where_placed();
     let lent = lend_all(alloc, matches)?;
@@ -73,6 +75,7 @@ fn link_keyed(
                 good,
                 origins,
                 names,
+                same_script: true,
             },
             map,
         )),
@@ -95,6 +98,7 @@ pub(crate) fn link_next(
     ensures followed { IfOk result (HasFollowed next.now canvas.old.bytes canvas.new.bytes) }
     ensures unchanged { OnErr result (canvas.new.bytes ≡ canvas.old.bytes) }
     ensures reads { OnOk result (ReadsNothing meter.old meter.new) }
+    ensures worked { IfOk result (HasWorked (project_of next.now) (last_of last.entry) meter.old meter.new) }
 {
     naming.names_kept();
     let inputs = next.inputs(alloc)?;

@@ -6,15 +6,16 @@ ghost use Rattle.ldmodel.specs.Link.{link};
 ghost use Rattle.ldmodel.specs.Project.{empty_project};
 ghost use Rattle.ldproject.specs.Holding.{held, listing_of};
 ghost use Rattle.ldsession.specs.Kept.{IsKept};
-ghost use Rattle.ldsession.specs.Work.{IsReadingWork};
+ghost use Rattle.ldsession.specs.Work.{IsWholeWork};
 ghost use Rattle.relink.specs.Applied.{Applied};
 
 use crate::answer::Answer;
 use crate::keeping::Kept;
-use crate::last::{LastGood, changed_key, end, is_known, lend, origins_for};
+use crate::last::{Effect, LastGood, effect_of, end, lend, origins_for};
 use crate::linking::link_first;
-use crate::unchanged::is_unchanged;
+use crate::unchanged::{is_unchanged, puts_same};
 use ldfields::canvas::Canvas;
+use ldlaws::stayed::stayed_in_image;
 use ldmodel::edit::{Edit, EditRefusal, Linked};
 use ldmodel::linker::Linker;
 use ldmodel::memory::NoMemory;
@@ -22,20 +23,22 @@ use ldmodel::meter::Meter;
 use ldmodel::options::Options;
 use ldnames::law::{distinct_more, names_of_objects};
 use ldnaming::naming::Naming;
+use ldproject::law::found_where_placed;
 use ldproject::project::Project;
 use std::alloc::Global;
 use std::hash::RandomState;
 use std::marker::Model;
 
 /// A linker that keeps what names stand for, which statements take the input sections of each object, and the last link
-/// without faults. An edit of an object reads at most that object, and decides its names alone; its image is drawn over
-/// the last one, but for the input sections that stayed. The layout is made anew.
+/// without faults. An edit of an object reads at most that object, and decides its names alone. Where the link before
+/// it has no faults, input sections are placed only from the first output section on that changed, and the image is
+/// drawn over the last one, but for the input sections that stayed.
 #[derive(Drop)]
 pub struct Session {
     alloc: Global,
     project: Project,
     kept: Kept,
-    // the last link without faults, whose image is on the canvas
+    // the last link without faults, whose image is on the canvas: that of the project, where the answer has no faults
     last: Option<LastGood>,
     canvas: Canvas,
     answer: Answer,
@@ -43,14 +46,14 @@ pub struct Session {
 
 impl Model for Session {
     ghost use Rattle.std.specs.Coded.{codes};
-    ghost use Rattle.std.specs.Prelude.{◌≡◌, IfSome};
+    ghost use Rattle.std.specs.Prelude.{◌≡◌};
     ghost use Rattle.ldtree.specs.contracts.formula.Formula as formula;
     ghost use Rattle.ldmodel.specs.Link.{link};
     ghost use Rattle.ldmodel.specs.Project.{Project};
     ghost use Rattle.ldproject.specs.Holding.{held, listing_of};
     ghost use Rattle.ldsession.specs.Answer.{shown};
     ghost use Rattle.ldsession.specs.Kept.{IsKept};
-    ghost use Rattle.ldsession.specs.Last.{HasKept};
+    ghost use Rattle.ldsession.specs.Last.{IsLast};
 
     ghost Value = { Project };
 
@@ -60,7 +63,7 @@ impl Model for Session {
 
     ghost invariant = { λ s. (shown s.canvas.bytes s.answer ≡ link (held s.project))
         × IsKept (listing_of s.project) s.kept.naming s.kept.matches.items
-        × IfSome s.last (HasKept (listing_of s.project) s.canvas.bytes) };
+        × IsLast (listing_of s.project) s.canvas.bytes s.answer s.last };
 }
 
 /// What is kept of a project without objects. An error says that memory ran out.
@@ -89,7 +92,12 @@ impl Session {
         let mut canvas = Canvas::new(alloc);
         let followed = link_first(alloc, &project, &kept.naming, &kept.matches, &mut canvas)?;
         let mut last = None;
-        let answer = end(followed, &mut last, true, None);
+        let effect = Effect {
+            known: true,
+            gone: None,
+            same_script: true,
+        };
+        let answer = end(followed, &mut last, effect);
         Ok(Session {
             alloc,
             project,
@@ -104,26 +112,28 @@ impl Session {
     /// one of the same bytes changes nothing, and is answered from what is kept.
     fn make(&mut self, edit: Edit<'_>, meter: &mut Meter) -> Result<Linked, EditRefusal>
         ensures applied { Applied self.old (change_of edit.entry) self.new result }
-        ensures counted { OnOk result (IsReadingWork self.old (change_of edit.entry) self.new meter.old meter.new) }
+        ensures counted { OnOk result (IsWholeWork self.old (change_of edit.entry) self.new meter.old meter.new) }
     {
         names_of_objects();
         distinct_more();
+        stayed_in_image();
+        found_where_placed();
         let staged = match self.project.stage(edit, meter) {
             Err(refusal) => return Err(refusal),
             Ok(staged) => staged,
         };
-        if is_unchanged(&self.project, &staged) {
+        let same = puts_same(&self.project, &staged);
+        if is_unchanged(&self.project, &staged, same) {
             return Ok(self.answer.summary(&self.canvas));
         }
-        let known = is_known(&self.last, &self.project, &staged);
         let next = self.project.next(&staged);
         let _keys = next.keys();
-        let gone = changed_key(&staged);
-        let from = match origins_for(self.alloc, &self.last, known, &next, gone) {
+        let effect = effect_of(&self.last, &self.answer, &self.project, &staged, same);
+        let from = match origins_for(self.alloc, &self.last, effect, &next) {
             Err(_) => return Err(EditRefusal::NoMemory),
             Ok(from) => from,
         };
-        let last = lend(&self.last, &from);
+        let last = lend(&self.last, &from, effect, &self.project, &staged);
         match self.kept.follow(
             self.alloc,
             &self.project,
@@ -135,7 +145,7 @@ impl Session {
             Err(_) => Err(EditRefusal::NoMemory),
             Ok(followed) => {
                 self.project.commit(staged);
-                self.answer = end(followed, &mut self.last, known, gone);
+                self.answer = end(followed, &mut self.last, effect);
                 Ok(self.answer.summary(&self.canvas))
             }
         }
@@ -145,7 +155,7 @@ impl Session {
 impl Linker for Session {
     ghost project = { λ s. s };
 
-    ghost bound = { IsReadingWork };
+    ghost bound = { IsWholeWork };
 
     fn apply(&mut self, edit: Edit<'_>, meter: &mut Meter) -> Result<Linked, EditRefusal> {
         self.make(edit, meter)

@@ -1,4 +1,4 @@
-use Rattle.std.proofs.Common.{◌≡◌, ◌∙◌, List, [], get_or, map, refl, sym, ap}
+use Rattle.std.proofs.Common.{◌∙◌, [], map, sym, ap}
 use Rattle.std.proofs.lemmas.List.{get_or-map}
 use Rattle.ldsession.proofs.Since.{named_more, same_bytes}
 use Rattle.ldsession.proofs.last.is_named_at.Goals as goal

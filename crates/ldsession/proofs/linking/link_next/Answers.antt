@@ -2,7 +2,7 @@ use Rattle.std.proofs.Common.{◌∙◌, ap, map, subst, sym}
 use Rattle.ldmodel.specs.Project.{Project}
 use Rattle.ldnames.specs.Change.{Table}
 use Rattle.ldnaming.specs.Naming.{IsNaming}
-use Rattle.ldproject.specs.Holding.{listing_of, project_of}
+use Rattle.ldproject.specs.Holding.{project_of}
 use Rattle.ldsession.proofs.Following.{tables_of_objects}
 use Rattle.ldsession.proofs.linking.link_next.Goals as goal
 

@@ -1,15 +1,18 @@
 use Rattle.std.proofs.Common.{◌∙◌, ℕ, List, Option, ap, arith, length, map, refl, subst, sym}
 use Rattle.std.specs.Vec.{vec_len}
 use Rattle.ldgathering.specs.declared.matches.Matches.{Matches}
+use Rattle.ldkept.specs.Stays.{last_of}
 use Rattle.ldnames.specs.Change.{Table, changed_tables}
 use Rattle.ldnames.specs.Decisions.{AreKept}
-use Rattle.ldproject.specs.Holding.{Listing, next_listing}
+use Rattle.ldproject.specs.Holding.{Listing, next_listing, project_of}
 use Rattle.ldproject.specs.Listing.{keys_of}
 use Rattle.ldproject.specs.Next.{next_entries}
 use Rattle.ldtree.specs.declared.statement.Statement.{Statement}
 use Rattle.ldsession.specs.Change.{place_at}
 use Rattle.ldsession.specs.Kept.{IsKept}
 use Rattle.ldsession.specs.Matches.{exchanged, gone_at}
+use Rattle.ldsession.specs.Work.{HasWorked}
+use Rattle.ldsession.proofs.Bounding.{names_link_nothing, worked_from}
 use Rattle.ldsession.proofs.Exchanged.{MayStand, Stands, added_within, exchanged_as, gone_as, into_within, may_after}
 use Rattle.ldsession.proofs.Exchanged.{out_within, stands_after}
 use Rattle.ldsession.proofs.Following.{both_come, coming_of, kept_after, kept_back, kept_forgetting}
@@ -184,6 +187,15 @@ returns-in-Ok-clause-kept c =
     (c.script.ensures ∙ ap (λ (l : Listing). l.script) c.next-next.ensures.next) c.change-order.ensures.kept)
     (coming_of h s c.args.key.0 c.next-next.result x coming c.next-next.ensures.next c.object_change-change.ensures.is
     c.in_ok-coming.ensures.coming)))
+
+pub returns-in-Ok-clause-worked : goal.returns-in-Ok-clause-worked
+returns-in-Ok-clause-worked c =
+    subst (λ (l : Listing). HasWorked (project_of l) (last_of c.args.last) c.args.meter.now c.link_next.new.meter
+    c.in-Ok.followed) c.next-next.ensures.next
+    (worked_from (project_of c.next-next.result) (last_of c.args.last) c.args.meter.now c.change-order.new.meter
+    c.link_next.new.meter c.in-Ok.followed
+    (names_link_nothing c.args.meter.now c.change-order.new.meter _ c.change-order.ensures.counted)
+    c.in-Ok.ensures.worked)
 
 pub returns-in-Err-clause-back : goal.returns-in-Err-clause-back
 returns-in-Err-clause-back c =

@@ -1,12 +1,14 @@
 use Rattle.std.proofs.Common.{None, true}
 use Rattle.ldproject.specs.Holding.{listing_of}
 use Rattle.ldsession.proofs.Lending.{ended, none_kept}
+use Rattle.ldsession.specs.declared.last.Effect.{Effect}
 use Rattle.ldsession.proofs.session.Session.new.Goals as goal
 
 pub invariant_of-result : goal.invariant_of-result
 invariant_of-result c =
     let l = listing_of c.new-project.result in
-    let both = ended l c.new-canvas.result.bytes c.link_first.new.canvas.bytes c.in_ok-followed.followed true None None
+    let e : Effect = record { known = true; gone = None; same_script = true } in
+    let both = ended l c.new-canvas.result.bytes c.link_first.new.canvas.bytes c.in_ok-followed.followed e None
     c.end-answer.new.last c.end-answer.result c.in_ok-followed.ensures.followed c.end-answer.ensures
-    (none_kept l c.new-canvas.result.bytes) in
+    (none_kept l c.new-canvas.result.bytes None true) in
     (both.0, c.in_ok-kept.ensures, both.1)
