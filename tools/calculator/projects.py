@@ -27,14 +27,17 @@ def called(number, count, chance):
     return f"f{other}_{chance.randrange(FUNCTIONS)}"
 
 
-def project_object(number, count, size=512):
-    """Object `number` of `count`: ten functions of 25 relocations each, calls and addresses, and five data objects."""
+def project_object(number, count, size=512, code=b"\x90", another=False):
+    """Object `number` of `count`: ten functions of 25 relocations each, calls and addresses, and five data objects.
+
+    `code` is what a function is filled with; `another` asks for one more global symbol.
+    """
     chance = random.Random(number)
     sections, symbols, relocations, wanted = [], [], [], {}
     for k in range(FUNCTIONS):
         name = "_start" if number == 0 and k == 0 else f"f{number}_{k}"
         section = ".text.start" if name == "_start" else f".text.{name}"
-        sections.append(Sec(section, b"\x90" * size, CODE, alignment=16))
+        sections.append(Sec(section, code * size, CODE, alignment=16))
         symbols.append(Sym(name, len(sections), 0, size, elf.STB_GLOBAL, elf.STT_FUNC))
         if name == "_start":
             symbols.append(Sym(f"f{number}_{k}", len(sections), 0, size, elf.STB_GLOBAL, elf.STT_FUNC))
@@ -47,6 +50,8 @@ def project_object(number, count, size=512):
         sections.append(Sec(f".data.d{number}_{k}", bytes(64), DATA, alignment=8))
         symbols.append(Sym(f"d{number}_{k}", len(sections), 0, 64, elf.STB_GLOBAL, elf.STT_OBJECT))
     sections.append(Sec(f".rodata.r{number}", b"text\0" * 20, READ_ONLY))
+    if another:
+        symbols.append(Sym(f"another{number}", 1, 0, size, elf.STB_GLOBAL, elf.STT_FUNC))
     have = {symbol.name for symbol in symbols}
     for entry in relocations:
         if entry[3] not in have and entry[3] not in wanted:
