@@ -6,7 +6,7 @@ PREFIX ?= /usr/local
 export LDI
 
 .PHONY: help demo ldi install check test fmt examples bench check-real check-images check-model check-link \
-        check-readers check-session mutants
+        check-readers check-session check-counts check-memory mutants
 
 help: ## this list
 	@awk -F ':.*## ' '/^[a-z-]+:.*## / { printf "make %-14s %s\n", $$1, $$2 }' Makefile
@@ -58,6 +58,12 @@ check-readers: ## tries `readobj FILE` and `readscript FILE` on refused files
 check-session: ## compares sessions with links from scratch on 1,000 lists of 50 edits, by trylink as `rt run` left it
 	@test -x crates/trylink/out/trylink || { echo "trylink is not built: run 'rt run' in crates/trylink" >&2; exit 1; }
 	tools/check-session
+
+check-counts: ## looks whether work can be done without being counted: rules over the text, code that must not compile
+	tools/check-counts --compile
+
+check-memory: ## refuses each allocation of a session in turn, and compares the answers
+	tools/fail-alloc "$(LDI)"
 
 mutants: ## tries the wrong bodies under mutants/, of one crate with CRATE=NAME; all take an hour or more
 	tools/mutants $(CRATE)
