@@ -1,6 +1,7 @@
 """Whole streams of commands: the calculator's worked rows and its rows for images (all but those of more than 2^17
-bytes), random streams, and lists of edits, all five kinds in each, of whose answers a checksum is printed. What must be
-printed is made of the calculator's answers (tools/calculator/answers.py)."""
+bytes), random streams, lists of edits, all five kinds in each, of whose answers a checksum is printed, and worked rows
+of whose edits it is printed what they count. What must be printed is made of the calculator's answers
+(tools/calculator/answers.py), and of the counts below."""
 import re
 import sys
 
@@ -11,6 +12,35 @@ LONGEST_TITLE = 48
 SEEDS = range(1, 31)
 LISTS = range(1, 25)
 EDITS = 50
+
+# What each edit of a worked row counts in a session: objects read, names decided, input sections placed, relocations
+# evaluated, bytes of the image written.
+COUNTS = {
+    "first weak by order": [(0, 0, 0, 0, 448), (1, 1, 1, 0, 4512), (1, 1, 2, 0, 4508), (1, 1, 3, 1, 4512),
+        (0, 1, 0, 1, 4511)],
+    "collected": [(0, 0, 0, 0, 0), (1, 3, 1, 2, 0), (1, 1, 2, 2, 0), (1, 1, 3, 2, 4592), (1, 3, 2, 2, 4552),
+        (0, 1, 0, 0, 4541)],
+    "load addresses": [(0, 0, 0, 0, 584), (1, 0, 1, 0, 4624), (1, 0, 1, 0, 8714), (1, 0, 1, 0, 8706),
+        (1, 0, 3, 0, 8712)],
+    "layout again": [(0, 0, 0, 0, 512), (1, 0, 1, 0, 4552), (1, 0, 1, 0, 8644), (1, 0, 1, 0, 8652),
+        (1, 0, 2, 0, 8644)],
+    "a call moves": [(0, 0, 0, 0, 448), (1, 1, 1, 1, 0), (1, 0, 2, 1, 0), (1, 1, 3, 1, 4520), (1, 0, 3, 1, 4535)],
+    "replaced by itself": [(0, 0, 0, 0, 448), (1, 0, 1, 0, 4488), (1, 0, 0, 0, 0), (1, 0, 2, 0, 4488),
+        (0, 0, 0, 0, 4480), (0, 0, 1, 0, 4488)],
+}
+
+# The same at most, worked out by hand, for the edit of a number, from 0: of the bytes those before the loaded end, which
+# stands after them. All that follows it is written.
+MOST = {
+    ("first weak by order", 4): ((0, 1, 0, 1, 4100), 4109),
+    ("collected", 4): ((1, 3, 2, 2, 4107), 4107),
+    ("collected", 5): ((0, 1, 0, 0, 4096), 4107),
+    ("replaced by itself", 2): ((1, 0, 0, 0, 4096), 4100),
+    ("layout again", 3): ((1, 0, 1, 0, 8200), 8204),
+    ("layout again", 4): ((1, 0, 2, 0, 8192), 8204),
+    ("load addresses", 4): ((1, 0, 3, 0, 8200), 8200),
+    ("a call moves", 4): ((1, 0, 3, 1, 4120), 4121),
+}
 
 
 def frames():
@@ -33,8 +63,15 @@ def lists():
         yield f"edits-{seed:02}", made.options, made.data
 
 
+def counted():
+    """The name, the options and the bytes of each worked row whose counts are printed."""
+    for row in worked.all_rows():
+        if row.title in COUNTS:
+            yield row.title.replace(" ", "-"), row.options, rows.stream(row)
+
+
 def cases(stream):
-    for kind, found in (("stream", frames()), ("list", lists())):
+    for kind, found in (("stream", frames()), ("list", lists()), ("counts", counted())):
         for name, options, data in found:
             stream.line(kind, name, len(data), *rows.words(options))
             stream.data += data
@@ -81,7 +118,34 @@ def summed(options, data):
     return b"sum %016x\nstatus %d\n" % (checksum(b"".join(found)), status)
 
 
+def counts(name, options, data):
+    """The lines of the answers to the edits of a row, each with what it counts."""
+    found, lines, at, number = [], bytearray(), 0, 0
+    answers.answers(options, data, found.append)
+    title = name.replace("-", " ")
+    for answer in found:
+        word, at = word_of(data, at)
+        if word in ("image", "map", "faults"):
+            continue
+        lines += answer
+        if answer.startswith(b"linked "):
+            check_most(title, number, answer)
+            lines += b"counted: objects %d names %d pieces %d relocations %d bytes %d\n" % COUNTS[title][number]
+        number += 1
+    return bytes(lines)
+
+
+def check_most(title, number, answer):
+    """The counts of an edit are at most those worked out by hand."""
+    if (title, number) not in MOST:
+        return
+    (*most, written), end = MOST[title, number]
+    found, length = COUNTS[title][number], int(answer.split()[2])
+    assert all(a <= b for a, b in zip(found, (*most, written + length - end))), (title, number, found)
+
+
 def expected(_stream):
     shown = (b"stream " + name.encode() + b"\n" + printed(options, data) for name, options, data in frames())
     unseen = (b"list " + name.encode() + b"\n" + summed(options, data) for name, options, data in lists())
-    return b"".join(text + b"same\n" for text in (*shown, *unseen))
+    work = (b"counts " + name.encode() + b"\n" + counts(name, options, data) for name, options, data in counted())
+    return b"".join([*(text + b"same\n" for text in (*shown, *unseen)), *work])

@@ -7,6 +7,17 @@ use ldwords::words;
 use std::alloc::{AllocError, Global};
 use std::str;
 
+/// What is asked of a stream of commands.
+#[derive(Clone, Copy, Debug, PartialEq, Eq)]
+pub enum Kind {
+    /// Each answer.
+    Answers,
+    /// A checksum of all answers.
+    Sum,
+    /// What each edit counts in a session.
+    Counts,
+}
+
 /// A stream of commands, and the session that is to answer it.
 #[derive(Clone, Copy, Debug)]
 pub struct Frame<'a> {
@@ -16,18 +27,22 @@ pub struct Frame<'a> {
     pub words: Option<&'a str>,
     /// The stream.
     pub commands: &'a [u8],
-    /// Whether each answer is printed; else their checksum is.
-    pub is_shown: bool,
+    /// What is asked of it.
+    pub kind: Kind,
 }
 
-/// The words of a frame's line that say whether answers are printed, with what they say.
-const KINDS: [(&str, bool); 2] = [("stream ", true), ("list ", false)];
+/// The words of a frame's line that say what is asked, with what they say.
+const KINDS: [(&str, Kind); 3] = [
+    ("stream ", Kind::Answers),
+    ("list ", Kind::Sum),
+    ("counts ", Kind::Counts),
+];
 
-/// Whether a frame's line says that answers are printed, and what comes after that.
-fn read_kind(line: &str) -> Option<(bool, &str)> {
-    for (word, is_shown) in KINDS {
+/// What a frame's line asks, and what comes after that.
+fn read_kind(line: &str) -> Option<(Kind, &str)> {
+    for (word, kind) in KINDS {
         if let Some(rest) = line.strip_prefix(word) {
-            return Some((is_shown, rest));
+            return Some((kind, rest));
         }
     }
     None
@@ -47,7 +62,7 @@ fn read_line(line: &str) -> Option<(&str, usize, Option<&str>)> {
 pub fn split_frame(input: &[u8]) -> Option<(Frame<'_>, &[u8])> {
     let end = input.iter().position(|b| *b == b'\n')?;
     let line = str::from_utf8(&input[..end]).ok()?;
-    let (is_shown, line) = read_kind(line)?;
+    let (kind, line) = read_kind(line)?;
     let (name, length, words) = read_line(line)?;
     let (commands, rest) = input[end + 1..].split_at_checked(length)?;
     Some((
@@ -55,7 +70,7 @@ pub fn split_frame(input: &[u8]) -> Option<(Frame<'_>, &[u8])> {
             name,
             words,
             commands,
-            is_shown,
+            kind,
         },
         rest,
     ))

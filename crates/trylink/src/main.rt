@@ -9,24 +9,29 @@
 //! and a line feed, and then the LEN bytes of a stream. The WORDS, one space between each two, are those after
 //! `ldi session`.
 //!
-//! `list` in place of `stream` asks for a checksum in place of the answers.
+//! `list` in place of `stream` asks for a checksum in place of the answers, and `counts` for what each edit counts in a
+//! session.
 //!
 //! For each frame it prints `stream NAME`, and then for each command the line of its answer. Under that of a map or of
 //! fault lines stands the text; that of an image goes on with a checksum (`answer::checksum`). Then it prints
-//! `status S`, and `same` where all ways give one status and the same bytes, or else where they differ.
+//! `status S`, and `same` where all ways give one status and the same bytes, or else where they differ. For a frame of
+//! `counts` it prints under the answer to each edit how many objects it read, names it decided, input sections it placed,
+//! relocations it evaluated and bytes of the image it wrote.
 #![tactic(auto)]
 
 mod answer;
 mod answered;
 mod calls;
 mod command;
+mod counts;
 mod frame;
 mod session;
 
 use crate::answer::checksum;
 use crate::answered::print_agreement;
 use crate::calls::answer_by_calls;
-use crate::frame::{Frame, split_frame};
+use crate::counts::print_counts;
+use crate::frame::{Frame, Kind, split_frame};
 use crate::session::{answer_by_plain, answer_by_session};
 use std::alloc::Global;
 use std::hash::RandomState;
@@ -36,20 +41,22 @@ use std::process::ExitCode;
 use trystream::layer::{CUT, DONE, FAILED};
 use trystream::printing::print_bytes;
 
-/// Answers the stream of a frame in all ways.
-fn try_frame<W: Write>(
+/// The word that begins a frame's line and what is printed of it.
+fn word_of(kind: Kind) -> &'static str {
+    match kind {
+        Kind::Answers => "stream ",
+        Kind::Sum => "list ",
+        Kind::Counts => "counts ",
+    }
+}
+
+/// Answers the stream of a frame in all ways, and compares the answers.
+fn compare<W: Write>(
     alloc: Global,
     seed: RandomState,
     frame: &Frame<'_>,
     out: &mut W,
 ) -> io::Result<()> {
-    if frame.is_shown {
-        out.write_all(b"stream ")?;
-    } else {
-        out.write_all(b"list ")?;
-    }
-    print_bytes(out, frame.name.as_bytes())?;
-    out.write_all(b"\n")?;
     let (Some(first), Some(second), Some(third)) = (
         frame.options(alloc)?,
         frame.options(alloc)?,
@@ -59,7 +66,7 @@ fn try_frame<W: Write>(
     };
     let by_session = answer_by_session(alloc, seed, first, frame.commands)?;
     let by_plain = answer_by_plain(alloc, seed, second, frame.commands)?;
-    let by_calls = if frame.is_shown {
+    let by_calls = if frame.kind == Kind::Answers {
         answer_by_calls(alloc, seed, third, frame.commands, out)?
     } else {
         let mut unseen = Vec::new(alloc);
@@ -68,6 +75,35 @@ fn try_frame<W: Write>(
         run
     };
     print_agreement(&by_session, &by_plain, &by_calls, out)
+}
+
+/// Prints what the edits of a frame count in a session.
+fn count<W: Write>(
+    alloc: Global,
+    seed: RandomState,
+    frame: &Frame<'_>,
+    out: &mut W,
+) -> io::Result<()> {
+    match frame.options(alloc)? {
+        None => out.write_all(b"bad words\n"),
+        Some(options) => print_counts(alloc, seed, options, frame.commands, out),
+    }
+}
+
+/// Prints the name of a frame, and what it asks.
+fn try_frame<W: Write>(
+    alloc: Global,
+    seed: RandomState,
+    frame: &Frame<'_>,
+    out: &mut W,
+) -> io::Result<()> {
+    out.write_all(word_of(frame.kind).as_bytes())?;
+    print_bytes(out, frame.name.as_bytes())?;
+    out.write_all(b"\n")?;
+    match frame.kind {
+        Kind::Counts => count(alloc, seed, frame, out),
+        Kind::Answers | Kind::Sum => compare(alloc, seed, frame, out),
+    }
 }
 
 /// Tries all frames, and gives the status to end with.
