@@ -1,7 +1,7 @@
 //! A stretch of a file or of a list.
 
 /// Where a stretch of a file or of a list begins and ends.
-#[derive(Clone, Copy)]
+#[derive(Clone, Copy, Debug, PartialEq, Eq)]
 pub struct Span {
     /// Where it begins.
     pub start: usize,

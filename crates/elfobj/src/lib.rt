@@ -14,5 +14,6 @@ mod relocation_run;
 mod relocation_table;
 pub mod section;
 mod section_table;
+pub mod span;
 pub mod symbol;
 mod symbol_table;

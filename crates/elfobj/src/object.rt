@@ -13,8 +13,8 @@ use crate::refusal::ObjectRefusal;
 use crate::relocation::{Relocation, SymbolIndex};
 use crate::section::{LinkedIndex, Section, SectionIndex, find_number};
 use crate::section_table::{Parts, read_parts};
+use crate::span::Span;
 use crate::symbol::Symbol;
-use elffile::span::Span;
 use ldbase::meter::{Count, Meter};
 use std::alloc::{AllocError, Global};
 use std::marker::Model;
@@ -50,6 +50,7 @@ impl Object {
     ghost use Rattle.elfobj.specs.Profile.{HasRelocationsOfProfile, IsSectionBelow, IsSectionOfProfile, IsSymbolOfProfile};
     ghost use Rattle.elffile.specs.Refusal.{header_refusals, holds, object_refusal};
     ghost use Rattle.elffile.specs.Sections.{section_of};
+    ghost use Rattle.elffile.specs.Spans.{bytes_at};
 
     /// Reads an object, and counts it whether it is one or not. Bytes that are no object are given back,
     /// with the lowest refusal whose condition holds, or with `NoMemory` where memory runs out. What the ELF
@@ -121,6 +122,14 @@ impl Object {
         &self.bytes[place.name.start..place.name.end]
     }
 
+    /// Where the name of a section lies in the bytes that the object was read from. Sections may share it.
+    pub fn section_name_place(&self, section: LinkedIndex) -> Span
+        requires { section.0 < length self.now.sections }
+        ensures { slice_get (map (λ s. s.name) self.now.sections) section.0 ≡ Some (bytes_at self.now.text result) }
+    {
+        self.places[section.0].name
+    }
+
     /// The bytes of a section: as many as its size, but none for one that has no bytes in the file.
     pub fn section_bytes(&self, section: LinkedIndex) -> &[u8]
         requires { section.0 < length self.now.sections }
@@ -148,6 +157,15 @@ impl Object {
     {
         let name = self.names[symbol.0 as usize];
         &self.bytes[name.start..name.end]
+    }
+
+    /// Where the name of a symbol lies in the bytes that the object was read from; at no bytes for a local one. Symbols
+    /// may share it.
+    pub fn name_place(&self, symbol: SymbolIndex) -> Span
+        requires { symbol.0 < length self.now.symbols }
+        ensures { slice_get (map (λ s. s.name) self.now.symbols) symbol.0 ≡ Some (bytes_at self.now.text result) }
+    {
+        self.names[symbol.0 as usize]
     }
 
     /// The relocations of a section, in the order of their table. Each names one of `symbols` and lies in its section, and

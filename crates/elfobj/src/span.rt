@@ -1,0 +1,3 @@
+//! Stretches of the bytes of an object.
+
+pub use elffile::span::Span;
