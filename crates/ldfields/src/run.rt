@@ -10,14 +10,15 @@ use ldbase::meter::Meter;
 /// How many bytes are written at a time: a multiple of each length that a pattern may have.
 const CHUNK: usize = 840;
 
-/// The first bytes of a run of a pattern.
-fn chunk_of(pattern: &[u8]) -> [u8; CHUNK]
-    requires { 0 < length pattern.now }
+/// The first `count` bytes of a run of a pattern, and zeros after them.
+fn chunk_of(pattern: &[u8], count: usize) -> [u8; CHUNK]
+    requires some { 0 < length pattern.now }
+    requires count { count ≤ 840 }
     ensures len { length result ≡ 840 }
-    ensures filled { (i : ℕ) → i < 840 → slice_index result i ≡ slice_index pattern.now (i % length pattern.now) }
+    ensures filled { (i : ℕ) → i < count → slice_index result i ≡ slice_index pattern.now (i % length pattern.now) }
 {
     let mut chunk = [0; CHUNK];
-    for i in 0..CHUNK {
+    for i in 0..count {
         chunk[i] = pattern[i % pattern.len()];
     }
     chunk
@@ -37,7 +38,8 @@ pub fn write_run(canvas: &mut Canvas, at: usize, n: usize, pattern: &[u8], meter
     ensures counted { meter.new ≡ raised meter.old Bytes n }
 {
     let _len = canvas.len();
-    let chunk = chunk_of(pattern);
+    // most runs are short, so no more of a chunk is made than the run needs
+    let chunk = chunk_of(pattern, n.min(CHUNK));
     for k in 0..n / CHUNK {
         canvas.write(at + CHUNK * k, &chunk, meter);
     }
