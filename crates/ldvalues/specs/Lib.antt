@@ -5,4 +5,3 @@ pub mod LinkView
 pub mod Values
 pub mod Candidates
 pub mod Symbols
-pub mod OwnedValues

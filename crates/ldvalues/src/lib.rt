@@ -5,7 +5,6 @@ mod candidate;
 mod given_table;
 mod known;
 pub mod link_view;
-pub mod owned_values;
 mod script_values;
 mod symbols;
 pub mod values;

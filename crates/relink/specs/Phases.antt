@@ -1,11 +1,11 @@
 -- What is known of a link after each phase that follows its gathering.
-use Rattle.std.specs.Prelude.{◌≡◌, ◌≤◌, ℕ, IfSome, IsSome, List, [], None, is_some}
+use Rattle.std.specs.Prelude.{◌≡◌, ◌≤◌, ℕ, IfSome, IsSome, List, [], is_some}
 use Rattle.std.specs.List.{All}
 use Rattle.ldimage.specs.Kept.{ArePatchesOf}
 use Rattle.ldimage.specs.Stretches.{EndsBy}
 use Rattle.ldkept.specs.FileStarts.{AreFileStarts}
 use Rattle.ldkept.specs.Marks.{AreMarks}
-use Rattle.ldkept.specs.Stays.{IsLastOf, LastState, kept_range, last_of, range_of}
+use Rattle.ldkept.specs.Stays.{IsLastOf, LastState, last_of, range_of}
 use Rattle.ldkept.specs.Table.{IsTable}
 use Rattle.ldkept.specs.declared.stays.Stays.{Stays}
 use Rattle.ldlaws.specs.Untouched.{IsGood}
@@ -28,13 +28,10 @@ use Rattle.ldrelocating.specs.Runs.{AreRunsUnless}
 use Rattle.ldrelocating.specs.declared.relocated.Relocated.{Relocated}
 use Rattle.ldstarts.specs.Starts.{AreStarts}
 use Rattle.ldvalues.specs.LinkView.{IsLinkView, known_link}
-use Rattle.ldvalues.specs.OwnedValues.{AreOwnedValues}
 use Rattle.ldvalues.specs.Values.{AreValues}
 use Rattle.ldvalues.specs.declared.link_view.LinkView.{LinkView}
 use Rattle.ldvalues.specs.declared.values.Values.{Values}
 use Rattle.relink.specs.declared.again.Drawn.{Drawn}
-use Rattle.relink.specs.declared.link.OwnEvaluation.{OwnEvaluation}
-use Rattle.relink.specs.declared.link.Ready.{Ready}
 use Rattle.relink.specs.declared.passes.Arrangement.{Arrangement}
 
 -- all parts have their places
@@ -104,24 +101,6 @@ pub record IsFaultless (p : Project) (l : Laying) (y : Stays) (w : LinkView) (v 
     : Type 0 where
   pub filled : IsFilled p l y w v r
   pub rest : link p ≡ model.good p filled.short.placed.known.layout
-
--- what is kept of an evaluation beside no earlier link when the names of the objects are gone
-pub record IsEvaluated (p : Project) (x : Arrangement) (e : OwnEvaluation) : Type 0 where
-  pub layout : Layout
-  pub naming : NamingState
-  pub laying : IsLaying p layout x.laying
-  pub starts : AreStarts p layout x.starts
-  pub length : image_length p layout ≤ max_image_length
-  pub values : AreOwnedValues p layout naming e.values
-  pub fields :
-      AreRunsUnless (known_link p layout naming) (λ k. is_some (kept_range None x.starts x.files k))
-      e.fields.patches.items e.fields.ends.items
-  pub rest : link p ≡ model.good p layout
-
--- and its rows, from which it is drawn
-pub record IsReady (p : Project) (r : Ready) : Type 0 where
-  pub rows : rows_in p r.arranged.rows.items ≡ rows_model.rows p
-  pub evaluated : IsEvaluated p r.arranged r.evaluation
 
 -- a link without faults was drawn: these bytes are its image, and this is its map
 pub record IsGoodImage (p : Project) (l : Laying) (bytes map : List ℕ) : Type 0 where

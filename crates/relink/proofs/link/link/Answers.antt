@@ -1,13 +1,13 @@
 use Rattle.std.proofs.Common.{◌∙◌, ap, map, subst, sym}
 use Rattle.ldgathering.specs.Matches.{AreMatched}
-use Rattle.relink.proofs.link.prepared.Goals as goal
+use Rattle.relink.proofs.link.link.Goals as goal
 
-pub arranged-requires-clause-naming : goal.arranged-requires-clause-naming
-arranged-requires-clause-naming c =
+pub relink-requires-clause-naming : goal.relink-requires-clause-naming
+relink-requires-clause-naming c =
     c.in_ok-naming.ensures.naming c.args.project.now (sym c.inputs.ensures.same) (sym c.script.ensures)
 
-pub arranged-requires-clause-matches : goal.arranged-requires-clause-matches
-arranged-requires-clause-matches c =
+pub relink-requires-clause-matches : goal.relink-requires-clause-matches
+relink-requires-clause-matches c =
     subst (AreMatched c.args.project.now)
     (sym c.deref.ensures.value ∙ (sym c.in_ok-lent.ensures ∙ ap (map (λ x. x.now)) (sym c.deref-2.ensures.value)))
     c.in_ok-matches.ensures
