@@ -67,6 +67,11 @@ class Link:
         return min(run.seconds for run in self.runs)
 
     @property
+    def median(self):
+        """The median time on the clock of all runs."""
+        return statistics.median(run.seconds for run in self.runs)
+
+    @property
     def processor(self):
         """The least time of the processor of all runs."""
         return min(run.processor for run in self.runs)
@@ -79,8 +84,7 @@ class Link:
         """A line of the table; `given` is the length of all input."""
         if self.failed is not None:
             return f"  {self.name:8} {self.failed}"
-        middle = statistics.median(run.seconds for run in self.runs)
-        return (f"  {self.name:8} {self.seconds * 1000:9.1f} {middle * 1000:9.1f} {self.processor * 1000:9.1f} "
+        return (f"  {self.name:8} {self.seconds * 1000:9.1f} {self.median * 1000:9.1f} {self.processor * 1000:9.1f} "
                 f"{self.memory / 1e6:9.1f} {self.memory / given:6.1f} {self.length:11}")
 
 
@@ -99,7 +103,16 @@ def run(all_links, rounds):
 HEAD = f"  {'':8} {'ms, least':>9} {'median':>9} {'processor':>9} {'peak MB':>9} {'/input':>6} {'image':>11}"
 
 
+def ratios(some_links):
+    """A line for each other linker: median time and peak memory of `ldi` as multiples of its own."""
+    own, *others = some_links
+    for other in others:
+        if own.failed is None and other.failed is None:
+            yield (f"  ldi takes {own.median / other.median:.2f} times the time of {other.name}, "
+                   f"{own.memory / other.memory:.2f} times its memory")
+
+
 def show(title, some_links, given):
-    """Prints the table of a project's links; `given` is the length of all input."""
+    """Prints the table of a project's links, `ldi` first, and its ratios; `given` is the length of all input."""
     lines = [f"{title}, {given / 1e6:.1f} MB of input", HEAD, *(one.line(given) for one in some_links)]
-    print("\n".join(lines), flush=True)
+    print("\n".join([*lines, *ratios(some_links)]), flush=True)
