@@ -1,5 +1,6 @@
 pub mod Seen
 pub mod ScriptValues
+pub mod Given
 pub mod GivenTable
 pub mod LinkView
 pub mod Values

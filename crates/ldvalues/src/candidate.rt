@@ -70,17 +70,18 @@ fn add_all_given<'a>(
 }
 
 /// All names that objects declare or that the script gives values to, in byte order. Of those that are alike, one with
-/// a key is the first. An error says that memory ran out.
+/// a key is the first. `sorted` are all names that objects declare, in byte order. An error says that memory ran out.
 pub(crate) fn candidates<'a>(
     alloc: Global,
-    naming: &'a Naming,
+    naming: &Naming,
     script: &'a Script,
+    sorted: &[NamedKey<'a>],
 ) -> Result<Vec<Candidate<'a>>, NoMemory>
+    requires { AreSorted naming.now sorted.now }
     ensures { IfOk result (λ list. AreCandidates naming.now script.now list.items) }
 {
-    let sorted = naming.sorted(alloc)?;
     let commands = script.common_commands(alloc)?;
-    let mut list = with_keys(alloc, &sorted)?;
+    let mut list = with_keys(alloc, sorted)?;
     add_all_given(&mut list, &commands)?;
     list.sort_by(|x, y| x.name.cmp(y.name))?;
     Ok(list)

@@ -2,6 +2,7 @@
 #![tactic(auto)]
 
 mod candidate;
+pub mod given;
 mod given_table;
 mod known;
 pub mod link_view;

@@ -2,14 +2,12 @@
 
 ghost use Rattle.std.specs.Prelude.{◌≡◌, IfOk};
 ghost use Rattle.ldmodel.specs.Layout.{Layout};
-ghost use Rattle.ldlaying.specs.Laying.{IsLaying};
 ghost use Rattle.ldnaming.specs.Naming.{IsNaming};
 ghost use Rattle.ldstarts.specs.Starts.{AreStarts};
 ghost use Rattle.ldvalues.specs.Seen.{AreSeen};
 
+use crate::given::Given;
 use crate::given_table::given_table;
-use crate::script_values::ScriptValues;
-use ldlaying::laying::Laying;
 use ldmodel::memory::NoMemory;
 use ldnaming::naming::Naming;
 use ldproject::view::ProjectView;
@@ -28,23 +26,24 @@ pub struct LinkView<'a, 'p> {
 }
 
 impl<'a, 'p> LinkView<'a, 'p> {
+    ghost use Rattle.ldnaming.specs.Sorted.{AreSorted};
+    ghost use Rattle.ldvalues.specs.ScriptValues.{AreScriptValues};
     ghost use Rattle.ldvalues.specs.LinkView.{IsLinkView, known_link};
 
-    /// The link of a project with these names and this layout. An error says that memory ran out.
+    /// The link of a project with these names, at the layout of `starts` and `given`. An error says that memory ran out.
     pub fn new(
         alloc: Global,
         project: &'a ProjectView<'p>,
         naming: &'a Naming,
-        laying: &Laying,
         starts: &'a Starts,
+        given: &Given<'_>,
     ) -> Result<LinkView<'a, 'p>, NoMemory>
-        requires { IsNaming project.now naming.now }
-        ensures { IfOk result (λ v. (s : Layout) → IsLaying project.now s laying.now
+        requires naming { IsNaming project.now naming.now }
+        requires sorted { AreSorted naming.now given.now.sorted.items }
+        ensures { IfOk result (λ v. (s : Layout) → AreScriptValues s given.now.values
             → AreStarts project.now s starts.now → IsLinkView (known_link project.now s naming.now) v) }
     {
-        let values = ScriptValues::of(alloc, project.script(), &laying.placement)?;
-        let sorted = naming.sorted(alloc)?;
-        let given = given_table(alloc, naming, &sorted, &values)?;
+        let given = given_table(alloc, naming, &given.sorted, &given.values)?;
         Ok(LinkView {
             project,
             naming,

@@ -2,8 +2,8 @@
 
 ghost use Rattle.std.specs.Prelude.{◌≡◌, IfOk};
 ghost use Rattle.ldmodel.specs.Layout.{Layout};
-ghost use Rattle.ldlaying.specs.Laying.{IsLaying};
 ghost use Rattle.ldnaming.specs.Naming.{IsNaming};
+ghost use Rattle.ldnaming.specs.Sorted.{AreSorted};
 ghost use Rattle.ldmodel.specs.SymbolValues.{entry_point};
 ghost use Rattle.ldtargets.specs.Values.{value_of};
 ghost use Rattle.ldvalues.specs.LinkView.{IsLinkView, known_link};
@@ -11,10 +11,10 @@ ghost use Rattle.ldvalues.specs.ScriptValues.{AreScriptValues};
 ghost use Rattle.ldvalues.specs.Values.{AreValues};
 
 use crate::candidate::candidates;
+use crate::given::Given;
 use crate::link_view::LinkView;
 use crate::script_values::ScriptValues;
 use crate::symbols::{Sources, symbols_of};
-use ldlaying::laying::Laying;
 use ldmodel::memory::NoMemory;
 use ldmodel::names::Case;
 use ldnaming::naming::Naming;
@@ -72,24 +72,24 @@ impl<'a> Values<'a> {
         alloc: Global,
         project: &'a ProjectView<'_>,
         naming: &'a Naming,
-        laying: &Laying,
         link: &LinkView<'_, '_>,
+        given: &Given<'a>,
     ) -> Result<Values<'a>, NoMemory>
-        requires { IsNaming project.now naming.now }
-        ensures { IfOk result (λ v. (s : Layout) → IsLaying project.now s laying.now
+        requires naming { IsNaming project.now naming.now }
+        requires sorted { AreSorted naming.now given.now.sorted.items }
+        ensures { IfOk result (λ v. (s : Layout) → AreScriptValues s given.now.values
             → IsLinkView (known_link project.now s naming.now) link.now
             → AreValues project.now s naming.now v) }
     {
         let script = project.script();
-        let given = ScriptValues::of(alloc, script, &laying.placement)?;
         let names = name_values(alloc, link)?;
-        let entry = entry_value(project, naming, &given, link);
-        let candidates = candidates(alloc, naming, script)?;
+        let entry = entry_value(project, naming, &given.values, link);
+        let candidates = candidates(alloc, naming, script, &given.sorted)?;
         let sources = Sources {
             script,
             naming,
             names: &names,
-            given: &given,
+            given: &given.values,
         };
         let symbols = symbols_of(alloc, &sources, &candidates)?;
         Ok(Values {

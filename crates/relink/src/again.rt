@@ -28,6 +28,7 @@ use ldmodel::memory::NoMemory;
 use ldmodel::meter::Meter;
 use ldnaming::naming::Naming;
 use ldproject::view::ProjectView;
+use ldvalues::given::Given;
 use ldvalues::link_view::LinkView;
 use ldvalues::values::Values;
 use std::alloc::{AllocError, Global};
@@ -117,8 +118,9 @@ fn linked_over(
     ensures unchanged { OnErr result (canvas.new.bytes ≡ canvas.old.bytes) }
 {
     let laying = &arranged.laying;
-    let view = LinkView::new(alloc, &*project, &*naming, laying, &arranged.starts)?;
-    let values = valued(alloc, &*project, &*naming, laying, &view)?;
+    let given = Given::of(alloc, &*project, &*naming, laying)?;
+    let view = LinkView::new(alloc, &*project, &*naming, &arranged.starts, &given)?;
+    let values = valued(alloc, &*project, &*naming, laying, &view, &given)?;
     let symbols = SymbolTable::of(alloc, project, &view, &values.names)?;
     let marks = marks_of(alloc, project, last, &symbols)?;
     let stays = Stays {

@@ -9,6 +9,7 @@ ghost use Rattle.ldmodel.specs.Rows as model;
 ghost use Rattle.ldmodel.specs.declared.fault.Fault.TheVariants.{Orphan};
 ghost use Rattle.ldnaming.specs.Naming.{IsNaming};
 ghost use Rattle.ldproject.specs.ByPlace.{rows_in};
+ghost use Rattle.ldvalues.specs.Given.{IsGiven};
 ghost use Rattle.relink.specs.Counted.{ArePlaced, HasEvaluated};
 ghost use Rattle.relink.specs.Phases.{HasOld, IsArranged, IsBeside, IsFaultless, IsFilled, IsKnown, IsPlaced, IsShort};
 ghost use Rattle.relink.specs.Reads.{EndsReadingNothing, ReadsNothing};
@@ -35,6 +36,7 @@ use ldproject::view::ProjectView;
 use ldrelocating::relocated::Relocated;
 use ldsegments::length::length_fault;
 use ldstarts::starts::Starts;
+use ldvalues::given::Given;
 use ldvalues::link_view::LinkView;
 use ldvalues::values::Values;
 use std::alloc::Global;
@@ -188,13 +190,15 @@ pub(crate) fn valued<'a>(
     naming: &'a Naming,
     laying: &Laying,
     view: &LinkView<'_, '_>,
+    given: &Given<'a>,
 ) -> Result<Values<'a>, Stop>
     requires naming { IsNaming project.now naming.now }
+    requires given { IsGiven project.now naming.now laying.now given.now }
     requires known { IsKnown project.now naming.now laying.now view.now }
     ensures good { IfOk result (λ values. IsShort project.now laying.now view.now values) }
     ensures stop { IfErr result (λ stop. IsStop (link project.now) stop) }
 {
-    let values = Values::of(alloc, project, naming, laying, view)?;
+    let values = Values::of(alloc, project, naming, view, given)?;
     fits(alloc, project, laying, view, &values)?;
     Ok(values)
 }

@@ -15,7 +15,7 @@ valued-requires-clause-known c =
     record {
       layout = x.layout;
       laying = x.laying;
-      view = c.in_ok-view.ensures x.layout x.laying x.starts;
+      view = c.in_ok-view.ensures x.layout (c.in_ok-given.ensures.values x.layout x.laying) x.starts;
       rest = x.rest;
     }
 

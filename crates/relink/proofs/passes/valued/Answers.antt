@@ -6,5 +6,5 @@ fits-requires c =
     record {
       naming = c.args.naming.now;
       known = k;
-      values = c.in_ok-values.ensures k.layout k.laying k.view;
+      values = c.in_ok-values.ensures k.layout (c.requires.given.values k.layout k.laying) k.view;
     }

@@ -1,0 +1,14 @@
+-- What the script gives names, and the order of names.
+use Rattle.ldlaying.specs.Laying.{IsLaying}
+use Rattle.ldlaying.specs.declared.laying.Laying.{Laying}
+use Rattle.ldmodel.specs.Layout.{Layout}
+use Rattle.ldmodel.specs.Project.{Project}
+use Rattle.ldnaming.specs.Naming.{NamingState}
+use Rattle.ldnaming.specs.Sorted.{AreSorted}
+use Rattle.ldvalues.specs.ScriptValues.{AreScriptValues}
+use Rattle.ldvalues.specs.declared.given.Given.{Given}
+
+-- the values are those of the layout, and the names are all in byte order
+pub record IsGiven (p : Project) (a : NamingState) (l : Laying) (g : Given) : Type 0 where
+  pub values : (s : Layout) → IsLaying p s l → AreScriptValues s g.values
+  pub sorted : AreSorted a g.sorted.items

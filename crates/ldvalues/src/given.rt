@@ -1,0 +1,38 @@
+//! What of a link is made once for both its view and its values: the values that the script gives names, and the order
+//! of all names.
+
+ghost use Rattle.std.specs.Prelude.{IfOk};
+
+use crate::script_values::ScriptValues;
+use ldlaying::laying::Laying;
+use ldmodel::memory::NoMemory;
+use ldnaming::naming::Naming;
+use ldnaming::sorted::NamedKey;
+use ldproject::view::ProjectView;
+use std::alloc::Global;
+
+/// The values that the script gives names, and all names that objects declare in byte order.
+#[derive(Drop)]
+pub struct Given<'a> {
+    pub(crate) values: ScriptValues<'a>,
+    pub(crate) sorted: Vec<NamedKey<'a>>,
+}
+
+impl<'a> Given<'a> {
+    ghost use Rattle.ldvalues.specs.Given.{IsGiven};
+
+    /// Those of a project with these names and this layout. An error says that memory ran out.
+    pub fn of(
+        alloc: Global,
+        project: &'a ProjectView<'_>,
+        naming: &'a Naming,
+        laying: &Laying,
+    ) -> Result<Given<'a>, NoMemory>
+        ensures { IfOk result (IsGiven project.now naming.now laying.now) }
+    {
+        let script = project.script();
+        let values = ScriptValues::of(alloc, script, &laying.placement)?;
+        let sorted = naming.sorted(alloc)?;
+        Ok(Given { values, sorted })
+    }
+}
