@@ -12,7 +12,7 @@ pub struct Field {
     /// Its value as 8 bytes.
     bytes: [u8; 8],
     /// How many of them it has.
-    width: usize,
+    width: u8,
 }
 
 impl Model for Field {
@@ -30,7 +30,7 @@ impl Field {
     pub fn bytes(&self) -> &[u8]
         ensures { result.now ≡ self.now }
     {
-        &self.bytes[..self.width]
+        &self.bytes[..usize::from(self.width)]
     }
 }
 

@@ -33,11 +33,11 @@ fn value(relocation: &Relocation, s: u64, p: u64) -> u64
 
 /// How many bytes the field has.
 #[tactic(auto, using(crate::proofs::FieldBytes::width_at_most))]
-fn width(kind: RelocationKind) -> usize
+fn width(kind: RelocationKind) -> u8
     ensures width { result ≡ width kind }
     ensures most { result ≤ 8 }
 {
-    kind.width() as usize
+    kind.width() as u8
 }
 
 /// Whether a number is neither below `low` nor above `high`.
