@@ -62,8 +62,11 @@ fn add_unless_holds(
     }
 }
 
-/// The faults of the ASSERTs whose conditions do not hold, in the order of the text: `F15`. An error says that memory
-/// ran out.
+/// The faults of the ASSERTs whose conditions do not hold, in the order of the text: `F15`.
+///
+/// # Errors
+///
+/// Where memory runs out.
 pub fn assertion_faults(
     alloc: Global,
     project: &ProjectView<'_>,

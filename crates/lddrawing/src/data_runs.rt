@@ -22,8 +22,11 @@ fn run_length(commands: &[PlacedData], section: usize) -> usize
     commands.len()
 }
 
-/// The data commands of each of this number of output sections, which come in the order of these. An error says that
-/// memory ran out.
+/// The data commands of each of this number of output sections, which come in the order of these.
+///
+/// # Errors
+///
+/// Where memory runs out.
 pub(crate) fn data_runs<'a>(
     alloc: Global,
     commands: &'a [PlacedData],

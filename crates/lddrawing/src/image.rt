@@ -70,7 +70,7 @@ fn image_parts(tail: &TailParts) -> [ImagePart<'_>; 4]
 }
 
 /// Draws these output sections, and what else the image of a link has, onto a canvas: all but what stays, in which the
-/// patches are written. An error says that memory ran out; then the canvas is as it was.
+/// patches are written. Fails where memory runs out; then the canvas is as it was.
 fn draw_outputs(
     alloc: Global,
     canvas: &mut Canvas,
@@ -125,7 +125,9 @@ fn draw_outputs(
 /// that of the new one; and where all that stayed is said to, no more bytes are written than the image has outside of it
 /// and these fields have.
 ///
-/// An error says that memory ran out; then the canvas is as it was.
+/// # Errors
+///
+/// Where memory runs out. Then the canvas is as it was.
 pub fn draw_image<'a, E: Earlier>(
     alloc: Global,
     canvas: &mut Canvas,

@@ -83,7 +83,7 @@ fn section_names(sections: &[OutputSectionAt<'_>]) -> Result<u64, NoMemory>
     Ok(bytes)
 }
 
-/// What stands in the tail of an image. An error says that memory ran out, as it would for 2^64 bytes.
+/// What stands in the tail of an image. Fails where memory runs out, as it would for 2^64 bytes.
 fn tail_sizes(
     alloc: Global,
     project: &ProjectView<'_>,
@@ -107,7 +107,11 @@ fn tail_sizes(
     })
 }
 
-/// How many bytes the image of a link has; padding can carry it past 2^64. An error says that memory ran out.
+/// How many bytes the image of a link has; padding can carry it past 2^64.
+///
+/// # Errors
+///
+/// Where memory runs out.
 pub fn image_length(
     alloc: Global,
     project: &ProjectView<'_>,

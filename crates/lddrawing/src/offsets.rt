@@ -15,7 +15,7 @@ use ldmodel::memory::NoMemory;
 use ldmodel::segment::Segment;
 use std::alloc::{AllocError, Global};
 
-/// Where an output section of a segment begins in the file. An error says that it is past any file.
+/// Where an output section of a segment begins in the file. Fails where it is past any file.
 fn offset_at(segment: &Segment, section: &Placed) -> Result<u128, NoMemory>
     ensures { IfOk result (λ o. o ≡ offset_at segment.now section.now) }
 {
@@ -41,8 +41,8 @@ struct Place {
     segment: usize,
 }
 
-/// Where an output section begins in the file, where the next segment to be looked at has this number. An error says
-/// that there is none, or that it is past any file.
+/// Where an output section begins in the file, where the next segment to be looked at has this number. Fails where
+/// there is none, or where it is past any file.
 fn step(segments: &[Segment], number: usize, section: &Placed) -> Result<Place, NoMemory>
     ensures { IfOk result (λ t. (qs : List Placed) → offsets_in (section.now ∷ qs) (drop number segments.now)
         ≡ t.offset ∷ offsets_in qs (drop t.segment segments.now)) }
@@ -66,8 +66,11 @@ fn step(segments: &[Segment], number: usize, section: &Placed) -> Result<Place, 
     }
 }
 
-/// Where these output sections, which these segments are made of, begin in the file, each one of size 0 at 0. An error
-/// says that memory ran out, or that one begins past any file.
+/// Where these output sections, which these segments are made of, begin in the file, each one of size 0 at 0.
+///
+/// # Errors
+///
+/// Where memory runs out, or where one begins past any file.
 pub fn offsets(
     alloc: Global,
     sections: &[Placed],

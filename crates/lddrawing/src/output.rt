@@ -84,8 +84,8 @@ fn output_at<'a>(
     })
 }
 
-/// The output sections of these places and of the members of these lists. An error says that memory ran out, or that
-/// a list is short.
+/// The output sections of these places and of the members of these lists. Fails where memory runs out, or where a list
+/// is short.
 fn join<'a>(
     alloc: Global,
     placed: &[Placed],
@@ -108,8 +108,11 @@ fn join<'a>(
     Ok(outputs)
 }
 
-/// The output sections of a link, in the order of the script, with these input sections. An error says that memory ran
-/// out.
+/// The output sections of a link, in the order of the script, with these input sections.
+///
+/// # Errors
+///
+/// Where memory runs out.
 pub(crate) fn outputs<'a>(
     alloc: Global,
     project: &'a ProjectView<'_>,

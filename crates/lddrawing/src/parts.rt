@@ -41,7 +41,7 @@ fn table_section<'a>(output: &Output<'a>) -> TableSection<'a>
     }
 }
 
-/// The output sections as their headers are made of them. An error says that memory ran out.
+/// The output sections as their headers are made of them. Fails where memory runs out.
 fn table_sections<'a>(
     alloc: Global,
     outputs: &[Output<'a>],
@@ -56,7 +56,7 @@ fn table_sections<'a>(
     Ok(sections)
 }
 
-/// An output section as it is drawn. An error says that it begins past any file.
+/// An output section as it is drawn. Fails where it begins past any file.
 fn image_section<'a>(output: &Output<'a>) -> Result<ImageSection<'a>, NoMemory>
     ensures { IfOk result (λ y. (p : Project) (s : Layout) (stays : SectionKey → Bool) (q : PlacedSection)
         → IsOutput p s stays q output.now → IsDrawn p s stays q y) }
@@ -91,7 +91,7 @@ fn add_section<'a>(
     Ok(())
 }
 
-/// The output sections with bytes in the file, as they are drawn. An error says that memory ran out.
+/// The output sections with bytes in the file, as they are drawn. Fails where memory runs out.
 fn image_sections<'a>(
     alloc: Global,
     project: &ProjectView<'_>,
@@ -124,7 +124,11 @@ pub(crate) struct Parts<'a> {
     pub(crate) tail: TailParts,
 }
 
-/// All that the image of a link with these output sections is drawn from. An error says that memory ran out.
+/// All that the image of a link with these output sections is drawn from.
+///
+/// # Errors
+///
+/// Where memory runs out.
 pub(crate) fn drawing_parts<'a>(
     alloc: Global,
     project: &ProjectView<'_>,

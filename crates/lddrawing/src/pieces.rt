@@ -58,8 +58,8 @@ fn section_at(object: &Object, index: LinkedIndex) -> Section
     object.sections()[index.0]
 }
 
-/// A section of the object of a key, as an input section of this number of bytes at an address. An error says that it
-/// is not among those whose fields are known.
+/// A section of the object of a key, as an input section of this number of bytes at an address. Fails where it is not
+/// among those whose fields are known.
 fn section_piece<'a>(
     relocated: &'a Relocated,
     firsts: &[usize],
@@ -98,7 +98,7 @@ fn section_piece<'a>(
     }
 }
 
-/// An entry of a row at an address that is drawn anew. An error says that it is of no object.
+/// An entry of a row at an address that is drawn anew. Fails where it is of no object.
 fn drawn_piece<'a>(
     project: &'a ProjectView<'_>,
     relocated: &'a Relocated,
@@ -142,7 +142,7 @@ fn kept<'a>(size: u64, start: u64) -> ImagePiece<'a>
     }
 }
 
-/// An entry of a row at an address. An error says that it is of no object.
+/// An entry of a row at an address. Fails where it is of no object.
 fn image_piece<'a, E: Earlier>(
     project: &'a ProjectView<'_>,
     relocated: &'a Relocated,
@@ -162,7 +162,7 @@ fn image_piece<'a, E: Earlier>(
     }
 }
 
-/// The entries of a row at these addresses. An error says that memory ran out.
+/// The entries of a row at these addresses. Fails where memory runs out.
 fn image_row<'a, E: Earlier>(
     alloc: Global,
     project: &'a ProjectView<'_>,
@@ -189,7 +189,7 @@ fn image_row<'a, E: Earlier>(
     Ok(pieces)
 }
 
-/// The entries of rows at these addresses, row by row. An error says that memory ran out.
+/// The entries of rows at these addresses, row by row. Fails where memory runs out.
 fn image_rows<'a, E: Earlier>(
     alloc: Global,
     project: &'a ProjectView<'_>,
@@ -227,8 +227,11 @@ fn image_rows<'a, E: Earlier>(
     Ok(pieces)
 }
 
-/// The input sections of each output section, in their order; those that an earlier link says have stayed stay. An error
-/// says that memory ran out.
+/// The input sections of each output section, in their order; those that an earlier link says have stayed stay.
+///
+/// # Errors
+///
+/// Where memory runs out.
 pub(crate) fn image_pieces<'a, E: Earlier>(
     alloc: Global,
     project: &'a ProjectView<'_>,

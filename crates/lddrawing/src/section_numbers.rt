@@ -27,7 +27,10 @@ fn count(object: &Object) -> usize
 }
 
 /// The number of the first section of each object, where the sections of all objects are numbered one after another.
-/// An error says that memory ran out.
+///
+/// # Errors
+///
+/// Where memory runs out.
 pub(crate) fn first_sections(alloc: Global, inputs: &[Input<'_>]) -> Result<Vec<usize>, NoMemory>
     ensures firsts { IfOk result (λ v. AreFirsts (shown_inputs inputs.now) (length inputs.now) v.items) }
     ensures numbered { IfOk result (λ v. (p : Project) → p.objects ≡ shown_inputs inputs.now → AreNumbered p) }

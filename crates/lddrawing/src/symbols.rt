@@ -50,15 +50,15 @@ const OF_SCRIPT: Facts = Facts {
     size: 0,
 };
 
-/// The number of the header of an output section: the null header comes first. An error says that there is none.
+/// The number of the header of an output section: the null header comes first. Fails where there is none.
 fn header_of(section: OutputIndex) -> Result<u32, NoMemory>
     ensures { IfOk result (λ n. n ≡ section.0 + 1) }
 {
     section.0.checked_add(1).ok_or(AllocError)
 }
 
-/// The number of the header of the output section that an input section stands in. An error says that there are 2^32
-/// output sections.
+/// The number of the header of the output section that an input section stands in. Fails where there are 2^32 output
+/// sections.
 fn header_of_part(starts: &Starts, section: SectionKey) -> Result<u32, NoMemory>
     ensures { IfOk result (λ n. (p : Project) (s : Layout) → AreStarts p s starts.now
         → n ≡ header_of_part s (object_name p section.object.0) section.part) }
@@ -178,7 +178,11 @@ fn add_symbol<'a>(
     }
 }
 
-/// The symbols of the output that have a value, as the symbol table is made of them. An error says that memory ran out.
+/// The symbols of the output that have a value, as the symbol table is made of them.
+///
+/// # Errors
+///
+/// Where memory runs out.
 pub(crate) fn table_symbols<'a>(
     alloc: Global,
     project: &ProjectView<'_>,

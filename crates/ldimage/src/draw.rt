@@ -19,7 +19,9 @@ use std::alloc::Global;
 
 /// Writes the image that is drawn from these parts, of which none stays, onto a canvas.
 ///
-/// An error says that there was no memory; then the canvas is as it was.
+/// # Errors
+///
+/// Where memory runs out. Then the canvas is as it was.
 pub fn draw(
     alloc: Global,
     canvas: &mut Canvas,

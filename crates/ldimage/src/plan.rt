@@ -143,7 +143,9 @@ impl<'a> Model for Plan<'a> {
 /// The plan of an image that is drawn from these parts, where the bytes that stay are patched by `patches`, whose
 /// offsets are places in the file. It makes every growth that the commit needs, and changes no byte of the canvas.
 ///
-/// An error says that there was no memory.
+/// # Errors
+///
+/// Where memory runs out.
 pub fn plan_image<'a>(
     alloc: Global,
     canvas: &mut Canvas,

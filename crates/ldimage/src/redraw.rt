@@ -34,7 +34,9 @@ use std::alloc::Global;
 /// holds that of the new link; and where all that stayed are kept, no more bytes are written than the image has outside
 /// of them and these fields have.
 ///
-/// An error says that there was no memory; then the canvas is as it was.
+/// # Errors
+///
+/// Where memory runs out. Then the canvas is as it was.
 pub fn redraw(
     alloc: Global,
     canvas: &mut Canvas,

@@ -77,8 +77,8 @@ fn has_unnamed(inputs: &[Input<'_>]) -> bool
     inputs.iter().any(|input| input.name.is_empty())
 }
 
-/// Where output sections stand that begin at these places of the file. An error says that memory ran out, or that there
-/// are fewer places.
+/// Where output sections stand that begin at these places of the file. Fails where memory runs out, or where there are
+/// fewer places.
 fn file_starts(
     alloc: Global,
     sections: &[Placed],
@@ -97,7 +97,11 @@ fn file_starts(
 }
 
 impl FileStarts {
-    /// Where the output sections of this layout stand. An error says that memory ran out.
+    /// Where the output sections of this layout stand.
+    ///
+    /// # Errors
+    ///
+    /// Where memory runs out.
     pub fn of(
         alloc: Global,
         project: &ProjectView<'_>,
@@ -113,7 +117,7 @@ impl FileStarts {
         are_numbered(project);
         let inputs = project.inputs();
         if has_unnamed(inputs) {
-            // it does not come to this: the name of an object has 1 to 255 bytes
+            // Unreachable: the name of an object has 1 to 255 bytes
             return Err(AllocError);
         }
         let laid = laying.placement.laid();

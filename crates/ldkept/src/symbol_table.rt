@@ -31,7 +31,7 @@ pub struct SymbolTable {
     pub(crate) values: Vec<SymbolValue>,
 }
 
-/// How many symbols these objects have. An error says that they are too many for any memory.
+/// How many symbols these objects have. Fails where they are too many for any memory.
 fn count_symbols(inputs: &[Input<'_>]) -> Result<usize, NoMemory> {
     let mut count: usize = 0;
     for input in inputs {
@@ -65,7 +65,11 @@ fn add_object(
 }
 
 impl SymbolTable {
-    /// The values of the symbols of a link, where those of names are these. An error says that memory ran out.
+    /// The values of the symbols of a link, where those of names are these.
+    ///
+    /// # Errors
+    ///
+    /// Where memory runs out.
     pub fn of(
         alloc: Global,
         project: &ProjectView<'_>,

@@ -79,7 +79,7 @@ fn project_of(
     Ok(project)
 }
 
-/// The link of a project. An error says that memory ran out.
+/// The link of a project. Fails where memory runs out.
 fn link_project(alloc: Global, seed: RandomState, project: &Project) -> Result<Output, NoMemory>
     ensures { IfOk result (λ o. o ≡ link (held project.now)) }
 {

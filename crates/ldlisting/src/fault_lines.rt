@@ -14,7 +14,11 @@ use ldtext::script_names::ScriptNames;
 use ldvalue::mentioned::mentioned_names;
 use std::alloc::Global;
 
-/// The lines of these faults of the link of a project, in their order. An error says that memory ran out.
+/// The lines of these faults of the link of a project, in their order.
+///
+/// # Errors
+///
+/// Where memory runs out.
 pub fn fault_text(
     alloc: Global,
     project: &ProjectView<'_>,

@@ -52,7 +52,11 @@ fn map_symbols<'a>(
     Ok(list)
 }
 
-/// The map of a link without faults. An error says that memory ran out.
+/// The map of a link without faults.
+///
+/// # Errors
+///
+/// Where memory runs out.
 pub fn map_text(
     alloc: Global,
     project: &ProjectView<'_>,

@@ -12,7 +12,11 @@ use ldnames::keyed::Keyed;
 use ldproject::input::Input;
 use std::alloc::Global;
 
-/// These objects, each under its place. An error says that memory ran out.
+/// These objects, each under its place.
+///
+/// # Errors
+///
+/// Where memory runs out.
 pub fn by_place<'a>(alloc: Global, inputs: &[Input<'a>]) -> Result<Vec<Keyed<'a>>, NoMemory>
     ensures tables { IfOk result (λ list. keyed.tables_of list.items ≡ tables_of inputs.now) }
     ensures apart { IfOk result (λ list. AreApart list.items) }

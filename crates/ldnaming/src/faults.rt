@@ -59,7 +59,11 @@ impl Naming {
     }
 
     /// The faults of the names of a project, in object order and then symbol order: `F1`; then that of the entry
-    /// symbol, `F2`. An error says that memory ran out.
+    /// symbol, `F2`.
+    ///
+    /// # Errors
+    ///
+    /// Where memory runs out.
     pub fn faults(&self, alloc: Global, project: &ProjectView<'_>) -> Result<Vec<Fault>, NoMemory>
         requires { IsNaming project.now self.now }
         ensures { IfOk result (λ fs. faults_in project.now fs.items ≡ name_faults project.now) }

@@ -52,7 +52,11 @@ impl Model for Naming {
 
 impl Naming {
     /// Decides the names of all symbols of these objects that aren't local, each once. The key of each object is its
-    /// place. An error says that memory ran out.
+    /// place.
+    ///
+    /// # Errors
+    ///
+    /// Where memory runs out.
     pub fn of(
         alloc: Global,
         seed: RandomState,

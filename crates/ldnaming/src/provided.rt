@@ -67,8 +67,11 @@ impl Naming {
         }
     }
 
-    /// The PROVIDEs that are in force, in the order of the text. Their names are hashed and looked up. An error says
-    /// that memory ran out, or that the script has more than 2^32 commands, which none that was read has.
+    /// The PROVIDEs that are in force, in the order of the text. Their names are hashed and looked up.
+    ///
+    /// # Errors
+    ///
+    /// Where memory runs out, or where the script has more than 2^32 commands, which none that was read has.
     pub fn provided(&self, alloc: Global, script: &Script) -> Result<Vec<CommonIndex>, NoMemory>
         ensures { IfOk result (λ list. (p : Project) → IsNaming p self.now → p.script ≡ script.now
             → map (λ (k : CommonIndex). name_given_by p.script k.0) list.items ≡ provided p) }

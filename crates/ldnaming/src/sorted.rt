@@ -37,8 +37,11 @@ fn listed(alloc: Global, decisions: &Decisions) -> Result<Vec<NamedKey<'_>>, NoM
 
 impl Naming {
     /// All known names in byte order, each with its key: all that objects declare are among them. The time is linear in
-    /// their number where the names were put in order, and no name became known since. An error says that memory ran
-    /// out.
+    /// their number where the names were put in order, and no name became known since.
+    ///
+    /// # Errors
+    ///
+    /// Where memory runs out.
     pub fn sorted(&self, alloc: Global) -> Result<Vec<NamedKey<'_>>, NoMemory>
         ensures { IfOk result (λ list. AreSorted self.now list.items) }
     {

@@ -73,13 +73,17 @@ impl<'a> Regions<'a> {
         }
     }
 
-    /// One more region, whose next free address is where it begins. It is an error where memory ran out.
+    /// One more region, whose next free address is where it begins.
+    ///
+    /// # Errors
+    ///
+    /// Where memory runs out.
     pub fn push(&mut self, name: &'a [u8], origin: u64, extent: u64) -> Result<(), AllocError>
         ensures pushed { OnOk result (self.new ≡ self.old
             ++ record { name = name.now; origin = origin; extent = extent; next = origin } ∷ []) }
     {
         if self.script.region_number(name) != Some(self.list.len()) {
-            // it does not come to this: a script declares each of its regions once, in the order of their numbers
+            // Unreachable: a script declares each of its regions once, in the order of their numbers
             return Err(AllocError);
         }
         self.list.push(Region {

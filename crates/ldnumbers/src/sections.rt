@@ -146,7 +146,7 @@ fn placed_at(taken: &[Taken<'_>], list: &[Closed<'_>], number: usize) -> Option<
 }
 
 /// Where the difference of an output section is kept in a table of this many, by its region: nowhere for one that names
-/// none. It is an error where the script does not declare the region.
+/// none. Fails where the script does not declare the region.
 fn kept_at(
     script: &Script,
     count: usize,
@@ -158,7 +158,7 @@ fn kept_at(
         None => Ok(None),
         Some(region) => match script.region_number(region.as_bytes()) {
             Some(number) if number < count => Ok(Some(number)),
-            // it does not come to this: the script declares the regions that it names
+            // Unreachable: the script declares the regions that it names
             Some(_) | None => Err(AllocError),
         },
     }
@@ -279,7 +279,11 @@ impl<'a> Sections<'a> {
         }
     }
 
-    /// The next output section of the script, that was placed in this layout. It is an error where memory ran out.
+    /// The next output section of the script, that was placed in this layout.
+    ///
+    /// # Errors
+    ///
+    /// Where memory runs out.
     pub fn push(&mut self, section: Closed<'a>) -> Result<(), AllocError>
         requires fits { Fits (keyed section) }
         requires next { IsOutput self.now.script (length self.now.list) section.output.now }
@@ -306,7 +310,11 @@ impl<'a> Sections<'a> {
     }
 
     /// The next output section of the script, that is taken over. Its input sections are the first entries of its row,
-    /// and with its own data commands there are as many as `data_end`. It is an error where memory ran out.
+    /// and with its own data commands there are as many as `data_end`.
+    ///
+    /// # Errors
+    ///
+    /// Where memory runs out.
     pub fn take(
         &mut self,
         output: &'a OutputSection,
@@ -320,7 +328,7 @@ impl<'a> Sections<'a> {
             (IsWithTaken self.old.earlier self.old.list row.now output.now data_end self.new.list) }
     {
         let _statements = self.script.statements();
-        // it does not come to an error here but for memory: the first ones are taken over, and the earlier layout has
+        // Fails only where memory runs out: the first ones are taken over, and the earlier layout has
         // them
         if !self.list.is_empty() {
             return Err(AllocError);

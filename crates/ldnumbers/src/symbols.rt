@@ -120,7 +120,7 @@ impl<'a> Symbols<'a> {
         value_given(&self.list, number)
     }
 
-    /// One more symbol. It is an error where memory ran out.
+    /// One more symbol. Fails where memory runs out.
     fn push(&mut self, symbol: ScriptSymbol) -> Result<(), AllocError>
         requires { IsFound self.now.script symbol }
         ensures script { self.new.script ≡ self.old.script }
@@ -128,7 +128,7 @@ impl<'a> Symbols<'a> {
     {
         let number = symbol.command.0 as usize;
         if number < self.next {
-            // it does not come to this: a layout goes through the commands in their order
+            // Unreachable: a layout goes through the commands in their order
             return Err(AllocError);
         }
         self.list.push(symbol)?;
@@ -136,8 +136,11 @@ impl<'a> Symbols<'a> {
         Ok(())
     }
 
-    /// The first of these symbols, as many as the count says, in place of all so far. It is an error where memory ran
-    /// out.
+    /// The first of these symbols, as many as the count says, in place of all so far.
+    ///
+    /// # Errors
+    ///
+    /// Where memory runs out.
     pub fn take_over(&mut self, symbols: &[ScriptSymbol], count: usize) -> Result<(), AllocError>
         requires found { AreFound self.now.script symbols.now }
         requires rises { Rises symbols.now }
@@ -145,7 +148,7 @@ impl<'a> Symbols<'a> {
         ensures taken { OnOk result (self.new.list ≡ take count symbols.now) }
     {
         let Some(first) = symbols.get(..count) else {
-            // it does not come to this: an earlier layout has no fewer
+            // Unreachable: an earlier layout has no fewer
             return Err(AllocError);
         };
         self.list.clear();
@@ -155,14 +158,18 @@ impl<'a> Symbols<'a> {
         Ok(())
     }
 
-    /// Gives a symbol a value. It is an error where memory ran out.
+    /// Gives a symbol a value.
+    ///
+    /// # Errors
+    ///
+    /// Where memory runs out.
     pub fn assign(&mut self, name: &[u8], value: u64) -> Result<(), AllocError>
         ensures script { self.new.script ≡ self.old.script }
         ensures given { OnOk result (named self.new ≡ named self.old
             ++ record { name = name.now; value = value } ∷ []) }
     {
         let Some(number) = self.commands.number_or(self.next, name) else {
-            // it does not come to this: the name is one that the script gives a value
+            // Unreachable: the name is one that the script gives a value
             return Err(AllocError);
         };
         let Ok(number) = u32::try_from(number) else {

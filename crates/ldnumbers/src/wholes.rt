@@ -64,7 +64,7 @@ fn index_of(number: usize) -> Result<OutputIndex, AllocError>
 {
     match u32::try_from(number) {
         Ok(number) => Ok(OutputIndex(number)),
-        // it does not come to this: no script has 2^32 output sections
+        // Unreachable: no script has 2^32 output sections
         Err(_) => Err(AllocError),
     }
 }

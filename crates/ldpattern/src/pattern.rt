@@ -55,8 +55,12 @@ fn form_of(alloc: Global, word: &[u8]) -> Result<Form, AllocError>
 }
 
 impl Pattern {
-    /// Reads the pattern that a word spells: `None` if it spells none, as one with a `]` outside a set, or with a
-    /// set that is empty, has no end, or has a `[` or a `\` in it. Fails only where memory ran out.
+    /// Reads the pattern that a word spells: `None` if it spells none, as one with a `]` outside a set, or with a set
+    /// that is empty, has no end, or has a `[` or a `\` in it.
+    ///
+    /// # Errors
+    ///
+    /// Where memory runs out.
     pub fn read(alloc: Global, word: &[u8]) -> Result<Option<Pattern>, AllocError>
         ensures { IfOk result (λ r. MatchOption r ((ps : List Part) → Spells ps word.now → ⊥) (λ p. IsPatternOf word.now p)) }
     {

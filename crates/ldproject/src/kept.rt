@@ -144,7 +144,11 @@ impl Kept {
         let _objects = &self.objects;
     }
 
-    /// All objects, in their order. An error says that memory ran out.
+    /// All objects, in their order.
+    ///
+    /// # Errors
+    ///
+    /// Where memory runs out.
     pub(crate) fn inputs(&self, alloc: Global) -> Result<Vec<Input<'_>>, NoMemory>
         ensures { IfOk result (λ v. shown_inputs v.items ≡ objects_of self.now.entries) }
     {

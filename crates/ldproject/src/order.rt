@@ -44,8 +44,11 @@ fn note_place(places: &mut Vec<Option<usize>>, key: usize, place: usize) -> Resu
     Ok(())
 }
 
-/// Where each of these keys stands among them, under its number. An error says that memory ran out: it takes some for
-/// each number up to the greatest key.
+/// Where each of these keys stands among them, under its number.
+///
+/// # Errors
+///
+/// Where memory runs out: it takes some for each number up to the greatest key.
 pub fn places_of(alloc: Global, keys: &[usize]) -> Result<Vec<Option<usize>>, NoMemory>
     requires { AreKeysDistinct keys.now }
     ensures { IfOk result (λ v. HasPlaces keys.now v.items) }
@@ -58,8 +61,11 @@ pub fn places_of(alloc: Global, keys: &[usize]) -> Result<Vec<Option<usize>>, No
 }
 
 impl Order {
-    /// These keys, in this order. An error says that memory ran out: it takes some for each key and for each number up
-    /// to the greatest key.
+    /// These keys, in this order.
+    ///
+    /// # Errors
+    ///
+    /// Where memory runs out: it takes some for each key and for each number up to the greatest key.
     pub fn of(alloc: Global, keys: &[usize]) -> Result<Order, NoMemory>
         requires { AreKeysDistinct keys.now }
         ensures { IfOk result (λ o. o ≡ keys.now) }

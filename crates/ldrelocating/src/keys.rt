@@ -23,7 +23,11 @@ fn as_read(object: &Object)
     let _relocations = object.relocations(LinkedIndex(0));
 }
 
-/// The keys of all objects: their places. An error says that memory ran out.
+/// The keys of all objects: their places.
+///
+/// # Errors
+///
+/// Where memory runs out.
 pub(crate) fn keys_of(alloc: Global, project: &ProjectView<'_>) -> Result<Vec<ObjectKey>, NoMemory>
     ensures keys { IfOk result (λ keys. AreKeysOf project.now.objects project.now.objects keys.items) }
     ensures read { IfOk result (λ keys. All (λ (o : NamedObject). IsRead o.object) project.now.objects) }

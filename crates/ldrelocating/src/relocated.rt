@@ -66,7 +66,11 @@ fn with_entry_fault(value: SymbolValue, mut faults: Vec<Fault>) -> Result<Vec<Fa
 
 impl Relocated {
     /// Evaluates the relocations of input sections that did not stay, and those of sections that stayed whose symbol
-    /// has another value than in the earlier link. Each of them is counted. An error says that memory ran out.
+    /// has another value than in the earlier link. Each of them is counted.
+    ///
+    /// # Errors
+    ///
+    /// Where memory runs out.
     pub fn of<E: Earlier>(
         alloc: Global,
         project: &ProjectView<'_>,

@@ -95,8 +95,8 @@ impl Kept {
         Ok(Coming { order, matches })
     }
 
-    /// Follows an edit that touches the object under a key, and links the next project. An error says that memory ran
-    /// out: then what is kept is of the project as before.
+    /// Follows an edit that touches the object under a key, and links the next project. Fails where memory runs out:
+    /// then what is kept is of the project as before.
     fn follow_object(
         &mut self,
         alloc: Global,
@@ -155,8 +155,8 @@ impl Kept {
         }
     }
 
-    /// Follows an edit that touches no object, as one of the script, and links the next project. An error says that
-    /// memory ran out: then what is kept is of the project as before.
+    /// Follows an edit that touches no object, as one of the script, and links the next project. Fails where memory
+    /// runs out: then what is kept is of the project as before.
     fn follow_script(
         &mut self,
         alloc: Global,
@@ -199,8 +199,11 @@ impl Kept {
         }
     }
 
-    /// Follows a staged edit, and links the project that it leads to. An error says that memory ran out: then what is
-    /// kept is of the project as before.
+    /// Follows a staged edit, and links the project that it leads to.
+    ///
+    /// # Errors
+    ///
+    /// Where memory runs out. What is kept is then of the project as before.
     pub(crate) fn follow(
         &mut self,
         alloc: Global,

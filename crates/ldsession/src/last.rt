@@ -189,8 +189,8 @@ impl LastGood {
         }
     }
 
-    /// The origins of the objects of a next project, in their order; that which comes has none. An error says that
-    /// memory ran out.
+    /// The origins of the objects of a next project, in their order; that which comes has none. Fails where memory runs
+    /// out.
     fn origins_of(
         &self,
         alloc: Global,
@@ -287,8 +287,11 @@ pub(crate) fn effect_of(
     }
 }
 
-/// The origins of the objects of a next project in the last link, where that is known to have none of what comes. An
-/// error says that memory ran out.
+/// The origins of the objects of a next project in the last link, where that is known to have none of what comes.
+///
+/// # Errors
+///
+/// Where memory runs out.
 pub(crate) fn origins_for(
     alloc: Global,
     last: &Option<LastGood>,

@@ -29,7 +29,7 @@ use ldproject::view::ProjectView;
 use relink::again::{Ended, relink};
 use std::alloc::Global;
 
-/// The names of these objects, in their order. An error says that memory ran out.
+/// The names of these objects, in their order. Fails where memory runs out.
 fn names_of(alloc: Global, inputs: &[Input<'_>]) -> Result<Vec<Vec<u8>>, NoMemory>
     ensures { IfOk result (λ v. map (λ n. n.items) v.items
         ≡ map (λ (o : NamedObject). o.name) (shown_inputs inputs.now)) }
@@ -41,7 +41,7 @@ fn names_of(alloc: Global, inputs: &[Input<'_>]) -> Result<Vec<Vec<u8>>, NoMemor
     Ok(names)
 }
 
-/// Links a project, whose objects have these keys, over what is kept of it. An error says that memory ran out: then the
+/// Links a project, whose objects have these keys, over what is kept of it. Fails where memory runs out: then the
 /// canvas is as it was.
 fn link_keyed(
     alloc: Global,
@@ -82,8 +82,11 @@ fn link_keyed(
     }
 }
 
-/// Links the next project over what is kept of it, and over the image of the last link without faults, if there is
-/// one. An error says that memory ran out: then the canvas is as it was.
+/// Links the next project over what is kept of it, and over the image of the last link without faults, if there is one.
+///
+/// # Errors
+///
+/// Where memory runs out. Then the canvas is as it was.
 pub(crate) fn link_next(
     alloc: Global,
     next: &Next<'_>,
@@ -115,7 +118,11 @@ pub(crate) fn link_next(
     )
 }
 
-/// Links a project over what is kept of it, where there is no link before it. An error says that memory ran out.
+/// Links a project over what is kept of it, where there is no link before it.
+///
+/// # Errors
+///
+/// Where memory runs out.
 pub(crate) fn link_first(
     alloc: Global,
     project: &Project,

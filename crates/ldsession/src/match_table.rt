@@ -11,7 +11,11 @@ use ldmodel::names::ObjectKey;
 use ldproject::project::Next;
 use std::alloc::Global;
 
-/// The matches of the object under a key of the next project, if there is one. An error says that memory ran out.
+/// The matches of the object under a key of the next project, if there is one.
+///
+/// # Errors
+///
+/// Where memory runs out.
 pub(crate) fn match_under(
     alloc: Global,
     next: &Next<'_>,

@@ -66,7 +66,7 @@ impl Model for Session {
         × IsLast (listing_of s.project) s.canvas.bytes s.answer s.last };
 }
 
-/// What is kept of a project without objects. An error says that memory ran out.
+/// What is kept of a project without objects. Fails where memory runs out.
 fn kept_of_none(alloc: Global, seed: RandomState, project: &Project) -> Result<Kept, NoMemory>
     requires { (held project.now).objects ≡ [] }
     ensures { IfOk result (λ k. IsKept (listing_of project.now) k.naming k.matches.items) }

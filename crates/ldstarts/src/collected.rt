@@ -36,7 +36,11 @@ fn add_row(
     Ok(())
 }
 
-/// The input sections of these rows, which start at these addresses, row by row. An error says that memory ran out.
+/// The input sections of these rows, which start at these addresses, row by row.
+///
+/// # Errors
+///
+/// Where memory runs out.
 pub(crate) fn collect(
     alloc: Global,
     objects: &Numbering,
@@ -49,7 +53,7 @@ pub(crate) fn collect(
     let mut left = starts;
     for (number, row) in rows.iter().enumerate() {
         let Ok(number) = u32::try_from(number) else {
-            // it does not come to this: no script has 2^32 output sections
+            // Unreachable: no script has 2^32 output sections
             return Err(AllocError);
         };
         add_row(&mut entries, objects, OutputIndex(number), row, left)?;

@@ -51,7 +51,11 @@ impl Entry {
     }
 }
 
-/// The common blocks among these input sections, in their order. An error says that memory ran out.
+/// The common blocks among these input sections, in their order.
+///
+/// # Errors
+///
+/// Where memory runs out.
 pub(crate) fn blocks_among(alloc: Global, entries: &[Entry]) -> Result<Vec<Entry>, NoMemory>
     ensures { IfOk result (λ v. v.items ≡ filter is_block entries.now) }
 {

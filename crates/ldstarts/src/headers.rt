@@ -30,7 +30,11 @@ fn count_to(section: SectionIndex) -> u32
     u32::from(section.0) + 1
 }
 
-/// How many header numbers each of these many objects has. They begin nowhere yet. An error says that memory ran out.
+/// How many header numbers each of these many objects has. They begin nowhere yet.
+///
+/// # Errors
+///
+/// Where memory runs out.
 pub(crate) fn count_headers(
     alloc: Global,
     entries: &[Entry],
@@ -58,7 +62,7 @@ pub(crate) fn number_headers(headers: &mut [Headers]) -> Result<u32, NoMemory>
     for own in headers.iter_mut() {
         own.begin = total;
         let Some(end) = total.checked_add(own.count) else {
-            // it does not come to this: 2^32 section headers take 256 GiB
+            // Unreachable: 2^32 section headers take 256 GiB
             return Err(AllocError);
         };
         total = end;

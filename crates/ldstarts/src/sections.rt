@@ -24,7 +24,7 @@ pub(crate) struct Sections {
 }
 
 /// For each of the header numbers of all objects which entry is the first one of it; the number of entries where none
-/// is. An error says that memory ran out.
+/// is. Fails where memory runs out.
 fn owners(
     alloc: Global,
     entries: &[Entry],
@@ -35,7 +35,7 @@ fn owners(
     ensures { IfOk result (λ v. AreOwners headers.now entries.now total v.items) }
 {
     let Ok(none) = u32::try_from(entries.len()) else {
-        // it does not come to this: the headers of 2^32 input sections take 256 GiB
+        // Unreachable: the headers of 2^32 input sections take 256 GiB
         return Err(AllocError);
     };
     let mut owners = vec![in alloc; none; total as usize]?;
@@ -51,7 +51,7 @@ fn owners(
     Ok(owners)
 }
 
-/// The places of these input sections. An error says that memory ran out.
+/// The places of these input sections. Fails where memory runs out.
 fn places(alloc: Global, entries: &[Entry]) -> Result<Vec<PartPlace>, NoMemory>
     ensures { IfOk result (λ v. v.items ≡ map (λ e. e.place) entries.now) }
 {
@@ -78,7 +78,11 @@ impl Sections {
         })
     }
 
-    /// That of these input sections, of this number of objects. An error says that memory ran out.
+    /// That of these input sections, of this number of objects.
+    ///
+    /// # Errors
+    ///
+    /// Where memory runs out.
     pub(crate) fn of(alloc: Global, entries: &[Entry], objects: usize) -> Result<Sections, NoMemory>
         requires { All (λ e. e.object < objects) entries.now }
         ensures { IfOk result (λ t. HasSections entries.now t) }

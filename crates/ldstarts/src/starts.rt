@@ -46,7 +46,11 @@ pub struct Starts {
 impl Starts {
     ghost use Rattle.ldstarts.specs.Starts.{AreStarts, IsPartPlace, part_in, place_in};
 
-    /// Where the input sections of these rows stand, by their layout. An error says that memory ran out.
+    /// Where the input sections of these rows stand, by their layout.
+    ///
+    /// # Errors
+    ///
+    /// Where memory runs out.
     pub fn of(
         alloc: Global,
         project: &ProjectView<'_>,

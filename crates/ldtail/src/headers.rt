@@ -132,7 +132,9 @@ fn length_of(segments: usize) -> usize {
 /// segments, which come in the order of the script. `table` is where the section headers stand, and `sections` the
 /// number of output sections; to their headers those of the tail are added here.
 ///
-/// An error says that there was no memory.
+/// # Errors
+///
+/// Where memory runs out.
 pub fn headers(
     alloc: Global,
     entry: u64,
@@ -175,7 +177,9 @@ fn file_end(end: u128, g: &Segment) -> Result<u128, NoMemory>
 /// Where the loaded part of the file ends: with the file bytes of these segments, which come in the order of the
 /// script, or with the headers.
 ///
-/// An error says that it is 2^64 or more: no memory holds such a file.
+/// # Errors
+///
+/// Where it is 2^64 or more: no memory holds such a file.
 pub fn loaded_end(segments: &[Segment]) -> Result<u64, NoMemory>
     ensures { IfOk result (λ end. (sections : List PlacedSection) (gs : List LaidSegment)
         → AreSegments sections gs segments.now → end ≡ definition.loaded_end gs) }

@@ -194,7 +194,9 @@ fn place_tables(end: u64, symbols: SymbolTables, header_names: Vec<u8>) -> Resul
 /// The tail of an image whose loaded part ends at `loaded_end`: the symbol table of these symbols, which come in byte
 /// order of their names, and the headers of these output sections, which come in the order of the script.
 ///
-/// An error says that there was no memory.
+/// # Errors
+///
+/// Where memory runs out.
 pub fn tail(
     alloc: Global,
     loaded_end: u64,

@@ -349,8 +349,10 @@ fn count_fields<L: Known, E: Earlier>(link: &L, earlier: &E, objects: &[ObjectKe
 /// symbol has another value than in the earlier link. Each of them counts as one; the others are as they were.
 /// `objects` are the keys of the objects, in their order, and `values` the values of all names.
 ///
-/// An error says that there was no memory for the fields; a table of 2^32 relocations or more, which no object has
-/// whose length is within the limit, counts as that.
+/// # Errors
+///
+/// Where memory runs out for the fields; a table of 2^32 relocations or more, which no object has whose length is
+/// within the limit, counts as that.
 pub fn changed_fields<L: Known, E: Earlier>(
     alloc: Global,
     link: &L,

@@ -91,8 +91,10 @@ fn add_sites<L: Known>(
 /// `fields`, in the order of their offsets, and the faults to `faults`, in the order of their table. `values` are the
 /// values of all names.
 ///
-/// An error says that there was no memory for them; a table of 2^32 relocations or more, which no object has whose
-/// length is within the limit, counts as that.
+/// # Errors
+///
+/// Where memory runs out for them; a table of 2^32 relocations or more, which no object has whose length is within the
+/// limit, counts as that.
 pub fn add_fields<L: Known>(
     alloc: Global,
     link: &L,

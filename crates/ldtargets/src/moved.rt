@@ -70,8 +70,8 @@ fn is_within(range: FileRange, field: &Patch) -> bool
     offset <= range.length && length <= range.length - offset
 }
 
-/// Adds a field of a section in its place in the file, if it lies within the section's bytes there. An error says that
-/// there was no memory; a place past 2^64 counts as that.
+/// Adds a field of a section in its place in the file, if it lies within the section's bytes there. Fails where memory
+/// runs out; a place past 2^64 counts as that.
 fn add_in_file(range: FileRange, field: Patch, patches: &mut Vec<Patch>) -> Result<(), NoMemory>
     ensures { OnOk result (patches.new.items ≡ patches.old.items ++ option_to_list (in_file range field)) }
 {
@@ -137,8 +137,10 @@ fn add_moved_site<L: Known, E: Earlier>(
 /// the order of their table. Adds their fields, in their places in the file, to `patches`, and their faults to
 /// `faults`. `range` says where the section's bytes stand in the file, and `values` are the values of all names.
 ///
-/// An error says that there was no memory for them; a table of 2^32 relocations or more, which no object has whose
-/// length is within the limit, counts as that.
+/// # Errors
+///
+/// Where memory runs out for them; a table of 2^32 relocations or more, which no object has whose length is within the
+/// limit, counts as that.
 pub fn add_moved<L: Known, E: Earlier>(
     link: &L,
     earlier: &E,

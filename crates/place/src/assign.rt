@@ -48,7 +48,7 @@ impl<'a> Here<'a> {
             Common::Provide(a) => match provided.is_in_force(a.name.as_bytes()) {
                 Some(true) => self.assign(done, line, a),
                 Some(false) => Ok(()),
-                // it does not come to this: the name is one that the script gives a value
+                // Unreachable: the name is one that the script gives a value
                 None => Err(Stop::NoMemory),
             },
             Common::Assert(_) => Ok(()),

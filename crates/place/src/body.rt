@@ -118,7 +118,7 @@ impl<'d, 'a> Frame<'d, 'a> {
                 break;
             }
             let Some(start) = starts.get(place) else {
-                // it does not come to this: the earlier row had as many entries
+                // Unreachable: the earlier row had as many entries
                 return Err(Stop::NoMemory);
             };
             self.put_piece(here, line, piece, *start)?;
@@ -136,7 +136,7 @@ impl<'d, 'a> Frame<'d, 'a> {
     {
         let number = here.inputs;
         let Some(next) = number.checked_add(1) else {
-            // it does not come to this: no script has 2^64 input statements
+            // Unreachable: no script has 2^64 input statements
             return Err(Stop::NoMemory);
         };
         match self.starts {

@@ -190,7 +190,7 @@ impl<'a> Here<'a> {
             Some(_) => Ok(start),
             None => match done.sections.difference(region_name(section)) {
                 Some(difference) => Ok(start.wrapping_sub(difference)),
-                // it does not come to this: a script declares the regions that it names
+                // Unreachable: a script declares the regions that it names
                 None => Err(Stop::NoMemory),
             },
         }

@@ -104,7 +104,7 @@ impl<'i, 'a> Input<'i, 'a> {
             return Ok(None);
         }
         if self.kept.same_provided {
-            // it does not come to this: these are taken over
+            // Unreachable: these are taken over
             return Err(Stop::NoMemory);
         }
         match self.kept.earlier.starts_of(number, done.sections.count()) {
@@ -150,7 +150,7 @@ impl<'i, 'a> Input<'i, 'a> {
             }
             ItemCommand::Discard(inputs) => {
                 let Some(next) = here.inputs.checked_add(inputs.as_slice().len() as u64) else {
-                    // it does not come to this: no script has 2^64 input statements
+                    // Unreachable: no script has 2^64 input statements
                     return Err(Stop::NoMemory);
                 };
                 here.inputs = next;

@@ -56,7 +56,7 @@ impl<'i, 'a> Input<'i, 'a> {
         match &statement.command {
             Command::Entry(_) => Ok(()),
             Command::Memory(regions) => here.declare_all(done, regions.as_slice()),
-            // it does not come to this: a script has one SECTIONS
+            // Unreachable: a script has one SECTIONS
             Command::Sections(_) => Err(Stop::NoMemory),
             Command::Common(command) => {
                 here.common(done, self.provided, statement.line, command)

@@ -35,7 +35,7 @@ pub(crate) struct Resumed {
 }
 
 impl<'a> Here<'a> {
-    /// Goes on to where an earlier layout had come to. It is an error where memory ran out.
+    /// Goes on to where an earlier layout had come to. Fails where memory runs out.
     fn go_on(&mut self, kept: Kept<'_>, to: Boundary) -> Result<(), Stop<'a>>
         requires found { AreFound self.now.symbols.script kept.symbols.now }
         requires rises { Rises kept.symbols.now }
@@ -48,7 +48,7 @@ impl<'a> Here<'a> {
         ensures refused { IfErr result (λ f. f ≡ NoMemory) }
     {
         let Some(dots) = kept.dots.get(..to.dots) else {
-            // it does not come to this: the earlier layout has no fewer
+            // Unreachable: the earlier layout has no fewer
             return Err(Stop::NoMemory);
         };
         self.dots.clear();
@@ -81,7 +81,7 @@ fn copy_of(
     let mut list = Vec::with_capacity(alloc, boundaries.len())?;
     match boundaries.get(..count) {
         Some(first) => list.extend_from_slice(first)?,
-        // it does not come to this: there are no fewer
+        // Unreachable: there are no fewer
         None => return Err(AllocError),
     }
     Ok(list)
@@ -104,7 +104,7 @@ impl<'i, 'a> Input<'i, 'a> {
         ensures kept { done.new.sections.earlier ≡ done.old.sections.earlier }
         ensures refused { IfErr result (λ f. f ≡ NoMemory) }
     {
-        // it does not come to an error here but for memory: the earlier layout has this output section
+        // Fails only where memory runs out: the earlier layout has this output section
         let Some(output) = output_at(items, at.items) else {
             return Err(Stop::NoMemory);
         };
@@ -126,7 +126,11 @@ impl<'i, 'a> Input<'i, 'a> {
     }
 
     /// Takes over the output sections before the first whose row differs, with all statements of SECTIONS up to that
-    /// one; none of them where other PROVIDEs were in force. It is an error where memory ran out.
+    /// one; none of them where other PROVIDEs were in force.
+    ///
+    /// # Errors
+    ///
+    /// Where memory runs out.
     pub fn resume(
         &self,
         here: &mut Here<'a>,
