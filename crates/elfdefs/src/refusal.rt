@@ -1,9 +1,8 @@
 //! Why bytes are no object of the profile.
 
-/// Why `Object::read` refuses. The numbers from 1 to 13 are those of conditions on the bytes, in the order of the
-/// tests: the lowest whose condition holds is answered. `NoMemory` is no condition on the bytes, and may stand in the
-/// place of any answer that the ELF header alone does not give. It has the last number, 14, so that each refusal is told
-/// by one.
+/// Why `Object::read` refuses. The numbers from 1 to 13 belong to conditions on the bytes, in the order of the tests:
+/// the lowest whose condition holds is answered. `NoMemory` is no condition on the bytes, and may stand in the place of
+/// any answer that the ELF header alone does not give. It has the last number, 14, so that each refusal has a number.
 #[derive(Clone, Copy, Debug, PartialEq, Eq)]
 pub enum ObjectRefusal {
     /// 1: fewer bytes than an ELF header has.
@@ -35,7 +34,7 @@ pub enum ObjectRefusal {
     FieldBounds,
     /// 13: two relocations of one section that share a byte.
     FieldOverlap,
-    /// 14: no memory.
+    /// 14: out of memory.
     NoMemory,
 }
 
@@ -43,7 +42,7 @@ impl ObjectRefusal {
     ghost use Rattle.std.specs.Prelude.{◌≡◌};
     ghost use Rattle.elfdefs.specs.RefusalNumber.{refusal_number};
 
-    /// The number under which the refusal is told, from 1 to 14.
+    /// The number under which the refusal is reported, from 1 to 14.
     pub fn number(self) -> u8
         ensures { result ≡ refusal_number self }
     {

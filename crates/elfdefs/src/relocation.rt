@@ -61,7 +61,7 @@ impl RelocationKind {
         }
     }
 
-    /// Its `ELF64_R_TYPE`: the only number that `of_type` reads as this kind.
+    /// The `ELF64_R_TYPE` of the kind: the only number that `of_type` reads as it.
     #[tactic(auto, unfolding(crate::specs::RelocationKinds::relocation_kind))]
     pub fn number(self) -> u32
         ensures read { relocation_kind result ≡ Some self }

@@ -57,7 +57,7 @@ impl SectionKind {
 /// A linked section: one with `SHF_ALLOC` and one of the types of `SectionKind`.
 #[derive(Clone, Copy, Debug, PartialEq, Eq)]
 pub struct Section {
-    /// Its number among the section headers.
+    /// The number of the section among the section headers.
     pub number: SectionIndex,
     /// What it holds.
     pub kind: SectionKind,

@@ -21,7 +21,7 @@ impl Binding {
     ghost use Rattle.std.specs.Prelude.{◌≡◌, ◌≤◌, ℕ};
     ghost use Rattle.elfdefs.specs.SymbolKinds.{binding_of};
 
-    /// Its `ELF64_ST_BIND`: the only number up to 2 that is read as this binding.
+    /// The `ELF64_ST_BIND` of the binding: the only number up to 2 that is read as it.
     pub fn number(self) -> u8
         ensures read { binding_of result ≡ self }
         ensures most { result ≤ 2 }
@@ -56,7 +56,7 @@ impl SymbolKind {
     ghost use Rattle.std.specs.Prelude.{◌≡◌, ◌≤◌, ℕ};
     ghost use Rattle.elfdefs.specs.SymbolKinds.{symbol_kind_of};
 
-    /// Its `ELF64_ST_TYPE`: the only number up to 5 that is read as this kind.
+    /// The `ELF64_ST_TYPE` of the kind: the only number up to 5 that is read as it.
     pub fn number(self) -> u8
         ensures read { symbol_kind_of result ≡ self }
         ensures most { result ≤ 5 }

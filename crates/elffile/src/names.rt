@@ -30,8 +30,8 @@ pub struct StringTable<'a> {
     ghost right: { lengths.items ≡ name_lengths (file_bytes file.now header) } by { Prim.hlevel props },
 }
 
-/// The length of the name that begins with byte `b`, where the rest of the table begins with a zero byte, or with a name
-/// of length `next`; 0 stands for no name within the limits.
+/// The length of the name that begins with byte `b`, where the rest of the table begins with a zero byte, or with a
+/// name of length `next`; 0 stands for no name within the limits.
 fn length_before(b: u8, is_end: bool, next: u16) -> u16
     ensures { result ≡ length_before b is_end next }
 {

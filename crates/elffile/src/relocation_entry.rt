@@ -11,9 +11,9 @@ use elfdefs::relocation::{Relocation, RelocationKind, SymbolIndex};
 pub struct RelocationEntry {
     /// Where its field begins in the section that it changes.
     pub r_offset: u64,
-    /// Its symbol and its type.
+    /// The symbol and the type.
     pub r_info: u64,
-    /// Its addend.
+    /// The addend.
     pub r_addend: i64,
 }
 
@@ -34,14 +34,14 @@ impl RelocationEntry {
         (self.r_info & 0xffff_ffff) as u32
     }
 
-    /// Whether its symbol is not one of so many.
+    /// Whether the symbol of the entry is none of this number of symbols.
     pub fn names_no_symbol(&self, symbols: usize) -> bool
         ensures { result ≡ names_no_symbol symbols self.now }
     {
         symbols <= self.symbol() as usize
     }
 
-    /// Whether its type is outside the profile.
+    /// Whether the type of the relocation is outside the profile.
     pub fn is_strange_type(&self) -> bool
         ensures { result ≡ is_strange_type self.now }
     {

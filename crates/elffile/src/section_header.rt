@@ -28,13 +28,12 @@ pub struct SectionHeader {
     pub sh_offset: u64,
     /// How many bytes it has.
     pub sh_size: u64,
-    /// The number of another header: for a table of symbols that of its strings, for relocations that of their
-    /// symbols.
+    /// The number of another header: for a symbol table its string table, for relocations their symbol table.
     pub sh_link: u32,
-    /// For a table of symbols the number of the first entry that isn't local; for relocations the number of the
-    /// section that they change.
+    /// For a symbol table the number of the first entry that isn't local; for relocations the number of the section
+    /// that they change.
     pub sh_info: u32,
-    /// Its alignment in memory.
+    /// The alignment of the section in memory.
     pub sh_addralign: u64,
     /// The size of an entry of a table.
     pub sh_entsize: u64,
@@ -99,14 +98,14 @@ impl SectionHeader {
                 || names.name_length(self.sh_name).is_none())
     }
 
-    /// Whether it is that of a symbol table.
+    /// Whether this is the header of a symbol table.
     pub fn is_symbol_table(&self) -> bool
         ensures { result ≡ is_symbol_table self.now }
     {
         self.sh_type == SHT_SYMTAB
     }
 
-    /// Whether it is that of a relocation section, with addends or without.
+    /// Whether this is the header of a relocation section, with addends or without.
     pub fn is_relocation_section(&self) -> bool
         ensures { result ≡ is_relocation_section self.now }
     {

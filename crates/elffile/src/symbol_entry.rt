@@ -18,13 +18,13 @@ use elfdefs::symbol::{Binding, Symbol, SymbolKind, SymbolPlace};
 pub struct SymbolEntry {
     /// Where its name begins in the string table.
     pub st_name: u32,
-    /// Its binding and its type.
+    /// The binding and the type.
     pub st_info: u8,
     /// The number of its section, or one of the `SHN_` numbers.
     pub st_shndx: u16,
-    /// Its value.
+    /// The value.
     pub st_value: u64,
-    /// Its size.
+    /// The size.
     pub st_size: u64,
 }
 
@@ -49,7 +49,7 @@ impl SymbolEntry {
         self.st_info & 0xf
     }
 
-    /// Whether only its own object sees it.
+    /// Whether only its own object sees the symbol.
     pub fn is_local(&self) -> bool
         ensures { result ≡ is_local self.now }
     {
@@ -86,7 +86,7 @@ impl SymbolEntry {
                 || self.st_size > MAX_SECTION_SIZE)
     }
 
-    /// Whether it is outside the profile, in an object of so many section headers with this string table.
+    /// Whether the entry is outside the profile, in an object of this number of section headers with this string table.
     pub fn is_wrong(&self, sections: u16, strings: &StringTable) -> bool
         ensures { result ≡ is_wrong_symbol sections (table_of strings.now) self.now }
     {

@@ -1,5 +1,5 @@
-//! Why bytes are refused, for people: where in the file, and what is wrong there. It looks at the file anew, and nothing
-//! but its safety is proved.
+//! Why bytes are refused, for people: where in the file, and what is wrong there. It looks at the file anew, and
+//! nothing but its safety is proved.
 
 ghost use Rattle.std.specs.Prelude.{◌≡◌, IfSome, length};
 
@@ -502,7 +502,7 @@ fn overlap(alloc: Global, bytes: &[u8]) -> Result<Option<Explanation>, AllocErro
     Ok(None)
 }
 
-/// Where and why `Object::read` refused these bytes so, for people. None where it did not.
+/// Where and why `Object::read` refused these bytes with this refusal, for people; none where it did not.
 pub fn explain(
     alloc: Global,
     bytes: &[u8],

@@ -10,7 +10,7 @@ use std::io::ErrorKind;
 const REFUSED: u8 = 2;
 /// The status after a device failed.
 const DEVICE: u8 = 3;
-/// The status out of memory.
+/// The status where memory runs out.
 const NO_MEMORY: u8 = 4;
 
 /// Why a file that a command line names is not shown.
@@ -68,8 +68,8 @@ impl FileFault {
         }
     }
 
-    /// Says the fault on standard error, and gives the status that a program ends with. After words that are refused it
-    /// says how they are to be.
+    /// Reports the fault on standard error, and gives the status that a program ends with. Where the words are refused,
+    /// `usage` is what is reported.
     pub fn report(&self, rt: &impl Eprint, usage: &str) -> u8
         ensures { result ≡ exit_status self.now }
     {

@@ -17,9 +17,9 @@ pub const MAX_FILE: usize = 1 << 26;
 /// A file that a command line names.
 #[derive(Debug, Drop)]
 pub struct NamedFile {
-    /// Its name, as the command line has it.
+    /// The name, as the command line has it.
     pub name: String,
-    /// Its bytes; of a file that is too long, the first of them, one more than `MAX_FILE`.
+    /// The bytes; of a file that is too long, the first ones, one more than `MAX_FILE`.
     pub bytes: Vec<u8>,
 }
 
@@ -81,7 +81,7 @@ fn read_named<R: Files + AllocGlobal>(rt: &R, name: &str) -> io::Result<NamedFil
 ///
 /// # Errors
 ///
-/// Where there are more words, where one is not UTF-8, where the file cannot be read, and out of memory.
+/// Where there are more words, where one is not UTF-8, where the file cannot be read, and where memory runs out.
 pub fn named_file<R: Files + Env + AllocGlobal>(rt: &R) -> Result<Option<NamedFile>, FileFault> {
     let args = match arguments(rt) {
         Ok(args) => args,

@@ -23,7 +23,7 @@ use ldvalue::value::{ValueFault, value};
 use ldvalues::values::Values;
 use std::alloc::{AllocError, Global};
 
-/// Whether a value counts as true: none does not.
+/// Whether a value counts as true; where there is none, it does not.
 fn is_true(outcome: Result<u64, ValueFault<'_>>) -> bool
     ensures { result ≡ definition.is_true_value (outcome_of outcome.entry) }
 {

@@ -15,7 +15,7 @@ use ldvalue::scope::Scope;
 pub struct FinalScope<'a, 'b> {
     /// The script.
     pub script: &'a Script,
-    /// Where its output sections and memory regions are.
+    /// Where the output sections and memory regions are.
     pub laid: Laid<'a>,
     /// The symbols of the output.
     pub symbols: SymbolsByName<'a, 'b>,

@@ -1,4 +1,4 @@
-//! ASSERT, the last phase of a link from scratch that may have faults.
+//! ASSERT, the last phase of a link that may have faults.
 #![tactic(auto)]
 
 pub mod asserting;

@@ -117,13 +117,13 @@ fn draw_outputs(
 }
 
 /// Draws the image of a link without faults onto a canvas, and counts the bytes that it writes: all but those of the
-/// input sections of which an earlier link says that they stayed, in which the patches, whose offsets are places in the
-/// file, are written.
+/// input sections of which an earlier link says that they stayed. In these only the patches are written, whose offsets
+/// are places in the file.
 ///
-/// Where nothing stays, the canvas may hold anything before. Where it holds the image of the earlier link, what is said
-/// to have stayed has, and the patches are the fields of the sites in it whose symbol has another value, it then holds
-/// that of the new one; and where all that stayed is said to, no more bytes are written than the image has outside of it
-/// and these fields have.
+/// Where nothing stays, the canvas may hold anything before. Where the canvas holds the image of the earlier link, each
+/// input section that is said to have stayed has, and the patches are the fields of the sites in these whose symbol has
+/// another value, the canvas holds the image of the new link after the call. Where, besides, each input section that
+/// stayed is said to have, no more bytes are written than the image has outside of these and the patched fields have.
 ///
 /// # Errors
 ///

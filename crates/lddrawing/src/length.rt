@@ -38,7 +38,7 @@ fn plus(size: u64, more: u64) -> Result<u64, NoMemory>
     size.checked_add(more).ok_or(AllocError)
 }
 
-/// A number of bytes, and those of a name with a zero byte after it.
+/// A number of bytes, and the bytes of a name with a zero byte after it.
 fn plus_name(bytes: u64, name: &[u8]) -> Result<u64, NoMemory>
     ensures { IfOk result (λ n. n ≡ bytes + (length name.now + 1)) }
 {
@@ -59,7 +59,7 @@ fn plus_symbol(sizes: SymbolSizes, symbol: &OutputSymbol<'_>) -> Result<SymbolSi
     }
 }
 
-/// Of these symbols, those that have a value.
+/// How many of these symbols have a value, and how many bytes their names have.
 fn symbol_sizes(symbols: &[OutputSymbol<'_>]) -> Result<SymbolSizes, NoMemory>
     ensures { IfOk result (λ t. t ≡ plus_symbols (record { count = 0; names = 0 }) symbols.now) }
 {

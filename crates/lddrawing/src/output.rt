@@ -26,17 +26,17 @@ use std::alloc::{AllocError, Global};
 /// An output section, with all that is drawn of it.
 #[derive(Clone, Copy)]
 pub(crate) struct Output<'a> {
-    /// Its name.
+    /// The name.
     pub(crate) name: &'a [u8],
     /// What its gaps are filled with, over and over: 1 to 8 bytes; one zero byte where the script says nothing.
     pub(crate) fill: &'a [u8],
-    /// Its place in memory.
+    /// The place in memory.
     pub(crate) placed: Placed,
     /// Where it begins in the file; 0 where its size is 0.
     pub(crate) offset: u128,
-    /// Its input sections, in their order.
+    /// The input sections, in their order.
     pub(crate) pieces: &'a [ImagePiece<'a>],
-    /// Its data commands, in their order.
+    /// The data commands, in their order.
     pub(crate) data_commands: &'a [PlacedData],
 }
 

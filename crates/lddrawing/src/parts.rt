@@ -29,7 +29,7 @@ use std::alloc::{AllocError, Global};
 /// One more than the greatest offset that a section header can state.
 const PAST_OFFSETS: u128 = 1 << 64;
 
-/// An output section as its header is made of it.
+/// An output section, with what its header is made of.
 fn table_section<'a>(output: &Output<'a>) -> TableSection<'a>
     ensures { (p : Project) (s : Layout) (stays : SectionKey → Bool) (q : PlacedSection)
         → IsOutput p s stays q output.now → IsTableSection s q result }
@@ -41,7 +41,7 @@ fn table_section<'a>(output: &Output<'a>) -> TableSection<'a>
     }
 }
 
-/// The output sections as their headers are made of them. Fails where memory runs out.
+/// The output sections, with what their headers are made of. Fails where memory runs out.
 fn table_sections<'a>(
     alloc: Global,
     outputs: &[Output<'a>],

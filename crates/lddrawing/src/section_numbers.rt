@@ -60,7 +60,7 @@ fn end_of(ends: &[usize], count: usize) -> Option<usize>
     }
 }
 
-/// The fields of a section of the object at a place, unless it stays; none where the place or the section is none.
+/// The fields of a section of the object at a place, unless it stays; none where there is no such place or section.
 pub(crate) fn fields_of<'a>(
     relocated: &'a Relocated,
     firsts: &[usize],

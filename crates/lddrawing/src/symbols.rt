@@ -42,7 +42,7 @@ struct Facts {
 /// The number that stands for no section header.
 const NO_HEADER: u32 = SHN_ABS as u32;
 
-/// Those of a name that the script gives a number.
+/// The facts of a name that the script gives a number.
 const OF_SCRIPT: Facts = Facts {
     weak: false,
     kind: SymbolKind::NoType,

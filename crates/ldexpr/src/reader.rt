@@ -168,8 +168,8 @@ fn whole<'a>(alloc: Global, tokens: Cursor<'a>) -> Parsed<'a, Expr>
 }
 
 /// Reads the expression at the front of the tokens, and returns it with what follows it: the only one that can't go on
-/// there. `None` where there is none, which includes a number of 2^64 or more and a reserved word as a name. The operators
-/// are those of the GNU ld manual's "Expressions in Linker Scripts", in C's order.
+/// there. `None` where there is none, which includes a number of 2^64 or more and a reserved word as a name. The
+/// operators are those of the GNU ld manual's "Expressions in Linker Scripts", in C's order.
 pub fn expr<'a>(alloc: Global, tokens: Cursor<'a>) -> Parsed<'a, Expr>
     ensures { Reads Whole tokens.entry (λ x. expr_of x.0) (λ x. x.1) result }
 {

@@ -7,8 +7,8 @@ use std::io;
 use std::io::{Read, Write};
 use std::os::unix::fs::OpenOptionsExt;
 
-/// The permission bits of an image that is made: all may read and run it. As of each file that is made, the system
-/// takes away those of the umask.
+/// The permission bits of an image that is made: all may read and run it. The system takes away the bits of the umask,
+/// as of each file that is made.
 pub const IMAGE_MODE: u32 = 0o755;
 /// The permission bits of a map that is made: all may read it.
 pub const MAP_MODE: u32 = 0o644;

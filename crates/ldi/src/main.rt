@@ -37,7 +37,7 @@ mod tests;
 const REFUSED: u8 = 2;
 /// The system gives no seed, or a file cannot be read or written.
 const DEVICE: u8 = 3;
-/// There is no memory.
+/// Memory ran out.
 const NO_MEMORY: u8 = 4;
 
 /// The status of a run.

@@ -80,8 +80,8 @@ fn write_stretches(canvas: &mut Canvas, stretches: &[Stretch<'_>], meter: &mut M
     }
 }
 
-/// Writes patches at their places in the file: where they have the bytes of an image, what was right for it stays so,
-/// and what they cover becomes so.
+/// Writes patches at their places in the file. Where the patches have the bytes of an image, bytes of the canvas that
+/// were right for that image stay right, and the patched bytes become right.
 fn write_patches(canvas: &mut Canvas, patches: &[Patch], meter: &mut Meter)
     requires { All (EndsBy (length canvas.old.bytes)) patches.now }
     ensures grows { (image : ℕ → ℕ) → All (IsPatchOf image) patches.now → (o : ℕ) → slice_index canvas.old.bytes o
@@ -121,6 +121,6 @@ pub(crate) fn write_image(
     canvas.resize_reserved(end);
     write_patches(canvas, patches, meter);
     write_stretches(canvas, stretches, meter);
-    // nothing more: so the count is said exactly where nothing was written too
+    // adds nothing: so the count is known exactly where nothing was written, too
     meter.raise(Count::Bytes, 0);
 }

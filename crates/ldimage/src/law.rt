@@ -28,8 +28,9 @@ ghost use Rattle.ldimage.specs.declared.section.Drawing.{Drawing};
 use ldlaws::segments::{sections_in_file, segments_by_neighbours};
 use ldlaws::stayed::{fields_in_image, pieces_in_image, stayed_in_both, untouched_bytes};
 
-/// A drawing whose parts are those of a link has the bytes of the link's image, but where they stay, and ends where it
-/// ends; where no input section stays, nothing does; and bytes that are those of the image, offset by offset, are it.
+/// A drawing whose parts are those of a link has the bytes of the link's image, except where bytes stay, and ends where
+/// the image ends. Where no input section stays, no byte does. Bytes that agree with the image at each offset, and are
+/// as many, are the image.
 pub fn drawing_is_image()
     ensures byte { (p : Project) (s : Layout) (d : Drawing) → IsDrawingOf p s d → (o : ℕ) → (drawing_spot d o).stays
         ≡ false → (drawing_spot d o).byte ≡ byte_at p s o }
@@ -40,7 +41,7 @@ pub fn drawing_is_image()
 {}
 
 /// A drawing whose parts are those of a link stands in order in the file, where the parts of each output section that
-/// isn't empty do in memory, fills have 1 to 8 bytes, and bytes and fields fill their input sections.
+/// isn't empty stand in order in memory, fills have 1 to 8 bytes, and bytes and fields fill their input sections.
 pub fn drawing_stands()
     ensures { (p : Project) (s : Layout) (d : Drawing) → IsDrawingOf p s d → All IsInMemory (nonempty s.sections)
         → AreFilled d → image_length p s < 2 ^ 64 → IsDrawing d }
@@ -55,8 +56,8 @@ pub fn placement_is_in_memory()
 {}
 
 /// What is kept of the image of an old link is right for a new one, where only input sections that stayed are kept, and
-/// patches give the fields of their sites whose symbol has another value: then drawing and patches are those of the new
-/// image, and no patch ends past the drawing. With or without a drawing, no such patch ends past the image.
+/// patches give the fields of their sites whose symbol has another value: then the drawing and the patches are a plan
+/// for the new image, and no patch ends past the drawing. With or without a drawing, no such patch ends past the image.
 pub fn kept_is_image()
     ensures drawn { (old new : GoodLink) (d : Drawing) (patches : List Patch) → IsGood old → IsGood new
         → IsRedrawing old new d patches

@@ -186,12 +186,13 @@ impl<'a> Plan<'a> {
     ghost use Rattle.ldimage.specs.declared.section.Drawing.{Drawing as DrawingOf};
 
     /// Writes the image of the plan onto the canvas: sets its length, writes the patches, and then each byte that does
-    /// not stay, once. It takes no memory, and counts the bytes that it writes. A byte that does not stay is then that
-    /// of the drawing, whatever the canvas held.
+    /// not stay, once. It takes no memory, and counts the bytes that it writes. A byte that does not stay is then as
+    /// the drawing has it, whatever the canvas held.
     ///
-    /// A canvas that holds the image of an old link then holds that of the new one, where only input sections that
-    /// stayed are kept and the patches are the fields of their sites whose symbol has another value. Where all that
-    /// stayed are kept, no more bytes are written than the image has outside of them and these fields have.
+    /// A canvas that held the image of an old link then holds the image of the new one, where only input sections that
+    /// stayed are kept and the patches are the fields of their sites whose symbol has another value. Where all input
+    /// sections that stayed are kept, no more bytes are written than the image has outside of them and these fields
+    /// have.
     pub fn commit(&self, canvas: &mut Canvas, meter: &mut Meter)
         requires { self.now.end ≤ canvas.old.room }
         ensures len { length canvas.new.bytes ≡ self.now.end }

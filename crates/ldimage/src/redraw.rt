@@ -25,14 +25,14 @@ use ldfields::patch::Patch;
 use ldmodel::memory::NoMemory;
 use std::alloc::Global;
 
-/// Writes the image that is drawn from these parts onto a canvas: all of it but the bytes that stay, in which the
-/// patches, whose offsets are places in the file, are written. It plans, and then commits: so of the calls of an edit
+/// Writes the image that is drawn from these parts onto a canvas: all of it but the bytes that stay. In these only the
+/// patches are written, whose offsets are places in the file. It plans, and then commits: so of the calls of an edit
 /// that may fail it can be the last.
 ///
-/// Where nothing stays, the canvas may hold anything before. Where it holds the image of an old link, only input
-/// sections that stayed are kept, and the patches are the fields of their sites whose symbol has another value, it then
-/// holds that of the new link; and where all that stayed are kept, no more bytes are written than the image has outside
-/// of them and these fields have.
+/// Where nothing stays, the canvas may hold anything before. Where the canvas holds the image of an old link, only
+/// input sections that stayed are kept, and the patches are the fields of their sites whose symbol has another value,
+/// the canvas then holds the image of the new link. Where all input sections that stayed are kept, no more bytes are
+/// written than the image has outside of them and these fields have.
 ///
 /// # Errors
 ///

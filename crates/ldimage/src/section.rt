@@ -6,13 +6,13 @@ use ldmodel::laid::PlacedData;
 /// An input section in its place.
 #[derive(Clone, Copy)]
 pub struct ImagePiece<'a> {
-    /// Its first address.
+    /// The first address.
     pub start: u64,
     /// How many bytes it has in memory.
     pub size: u64,
-    /// Its bytes; none where they are all 0, as those of NOBITS and of a common block.
+    /// The bytes; none where they are all 0, as in NOBITS and in a common block.
     pub bytes: &'a [u8],
-    /// The fields over them, in the order of their offsets; none where it stays.
+    /// The fields over these bytes, in the order of their offsets; none where the input section stays.
     pub fields: &'a [Patch],
     /// Whether its bytes stand in the canvas already, but for the patches of the plan.
     pub stays: bool,
@@ -23,15 +23,15 @@ pub struct ImagePiece<'a> {
 pub struct ImageSection<'a> {
     /// Where it begins in the file.
     pub offset: u64,
-    /// Its first address.
+    /// The first address.
     pub start: u64,
     /// How many bytes it has.
     pub size: u64,
     /// What its gaps are filled with, over and over: 1 to 8 bytes; one zero byte where the script says nothing.
     pub fill: &'a [u8],
-    /// Its input sections, in the order of their addresses.
+    /// The input sections, in the order of their addresses.
     pub pieces: &'a [ImagePiece<'a>],
-    /// Its data commands, in the order of their addresses.
+    /// The data commands, in the order of their addresses.
     pub data_commands: &'a [PlacedData],
 }
 
@@ -40,7 +40,7 @@ pub struct ImageSection<'a> {
 pub struct ImagePart<'a> {
     /// Where it begins in the file.
     pub offset: u64,
-    /// Its bytes.
+    /// The bytes.
     pub bytes: &'a [u8],
 }
 

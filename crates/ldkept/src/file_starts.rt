@@ -26,12 +26,12 @@ pub(crate) struct FileStart {
     pub start: u64,
     /// Where it begins in the file, if it has bytes there.
     pub offset: u128,
-    /// Whether it has.
+    /// Whether it has bytes in the file.
     pub in_file: bool,
 }
 
 impl FileStart {
-    /// That of an output section that begins there in the file.
+    /// Where an output section stands that begins at this offset of the file.
     fn new(section: &Placed, offset: u128) -> FileStart
         ensures { result ≡ file_start section.now offset }
     {
@@ -70,7 +70,7 @@ pub struct FileStarts {
     pub(crate) sections: Vec<FileStart>,
 }
 
-/// Whether an object has no name.
+/// Whether one of these objects has no name.
 fn has_unnamed(inputs: &[Input<'_>]) -> bool
     ensures { result ≡ list_any has_no_name inputs.now }
 {

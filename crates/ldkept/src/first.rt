@@ -15,8 +15,8 @@ use ldmodel::rows::Piece;
 use ldproject::view::ProjectView;
 use place::placement::Placement;
 
-/// The placement of the earlier link, if there is one and it is known to be one of the same script, and the number of
-/// the first row that differs from its rows.
+/// The placement of the earlier link, if there is one and it is known to be of the same script, and the number of the
+/// first row that differs from its rows.
 pub fn resumed<'a>(
     last: Option<Last<'a>>,
     project: &ProjectView<'_>,

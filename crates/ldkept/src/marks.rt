@@ -15,7 +15,7 @@ use ldmodel::names::ObjectKey;
 use ldproject::view::ProjectView;
 use std::alloc::Global;
 
-/// Whether the first symbols of two objects, so many of each, have the same values, number by number.
+/// Whether the first `count` symbols of two objects have the same values, number by number.
 fn have_same_values(
     old: &SymbolTable,
     from: usize,
@@ -33,8 +33,8 @@ fn have_same_values(
     true
 }
 
-/// Whether an object of a link, which has so many symbols, is none of the last one, or one of its symbols had another
-/// value there.
+/// Whether an object of a link, which has `count` symbols, is no object of the last one, or one of its symbols had
+/// another value there.
 fn is_marked(last: Option<Last<'_>>, symbols: &SymbolTable, place: usize, count: usize) -> bool
     ensures { result ≡ false → IsUnmarked (last_of last.entry) symbols.now place count }
 {
@@ -47,9 +47,9 @@ fn is_marked(last: Option<Last<'_>>, symbols: &SymbolTable, place: usize, count:
     !have_same_values(&last.good.symbols, from, symbols, place, count)
 }
 
-/// Which objects of a link, whose symbols have these values, are none of the last one, or have a symbol that had another
-/// value there, by their places. Values are compared as what they are, not by their numbers: what nothing defines counts
-/// as 0 to a weak reference, and is another value than the number 0 to others.
+/// Which objects of a link, by their places, are no objects of the last one, or have a symbol that had another value
+/// there. `symbols` has the values of the link. Values are compared as what they are, not by their numbers: what
+/// nothing defines counts as 0 to a weak reference, and is another value than the number 0 to others.
 ///
 /// # Errors
 ///

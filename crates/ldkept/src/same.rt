@@ -27,8 +27,8 @@ fn is_same_kind(before: SectionKind, now: SectionKind) -> bool
     before == now
 }
 
-/// Whether the object of a section came in the place of that of the earlier one, and the earlier one's part has the
-/// same name in both.
+/// Whether the object of a section came in the place of the earlier section's object, and the earlier section's part
+/// has the same name in both.
 fn came_for(
     replaced: &Replaced<'_>,
     project: &ProjectView<'_>,
@@ -46,7 +46,8 @@ fn came_for(
     }
 }
 
-/// Whether the object of a section is that of the earlier one, or came in its place and has the part by the same name.
+/// Whether the object of a section is the earlier section's object, or came in its place and has the part by the same
+/// name.
 fn is_of_same_object(
     last: &Last<'_>,
     project: &ProjectView<'_>,
@@ -89,7 +90,7 @@ fn is_same_piece(last: &Last<'_>, project: &ProjectView<'_>, before: &Piece, now
         && before.alignment == now.alignment
 }
 
-/// Whether the entries of a row are those of the earlier one, as far as both go.
+/// Whether the entries of a row are the earlier row's, as far as both go.
 fn are_same_pieces(
     last: &Last<'_>,
     project: &ProjectView<'_>,
@@ -126,7 +127,7 @@ fn find_changed(
         .position(|(before, now)| !is_same_row(last, project, before, now))
 }
 
-/// The same; the number of the rows that both have, where none differs.
+/// Like `find_changed`, but where no row differs, the number of the rows that both links have.
 pub(crate) fn first_changed(
     last: &Last<'_>,
     project: &ProjectView<'_>,

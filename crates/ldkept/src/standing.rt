@@ -15,7 +15,7 @@ pub(crate) struct Standing {
     pub start: u64,
     /// How many bytes it takes in memory.
     pub size: u64,
-    /// Its bytes in the file.
+    /// The bytes of the input section in the file.
     pub range: FileRange,
 }
 

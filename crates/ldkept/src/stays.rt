@@ -23,7 +23,7 @@ use ldtargets::value::SymbolValue;
 /// An object of the earlier link in whose place another of its name came.
 #[derive(Clone, Copy)]
 pub struct Replaced<'a> {
-    /// Its place in the earlier link.
+    /// The place of the object in the earlier link.
     pub old: ObjectKey,
     /// The object.
     pub object: &'a Object,
@@ -37,9 +37,9 @@ pub struct Replaced<'a> {
 pub struct Last<'a> {
     /// What is kept of that link.
     pub good: &'a Good,
-    /// The places of objects in it.
+    /// For each object of the new link, by its place, the place in the earlier one.
     pub from: &'a [Option<usize>],
-    /// Whether it is known to be one of the same script.
+    /// Whether that link is known to be of the same script.
     pub same_script: bool,
     /// The object that was replaced, if one is known.
     pub replaced: Option<Replaced<'a>>,
@@ -84,15 +84,15 @@ pub struct Stays<'a> {
     pub last: Option<Last<'a>>,
     /// Where the input sections of the new one stand.
     pub starts: &'a Starts,
-    /// Where its output sections stand.
+    /// Where the output sections of the new one stand.
     pub files: &'a FileStarts,
-    /// Which of its objects name a symbol that may have another value than in the last one, by their places; those
-    /// without a mark may.
+    /// Which objects of the new one, by their places, name a symbol that may have another value than in the last one;
+    /// an object past the end of the list may, too.
     pub marks: &'a [bool],
 }
 
 impl<'a> Stays<'a> {
-    /// Whether an object has a mark; one of which nothing is known has.
+    /// Whether an object has a mark; an object of which nothing is known has one.
     fn mark(&self, object: ObjectKey) -> bool
         ensures { result ≡ slice_index_or self.now.marks.now object.0 true }
     {

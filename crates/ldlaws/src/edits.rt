@@ -29,8 +29,8 @@ pub fn names_stay_distinct()
         → AreNamesDistinct q.objects }
 {}
 
-/// No edit is without an outcome. That of an edit of objects is at hand; a script's text can't be without one, though
-/// which it is, is said by relations (whether its tokens have a tree), and no function of the definitions decides them.
+/// No edit is without an outcome. For an edit of objects the outcome is at hand. A script's text can't be without one,
+/// though relations say which it is (whether its tokens have a tree), and no function of the definitions decides them.
 pub fn some_outcome()
     ensures objects { (p : Project) (c : Change) → IsNoScript c → HasOutcome p c }
     ensures all { (p : Project) (c : Change) → (HasOutcome p c → ⊥) → ⊥ }

@@ -39,8 +39,8 @@ pub fn live_by_path()
     ensures in_order { (p : Project) → (test : InputSection → Bool) × (live p ≡ filter test (candidates p)) }
 {}
 
-/// Pieces, as those that a statement takes, in the order of a sort are the one list that has them ascending by the key
-/// of the sort, and those with equal keys in the order that they had.
+/// Pieces in the order of a sort, such as those that a statement takes, are the one list that has them ascending by the
+/// key of the sort, and those with equal keys in the order that they had.
 pub fn row_by_order()
     ensures { (sort : Option Sort) (pieces sorted : List Piece)
         → IsOrdered (below sort) pieces sorted ↔ sorted ≡ sort_by (below sort) pieces }

@@ -25,7 +25,7 @@ pub fn gap_is_longest_run()
 {}
 
 /// The fields of an input section share no byte, where its relocations do not, as the object reader has found; and each
-/// has a byte and ends in the section, where they do.
+/// field has a byte and ends in the section, where the relocations do.
 pub fn fields_are_apart()
     ensures apart { (p : Project) (s : Layout) (o : NamedObject) (x : LinkedSection) (start : ℕ)
         → object.AreApart x.relocations → patches.AreApart (fields_of p s o x start) }
@@ -35,8 +35,8 @@ pub fn fields_are_apart()
 {}
 
 /// The image has the bytes of an input section where it stands in the file, in an output section with file bytes: each
-/// is that of the field that covers it, else its own. Output sections have different names, as the script reader has
-/// found, and nothing in them meets (`layout::nothing_meets`).
+/// byte is as the field that covers it has it, else as the section has it. Output sections have different names, as the
+/// script reader has found, and nothing in them meets (`layout::nothing_meets`).
 pub fn byte_of_piece()
     ensures { (p : Project) (s : Layout) (q : PlacedSection) (x : PlacedPiece) (i : ℕ)
         → Each IsSpread s.sections → AreNamed s.sections

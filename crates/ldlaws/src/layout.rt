@@ -58,9 +58,9 @@ pub fn nothing_meets()
 
 /// Two layouts of a script whose rows are the same before a number, and that both come to the same statement of
 /// SECTIONS before an output section of that number, differ in symbols alone, whichever PROVIDEs are in force in each:
-/// `.`, regions, output sections and their input sections are the same, and so are the values of symbols that both have.
-/// A PROVIDE gives its own symbol a value and moves nothing, no name is given a value twice, and what names a symbol
-/// that is not there has a fault.
+/// `.`, regions, output sections and their input sections are the same, and so are the values of symbols that both
+/// have. A PROVIDE gives its own symbol a value and moves nothing, no name is given a value twice, and what names a
+/// symbol that is not there has a fault.
 pub fn placements_alike()
     ensures { (script before : List Statement) (items : List Item) (first : ℕ) (old rows : List (List Piece))
         (earlier provided : List (List ℕ)) (s t : Layout) → IsSound script → IsPartedAt script before items
@@ -68,8 +68,8 @@ pub fn placements_alike()
         → length t.sections ≤ first → AreAlike [] s t }
 {}
 
-/// The same step by step: what leads from layouts, or from bodies of output sections, that differ in symbols alone,
-/// leads to such, and the names to come stay new.
+/// `placements_alike` step by step: what leads from layouts, or from bodies of output sections, that differ in symbols
+/// alone, leads to ones that do, and the names to come stay new.
 pub fn steps_stay_alike()
     ensures begun { (script : List Statement) → IsSound script
         → AreAlike (names_given (common_commands script)) nothing_placed nothing_placed }

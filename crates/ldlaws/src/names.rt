@@ -14,7 +14,7 @@ pub fn decided_renumbered()
         ≡ renumbered_decision number (decided is_assigned is_provided ds) }
 {}
 
-/// What a name stands for is decided as well over the symbol tables of the objects under keys, in the order of the
+/// What a name stands for may as well be decided over the symbol tables of the objects under keys, in the order of the
 /// objects.
 pub fn decision_by_keys()
     ensures { (number : ℕ → ℕ) (p : Project) (tables : List (ℕ × List NamedSymbol)) (name : List ℕ)

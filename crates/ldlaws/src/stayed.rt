@@ -100,9 +100,9 @@ pub fn moved_by_value()
         → filter test (flat_map (sites_in new.project) (stayed old new)) ≡ retargeted old new }
 {}
 
-/// The sites of a link in the order of its objects are those of its input sections in theirs: both lists have the same
-/// sites, each as often, also those that a test keeps. The latter are those of the input sections that stayed, and the
-/// others. The layout may have faults of relocation; one without faults at all is such a layout.
+/// The sites of a link in the order of its objects and in the order of its input sections are two lists of the same
+/// sites, each as often, also of those that a test keeps. The sites by input sections are those in input sections that
+/// stayed, and the others. The layout may have faults of relocation; one without faults at all is such a layout.
 pub fn sites_by_piece()
     ensures same { (p : Project) (s : Layout) → IsPlacedOnce p s
         → IsPermutation (sites p s) (flat_map (sites_in p) (linked_pieces p s)) }
@@ -113,7 +113,7 @@ pub fn sites_by_piece()
     ensures faultless { (l : GoodLink) → IsFaultless l → IsPlacedOnce l.project l.layout }
 {}
 
-/// Whether a site lies in an input section that stayed is told by the object and the number of its section: an input
+/// Whether a site lies in an input section that stayed follows from the object and the number of its section: an input
 /// section stayed exactly where its part of its object is among those that did. So one pass over the sites in the order
 /// of the objects finds those that are retargeted, by a test of values too, and those outside of what stayed.
 pub fn stayed_by_part()

@@ -26,16 +26,16 @@ use std::alloc::{AllocError, Global};
 /// Where everything of a project stands.
 #[derive(Drop)]
 pub struct Laying {
-    /// In memory.
+    /// The places in memory.
     pub placement: Placement,
-    /// In the file: the segments.
+    /// The places in the file: the segments.
     pub segments: Vec<Segment>,
 }
 
 /// Why a project has no layout.
 #[derive(Debug, Drop)]
 pub enum LayFault {
-    /// It has these faults: `F4` to `F10`.
+    /// The project has these faults: `F4` to `F10`.
     Faulty(Vec<Fault>),
     /// Out of memory.
     NoMemory,
@@ -104,7 +104,7 @@ fn place_rows(
 }
 
 impl Laying {
-    /// Lays the rows of a project out, whose names are decided. The length of the image isn't looked at: it is known
+    /// Lays out the rows of a project whose names are decided. The length of the image isn't looked at: it is known
     /// only when the symbols have their values. At most the entries of the rows are counted as placed.
     ///
     /// With `kept`, an earlier placement of the script and the number of a row before which no row differs from the
@@ -112,7 +112,8 @@ impl Laying {
     ///
     /// # Errors
     ///
-    /// `Faulty` has the first fault of the layout, or else all output sections that meet.
+    /// `Faulty` has the first fault of the layout, or else all output sections that meet; `NoMemory` where memory runs
+    /// out.
     pub fn of(
         alloc: Global,
         project: &ProjectView<'_>,

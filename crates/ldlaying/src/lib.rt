@@ -1,4 +1,4 @@
-//! Layout, a phase of a link from scratch: where everything stands in memory and in the file.
+//! Layout, a phase of a link: where everything stands in memory and in the file.
 #![tactic(auto)]
 
 pub mod laying;

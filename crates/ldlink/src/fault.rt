@@ -7,7 +7,7 @@ use ldmodel::edit::EditRefusal;
 pub enum LinkFault {
     /// An edit is refused, though there is memory.
     Refused {
-        /// The file that it is of: 0 is the script, `i` is object number `i`, from 1.
+        /// The file of the edit: 0 is the script, `i` is object number `i`, from 1.
         place: usize,
         /// Why it is refused.
         why: EditRefusal,

@@ -3,8 +3,8 @@
 /// An object file that has been read.
 #[derive(Drop)]
 pub struct ObjectFile {
-    /// Its word on the command line, under which it is added.
+    /// The word on the command line, under which the object is added.
     pub word: Vec<u8>,
-    /// Its bytes.
+    /// The bytes of the file.
     pub bytes: Vec<u8>,
 }

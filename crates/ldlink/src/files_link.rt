@@ -32,7 +32,7 @@ fn make(project: &mut Project, place: usize, edit: Edit<'_>) -> Result<(), LinkF
     }
 }
 
-/// Adds an object behind the first `at` ones.
+/// Adds an object after the first `at` ones.
 fn add(project: &mut Project, at: usize, file: ObjectFile) -> Result<(), LinkFault>
     requires { at + 1 < 2 ^ 64 }
     ensures accepted { OnOk result (After (held project.old)

@@ -1,4 +1,4 @@
-//! The texts of a link from scratch: its map and its fault lines.
+//! The texts of a link: its map and its fault lines.
 #![tactic(auto)]
 
 mod by_place;

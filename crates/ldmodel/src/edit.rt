@@ -17,11 +17,11 @@ pub const MAX_OBJECT_NAME: usize = 255;
 pub enum Edit<'a> {
     /// Adds an object.
     Add {
-        /// Its name: 1 to 255 bytes from `!` to `~`.
+        /// The name of the object: 1 to 255 bytes from `!` to `~`.
         name: &'a [u8],
         /// Before which of the objects it is to stand, from 0 to their number.
         at: u64,
-        /// Its bytes.
+        /// The bytes of the object.
         bytes: Vec<u8>,
     },
     /// Puts another object in the place of one.
@@ -33,19 +33,19 @@ pub enum Edit<'a> {
     },
     /// Takes an object out, and puts it in again at another place.
     Move {
-        /// Its name.
+        /// The name of the object.
         name: &'a [u8],
         /// Before which of the other objects it is to stand, from 0 to their number.
         to: u64,
     },
     /// Takes an object out.
     Remove {
-        /// Its name.
+        /// The name of the object.
         name: &'a [u8],
     },
     /// Sets the script.
     Script {
-        /// Its text.
+        /// The text of the script.
         text: &'a [u8],
     },
 }
@@ -79,7 +79,7 @@ pub enum EditRefusal {
 }
 
 impl EditRefusal {
-    /// The number under which it is reported, from 1 to 7.
+    /// The number under which the refusal is reported, from 1 to 7.
     pub fn number(self) -> u8
         ensures { result ≡ refusal_number (refusal_of self) }
     {

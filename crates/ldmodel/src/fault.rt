@@ -35,7 +35,7 @@ pub struct SiteKey {
     pub entry: u32,
 }
 
-/// What is wrong with a link. Lines are those of the script, from 1.
+/// What is wrong with a link. Lines are lines of the script, from 1.
 #[derive(Clone, Copy, Debug, PartialEq, Eq)]
 pub enum Fault {
     /// `F1 NAME OBJECT FIRST`: an object defines a name once more.
@@ -94,7 +94,7 @@ pub enum Fault {
     },
     /// `F11 LENGTH`: the image would have over 2^28 bytes.
     ImageTooLong {
-        /// How many; padding can carry it past 2^64.
+        /// The length of the image; padding can carry it past 2^64.
         length: u128,
     },
     /// `F12 OBJECT SECTION OFFSET NAME`: nothing defines the name that a relocation names.
@@ -107,7 +107,7 @@ pub enum Fault {
     FieldOverflow {
         /// The relocation.
         site: SiteKey,
-        /// Its value, modulo 2^64.
+        /// The value of the relocation, modulo 2^64.
         value: u64,
     },
     /// `F15 LINE MESSAGE`: the condition of an `ASSERT` does not hold.

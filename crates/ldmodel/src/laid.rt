@@ -14,7 +14,7 @@ pub struct RegionIndex(pub u32);
 /// An output section in its place. Its end and its load end are below 2^64.
 #[derive(Clone, Copy, Debug, PartialEq, Eq)]
 pub struct Placed {
-    /// Its first address.
+    /// The first address.
     pub start: u64,
     /// How many bytes it has in memory.
     pub size: u64,
@@ -22,7 +22,7 @@ pub struct Placed {
     pub load: u64,
     /// How many bytes it has in the file: `size`, or 0 where nothing in it has file bytes.
     pub load_size: u64,
-    /// Its alignment, a power of two. An address that the script gives need not be a multiple of it.
+    /// The alignment, a power of two. An address that the script gives need not be a multiple of it.
     pub alignment: u64,
     /// `SHF_WRITE`: it may be written.
     pub writable: bool,
@@ -46,7 +46,7 @@ pub struct PlacedData {
 /// The numbers of a memory region.
 #[derive(Clone, Copy, Debug, PartialEq, Eq)]
 pub struct PlacedRegion {
-    /// ORIGIN: its first address.
+    /// ORIGIN: the first address.
     pub origin: u64,
     /// LENGTH: how many bytes it has.
     pub extent: u64,

@@ -1,5 +1,5 @@
-//! What a link is given and what it is: options, edits and their answers, the trait of linkers, the types that the layers
-//! of a link hand one another, and the definitions of a project, of an edit and of a link.
+//! What a link is given and what it is: options, edits and their answers, the trait of linkers, the types that the
+//! layers of a link hand one another, and the definitions of a project, of an edit and of a link.
 #![tactic(auto)]
 
 pub mod edit;

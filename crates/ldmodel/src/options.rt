@@ -9,7 +9,7 @@ use std::marker::Model;
 pub enum Orphans {
     /// Each one that the program needs is a fault.
     Error,
-    /// They are left out of the image.
+    /// All of them are left out of the image.
     Discard,
 }
 
@@ -47,7 +47,7 @@ impl Options {
     ghost use Rattle.ldmodel.specs.Options.{default_options};
 
     /// Options that collect sections which the program cannot reach if `gc`, that start the program at the symbol
-    /// `entry`, if any, whatever the script's ENTRY names, and that treat orphans so.
+    /// `entry`, if any, whatever the script's ENTRY names, and that treat orphans as `orphans` says.
     pub fn new(gc: bool, entry: Option<Vec<u8>>, orphans: Orphans) -> Options
         ensures { result ≡ record { gc = gc; entry = option_map (λ v. v.items) entry; orphans = orphans } }
     {

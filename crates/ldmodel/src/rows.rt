@@ -20,6 +20,6 @@ pub struct Piece {
     pub flags: u64,
     /// How many bytes it takes in memory, at most 2^31.
     pub size: u64,
-    /// Its alignment: 0, which counts as 1, or a power of two.
+    /// The alignment: 0, which counts as 1, or a power of two.
     pub alignment: u64,
 }

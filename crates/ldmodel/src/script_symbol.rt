@@ -10,6 +10,6 @@ pub struct CommonIndex(pub u32);
 pub struct ScriptSymbol {
     /// The assignment, or the PROVIDE in force, that names it.
     pub command: CommonIndex,
-    /// Its value.
+    /// The value of the symbol.
     pub value: u64,
 }

@@ -18,6 +18,6 @@ pub enum Part {
 pub struct SectionKey {
     /// The object.
     pub object: ObjectKey,
-    /// Its part.
+    /// The part of the object.
     pub part: Part,
 }

@@ -19,8 +19,8 @@ pub struct Segment {
     pub writable: bool,
     /// `PF_X`.
     pub executable: bool,
-    /// Its first output section.
+    /// The first output section.
     pub first: OutputIndex,
-    /// Its last output section; those of size 0 between the two are in no segment.
+    /// The last output section; output sections of size 0 between the two are in no segment.
     pub last: OutputIndex,
 }

@@ -1,10 +1,10 @@
-//! What the value of a relocation's symbol turns on.
+//! What the value of a relocation's symbol depends on.
 
 use crate::names::{NameKey, ObjectKey};
 use elfobj::section::SectionIndex;
 
-/// What in a link the value of a symbol that a relocation names turns on. While its number stays the same, so do the
-/// fields of all relocations against it.
+/// What the value of a symbol that a relocation names depends on in a link. While the number of a target stays the
+/// same, so do the fields of all relocations against it.
 #[derive(Clone, Copy, Debug, PartialEq, Eq)]
 pub enum Target {
     /// A name: its number is its value, 0 where nothing defines it.

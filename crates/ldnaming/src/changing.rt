@@ -18,8 +18,12 @@ use ldscript::script::Script;
 use std::mem;
 
 impl Naming {
-    /// Takes all memory that a change needs, but for the order after it. Where memory is refused, the objects and what
-    /// their names stand for are as before; names without entries may be forgotten.
+    /// Takes all memory that a change needs, but for the order after it.
+    ///
+    /// # Errors
+    ///
+    /// Where memory runs out. The objects and what their names stand for are then as before; names without entries may
+    /// be forgotten.
     pub fn room_for(&mut self, script: &Script, change: &ObjectChange<'_>) -> Result<(), NoMemory>
         requires fits { Fits self.old.kept.names.objects change.now }
         requires kept { AreKept script.now self.old.kept }
@@ -31,8 +35,8 @@ impl Naming {
         self.decisions.room_for(script, change)
     }
 
-    /// Makes a change that there is room for. Each name that the object declared or declares is decided anew, once. It
-    /// takes the order of the objects after the change, and gives back that before it. It takes no memory.
+    /// Makes a change that there is room for. Each name that the object declared or declares is decided anew, once. The
+    /// call takes the order of the objects after the change, gives back the order before it, and takes no memory.
     pub fn change(
         &mut self,
         script: &Script,
@@ -54,8 +58,8 @@ impl Naming {
         mem::replace(&mut self.order, order)
     }
 
-    /// Makes the change back, after a change was made: the objects are as they were before it. It takes the order that
-    /// the change gave back. It takes no memory.
+    /// Makes a change back, after it was made: the objects are as they were before it. The call takes the order that
+    /// `change` gave back, and no memory.
     pub fn undo(
         &mut self,
         script: &Script,
@@ -87,8 +91,8 @@ impl Naming {
         self.decisions.redecide(script, meter);
     }
 
-    /// Puts the names into byte order, so that they need not be sorted after this. Where memory is refused they stand
-    /// as before. Where they stand so, the time is constant.
+    /// Puts the names into byte order, so that they need not be sorted after this. Where memory runs out, they stand as
+    /// before. Where they are in byte order already, the time is constant.
     pub fn put_in_order(&mut self)
         ensures objects { self.new.kept.names.objects ≡ self.old.kept.names.objects }
         ensures names { self.new.kept.names ≡ record self.old.kept.names { order = self.new.kept.names.order } }

@@ -66,7 +66,7 @@ fn note_first(firsts: &mut Vec<Option<Entry>>, key: usize, entry: Entry) -> Entr
     first
 }
 
-/// What defines a name before an entry does, where the first entry that does is known.
+/// What defines a name before an entry does, where the first entry that defines the name is known.
 fn definer_before(is_assigned: bool, first: Entry, entry: Entry) -> Option<Definer>
     ensures { result ≡ definition.definer_before is_assigned first entry }
 {
@@ -107,7 +107,8 @@ impl Naming {
         let _names = self.decisions.listed();
     }
 
-    /// Where no case is that of a name that is defined twice, no name of the project is. The call does nothing.
+    /// Where no case is that of a name that is defined twice, no name of the project is defined twice. The call does
+    /// nothing.
     fn none_doubled(&self, project: &ProjectView<'_>)
         requires naming { IsNaming project.now self.now }
         requires none { count_by is_doubled self.now.kept.cases ≡ 0 }
@@ -194,7 +195,7 @@ impl Naming {
         }
     }
 
-    /// The same for each symbol of an object, in the order of its table.
+    /// Adds the fault of each symbol of an object that defines a name once more, in the order of the symbol table.
     fn add_symbols(
         &self,
         script: &Script,
@@ -219,7 +220,8 @@ impl Naming {
     }
 
     /// The faults of names that are defined twice: each strong definition after the first, in object order and then
-    /// symbol order; where the script assigns the name, each. Where no name is, no symbol is looked at.
+    /// symbol order; where the script assigns the name, each strong definition. Where no name is defined twice, no
+    /// symbol is looked at.
     pub(crate) fn duplicates(
         &self,
         alloc: Global,

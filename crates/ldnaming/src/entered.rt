@@ -31,7 +31,7 @@ pub fn by_place<'a>(alloc: Global, inputs: &[Input<'a>]) -> Result<Vec<Keyed<'a>
     Ok(list)
 }
 
-/// Their keys, in the same order.
+/// The keys of these objects, in their order.
 pub fn keys_of(alloc: Global, objects: &[Keyed<'_>]) -> Result<Vec<usize>, NoMemory>
     ensures { IfOk result (λ v. v.items ≡ map (λ (x : Keyed). x.key.0) objects.now) }
 {

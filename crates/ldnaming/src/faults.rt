@@ -58,7 +58,7 @@ impl Naming {
         Ok(())
     }
 
-    /// The faults of the names of a project, in object order and then symbol order: `F1`; then that of the entry
+    /// The faults of the names of a project, in object order and then symbol order: `F1`; then the fault of the entry
     /// symbol, `F2`.
     ///
     /// # Errors

@@ -90,8 +90,8 @@ impl Naming {
         let _keys = self.order.keys();
     }
 
-    /// While the cases are kept for the script of a project, and the objects are those of the project, they are what
-    /// its names stand for. The call does nothing.
+    /// While the cases are kept for the script of a project, and the objects are those of the project, the cases are
+    /// what the names of the project stand for. The call does nothing.
     pub fn names_kept(&self)
         ensures { (p : Project) → AreKept p.script self.now.kept
             → symbol_tables p.objects ≡ map (λ (t : ℕ × List NamedSymbol). t.1) self.now.kept.names.objects
@@ -101,7 +101,7 @@ impl Naming {
         self.decided_by_keys();
     }
 
-    /// One more than the greatest key that has a case, at most: the cases fit a table of this length.
+    /// The length of a table of cases under keys: each key that has a case is below it.
     pub fn limit(&self) -> usize
         ensures { result ≡ length self.now.cases }
     {
@@ -118,7 +118,8 @@ impl Naming {
         }
     }
 
-    /// The key of the name of a symbol that isn't local, of the object at a place. It has a case. The time is constant.
+    /// The key of the name of a symbol that isn't local, of the object at a place. The key has a case. The time is
+    /// constant.
     pub fn key_of(&self, place: usize, symbol: SymbolIndex) -> NameKey
         requires { IsSeenAt self.now.objects place symbol.0 }
         ensures name { IsNameAt self.now place symbol.0 result.0 }
@@ -127,7 +128,7 @@ impl Naming {
         self.decisions.key_at(place, symbol)
     }
 
-    /// What any name stands for, as that of the entry symbol: it is hashed and looked up.
+    /// What any name stands for, such as the entry symbol: the name is hashed and looked up.
     pub fn case_named(&self, script: &Script, name: &[u8]) -> Case
         ensures case { (p : Project) → IsNaming p self.now → p.script ≡ script.now → decision_of (λ key. key) result
             ≡ decision p name.now }

@@ -16,7 +16,7 @@ use std::alloc::Global;
 pub struct NamedKey<'a> {
     /// The name.
     pub name: &'a [u8],
-    /// Its key.
+    /// The key of the name.
     pub key: NameKey,
 }
 

@@ -10,8 +10,8 @@ use ldscript::tree::{Common, CommonAt, Given};
 use std::alloc::{AllocError, Global};
 use std::marker::Model;
 
-/// The common commands of a script, found by the names of the symbols that they give values. A look-up compares the name
-/// with that of the command that is guessed for it; where the guess is wrong it takes the time of a look-up in the
+/// The common commands of a script, found by the names of the symbols that they give values. A look-up compares the
+/// name with that of the command that is guessed for it; where the guess is wrong it takes the time of a look-up in the
 /// script's table.
 #[derive(Drop)]
 pub struct Commands<'a> {
@@ -51,7 +51,7 @@ fn gives(commands: &[CommonAt<'_>], number: usize, name: &[u8]) -> bool
     }
 }
 
-/// The number of the command that gives a symbol its value, by the script's table: for who asks seldom.
+/// The number of the command that gives a symbol its value, by the script's table: for callers that ask seldom.
 pub fn number_in(script: &Script, name: &[u8]) -> Option<usize>
     ensures { result ≡ symbol_number script.now name.now }
 {
@@ -81,7 +81,7 @@ fn guesses_of(alloc: Global, commands: &[CommonAt<'_>]) -> Result<Guesses, Alloc
 }
 
 impl<'a> Commands<'a> {
-    /// Those of a script, with a list of them and a guess at each name: for who asks often.
+    /// The commands of a script, with a list of them and a guess at each name: for callers that ask often.
     #[tactic(auto, using(crate::proofs::Once::all_numbered))]
     pub fn new(alloc: Global, script: &'a Script) -> Result<Commands<'a>, AllocError>
         ensures { IfOk result (λ c. c ≡ script.now) }
@@ -97,8 +97,8 @@ impl<'a> Commands<'a> {
         })
     }
 
-    /// Those of a script, without a list or guesses, so that each look-up is one in the script's table: for who asks
-    /// seldom.
+    /// The commands of a script, without a list or guesses, so that each look-up is one in the script's table: for
+    /// callers that ask seldom.
     pub fn unlisted(alloc: Global, script: &'a Script) -> Result<Commands<'a>, AllocError>
         ensures { IfOk result (λ c. c ≡ script.now) }
     {
@@ -110,7 +110,7 @@ impl<'a> Commands<'a> {
         })
     }
 
-    /// How many are in the list: all commands of the script, or none.
+    /// How many commands are in the list: all commands of the script, or none.
     pub fn listed(&self) -> usize {
         self.list.len()
     }
@@ -127,7 +127,8 @@ impl<'a> Commands<'a> {
         number_in(self.script, name)
     }
 
-    /// The same, where this number is looked at first: for who goes through the commands in order, and knows the next.
+    /// Like `number`, but this number is looked at first: for callers that go through the commands in order, and know
+    /// the next.
     pub fn number_or(&self, next: usize, name: &[u8]) -> Option<usize>
         ensures { result ≡ symbol_number self.now name.now }
     {

@@ -10,13 +10,13 @@ use ldscript::tree::OutputSection;
 /// What an earlier layout had of its output sections, in the order of the script.
 #[derive(Clone, Copy)]
 pub struct Earlier<'a> {
-    /// Their numbers.
+    /// The numbers of the output sections.
     pub sections: &'a [Placed],
-    /// How many input sections each of them has.
+    /// How many input sections each output section has.
     pub counts: &'a [usize],
-    /// Where these start, section by section.
+    /// Where the input sections start, output section by output section.
     pub starts: &'a [u64],
-    /// The data commands, section by section.
+    /// The data commands, output section by output section.
     pub data_commands: &'a [PlacedData],
 }
 
@@ -25,13 +25,13 @@ pub struct Earlier<'a> {
 pub struct Taken<'a> {
     /// What the script says of it.
     pub output: &'a OutputSection,
-    /// Its numbers.
+    /// The numbers of the output section.
     pub placed: &'a Placed,
-    /// Where its input sections start.
+    /// Where the input sections start.
     pub starts: &'a [u64],
-    /// Its row.
+    /// The row.
     pub row: &'a [Piece],
-    /// Its data commands.
+    /// The data commands.
     pub data_commands: &'a [PlacedData],
 }
 

@@ -39,15 +39,15 @@ fn tag_of(hash: u64) -> u64 {
     hash >> 32
 }
 
-/// Guesses at the numbers of names: at most one at a name, and it may be the number of another name. Who asks compares
-/// the names, and looks the name up elsewhere where the guess is wrong or there is none. So a name that shares its hash
-/// with others costs no more than that look-up, whoever has picked the names.
+/// Guesses at the numbers of names: at most one at a name, and it may be the number of another name. The caller
+/// compares the names, and looks the name up elsewhere where the guess is wrong or there is none. So a name that shares
+/// its hash with others costs no more than that look-up, whoever has picked the names.
 #[derive(Drop)]
 pub struct Guesses {
     slots: Vec<Slot>,
 }
 
-/// A hash of a name: that of Fowler, Noll and Vo.
+/// The hash of a name by Fowler, Noll and Vo.
 fn hash_of(name: &[u8]) -> u64 {
     let mut hash: u64 = 0xcbf2_9ce4_8422_2325;
     for byte in name {

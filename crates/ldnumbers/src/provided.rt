@@ -58,7 +58,7 @@ fn mark(script: &Script, in_force: &mut Vec<bool>, name: &[u8])
 }
 
 impl<'a> Provided<'a> {
-    /// Those of these numbers.
+    /// The PROVIDEs of these numbers.
     pub fn new(
         alloc: Global,
         script: &'a Script,

@@ -12,13 +12,13 @@ use std::marker::Model;
 /// A memory region.
 #[derive(Clone, Copy)]
 pub struct Region<'a> {
-    /// Its name.
+    /// The name.
     pub name: &'a [u8],
-    /// Its first address.
+    /// The first address.
     pub origin: u64,
     /// How many bytes it has.
     pub extent: u64,
-    /// Its next free address.
+    /// The next free address.
     pub next: u64,
 }
 
@@ -73,7 +73,7 @@ impl<'a> Regions<'a> {
         }
     }
 
-    /// One more region, whose next free address is where it begins.
+    /// Adds a region, whose next free address is where it begins.
     ///
     /// # Errors
     ///

@@ -24,9 +24,9 @@ use std::marker::Model;
 /// An input section in its place.
 #[derive(Clone, Copy)]
 pub struct PieceAt<'a> {
-    /// Its first address.
+    /// The first address.
     pub start: u64,
-    /// Its entry of a row.
+    /// The entry of a row.
     pub piece: &'a Piece,
 }
 
@@ -46,11 +46,11 @@ pub struct DataAt {
 pub struct Closed<'a> {
     /// What the script says of it.
     pub output: &'a OutputSection,
-    /// Its numbers.
+    /// The numbers of the output section.
     pub placed: Placed,
-    /// Its input sections.
+    /// The input sections.
     pub pieces: Vec<PieceAt<'a>>,
-    /// Its data commands.
+    /// The data commands.
     pub data_commands: Vec<DataAt>,
 }
 
@@ -60,9 +60,9 @@ pub struct Closed<'a> {
 pub struct Sections<'a> {
     script: &'a Script,
     earlier: Earlier<'a>,
-    /// Those that are taken over from the earlier layout, which come first.
+    /// The output sections that are taken over from the earlier layout, which come first.
     taken: Vec<Taken<'a>>,
-    /// How many input sections are in these.
+    /// How many input sections are in those that are taken over.
     taken_count: usize,
     list: Vec<Closed<'a>>,
     count: usize,
@@ -99,15 +99,15 @@ impl<'a> Model for Sections<'a> {
 /// Output sections in their places: those that are taken over from an earlier layout, and then those that were placed.
 #[derive(Clone, Copy)]
 pub struct Parts<'s, 'a> {
-    /// The numbers of those that are taken over.
+    /// The numbers of the output sections that are taken over.
     pub sections: &'s [Placed],
-    /// How many input sections each of them has.
+    /// How many input sections each of these has.
     pub counts: &'s [usize],
-    /// Where these start, section by section.
+    /// Where the input sections of these start, output section by output section.
     pub starts: &'s [u64],
-    /// They themselves.
+    /// The output sections that are taken over.
     pub taken: &'s [Taken<'a>],
-    /// Those that were placed.
+    /// The output sections that were placed.
     pub placed: &'s [Closed<'a>],
 }
 
@@ -145,8 +145,8 @@ fn placed_at(taken: &[Taken<'_>], list: &[Closed<'_>], number: usize) -> Option<
     }
 }
 
-/// Where the difference of an output section is kept in a table of this many, by its region: nowhere for one that names
-/// none. Fails where the script does not declare the region.
+/// Where the difference of an output section is kept in a table of `count` differences, by its region: nowhere for an
+/// output section that names no region. Fails where the script does not declare the region.
 fn kept_at(
     script: &Script,
     count: usize,
@@ -175,8 +175,8 @@ fn sum(count: usize, more: usize) -> Result<usize, AllocError>
 }
 
 impl<'a> Sections<'a> {
-    /// No output section of this script, which has about this many, of which so many will be taken over from an
-    /// earlier layout.
+    /// No output section of this script yet. `count` says about how many there will be, and `taken` how many of them
+    /// will be taken over from an earlier layout.
     pub fn new(
         alloc: Global,
         script: &'a Script,
@@ -208,7 +208,7 @@ impl<'a> Sections<'a> {
         })
     }
 
-    /// All of them, in parts.
+    /// All output sections, in parts.
     pub fn parts(&self) -> Parts<'_, 'a>
         ensures all { both result.taken.now result.placed.now ≡ self.now.list }
         ensures sections { placed_in self.now.list
@@ -227,21 +227,21 @@ impl<'a> Sections<'a> {
         }
     }
 
-    /// How many there are.
+    /// How many output sections there are.
     pub fn len(&self) -> usize
         ensures { result ≡ length self.now.list }
     {
         self.taken.len() + self.list.len()
     }
 
-    /// How many input sections are in them.
+    /// How many input sections are in the output sections.
     pub fn count(&self) -> usize
         ensures { result ≡ length (starts_in self.now.list) }
     {
         self.count
     }
 
-    /// How many data commands are in them.
+    /// How many data commands are in the output sections.
     pub fn data_count(&self) -> usize
         ensures { result ≡ length (all_data_in 0 self.now.list) }
     {
@@ -279,7 +279,7 @@ impl<'a> Sections<'a> {
         }
     }
 
-    /// The next output section of the script, that was placed in this layout.
+    /// Adds the next output section of the script, which was placed in this layout.
     ///
     /// # Errors
     ///
@@ -309,8 +309,8 @@ impl<'a> Sections<'a> {
         Ok(())
     }
 
-    /// The next output section of the script, that is taken over. Its input sections are the first entries of its row,
-    /// and with its own data commands there are as many as `data_end`.
+    /// Adds the next output section of the script, which is taken over. Its input sections are the first entries of its
+    /// row, and with its own data commands there are as many as `data_end`.
     ///
     /// # Errors
     ///
@@ -328,8 +328,7 @@ impl<'a> Sections<'a> {
             (IsWithTaken self.old.earlier self.old.list row.now output.now data_end self.new.list) }
     {
         let _statements = self.script.statements();
-        // Fails only where memory runs out: the first ones are taken over, and the earlier layout has
-        // them
+        // Fails only where memory runs out: the first ones are taken over, and the earlier layout has them
         if !self.list.is_empty() {
             return Err(AllocError);
         }

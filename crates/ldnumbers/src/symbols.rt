@@ -52,7 +52,7 @@ fn value_given(list: &[ScriptSymbol], number: usize) -> Option<u64>
     }
 }
 
-/// The number of the command after that of the last of these, or 0 for none.
+/// The number of the command after the one that gives the last of these symbols, or 0 for no symbols.
 fn after_last(symbols: &[ScriptSymbol]) -> usize
     requires { Rises symbols.now }
     ensures { risen 0 symbols.now ≡ Some result }
@@ -78,7 +78,7 @@ impl<'a> Symbols<'a> {
         })
     }
 
-    /// The same for a layout of which the most is taken over, with this many symbols: few will be looked up.
+    /// Like `new`, but for a layout most of which is taken over, with this many symbols: few will be looked up.
     pub fn taken_over(
         alloc: Global,
         script: &'a Script,
@@ -96,7 +96,7 @@ impl<'a> Symbols<'a> {
         })
     }
 
-    /// How many there are.
+    /// How many symbols there are.
     pub fn len(&self) -> usize
         ensures { result ≡ length self.now.list }
     {
@@ -120,7 +120,7 @@ impl<'a> Symbols<'a> {
         value_given(&self.list, number)
     }
 
-    /// One more symbol. Fails where memory runs out.
+    /// Adds a symbol. Fails where memory runs out.
     fn push(&mut self, symbol: ScriptSymbol) -> Result<(), AllocError>
         requires { IsFound self.now.script symbol }
         ensures script { self.new.script ≡ self.old.script }
@@ -136,7 +136,7 @@ impl<'a> Symbols<'a> {
         Ok(())
     }
 
-    /// The first of these symbols, as many as the count says, in place of all so far.
+    /// Puts the first `count` of these symbols in the place of all so far.
     ///
     /// # Errors
     ///
@@ -173,7 +173,7 @@ impl<'a> Symbols<'a> {
             return Err(AllocError);
         };
         let Ok(number) = u32::try_from(number) else {
-            // nor to this: a script is too short for 2^32 commands
+            // Unreachable: a script is too short for 2^32 commands
             return Err(AllocError);
         };
         self.push(ScriptSymbol {

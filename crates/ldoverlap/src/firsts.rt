@@ -1,5 +1,5 @@
-//! The first range that each of some ranges meets, by a tree of the ranges in the order of where they begin. Each range,
-//! in the order of the script, marks all that meet it and have no mark.
+//! The first range that each of some ranges meets, by a tree of the ranges in the order of where they begin. Each
+//! range, in the order of the script, marks all that meet it and have no mark.
 
 ghost use Rattle.std.specs.Prelude.{◌≡◌, ℕ, ◌+◌, ◌*◌, ◌≤◌, ◌<◌, List, [], length, get_or, map, IfOk, Option, None};
 ghost use Rattle.ldoverlap.specs.Firsts.{AreFirst, AreNumbered, IsRanking, extent_of};

@@ -33,7 +33,7 @@ impl Hull {
         }
     }
 
-    /// Around both.
+    /// The range around both.
     pub(crate) fn around(self, other: Hull) -> Hull
         ensures { result ≡ around self other }
     {

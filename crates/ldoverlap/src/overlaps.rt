@@ -78,7 +78,7 @@ fn are_in_order(space: Space, sections: &[Placed]) -> bool
     true
 }
 
-/// The number of an output section; out of memory past 2^32, where no number is left.
+/// The number of an output section. Fails past 2^32, where no number is left.
 fn number(k: usize) -> Result<OutputIndex, NoMemory>
     ensures { IfOk result (λ x. x.0 ≡ k) }
 {

@@ -3,21 +3,21 @@
 ghost use Rattle.std.specs.Prelude.{◌≡◌, ◌<◌, length, slice_index};
 ghost use Rattle.ldpattern.specs.Spelling.{is_plain, is_set_byte, is_graphic};
 
-/// Whether it spells itself: `A-Z a-z 0-9 _ . $ / -`
+/// Whether a byte spells itself: `A-Z a-z 0-9 _ . $ / -`
 pub fn is_plain(b: u8) -> bool
     ensures { result ≡ is_plain b }
 {
     matches!(b, b'A'..=b'Z' | b'a'..=b'z' | b'0'..=b'9' | b'_' | b'.' | b'$' | b'/' | b'-')
 }
 
-/// Whether it may stand in a set: a byte that spells itself, `*` or `?`
+/// Whether a byte may stand in a set: a byte that spells itself, `*` or `?`
 pub fn is_set_byte(b: u8) -> bool
     ensures { result ≡ is_set_byte b }
 {
     is_plain(b) || matches!(b, b'*' | b'?')
 }
 
-/// Whether it may stand after `\`: one of `!` to `~`
+/// Whether a byte may stand after `\`: one of `!` to `~`
 pub fn is_graphic(b: u8) -> bool
     ensures { result ≡ is_graphic b }
 {

@@ -16,7 +16,7 @@ pub struct Spelled {
     pub count: usize,
 }
 
-/// A part that so many bytes spell.
+/// A part that this number of bytes spells.
 fn found(part: CodePart, count: usize) -> Option<Spelled>
     ensures { result ≡ Some (record { part = part; count = count }) }
 {

@@ -37,7 +37,7 @@ fn is_graphic(b: u8) -> bool
     matches!(b, b'!'..=b'~')
 }
 
-/// Whether all bytes are.
+/// Whether all bytes of a name are from `!` to `~`.
 fn is_all_graphic(name: &[u8]) -> bool
     ensures { result ≡ list_all is_graphic name.now }
 {

@@ -11,8 +11,8 @@ ghost use Rattle.ldproject.specs.Tables.{HasTableAt, place_or_0, symbols_under, 
 ghost use Rattle.ldproject.specs.Touched.{IsArranged};
 ghost use Rattle.ldproject.specs.declared.staged.StagedObjects.{StagedObjects};
 
-/// Tables of symbols under keys follow an edit: before it and after it they are those of the other objects, and among
-/// them, where the touched object stands, its own.
+/// Symbol tables under keys follow an edit: before it and after it they are the tables of the other objects, and among
+/// them, where the touched object stands, the table of that.
 pub fn tables_follow()
     ensures before { (entries : List Entry) (s : StagedObjects) (key : ℕ) → IsArranged entries s
         → touched_key s.step ≡ Some key
@@ -24,7 +24,7 @@ pub fn tables_follow()
         (without_table key (tables_under entries)) (tables_under (next_entries entries s)) }
 {}
 
-/// Tables under keys are those of the objects under their places, where a place stands for each key.
+/// Symbol tables under keys are the tables of the objects under their places, where a place stands for each key.
 pub fn tables_by_place()
     ensures { (keys : List ℕ) (objects : List NamedObject) (tables : List (ℕ × List NamedSymbol))
         → AreKeysDistinct keys → map (λ (t : ℕ × List NamedSymbol). t.0) tables ≡ keys

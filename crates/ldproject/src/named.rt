@@ -25,7 +25,11 @@ impl Model for NamedObject {
 }
 
 impl NamedObject {
-    /// An object under a copy of a name, or out of memory.
+    /// An object under a copy of a name.
+    ///
+    /// # Errors
+    ///
+    /// Where memory runs out.
     pub fn new(alloc: Global, name: &[u8], object: Object) -> Result<NamedObject, NoMemory>
         ensures { IfOk result (λ o. o ≡ record { name = name.now; object = object }) }
     {

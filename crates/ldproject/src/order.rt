@@ -30,7 +30,7 @@ impl Model for Order {
     ghost invariant = { λ o. AreKeysDistinct o.keys.items × HasPlaces o.keys.items o.places.items };
 }
 
-/// Notes where a key stands. The table gets as long as the key is great, and one more.
+/// Notes where a key stands. The table grows so that it has a place for the key.
 fn note_place(places: &mut Vec<Option<usize>>, key: usize, place: usize) -> Result<(), NoMemory>
     ensures { OnOk result (IsNoted places.old.items places.new.items key place) }
 {

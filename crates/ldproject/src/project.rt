@@ -94,7 +94,7 @@ impl Project {
     ///
     /// # Errors
     ///
-    /// As `stage`. The project is then as it was.
+    /// Where `stage` fails, and as it does. The project is then as it was.
     pub fn edit(&mut self, edit: Edit<'_>) -> Result<(), EditRefusal>
         ensures accepted { OnOk result (After (held self.old) (change_of edit.entry) (Ok (held self.new))) }
         ensures refused { IfErr result (λ r. RefusedAs (held self.old) (change_of edit.entry) (refusal_of r)) }

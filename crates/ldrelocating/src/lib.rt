@@ -1,4 +1,4 @@
-//! Relocation, a phase of a link from scratch: the fields of all relocations, or their faults.
+//! Relocation, a phase of a link: the fields of all relocations, or their faults.
 #![tactic(auto)]
 
 mod keys;

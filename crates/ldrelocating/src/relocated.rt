@@ -46,11 +46,11 @@ pub struct Relocated {
     pub ends: Vec<usize>,
     /// The fields of sections that stayed whose symbol has another value, in their places in the file.
     pub retargeted: Vec<Patch>,
-    /// The faults: that of the entry symbol, and then those of relocations by object, section and entry.
+    /// The fault of the entry symbol, and then the faults of relocations by object, section and entry.
     pub faults: Vec<Fault>,
 }
 
-/// The fault of an entry symbol of a value, if it has one, and then these.
+/// The fault of an entry symbol of this value, if it has one, and then these faults.
 fn with_entry_fault(value: SymbolValue, mut faults: Vec<Fault>) -> Result<Vec<Fault>, NoMemory>
     ensures { IfOk result (λ all. (p : Project) → faults_in p all.items
         ≡ entry_fault (value_of value) ++ faults_in p faults.items) }

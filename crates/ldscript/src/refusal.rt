@@ -11,11 +11,12 @@ pub enum ScriptRefusal {
     NotAScript,
     /// 3: something is given twice, or a memory region is named before it is declared.
     Repeated,
-    /// 4: a use of `.`, or of an `ALIGN` of one argument, which stands for one with `.`, that the profile does not have.
+    /// 4: a use of `.`, or of an `ALIGN` of one argument, which stands for one with `.`, that the profile does not
+    /// have.
     MisplacedDot,
     /// 5: the text, a number, a name, the braces or a run of operators is over its limit.
     Limit,
-    /// 6: no memory.
+    /// 6: out of memory.
     NoMemory,
 }
 

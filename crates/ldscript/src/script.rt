@@ -78,7 +78,7 @@ impl Script {
         }
     }
 
-    /// Its statements, in the order of the text.
+    /// The statements, in the order of the text.
     pub fn statements(&self) -> &[Statement]
         ensures value { result.now ≡ self.now }
         ensures sound { IsSound self.now }
@@ -115,21 +115,21 @@ impl Script {
         numbering::entry(self.statements.as_slice())
     }
 
-    /// Its output sections in the order of the text, `/DISCARD/` not among them.
+    /// The output sections in the order of the text, `/DISCARD/` not among them.
     pub fn output_sections(&self, alloc: Global) -> Result<Vec<OutputSectionAt<'_>>, AllocError>
         ensures { IfOk result (λ v. shown_sections v.items ≡ output_sections self.now) }
     {
         numbering::output_sections(alloc, self.statements.as_slice())
     }
 
-    /// Its input statements in the order of the text, those of `/DISCARD/` among them.
+    /// The input statements in the order of the text, those of `/DISCARD/` among them.
     pub fn input_statements(&self, alloc: Global) -> Result<Vec<InputStatementAt<'_>>, AllocError>
         ensures { IfOk result (λ v. shown_inputs v.items ≡ input_statements self.now) }
     {
         numbering::input_statements(alloc, self.statements.as_slice())
     }
 
-    /// Its assignments of symbols, `PROVIDE`s and `ASSERT`s in the order of the text: outside of `SECTIONS`, in it, and
+    /// The assignments of symbols, `PROVIDE`s and `ASSERT`s in the order of the text: outside of `SECTIONS`, in it, and
     /// in output sections.
     pub fn common_commands(&self, alloc: Global) -> Result<Vec<CommonAt<'_>>, AllocError>
         ensures { IfOk result (λ v. shown_commons v.items ≡ common_commands self.now) }
@@ -137,15 +137,18 @@ impl Script {
         numbering::common_commands(alloc, self.statements.as_slice())
     }
 
-    /// Its memory regions in the order of the text.
+    /// The memory regions in the order of the text.
     pub fn regions(&self, alloc: Global) -> Result<Vec<&Region>, AllocError>
         ensures { IfOk result (λ v. shown_regions v.items ≡ regions self.now) }
     {
         numbering::regions(alloc, self.statements.as_slice())
     }
 
-    /// Reads a script from its text: the one tree that the text has, or the first refusal that applies, or `NoMemory`
-    /// where memory ran out.
+    /// Reads a script from its text: the one tree that the text has.
+    ///
+    /// # Errors
+    ///
+    /// The first refusal that applies, or `NoMemory` where memory runs out.
     pub fn read(alloc: Global, text: &[u8]) -> Result<Script, ScriptRefusal>
         ensures read { IfOk result (λ s. IsScript text.now s) }
         ensures refused { IfErr result (λ r. IsRefusal text.now r) }

@@ -17,15 +17,15 @@ pub(crate) const PAGE_SIZE: u64 = 4096;
 pub(crate) struct Group {
     /// The address of the first one.
     pub(crate) start: u64,
-    /// Its load address.
+    /// The load address of the first one.
     pub(crate) load: u64,
     /// How many bytes they have in the file.
     pub(crate) file_size: u64,
     /// How many bytes they have in memory.
     pub(crate) memory_size: u64,
-    /// They may be written.
+    /// The output sections may be written.
     pub(crate) writable: bool,
-    /// They hold code.
+    /// The output sections hold code.
     pub(crate) executable: bool,
     /// The first output section.
     pub(crate) first: OutputIndex,
@@ -47,7 +47,7 @@ fn is_shared(before: &Placed, section: &Placed) -> bool
         && !(section.load_size != 0 && before.load_size == 0)
 }
 
-/// An output section alone.
+/// The group of an output section alone.
 fn begin(number: OutputIndex, section: &Placed) -> Group
     ensures { result ≡ begun number section.now }
 {
@@ -88,7 +88,7 @@ fn join(group: Group, number: OutputIndex, section: &Placed) -> Group
     }
 }
 
-/// The number of an output section; out of memory past 2^32, where no number is left.
+/// The number of an output section. Fails past 2^32, where no number is left.
 fn output_index(k: usize) -> Result<OutputIndex, NoMemory>
     ensures { IfOk result (λ x. x.0 ≡ k) }
 {
@@ -113,7 +113,7 @@ struct Grouping {
 }
 
 impl Grouping {
-    /// One more output section.
+    /// Adds an output section.
     fn take(&mut self, number: usize, section: &Placed) -> Result<(), NoMemory>
         requires { section.now.start + section.now.size < 2 ^ 64 }
         ensures { OnOk result (Takes self.old.done.items self.old.running number section.now

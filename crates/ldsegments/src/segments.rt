@@ -63,7 +63,7 @@ pub(crate) fn end_after(end: u128, segment: Segment) -> u128
 ///
 /// # Errors
 ///
-/// Out of memory.
+/// Where memory runs out.
 pub fn segments(alloc: Global, laid: Laid<'_>) -> Result<Vec<Segment>, NoMemory>
     requires ends { Ends laid.sections.now }
     ensures { IfOk result (λ v. AreAllSegments laid.entry.sections.now v.items) }

@@ -12,7 +12,7 @@ use ldmodel::edit::Linked;
 pub(crate) enum Answer {
     /// The link has no faults: its map.
     Good(Vec<u8>),
-    /// It has these fault lines.
+    /// The link has faults: these lines.
     Faulty(Vec<u8>),
 }
 

@@ -58,8 +58,8 @@ fn forget_if(naming: &mut Naming, went: bool)
     }
 }
 
-/// Puts the names into byte order after a link without faults, so that the next one need not sort them. Where memory is
-/// refused, they stay as they are.
+/// Puts the names into byte order after a link without faults, so that the next one need not sort them. Where memory
+/// runs out, they stay as they are.
 fn put_in_order_if(naming: &mut Naming, is_good: bool)
     ensures tables { naming.new.kept.names.objects ≡ naming.old.kept.names.objects }
     ensures kept { (script : List Statement) → AreKept script naming.old.kept → AreKept script naming.new.kept }
@@ -70,7 +70,8 @@ fn put_in_order_if(naming: &mut Naming, is_good: bool)
 }
 
 impl Kept {
-    /// Takes all memory that a change of one object needs. Where it is refused, what is kept is of the same objects.
+    /// Takes all memory that a change of one object needs. Fails where memory runs out: then what is kept is of the
+    /// same objects.
     fn make_room(
         &mut self,
         alloc: Global,

@@ -24,11 +24,11 @@ use std::alloc::Global;
 /// What is kept of the last link without faults.
 #[derive(Drop)]
 pub(crate) struct LastGood {
-    /// Its tables.
+    /// The tables of that link.
     pub good: Good,
-    /// At which place of it each object stood that is still there with the same bytes, under the object's key.
+    /// At which place of that link each object stood that is still there with the same bytes, under the object's key.
     pub origins: Vec<Option<usize>>,
-    /// The names of its objects, by their places.
+    /// The names of the objects of that link, by their places.
     pub names: Vec<Vec<u8>>,
     /// Whether the script is known to be the same still.
     pub same_script: bool,
@@ -37,9 +37,9 @@ pub(crate) struct LastGood {
 /// What an edit means to the last link without faults.
 #[derive(Clone, Copy)]
 pub(crate) struct Effect {
-    /// Whether the object that it puts, if it puts one, is known to be none of that link.
+    /// Whether the object that the edit puts, if it puts one, is known to be no object of that link.
     pub known: bool,
-    /// The key whose object is none of that link any more, if there is one.
+    /// The key whose object is no object of that link any more, if there is one.
     pub gone: Option<usize>,
     /// Whether the script stays.
     pub same_script: bool,
@@ -111,7 +111,7 @@ fn replaced_at<'a>(
 }
 
 impl LastGood {
-    /// At which place of the last link the object under a key stood, if it is one of its.
+    /// At which place of the last link the object under a key stood, if that link has it.
     fn origin(&self, key: usize) -> Option<usize>
         ensures { result ≡ origin_of self.now.origins.items key }
     {
@@ -121,7 +121,7 @@ impl LastGood {
         }
     }
 
-    /// The same; none under one key.
+    /// Like `origin`, but none for the object under the key `gone`.
     fn origin_unless(&self, gone: Option<usize>, key: usize) -> Option<usize>
         ensures { result ≡ without (origin_of self.now.origins.items) gone key }
     {
@@ -131,7 +131,8 @@ impl LastGood {
         }
     }
 
-    /// The place in the last link of the object under a key, if it is one of its and has other bytes than this one.
+    /// The place in the last link of the object under a key, if that link has it and its bytes are other than those of
+    /// this object.
     fn place_of_other(
         &self,
         project: &Project,
@@ -150,8 +151,8 @@ impl LastGood {
         Some(place)
     }
 
-    /// Whether an object that is put under a key is known to be none of the last link: it has another name than each
-    /// of its objects, or other bytes than the one in whose place it comes.
+    /// Whether an object that is put under a key is known to be no object of the last link: it has another name than
+    /// each of those, or other bytes than the one in whose place it comes.
     fn is_new(&self, project: &Project, key: ObjectKey, named: &NamedObject) -> bool
         ensures { result ≡ true → (old : List NamedObject)
             → map (λ v. v.items) self.now.names.items ≡ map (λ (o : NamedObject). o.name) old
@@ -161,7 +162,7 @@ impl LastGood {
         is_named_at(&self.names, named.name(), place)
     }
 
-    /// Whether the object that an edit puts, if it puts one, is known to be none of the last link.
+    /// Whether the object that an edit puts, if it puts one, is known to be no object of the last link.
     fn knows(&self, project: &Project, staged: &Staged) -> bool
         ensures { result ≡ true → (old : List NamedObject)
             → map (λ v. v.items) self.now.names.items ≡ map (λ (o : NamedObject). o.name) old
@@ -206,7 +207,7 @@ impl LastGood {
             .collect(alloc)
     }
 
-    /// The object under a key is none of the last link any more, if there is a key.
+    /// Notes that the object under a key is no object of the last link any more, if there is a key.
     fn forget(&mut self, key: Option<usize>)
         ensures good { self.new.good ≡ self.old.good }
         ensures names { self.new.names ≡ self.old.names }
@@ -222,7 +223,7 @@ impl LastGood {
     }
 }
 
-/// Whether there is a last link and the object that an edit puts, if it puts one, is known to be none of its.
+/// Whether there is a last link and the object that an edit puts, if it puts one, is known to be no object of it.
 fn is_known(last: &Option<LastGood>, project: &Project, staged: &Staged) -> bool
     ensures { result ≡ true → IfSome last.now (λ x. Knows x project.now.contents.entries staged.now.objects.step) }
 {
@@ -265,7 +266,7 @@ fn leaves_script(staged: &Staged) -> bool
 
 /// What an edit means to the last link, where `same` says whether it puts an object over the same one. Where the answer
 /// has no faults, the last link is that of the project before the edit, and what comes is none of its objects; else the
-/// names of these are looked through.
+/// names of the objects of the last link are looked through.
 pub(crate) fn effect_of(
     last: &Option<LastGood>,
     answer: &Answer,
@@ -331,8 +332,8 @@ pub(crate) fn lend<'a>(
     }
 }
 
-/// Keeps the last link after an edit to a link with faults, without the origin of the object that came or went; where
-/// it isn't known to have none of what came, it goes.
+/// Keeps the last link after an edit that led to a link with faults, without the origin of the object that came or
+/// went. Where the last link isn't known to be without the object that came, it is dropped.
 fn keep_after_fault(last: &mut Option<LastGood>, effect: Effect)
     ensures { IsAfterFault effect.known effect.gone effect.same_script last.old last.new }
 {

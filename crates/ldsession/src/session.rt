@@ -38,7 +38,8 @@ pub struct Session {
     alloc: Global,
     project: Project,
     kept: Kept,
-    // the last link without faults, whose image is on the canvas: that of the project, where the answer has no faults
+    // the last link without faults, whose image is on the canvas: the link of the project, where the answer has no
+    // faults
     last: Option<LastGood>,
     canvas: Canvas,
     answer: Answer,

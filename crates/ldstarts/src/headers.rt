@@ -30,7 +30,7 @@ fn count_to(section: SectionIndex) -> u32
     u32::from(section.0) + 1
 }
 
-/// How many header numbers each of these many objects has. They begin nowhere yet.
+/// How many header numbers each of this number of objects has. They begin nowhere yet.
 ///
 /// # Errors
 ///

@@ -9,8 +9,9 @@ ghost use Rattle.ldstarts.specs.Numbering.{numbering_of, number_of};
 use ldmodel::names::ObjectKey;
 use ldproject::input::Input;
 
-/// Numbers of objects, the same ones exactly for keys of the same name. It is the place of the object. A key of no
-/// object counts as that of an object without a name: a project has none, but its contract does not say so.
+/// Numbers of objects, equal exactly for keys of the same name. The number of an object is its place. A key of no
+/// object counts as the key of an object without a name: a project has no such object, but its contract does not say
+/// so.
 #[derive(Clone, Copy)]
 pub(crate) struct Numbering {
     /// How many objects there are.
@@ -32,7 +33,7 @@ fn place_of_unnamed(inputs: &[Input<'_>]) -> usize
 }
 
 impl Numbering {
-    /// That of these objects.
+    /// The numbers of these objects.
     pub(crate) fn of(inputs: &[Input<'_>]) -> Numbering
         ensures { result ≡ numbering_of (shown_inputs inputs.now) }
     {

@@ -12,7 +12,8 @@ use ldmodel::memory::NoMemory;
 use ldmodel::sections::Part;
 use std::alloc::{AllocError, Global};
 
-/// Where the sections of objects stand. It takes a number for each header up to an object's greatest one in the output.
+/// Where the sections of objects stand. The table has a number for each header up to an object's greatest one in the
+/// output.
 #[derive(Drop)]
 pub(crate) struct Sections {
     /// The header numbers of each object.
@@ -59,7 +60,7 @@ fn places(alloc: Global, entries: &[Entry]) -> Result<Vec<PartPlace>, NoMemory>
 }
 
 impl Sections {
-    /// That of these input sections, by the header numbers of their objects, of which there are `total` in all.
+    /// The table of these input sections, by the header numbers of their objects, of which there are `total` in all.
     fn by_headers(
         alloc: Global,
         entries: &[Entry],
@@ -78,7 +79,7 @@ impl Sections {
         })
     }
 
-    /// That of these input sections, of this number of objects.
+    /// The table of these input sections, of this number of objects.
     ///
     /// # Errors
     ///

@@ -39,7 +39,7 @@ pub trait Sink {
     /// What was written so far, where the writer shows it.
     ghost written: { Self → Option (List ℕ) };
 
-    /// The end of it that is held back, until a flush sends it on.
+    /// The end of what was written that is held back, until a flush sends it on.
     ghost held: { Self → List ℕ };
 
     /// How many calls have failed.

@@ -16,7 +16,7 @@ use ldmodel::edit::MAX_PAYLOAD;
 pub enum Aim<'a> {
     /// A new object.
     Add {
-        /// Its name.
+        /// The name of the object.
         name: &'a [u8],
         /// Before which of the objects it is to stand.
         at: u64,
@@ -42,14 +42,14 @@ pub enum EditHead<'a> {
     },
     /// `move`: an object goes to another place.
     Move {
-        /// Its name.
+        /// The name of the object.
         name: &'a [u8],
         /// Before which of the other objects it is to stand.
         to: u64,
     },
     /// `remove`: an object is taken out.
     Remove {
-        /// Its name.
+        /// The name of the object.
         name: &'a [u8],
     },
 }

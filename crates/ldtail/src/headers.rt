@@ -50,7 +50,7 @@ fn phoff_of(count: u64) -> u64
 }
 
 /// Writes the ELF header: the entry point, the number of program headers, where the section headers stand, how many
-/// they are, and which of them is that of their names.
+/// there are, and which of them is the header of their names.
 #[tactic(auto, unfolding(ldmodel::specs::Headers::elf_header))]
 fn put_elf_header(
     out: &mut Vec<u8>,
@@ -130,7 +130,7 @@ fn length_of(segments: usize) -> usize {
 
 /// The headers at the beginning of the image: the ELF header with an entry address, and the program headers of these
 /// segments, which come in the order of the script. `table` is where the section headers stand, and `sections` the
-/// number of output sections; to their headers those of the tail are added here.
+/// number of output sections; the headers of the tail are added to theirs here.
 ///
 /// # Errors
 ///

@@ -17,9 +17,9 @@ use std::alloc::Global;
 /// An output section, for its header.
 #[derive(Clone, Copy, Debug)]
 pub struct TableSection<'a> {
-    /// Its name.
+    /// The name.
     pub name: &'a [u8],
-    /// Its place in memory.
+    /// The place in memory.
     pub placed: Placed,
     /// Where it begins in the file, modulo 2^64; 0 where its size is 0.
     pub offset: u64,
@@ -133,7 +133,8 @@ pub struct TableNames {
     pub header_names: u64,
 }
 
-/// The null header and those of the output sections, the names of all headers, and where those of the tables begin.
+/// The null header and the headers of the output sections, the names of all headers, and where the names of the tables'
+/// headers begin.
 #[derive(Drop)]
 pub struct OutputHeaders {
     /// The headers.
@@ -144,7 +145,7 @@ pub struct OutputHeaders {
     pub tables: TableNames,
 }
 
-/// Writes the headers of the output sections, and adds their names to those of no headers.
+/// Writes the headers of the output sections, and adds their names to a string table without names.
 fn put_sections(
     headers: &mut Vec<u8>,
     names: &mut Vec<u8>,
@@ -185,7 +186,7 @@ fn add_tables(names: &mut Vec<u8>, sections: &[TableSection<'_>]) -> Result<Tabl
     })
 }
 
-/// The null header and those of output sections, with all names.
+/// The null header and the headers of output sections, with the names of all headers.
 pub(crate) fn output_headers(
     alloc: Global,
     sections: &[TableSection<'_>],

@@ -16,7 +16,7 @@ use std::alloc::Global;
 /// A symbol of the output that has a value.
 #[derive(Clone, Copy, Debug)]
 pub struct TableSymbol<'a> {
-    /// Its name.
+    /// The name.
     pub name: &'a [u8],
     /// Whether a weak definition defines it.
     pub weak: bool,
@@ -24,9 +24,9 @@ pub struct TableSymbol<'a> {
     pub kind: SymbolKind,
     /// `st_shndx`: the number of the header of its output section, or `SHN_ABS`.
     pub section: u32,
-    /// Its value.
+    /// The value.
     pub value: u64,
-    /// Its size: that of the object's symbol or of the common block, else 0.
+    /// The size of the object's symbol or of the common block, else 0.
     pub size: u64,
 }
 

@@ -1,4 +1,4 @@
-//! The tail of the image: the symbol table, its names, the names of the section headers, and these.
+//! The tail of the image: the symbol table, its names, the names of the section headers, and the section headers.
 
 ghost use Rattle.std.specs.Prelude.{◌≡◌, ◌+◌, ◌<◌, ◌^◌, ◌++◌, ◌∷◌, [], IfOk, OnOk, List, ℕ, flat_map};
 ghost use Rattle.std.specs.Int.{next_multiple_of};
@@ -45,14 +45,14 @@ impl Part {
         Part { offset, bytes }
     }
 
-    /// Where its first byte stands in the file.
+    /// Where the first byte of the part stands in the file.
     pub fn offset(&self) -> u64
         ensures { result ≡ self.now.offset }
     {
         self.offset
     }
 
-    /// Its bytes.
+    /// The bytes of the part.
     pub fn bytes(&self) -> &[u8]
         ensures { result.now ≡ self.now.bytes }
     {
@@ -105,7 +105,7 @@ fn after(part: &Part, bytes: Vec<u8>) -> Result<Part, NoMemory>
     Ok(Part::new(offset, bytes))
 }
 
-/// The header of the symbol table; `names` is the number of that of its names.
+/// The header of the symbol table; `names` is the number of the header of its names.
 fn symbols_header(name: u64, part: &Part, names: u64) -> Header
     ensures { header_of result ≡ table_header name SHT_SYMTAB part.now names 1 8 24 }
 {

@@ -11,7 +11,7 @@ use std::alloc::Global;
 /// The sites of one target, each at a place that it keeps.
 #[derive(Drop)]
 pub(crate) struct Bucket {
-    /// Those sites.
+    /// The sites.
     pub(crate) sites: Slab<SiteKey>,
     /// How many sites are to be added: counted while an object is looked through, and without a meaning after that.
     pub(crate) wanted: usize,

@@ -38,8 +38,7 @@ pub struct ChangedFields {
     /// The fields of all input sections that did not stay, one input section after another in the order of objects and
     /// headers, those of each in the order of their offsets.
     pub patches: Vec<Patch>,
-    /// Where the fields of each input section end in `patches`; those of one that stayed, or isn't in the output, are
-    /// none.
+    /// Where the fields of each input section end in `patches`; one that stayed, or isn't in the output, has none.
     pub ends: Vec<usize>,
     /// The fields of sections that stayed whose symbol has another value, in their places in the file.
     pub retargeted: Vec<Patch>,
@@ -317,7 +316,7 @@ fn is_renewed<L: Known, E: Earlier>(link: &L, earlier: &E, section: SectionKey) 
     earlier.stayed(section).is_none() && link.start(section).is_some()
 }
 
-/// How many relocations with a field the sections of an object have all of whose fields are evaluated.
+/// How many relocations with a field there are in those sections of an object whose fields are all evaluated.
 fn count_of_object<L: Known, E: Earlier>(
     link: &L,
     earlier: &E,
@@ -346,13 +345,13 @@ fn count_fields<L: Known, E: Earlier>(link: &L, earlier: &E, objects: &[ObjectKe
 }
 
 /// Evaluates the relocations of input sections in the output that did not stay, and those of sections that stayed whose
-/// symbol has another value than in the earlier link. Each of them counts as one; the others are as they were.
-/// `objects` are the keys of the objects, in their order, and `values` the values of all names.
+/// symbol has another value than in the earlier link. Each of these relocations counts as one; the other fields are as
+/// they were. `objects` are the keys of the objects, in their order, and `values` the values of all names.
 ///
 /// # Errors
 ///
-/// Where memory runs out for the fields; a table of 2^32 relocations or more, which no object has whose length is
-/// within the limit, counts as that.
+/// Where memory runs out; a table of 2^32 relocations or more, which no object has whose length is within the limit,
+/// counts as that.
 pub fn changed_fields<L: Known, E: Earlier>(
     alloc: Global,
     link: &L,

@@ -22,15 +22,15 @@ use ldmodel::sections::SectionKey;
 pub struct FileRange {
     /// Where they begin.
     pub offset: u64,
-    /// How many they are.
+    /// How many there are.
     pub length: u64,
 }
 
 /// What a linker knows of an earlier link beside a new one: which input sections of the new one stayed where they were,
-/// and what symbols were worth. The keys are those of the new link. What is said of two links holds of each two that
-/// they may be.
+/// and what symbols were worth. The keys are keys of the new link. What is said of two links holds of each two links
+/// that these may be.
 pub trait Earlier {
-    /// The links that they may be: the earlier one, and the new one with what its keys stand for.
+    /// The links that these may be: the earlier one, and the new one with what its keys stand for.
     ghost knows: { Self → GoodLink → KnownLink → Type 0 };
 
     /// Which input sections stayed, as far as is known, and where their bytes stand in the file.
@@ -43,8 +43,8 @@ pub trait Earlier {
         ensures stayed { (old : GoodLink) (l : KnownLink) → knows self.now old l
             → IfSome result (HasStayedAt old l section) };
 
-    /// Whether a symbol of an object of which a section stayed may have another value than it had. Where it says no,
-    /// none has.
+    /// Whether a symbol of an object of which a section stayed may have another value than in the earlier link. Where
+    /// the answer is no, none has.
     fn is_marked(&self, object: ObjectKey) -> bool
         ensures { (old : GoodLink) (l : KnownLink) → knows self.now old l → IsKept (range self.now) object
             → result ≡ false → HasSameValues old l object };

@@ -93,8 +93,8 @@ fn add_sites<L: Known>(
 ///
 /// # Errors
 ///
-/// Where memory runs out for them; a table of 2^32 relocations or more, which no object has whose length is within the
-/// limit, counts as that.
+/// Where memory runs out; a table of 2^32 relocations or more, which no object has whose length is within the limit,
+/// counts as that.
 pub fn add_fields<L: Known>(
     alloc: Global,
     link: &L,

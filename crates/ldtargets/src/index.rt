@@ -212,7 +212,11 @@ impl Index {
         self.objects[object.0].clear();
     }
 
-    /// Makes room for these sites of an object. A refused call leaves all sites as they were.
+    /// Makes room for these sites of an object.
+    ///
+    /// # Errors
+    ///
+    /// Where memory runs out. All sites are then as they were.
     pub fn reserve(&mut self, object: ObjectKey, sites: &[TargetSite]) -> Result<(), NoMemory>
         ensures same { (t : ℕ) → sites_at self.new t ≡ sites_at self.old t }
         ensures room { OnOk result (HasRoomFor self.new object sites.now) }

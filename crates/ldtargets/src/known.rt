@@ -10,9 +10,9 @@ use elfobj::relocation::SymbolIndex;
 use ldmodel::names::{Case, NameKey, ObjectKey};
 use ldmodel::sections::SectionKey;
 
-/// What a linker knows of a link: its objects, where their sections start, and what names stand for, under the
-/// linker's own keys. What is said of a link holds of each one that it may be; of one that knows nothing of any link,
-/// as a test's, nothing is said.
+/// What a linker knows of a link: its objects, where their sections start, and what names stand for, under the linker's
+/// own keys. What is said of a link holds of each link that it may be; of a value that knows nothing of any link, as a
+/// test's, nothing is said.
 pub trait Known {
     /// The links that it may be, with what the keys stand for.
     ghost knows: { Self → KnownLink → Type 0 };

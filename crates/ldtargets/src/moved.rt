@@ -139,8 +139,8 @@ fn add_moved_site<L: Known, E: Earlier>(
 ///
 /// # Errors
 ///
-/// Where memory runs out for them; a table of 2^32 relocations or more, which no object has whose length is within the
-/// limit, counts as that.
+/// Where memory runs out; a table of 2^32 relocations or more, which no object has whose length is within the limit,
+/// counts as that.
 pub fn add_moved<L: Known, E: Earlier>(
     link: &L,
     earlier: &E,

@@ -26,15 +26,15 @@ use ldmodel::names::ObjectKey;
 /// An input section in the output, with what its relocations need.
 #[derive(Clone, Copy, Debug)]
 pub struct PlacedSection<'a> {
-    /// Its object.
+    /// The object of the section.
     pub object: ObjectKey,
-    /// Its number among the section headers.
+    /// The number of the section among the section headers.
     pub section: SectionIndex,
     /// The address that it starts at.
     pub start: u64,
-    /// The symbols of its object.
+    /// The symbols of the object.
     pub symbols: &'a [Symbol],
-    /// Its relocations, in the order of their table.
+    /// The relocations of the section, in the order of their table.
     pub relocations: &'a [Relocation],
 }
 
@@ -133,7 +133,7 @@ fn field_with(
     }
 }
 
-/// The field of a relocation of number `entry`, in its place; or its fault. It counts one relocation.
+/// The field of a relocation of number `entry`, in its place; or its fault. The call counts one relocation.
 pub fn evaluate<L: Known>(
     link: &L,
     values: &[SymbolValue],

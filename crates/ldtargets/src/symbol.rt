@@ -119,7 +119,7 @@ pub fn name_value<L: Known>(link: &L, name: NameKey) -> SymbolValue
     }
 }
 
-/// The values of all names, each under its key. What stands under the key of no name says nothing.
+/// The values of all names, each under its key. What stands under a key of no name has no meaning.
 pub fn name_values<L: Known>(alloc: Global, link: &L) -> Result<Vec<SymbolValue>, NoMemory>
     ensures { IfOk result (λ v. (l : KnownLink) → L.knows link.now l → AreNameValues l v.items) }
 {

@@ -33,7 +33,7 @@ fn is_weak(binding: Binding) -> bool
     matches!(binding, Binding::Weak)
 }
 
-/// What the value of a symbol of an object turns on: its name; the section that a local one lies in; or nothing.
+/// What the value of a symbol of an object depends on: its name; the section that a local one lies in; or nothing.
 pub fn target_of<L: Known>(
     link: &L,
     object: ObjectKey,
@@ -63,8 +63,8 @@ fn value_under(values: &[SymbolValue], name: NameKey) -> SymbolValue
 }
 
 /// The number of a target: the value of a name, where one without a number counts as 0, or the address of a section.
-/// `values` are those of all names. While the number of a target stays the same, so do the fields of all relocations
-/// against it.
+/// `values` are the values of all names. While the number of a target stays the same, so do the fields of all
+/// relocations against it.
 pub fn target_number<L: Known>(link: &L, values: &[SymbolValue], target: Target) -> u64
     ensures { (l : KnownLink) → L.knows link.now l → AreNameValues l values.now → (t : model.Target)
         → named_target l target ≡ Some t → result ≡ target_number l.project l.layout t }
@@ -79,7 +79,7 @@ pub fn target_number<L: Known>(link: &L, values: &[SymbolValue], target: Target)
     }
 }
 
-/// S, the value of a symbol that a relocation of its object names. `values` are those of all names.
+/// S, the value of a symbol that a relocation of its object names. `values` are the values of all names.
 pub fn referenced_value<L: Known>(
     link: &L,
     values: &[SymbolValue],

@@ -17,7 +17,7 @@ pub enum SymbolValue {
 }
 
 impl SymbolValue {
-    /// Its number, or 0 where it has none.
+    /// The number, or 0 where there is none.
     pub fn number_or_0(self) -> u64
         ensures { result ≡ number_or_0 (value_of self) }
     {
@@ -27,7 +27,8 @@ impl SymbolValue {
         }
     }
 
-    /// The same for a weak reference: what nothing defines counts as 0 (gABI, "Symbol Table", `STB_WEAK`).
+    /// This value to a reference that is weak or not: to a weak one, what nothing defines counts as 0 (gABI, "Symbol
+    /// Table", `STB_WEAK`).
     pub fn or_weak(self, weak: bool) -> SymbolValue
         ensures { value_of result ≡ or_weak weak (value_of self) }
     {

@@ -43,7 +43,7 @@ impl<'a> Cursor<'a> {
         Cursor { text, rest: tokens }
     }
 
-    /// The same tokens once more.
+    /// Another cursor at the same tokens.
     pub fn copy(&self) -> Cursor<'a>
         ensures { result ≡ self.now }
     {

@@ -30,7 +30,7 @@ pub struct Piece {
 pub enum Ahead {
     /// The end of the text.
     Finished,
-    /// So many bytes of white space or comment.
+    /// This number of bytes of white space or comment.
     Space(usize),
     /// A token, and how many bytes it takes with its quotes.
     Found(Piece, usize),

@@ -15,7 +15,7 @@ use std::alloc::Global;
 pub const MAX_TEXT: usize = 1 << 20;
 
 impl Piece {
-    /// The token in a text that has so many more bytes before it, on this line.
+    /// The token in a text that has `before` more bytes before it, on this line.
     fn behind(self, before: usize, line: u32) -> CodeToken
         requires room { before + self.end ≤ 2 ^ 20 }
         requires order { self.start ≤ self.end }

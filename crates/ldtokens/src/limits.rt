@@ -94,7 +94,7 @@ fn is_sign_mark(mark: Mark) -> bool
     )
 }
 
-/// How many signs the run has after a token, if it had so many before.
+/// How many signs the run has after a token, if it had `signs` before.
 fn signs_after(signs: usize, mode: Mode, kind: TokenKind, spelled: &[u8]) -> usize
     requires { signs ≤ 64 }
     ensures { result ≡ (let t = spelled_token kind spelled.now in if is_break mode t then 0 else signs + cond (is_sign t) 1 0) }

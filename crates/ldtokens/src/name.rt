@@ -13,7 +13,7 @@ const MAX_INLINE: usize = 14;
 /// no more than 16 bytes and none on the heap.
 #[derive(Drop)]
 enum NameBytes {
-    /// Here: so many of these.
+    /// Here: this number of these bytes.
     Inline(u8, [u8; MAX_INLINE]),
     /// On the heap.
     Heap(Box<Vec<u8>>),
@@ -48,7 +48,11 @@ fn inline(bytes: &[u8]) -> NameBytes
 }
 
 impl ScriptName {
-    /// A copy of these bytes, or an error where memory ran out.
+    /// A copy of these bytes.
+    ///
+    /// # Errors
+    ///
+    /// Where memory runs out.
     pub fn new(alloc: Global, bytes: &[u8]) -> Result<ScriptName, AllocError>
         ensures { IfOk result (λ n. n ≡ bytes.now) }
     {
@@ -62,7 +66,7 @@ impl ScriptName {
         Ok(ScriptName { bytes })
     }
 
-    /// Its bytes.
+    /// The bytes.
     pub fn as_bytes(&self) -> &[u8]
         ensures { result.now ≡ self.now }
     {

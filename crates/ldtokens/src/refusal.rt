@@ -7,7 +7,7 @@ pub enum TokenRefusal {
     NotAToken,
     /// 5: more than 2^20 bytes, or tokens past a limit.
     Limit,
-    /// 6: no memory.
+    /// 6: out of memory.
     NoMemory,
 }
 

@@ -101,12 +101,12 @@ pub struct CodeToken {
     pub start: u32,
     /// The index after its last byte, and at least `start`.
     pub end: u32,
-    /// Its line in the text, from 1.
+    /// The line in the text, from 1.
     pub line: u32,
 }
 
 impl CodeToken {
-    /// Its bytes.
+    /// The bytes of the token.
     pub fn bytes<'a>(&self, text: &'a [u8]) -> &'a [u8]
         requires { IsPlace (length text.now) self.now }
         ensures { result.now ≡ slice_range text.now self.now.start self.now.end }
@@ -124,7 +124,7 @@ pub enum Stretch {
     Awaited,
     /// Up to and with the next `;`.
     ToSemicolon,
-    /// Up to and with the `)` that closes the last of so many open parentheses.
+    /// Up to and with the `)` that closes the last of this number of open parentheses.
     ToParenthesis(usize),
 }
 

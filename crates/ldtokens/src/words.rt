@@ -40,7 +40,7 @@ const RESERVED: [&[u8]; 32] = [
     b"INPUT_SECTION_FLAGS",
 ];
 
-/// Whether it is one of these words.
+/// Whether a word is one of these.
 pub fn is_one_of(words: &[&[u8]], word: &[u8]) -> bool
     ensures { result ≡ list_any (λ w. bytes_eq w.now word.now) words.now }
 {
@@ -55,7 +55,7 @@ pub fn is_reserved(word: &[u8]) -> bool
     is_one_of(&RESERVED, word)
 }
 
-/// Whether it is a NAME of the grammar: not `.`, not reserved.
+/// Whether this is a NAME of the grammar: not `.`, not reserved.
 #[tactic(auto, unfolding(crate::specs::Words::is_free_name))]
 pub fn is_free_name(name: &[u8]) -> bool
     ensures { result ≡ is_free_name name.now }
@@ -63,7 +63,7 @@ pub fn is_free_name(name: &[u8]) -> bool
     name != b".".as_slice() && !is_reserved(name)
 }
 
-/// Whether it is a WORD of the grammar: not reserved.
+/// Whether this is a WORD of the grammar: not reserved.
 #[tactic(auto, unfolding(crate::specs::Words::is_free_word))]
 pub fn is_free_word(word: &[u8]) -> bool
     ensures { result ≡ is_free_word word.now }

@@ -10,7 +10,7 @@ use crate::section::{BodyCommand, BodyStatement};
 use crate::statement::{Command, Item, ItemCommand, Region, Statement};
 
 impl Formula {
-    /// Whether `.` is in it, or an `ALIGN` of one argument, which stands for one with `.`.
+    /// Whether the expression has `.`, or an `ALIGN` of one argument, which stands for one with `.`.
     fn uses_dot(&self) -> bool
         ensures { result ≡ uses_dot self.now }
     {
@@ -19,7 +19,7 @@ impl Formula {
     }
 }
 
-/// Whether it is an `ASSERT` with `.`.
+/// Whether a command is an `ASSERT` with `.`.
 fn assert_misplaces(command: &Common) -> bool
     ensures { result ≡ assert_misplaces command.now }
 {
@@ -29,7 +29,7 @@ fn assert_misplaces(command: &Common) -> bool
     }
 }
 
-/// Whether an expression of it has `.`.
+/// Whether an expression of a command has `.`.
 fn common_uses_dot(command: &Common) -> bool
     ensures { result ≡ common_uses_dot command.now }
 {
@@ -39,7 +39,7 @@ fn common_uses_dot(command: &Common) -> bool
     }
 }
 
-/// Whether it sets `.` in an output section to what it may not be set to.
+/// Whether a command sets `.` in an output section to what `.` may not be set to.
 fn dot_misplaces(command: &DotCommand) -> bool
     ensures { result ≡ dot_misplaces command.now }
 {

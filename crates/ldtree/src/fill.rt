@@ -100,7 +100,7 @@ impl Fill {
         Fill { bytes }
     }
 
-    /// Its bytes, from left to right.
+    /// The bytes, from left to right.
     pub fn as_bytes(&self) -> &[u8]
         ensures value { result.now ≡ self.now }
         ensures some { 0 < length self.now }

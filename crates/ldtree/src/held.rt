@@ -28,7 +28,11 @@ impl<T> Held<T> {
 }
 
 impl<T: Drop> Held<T> {
-    /// Holds a part, or lets it go where memory ran out.
+    /// Holds a part.
+    ///
+    /// # Errors
+    ///
+    /// Where memory runs out. The part is then dropped.
     pub fn new(alloc: Global, part: T) -> Result<Held<T>, AllocError>
         ensures { IfOk result (λ h. h ≡ part) }
     {

@@ -29,7 +29,7 @@ pub struct Input {
     pub keep: bool,
     /// What the names of the files meet.
     pub file: Pattern,
-    /// The order of the sections, if not that of the files.
+    /// The order of the sections, if it is not the order of the files.
     pub sort: Option<Sort>,
     /// One or more words; a section is taken that meets one of them. Under a `sort` none leaves a file out.
     pub sections: Sequence<SectionWord>,
@@ -38,7 +38,7 @@ pub struct Input {
 /// An input statement.
 #[derive(Drop)]
 pub struct InputStatement {
-    /// The line of its first token, that of `KEEP` where it has one.
+    /// The line of the first token, which is `KEEP` where the statement has it.
     pub line: u32,
     /// What it takes.
     pub input: Input,

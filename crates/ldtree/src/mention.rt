@@ -13,7 +13,7 @@ use ldexpr::expression::Expr;
 use ldtokens::name::ScriptName;
 use std::alloc::AllocFailed;
 
-/// No memory.
+/// Out of memory.
 #[derive(Clone, Copy, Debug)]
 pub struct NoRoom;
 
@@ -42,7 +42,7 @@ pub(crate) enum Mention<'a> {
     RegionUsed(&'a [u8]),
 }
 
-/// One more at the end.
+/// Adds a mention at the end.
 fn note<'a>(list: &mut Vec<Mention<'a>>, mention: Mention<'a>) -> Result<(), NoRoom>
     ensures { OnOk result (Adds list.old.items list.new.items (mention_of mention.entry ∷ [])) }
 {
@@ -151,7 +151,7 @@ fn note_region_name<'a>(
     }
 }
 
-/// What stands of a load address in a section's head.
+/// Adds what a section's head mentions for its load address.
 fn note_load_head<'a>(list: &mut Vec<Mention<'a>>, load: &'a Load) -> Result<(), NoRoom>
     ensures { OnOk result (Adds list.old.items list.new.items (in_load_head load.now)) }
 {
@@ -161,7 +161,7 @@ fn note_load_head<'a>(list: &mut Vec<Mention<'a>>, load: &'a Load) -> Result<(),
     }
 }
 
-/// What stands of a load address after a section's body.
+/// Adds what is mentioned after a section's body for its load address.
 fn note_load_tail<'a>(list: &mut Vec<Mention<'a>>, load: &'a Load) -> Result<(), NoRoom>
     ensures { OnOk result (Adds list.old.items list.new.items (in_load_tail load.now)) }
 {
@@ -237,7 +237,7 @@ fn note_command<'a>(list: &mut Vec<Mention<'a>>, command: &'a Command) -> Result
     }
 }
 
-/// All that these statements mention, in the order of the text.
+/// Adds all that these statements mention, in the order of the text.
 pub(crate) fn note_statements<'a>(
     list: &mut Vec<Mention<'a>>,
     statements: &'a [Statement],

@@ -10,8 +10,8 @@ use crate::statement::Statement;
 use std::alloc::Global;
 use std::collections::BTreeSet;
 
-/// Whether it may not stand after those that are in the set; if it may, it is put in as well. The set is in order, so
-/// that no choice of names makes it slow.
+/// Whether a mention may not stand after those that are in the set; if it may, it is put into the set. The set is in
+/// order, so that no choice of names makes it slow.
 fn meet<'a>(given: &mut BTreeSet<Mention<'a>>, mention: Mention<'a>) -> Result<bool, NoRoom>
     ensures { IfOk result (Meets given.old.keys given.new.keys (mention_of mention.entry)) }
 {

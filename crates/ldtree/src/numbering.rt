@@ -24,7 +24,7 @@ pub struct OutputSectionAt<'a> {
 /// An input statement.
 #[derive(Clone, Copy)]
 pub struct InputStatementAt<'a> {
-    /// The line of its first token, that of `KEEP` where it has one.
+    /// The line of the first token, which is `KEEP` where the statement has it.
     pub line: u32,
     /// Where it stands.
     pub place: InputPlace,

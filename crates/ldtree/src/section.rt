@@ -64,20 +64,20 @@ pub struct BodyStatement {
 pub enum Load {
     /// Nothing.
     Unstated,
-    /// `AT(e)`: it is this.
+    /// `AT(e)`: the load address is this.
     At(Formula),
-    /// `AT>region`: it lies in this region.
+    /// `AT>region`: the load address lies in this region.
     InRegion(ScriptName),
 }
 
 /// An output section.
 #[derive(Drop)]
 pub struct OutputSection {
-    /// Its name.
+    /// The name.
     pub name: ScriptName,
-    /// Its address, if one is given.
+    /// The address, if one is given.
     pub address: Option<Formula>,
-    /// Its load address.
+    /// The load address.
     pub load: Load,
     /// The alignment that `ALIGN(e)` in its head gives.
     pub alignment: Option<Formula>,

@@ -20,7 +20,7 @@ impl<T> Model for Sequence<T> {
 }
 
 impl<T> Sequence<T> {
-    /// The list of nothing.
+    /// The empty list.
     pub fn new(alloc: Global) -> Sequence<T>
         ensures { result ≡ [] }
     {
@@ -29,7 +29,7 @@ impl<T> Sequence<T> {
         }
     }
 
-    /// Its elements.
+    /// The elements.
     pub fn as_slice(&self) -> &[T]
         ensures { result.now ≡ self.now }
     {
@@ -38,8 +38,11 @@ impl<T> Sequence<T> {
 }
 
 impl<T: Drop> Sequence<T> {
-    /// One more at the end, or an error where memory ran out. Most lists of a tree have one element, so the first takes
-    /// the room of one.
+    /// Adds an element at the end. Most lists of a tree have one element, so the first takes the room of one.
+    ///
+    /// # Errors
+    ///
+    /// Where memory runs out.
     pub fn push(&mut self, element: T) -> Result<(), AllocError>
         ensures { OnOk result (self.new ≡ self.old ++ element ∷ []) }
     {

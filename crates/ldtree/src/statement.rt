@@ -13,9 +13,9 @@ use ldtokens::name::ScriptName;
 pub struct Region {
     /// The line of its name.
     pub line: u32,
-    /// Its name.
+    /// The name.
     pub name: ScriptName,
-    /// Its first address.
+    /// The first address.
     pub origin: Formula,
     /// How many bytes it has.
     pub extent: Formula,

@@ -15,7 +15,7 @@ use ldscript::tree::{Expr, RegionQuery, SectionQuery};
 /// Why an expression has no value.
 #[derive(Clone, Copy, Debug)]
 pub enum ValueFault<'e> {
-    /// A name that it asks for, and that stands for nothing where it stands.
+    /// A name that the expression asks for, and that stands for nothing where the expression stands.
     NotReady(&'e [u8]),
     /// A division by 0, or an `ALIGN` to what is no power of two.
     NoValue,

@@ -11,7 +11,7 @@ const SHOWN: u8 = 0;
 const REFUSED: u8 = 2;
 /// The status after a device failed.
 const DEVICE: u8 = 3;
-/// The status out of memory.
+/// The status where memory runs out.
 const NO_MEMORY: u8 = 4;
 
 /// Why the words came to no call.

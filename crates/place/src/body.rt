@@ -91,7 +91,7 @@ impl<'d, 'a> Frame<'d, 'a> {
         Ok(())
     }
 
-    /// The entries of an input statement stay where they were: those of the row start at these addresses.
+    /// The entries of an input statement stay where they were: the entries of the row start at these addresses.
     #[tactic(auto, unfolding(ldmodel::specs::Body::pieces_placed))]
     fn keep_pieces(
         &self,

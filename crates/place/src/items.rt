@@ -109,7 +109,7 @@ impl<'i, 'a> Input<'i, 'a> {
         }
         match self.kept.earlier.starts_of(number, done.sections.count()) {
             Some(starts) => Ok(Some(starts)),
-            // nor to this: the earlier layout has this output section
+            // Unreachable: the earlier layout has this output section
             None => Err(Stop::NoMemory),
         }
     }
@@ -187,8 +187,8 @@ impl<'i, 'a> Input<'i, 'a> {
         self.place_command(here, done, item.line, &item.command)
     }
 
-    /// The statements of SECTIONS, of which the first ones may be taken over. It gives where the layout had come to before
-    /// each output section, and after all.
+    /// The statements of SECTIONS, of which the first ones may be taken over. It gives where the layout had come to
+    /// before each output section, and after all.
     pub fn place_items(
         &self,
         here: &mut Here<'a>,

@@ -17,7 +17,7 @@ pub(crate) struct Kept<'k> {
     pub dots: &'k [u64],
     /// The symbols.
     pub symbols: &'k [ScriptSymbol],
-    /// Where it had come to before each output section, and after all.
+    /// Where the earlier layout had come to before each output section, and after all.
     pub boundaries: &'k [Boundary],
     /// The number of the first output section whose row differs: before it the layout is the same but for symbols.
     pub first: usize,

@@ -17,7 +17,7 @@ pub(crate) struct Parts<'a> {
 }
 
 impl<'a> Parts<'a> {
-    /// Those of these statements.
+    /// The parts of these statements.
     pub fn of(statements: &'a [Statement]) -> Parts<'a>
         ensures before { result.before.now ≡ before_sections statements.now }
         ensures items { result.items.now ≡ items_within statements.now }

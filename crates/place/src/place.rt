@@ -26,7 +26,8 @@ use ldoverlap::overlaps::overlaps;
 use ldscript::script::Script;
 use std::alloc::{AllocError, Global};
 
-/// No symbol has a value yet, of a layout that has this many output sections, of which some are taken over.
+/// The symbols of a layout before any has a value. The layout has this many output sections, of which some are taken
+/// over.
 fn no_symbols<'a>(
     alloc: Global,
     script: &'a Script,
@@ -120,17 +121,17 @@ fn lay_out(
 /// `rows` has one row for each output section, in the order of the script, `provided` the PROVIDEs that are in force.
 /// With `kept`, an earlier placement of the script and the number of the first row that differs from the earlier ones,
 /// the input sections of the rows before it stay where they were, and the layout is the same with and without `kept`.
-/// Where the same PROVIDEs were in force, it goes on right before the output section of that row: those before it and all
-/// statements of SECTIONS up to it are taken over, and none of them is evaluated. Memory regions end where the sections
-/// that are taken over do. Where other PROVIDEs were in force, the statements up to it are evaluated anew, and input
-/// statements take the earlier places of their entries. The meter counts the pieces that were placed anew.
+/// Where the same PROVIDEs were in force, the pass goes on right before the output section of that row: those before it
+/// and all statements of SECTIONS up to it are taken over, and none of them is evaluated. Memory regions end where the
+/// sections that are taken over do. Where other PROVIDEs were in force, the statements up to it are evaluated anew, and
+/// input statements take the earlier places of their entries. The meter counts the pieces that were placed anew.
 ///
 /// What the pieces' objects and sections are called does not matter: the contract holds with any names.
 ///
 /// # Errors
 ///
-/// `First` is the first fault of the layout (`F4` to `F8`). Without one, `Meeting` has one fault for each output section
-/// that shares an address with an earlier one (`F9`), and then one for each that shares a load address (`F10`).
+/// `First` is the first fault of the layout (`F4` to `F8`). Without one, `Meeting` has one fault for each output
+/// section that shares an address with an earlier one (`F9`), and then one for each that shares a load address (`F10`).
 pub fn place(
     alloc: Global,
     script: &Script,

@@ -53,7 +53,7 @@ impl Model for Placement {
 }
 
 impl Placement {
-    /// All of it.
+    /// All of the placement, lent.
     pub fn laid(&self) -> Laid<'_>
         ensures sections { result.sections.now ≡ self.now.sections }
         ensures starts { result.starts.now ≡ self.now.starts }
@@ -81,7 +81,7 @@ impl Placement {
         &self.sections
     }
 
-    /// What is kept of it where rows are as they were before a number, and these PROVIDEs are in force now.
+    /// What is kept of the placement where rows are as they were before a number, and these PROVIDEs are in force now.
     pub(crate) fn kept(&self, first: usize, provided: &[CommonIndex]) -> Kept<'_>
         ensures { Keeps self.now first provided.now result }
     {

@@ -21,7 +21,7 @@ use ldscript::tree::OutputSection;
 use std::alloc::Global;
 
 impl<'a> Here<'a> {
-    /// A section begins to be placed, of which this many input sections are expected. Fails where memory runs out.
+    /// Begins to place an output section, of which this many input sections are expected. Fails where memory runs out.
     fn open(&mut self, alloc: Global, start: u64, count: usize) -> Result<(), Stop<'a>>
         ensures dot { OnOk result (self.new.dot ≡ start) }
         ensures dots { OnOk result (self.new.dots.items ≡ self.old.dots.items) }

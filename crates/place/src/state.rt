@@ -41,10 +41,10 @@ pub(crate) struct Frame<'d, 'a> {
     pub done: &'d Done<'a>,
     /// The PROVIDEs that are in force.
     pub provided: &'d Provided<'a>,
-    /// Its row.
+    /// The row.
     pub row: &'a [Piece],
     /// Where the entries of the row start, if they stay where they were in an earlier layout.
     pub starts: Option<&'a [u64]>,
-    /// Where it starts.
+    /// Where the output section starts.
     pub start: u64,
 }

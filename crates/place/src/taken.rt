@@ -25,12 +25,12 @@ use crate::stop::Stop;
 use ldscript::tree::{Item, ItemCommand, OutputSection};
 use std::alloc::{AllocError, Global};
 
-/// What is taken over of a SECTIONS.
+/// What is taken over of SECTIONS.
 #[derive(Drop)]
 pub(crate) struct Resumed {
-    /// How many of its statements, from the first on.
+    /// How many statements of SECTIONS, from the first on.
     pub passed: usize,
-    /// Where the layout had come to before each of their output sections.
+    /// Where the layout had come to before each output section among these.
     pub boundaries: Vec<Boundary>,
 }
 
@@ -70,7 +70,7 @@ fn output_at(items: &[Item], place: usize) -> Option<&OutputSection>
     }
 }
 
-/// The first of these boundaries, as many as the count says, with room for as many as there are.
+/// The first `count` of these boundaries, in a list with room for all.
 fn copy_of(
     alloc: Global,
     boundaries: &[Boundary],

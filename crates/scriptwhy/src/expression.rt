@@ -99,7 +99,7 @@ impl<'a> Walk<'a> {
         Err(self.wrong("a number, a name, `.` or `(` is expected here, in an expression"))
     }
 
-    /// That an expression cannot end here, where something is open.
+    /// Stops where an expression cannot end here, since something is open.
     fn end_operators(&mut self, open: &[Open]) -> Result<bool, Stop> {
         let reason = match open.last() {
             None => return Ok(false),

@@ -22,15 +22,15 @@ fn is_spelled_as_name(word: &[u8]) -> bool {
 /// What a script does with a name.
 #[derive(Clone, Copy, Debug, PartialEq, Eq)]
 pub enum Use {
-    /// It is given by `ENTRY`, `MEMORY` or `SECTIONS`.
+    /// Gives it by `ENTRY`, `MEMORY` or `SECTIONS`.
     Command,
-    /// It is the name of an output section.
+    /// Gives it to an output section.
     Section,
-    /// It is assigned or provided.
+    /// Assigns or provides it.
     Symbol,
-    /// A region of this name is declared.
+    /// Declares a region of this name.
     Declared,
-    /// A region of this name is used.
+    /// Uses a region of this name.
     Used,
 }
 
@@ -72,7 +72,7 @@ impl<'a> Walk<'a> {
         }
     }
 
-    /// That the next token is wrong, or missing.
+    /// Why the walk stops where the next token is wrong, or missing.
     pub fn wrong(&self, reason: &'static str) -> Stop {
         Stop::Wrong(if self.tokens.is_empty() {
             Explanation::at_end(self.last_line, reason)

@@ -12,7 +12,7 @@ use ldmodel::memory::NoMemory;
 use std::alloc::Global;
 
 impl<'a> Next<'a> {
-    /// The whole, lent for a link over its objects, which `inputs` gives.
+    /// The whole project, lent for a link over its objects, which `inputs` gives.
     pub fn view(&self, inputs: &'a [Input<'a>]) -> ProjectView<'a>
         requires { shown_inputs inputs.now ≡ objects_of self.now.entries }
         ensures { result ≡ project_of self.now }
@@ -34,7 +34,7 @@ impl Project {
         self.kept.inputs(alloc)
     }
 
-    /// The whole, lent for a link over its objects, which `inputs` gives.
+    /// The whole project, lent for a link over its objects, which `inputs` gives.
     pub fn view<'a>(&'a self, inputs: &'a [Input<'a>]) -> ProjectView<'a>
         requires { shown_inputs inputs.now ≡ objects_of self.now.contents.entries }
         ensures { result ≡ held self.now }
