@@ -1,5 +1,6 @@
-// Refuses one allocation of a process: loaded before the C library (LD_PRELOAD) by tools/fail-alloc. REFUSE is the number
-// of the allocation that finds no memory, from 1, or 0 for none; into the file COUNTED goes how many were asked for.
+// Refuses one allocation of a process: loaded before the C library (LD_PRELOAD) by tools/fail-alloc. REFUSE is the
+// number of the allocation that finds no memory, from 1, or 0 for none; into the file COUNTED goes how many were asked
+// for.
 #define _GNU_SOURCE
 #include <dlfcn.h>
 #include <errno.h>

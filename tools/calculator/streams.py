@@ -444,8 +444,8 @@ class Streams:
         return self
 
     def make_list(self, count):
-        """A script and some objects, and then this number of edits, all five kinds among them, each followed by all three
-        queries."""
+        """A script and some objects, and then this number of edits, all five kinds among them, each followed by all
+        three queries."""
         maker = self.maker
         start = [self.script] + [self.add] * maker.random.randint(1, 5)
         kinds = [self.add, self.replace, self.move, self.remove, self.script]

@@ -29,8 +29,8 @@ COUNTS = {
         (0, 0, 0, 0, 4480), (0, 0, 1, 0, 4488)],
 }
 
-# The same at most, worked out by hand, for the edit of a number, from 0: of the bytes those before the loaded end, which
-# stands after them. All that follows it is written.
+# The greatest counts, worked out by hand, for the edit of a number, from 0: of the bytes those before the loaded end,
+# which stands after them. All that follows it is written.
 MOST = {
     ("first weak by order", 4): ((0, 1, 0, 1, 4100), 4109),
     ("collected", 4): ((1, 3, 2, 2, 4107), 4107),

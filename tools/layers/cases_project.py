@@ -1,7 +1,7 @@
 """Edits of a project: each of the five, each refusal in its order, an edit that is staged and dropped, keys that stay
 and keys that are used again, and a long stream of edits; of each project the names, and the PROVIDEs in force (the
-script with 4 statements has two, of `w`, which B leaves undefined, and of a name that none has). What must be printed is worked out here
-over a plain list."""
+script with 4 statements has two, of `w`, which B leaves undefined, and of a name that none has). What must be printed
+is worked out here over a plain list."""
 from calculator.build import object_a, object_b
 
 A, B = object_a(), object_b()
