@@ -186,8 +186,8 @@ impl<'a> Plan<'a> {
     ghost use Rattle.ldimage.specs.declared.section.Drawing.{Drawing as DrawingOf};
 
     /// Writes the image of the plan onto the canvas: sets its length, writes the patches, and then each byte that does
-    /// not stay, once. It takes no memory, and counts the bytes that it writes. A byte that does not stay is then as
-    /// the drawing has it, whatever the canvas held.
+    /// not stay, once. It takes no memory, and counts the bytes that it writes. A byte that does not stay is then the
+    /// byte of the drawing, whatever the canvas held.
     ///
     /// A canvas that held the image of an old link then holds the image of the new one, where only input sections that
     /// stayed are kept and the patches are the fields of their sites whose symbol has another value. Where all input

@@ -35,7 +35,7 @@ pub fn fields_are_apart()
 {}
 
 /// The image has the bytes of an input section where it stands in the file, in an output section with file bytes: each
-/// byte is as the field that covers it has it, else as the section has it. Output sections have different names, as the
+/// byte is that of the field that covers it, else that of the section. Output sections have different names, as the
 /// script reader has found, and nothing in them meets (`layout::nothing_meets`).
 pub fn byte_of_piece()
     ensures { (p : Project) (s : Layout) (q : PlacedSection) (x : PlacedPiece) (i : ℕ)

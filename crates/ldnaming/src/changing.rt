@@ -58,8 +58,8 @@ impl Naming {
         mem::replace(&mut self.order, order)
     }
 
-    /// Makes a change back, after it was made: the objects are as they were before it. The call takes the order that
-    /// `change` gave back, and no memory.
+    /// Undoes a change that was made: the objects are as they were before it. The call takes the order that `change`
+    /// gave back, and no memory.
     pub fn undo(
         &mut self,
         script: &Script,
