@@ -1,6 +1,6 @@
 //! Numbers as 16 hex digits.
 
-ghost use Rattle.std.specs.Prelude.{◌≡◌, ◌/◌, ◌%◌, ◌^◌, ◌<◌, codes};
+ghost use Rattle.std.specs.Prelude.{◌≡◌, ◌/◌, ◌%◌, ◌^◌, ◌<◌};
 ghost use Rattle.ldmodel.specs.Lines.{hex, hex_digit};
 
 /// The digit that stands before `place` others.
@@ -8,12 +8,8 @@ fn digit(value: u64, place: u32) -> u8
     requires { place < 16 }
     ensures { result ≡ hex_digit (value / 16 ^ place % 16) }
 {
-    let nibble = ((value >> (4 * place)) % 16) as u8;
-    if nibble < 10 {
-        b'0' + nibble
-    } else {
-        b'a' + (nibble - 10)
-    }
+    let digits = b"0123456789abcdef";
+    digits[((value >> (4 * place)) % 16) as usize]
 }
 
 /// A number as 16 hex digits, `0` to `9` and `a` to `f`.

@@ -11,6 +11,7 @@ ghost use Rattle.ldtext.specs.ShownMap.{letters, piece_text, pieces_text, sectio
 
 use crate::draft::Draft;
 use crate::line::{Word, put_line};
+use crate::map_line::put_piece_line;
 use crate::members::Members;
 use crate::named::part_name;
 use crate::symbols::{MapSymbol, put_symbols};
@@ -76,15 +77,13 @@ fn put_piece<M: Members>(
     ensures { OnOk result (draft.new
         ≡ added draft.old (piece_text (M.project members.now) (M.number members.now) piece.now start)) }
 {
-    put_line(
+    let object = members.name(piece.section.object);
+    put_piece_line(
         draft,
-        &[
-            Word::Bytes(b"piece"),
-            Word::Hex(start),
-            Word::Hex(piece.size),
-            Word::Bytes(members.name(piece.section.object)),
-            Word::Bytes(part_name(members, piece.section)),
-        ],
+        start,
+        piece.size,
+        object,
+        part_name(members, piece.section),
     )
 }
 

@@ -1,0 +1,18 @@
+-- A symbol's line, counted or written.
+use Rattle.std.proofs.Common.{◌≡◌, OnOk, subst, false}
+use Rattle.ldtext.proofs.Draftings.{added_both, added_last, counted}
+use Rattle.ldtext.proofs.MapLines.{symbol_long, symbol_spelled}
+use Rattle.ldtext.proofs.map_line.put_symbol_line.Goals as goal
+
+pub returns-then-not-is_written : goal.returns-then-not-is_written
+returns-then-not-is_written c =
+    let is : c.args.draft.now.is_written ≡ false = search (c.if-not-is_written.true, c.is_written.ensures) in
+    subst (λ e. OnOk c.count_line.result (c.count_line.new.draft ≡ e))
+    (counted c.args.draft.now _ _ is (symbol_long c.args.value c.args.name.now c.args.owner.now)) c.count_line.ensures
+
+pub returns : goal.returns
+returns c =
+    let d = c.args.draft.now in
+    let front = added_both d _ _ _ _ c.in_ok-write.ensures.text c.in_ok-write_value.ensures.text in
+    subst (λ e. OnOk c.write_names.result (c.write_names.new.draft ≡ e))
+    (added_last d _ _ _ _ front (symbol_spelled c.args.value c.args.name.now c.args.owner.now)) c.write_names.ensures
