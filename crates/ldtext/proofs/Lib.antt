@@ -1,5 +1,6 @@
 -- Lemmas of the crate.
 pub mod Draftings
+pub mod HexDigits
 pub mod MapLines
 pub mod Spelling
 pub mod FoundSections
