@@ -13,7 +13,7 @@ use crate::draft::Draft;
 use crate::line::{Word, put_line};
 use crate::map_line::put_piece_line;
 use crate::members::Members;
-use crate::named::part_name;
+use crate::named::next_part_name;
 use crate::symbols::{MapSymbol, put_symbols};
 use ldmodel::laid::{Laid, Placed};
 use ldmodel::memory::NoMemory;
@@ -67,24 +67,21 @@ fn put_section(draft: &mut Draft, name: &[u8], placed: &Placed) -> Result<(), No
     )
 }
 
-/// `piece ADDRESS SIZE OBJECT SECTION`
+/// `piece ADDRESS SIZE OBJECT SECTION`; and the place of its section, given that of the piece before.
 fn put_piece<M: Members>(
     draft: &mut Draft,
     members: &M,
     piece: &Piece,
     start: u64,
-) -> Result<(), NoMemory>
+    last: usize,
+) -> Result<usize, NoMemory>
     ensures { OnOk result (draft.new
         ≡ added draft.old (piece_text (M.project members.now) (M.number members.now) piece.now start)) }
 {
     let object = members.name(piece.section.object);
-    put_piece_line(
-        draft,
-        start,
-        piece.size,
-        object,
-        part_name(members, piece.section),
-    )
+    let (name, place) = next_part_name(members, piece.section, last);
+    put_piece_line(draft, start, piece.size, object, name)?;
+    Ok(place)
 }
 
 /// The lines of a row, whose addresses are the first of `starts`, and the others of these.
@@ -99,11 +96,12 @@ fn put_pieces<'a, M: Members>(
     ensures rest { IfOk result (λ rest. rest.now ≡ drop (length row.now) starts.now) }
 {
     let mut rest = starts;
+    let mut place = 0;
     for piece in row {
         let Some((start, others)) = rest.split_first() else {
             return Ok(rest);
         };
-        put_piece(draft, members, piece, *start)?;
+        place = put_piece(draft, members, piece, *start, place)?;
         rest = others;
     }
     Ok(rest)
