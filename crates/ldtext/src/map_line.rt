@@ -6,10 +6,12 @@ ghost use Rattle.ldtext.specs.Drafts.{added};
 ghost use Rattle.ldtext.specs.ShownMap.{value_text};
 
 use crate::draft::Draft;
+use crate::hex::hex_digits;
 use ldmodel::memory::NoMemory;
 use std::alloc::AllocError;
 
 /// Counts a line of two names and of this number of other bytes; an error as for `Draft::count`.
+#[inline(always)]
 fn count_line(draft: &mut Draft, others: usize, first: &[u8], second: &[u8]) -> Result<(), NoMemory>
     requires { draft.old.is_written ≡ false }
     ensures { OnOk result (draft.new
@@ -24,17 +26,8 @@ fn count_line(draft: &mut Draft, others: usize, first: &[u8], second: &[u8]) -> 
     draft.count(all)
 }
 
-/// Writes a number and a space.
-fn write_number(draft: &mut Draft, number: u64) -> Result<(), NoMemory>
-    requires { draft.old.is_written ≡ true }
-    ensures text { OnOk result (draft.new ≡ added draft.old (hex number ++ 32 ∷ [])) }
-    ensures kept { draft.new.is_written ≡ true }
-{
-    draft.write_hex(number)?;
-    draft.write_byte(b' ')
-}
-
 /// Writes the two names at the end of a line.
+#[inline(always)]
 fn write_names(draft: &mut Draft, first: &[u8], second: &[u8]) -> Result<(), NoMemory>
     requires { draft.old.is_written ≡ true }
     ensures { OnOk result (draft.new ≡ added draft.old (first.now ++ 32 ∷ [] ++ second.now ++ 10 ∷ [])) }
@@ -43,6 +36,22 @@ fn write_names(draft: &mut Draft, first: &[u8], second: &[u8]) -> Result<(), NoM
     draft.write_byte(b' ')?;
     draft.write(second)?;
     draft.write_byte(b'\n')
+}
+
+/// `piece ADDRESS SIZE ` of a line.
+#[inline(always)]
+fn piece_front(start: u64, size: u64) -> [u8; 40]
+    ensures { result ≡ codes "piece " ++ (hex start ++ 32 ∷ []) ++ (hex size ++ 32 ∷ []) }
+{
+    let start = hex_digits(start);
+    let size = hex_digits(size);
+    [
+        b'p', b'i', b'e', b'c', b'e', b' ', start[0], start[1], start[2], start[3], start[4],
+        start[5], start[6], start[7], start[8], start[9], start[10], start[11], start[12],
+        start[13], start[14], start[15], b' ', size[0], size[1], size[2], size[3], size[4],
+        size[5], size[6], size[7], size[8], size[9], size[10], size[11], size[12], size[13],
+        size[14], size[15], b' ',
+    ]
 }
 
 /// `piece ADDRESS SIZE OBJECT SECTION`
@@ -59,21 +68,33 @@ pub fn put_piece_line(
     if !draft.is_written() {
         return count_line(draft, 42, object, section);
     }
-    draft.write(b"piece ")?;
-    write_number(draft, start)?;
-    write_number(draft, size)?;
+    draft.write(&piece_front(start, size))?;
     write_names(draft, object, section)
 }
 
-/// Writes the value of a symbol and a space.
-fn write_value(draft: &mut Draft, value: Option<u64>) -> Result<(), NoMemory>
+/// `symbol VALUE ` of a line.
+#[inline(always)]
+fn symbol_front(value: u64) -> [u8; 24]
+    ensures { result ≡ codes "symbol " ++ (hex value ++ 32 ∷ []) }
+{
+    let value = hex_digits(value);
+    [
+        b's', b'y', b'm', b'b', b'o', b'l', b' ', value[0], value[1], value[2], value[3], value[4],
+        value[5], value[6], value[7], value[8], value[9], value[10], value[11], value[12],
+        value[13], value[14], value[15], b' ',
+    ]
+}
+
+/// Writes `symbol VALUE ` of a line.
+#[inline(always)]
+fn write_symbol_front(draft: &mut Draft, value: Option<u64>) -> Result<(), NoMemory>
     requires { draft.old.is_written ≡ true }
-    ensures text { OnOk result (draft.new ≡ added draft.old (value_text value ++ 32 ∷ [])) }
+    ensures text { OnOk result (draft.new ≡ added draft.old (codes "symbol " ++ (value_text value ++ 32 ∷ []))) }
     ensures kept { draft.new.is_written ≡ true }
 {
     match value {
-        Some(number) => write_number(draft, number),
-        None => draft.write(b"---------------- "),
+        Some(number) => draft.write(&symbol_front(number)),
+        None => draft.write(b"symbol ---------------- "),
     }
 }
 
@@ -90,7 +111,6 @@ pub fn put_symbol_line(
     if !draft.is_written() {
         return count_line(draft, 26, name, owner);
     }
-    draft.write(b"symbol ")?;
-    write_value(draft, value)?;
+    write_symbol_front(draft, value)?;
     write_names(draft, name, owner)
 }

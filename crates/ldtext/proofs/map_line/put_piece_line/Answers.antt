@@ -1,6 +1,6 @@
 -- A piece's line, counted or written.
 use Rattle.std.proofs.Common.{◌≡◌, OnOk, subst, false}
-use Rattle.ldtext.proofs.Draftings.{added_both, added_last, counted}
+use Rattle.ldtext.proofs.Draftings.{added_last, counted}
 use Rattle.ldtext.proofs.MapLines.{piece_long, piece_spelled}
 use Rattle.ldtext.proofs.map_line.put_piece_line.Goals as goal
 
@@ -13,9 +13,6 @@ returns-then-not-is_written c =
 
 pub returns : goal.returns
 returns c =
-    let d = c.args.draft.now in
-    let one = added_both d _ _ _ _ c.in_ok-write.ensures.text c.in_ok-write_number.ensures.text in
-    let two = added_both d _ _ _ _ one c.in_ok-write_number-2.ensures.text in
     let spelled = piece_spelled c.args.start c.args.size c.args.object.now c.args.section.now in
-    subst (λ e. OnOk c.write_names.result (c.write_names.new.draft ≡ e)) (added_last d _ _ _ _ two spelled)
-    c.write_names.ensures
+    subst (λ e. OnOk c.write_names.result (c.write_names.new.draft ≡ e))
+    (added_last c.args.draft.now _ _ _ _ c.in_ok-write.ensures.text (rw c.piece_front.ensures spelled)) c.write_names.ensures

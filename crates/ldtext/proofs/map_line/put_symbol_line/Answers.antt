@@ -1,6 +1,6 @@
 -- A symbol's line, counted or written.
 use Rattle.std.proofs.Common.{◌≡◌, OnOk, subst, false}
-use Rattle.ldtext.proofs.Draftings.{added_both, added_last, counted}
+use Rattle.ldtext.proofs.Draftings.{added_last, counted}
 use Rattle.ldtext.proofs.MapLines.{symbol_long, symbol_spelled}
 use Rattle.ldtext.proofs.map_line.put_symbol_line.Goals as goal
 
@@ -12,7 +12,6 @@ returns-then-not-is_written c =
 
 pub returns : goal.returns
 returns c =
-    let d = c.args.draft.now in
-    let front = added_both d _ _ _ _ c.in_ok-write.ensures.text c.in_ok-write_value.ensures.text in
+    let spelled = symbol_spelled c.args.value c.args.name.now c.args.owner.now in
     subst (λ e. OnOk c.write_names.result (c.write_names.new.draft ≡ e))
-    (added_last d _ _ _ _ front (symbol_spelled c.args.value c.args.name.now c.args.owner.now)) c.write_names.ensures
+    (added_last c.args.draft.now _ _ _ _ c.in_ok-write_symbol_front.ensures.text spelled) c.write_names.ensures
