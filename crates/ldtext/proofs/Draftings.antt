@@ -1,7 +1,7 @@
 -- Bytes added one part after another are added together.
-use Rattle.std.proofs.Common.{◌≡◌, ◌+◌, ℕ, List, [], ◌∷◌, ◌++◌, length, refl, ap, sym, ◌∙◌, subst, append_assoc}
+use Rattle.std.proofs.Common.{◌≡◌, ◌+◌, ℕ, List, [], ◌++◌, length, refl, ap, sym, ◌∙◌, subst, append_assoc}
 use Rattle.std.proofs.Common.{append-nil, length-append, arith, Bool, true, false, cond}
-use Rattle.ldtext.specs.Drafts.{Drafted, added}
+use Rattle.ldtext.specs.Drafts.{Drafted, added, drafted}
 
 written_twice : (b : Bool) (bs xs ys : List ℕ)
     → cond b (cond b (bs ++ xs) bs ++ ys) (cond b (bs ++ xs) bs) ≡ cond b (bs ++ (xs ++ ys)) bs
@@ -49,3 +49,18 @@ pub added_three : (d e f : Drafted) (x y z : List ℕ) → e ≡ added d x → f
     → P (added f z) → P (added d (x ++ (y ++ z)))
 added_three d e f x y z a b P p =
     subst P (ap (λ w. added w z) (b ∙ ap (λ w. added w y) a) ∙ added_twice (added d x) y z ∙ added_twice d x (y ++ z)) p
+
+-- bytes at the end of a text that is written
+pub written_more : (b : Bool) (n : ℕ) (xs more : List ℕ) → b ≡ true → drafted b n (xs ++ more) ≡ added (drafted b n xs) more
+unfolding added
+written_more b n xs more e = rw (e, length-append xs more) refl
+
+-- a text that is measured has the size of what is added
+pub counted : (d : Drafted) (n : ℕ) (text : List ℕ) → d.is_written ≡ false → length text ≡ n
+    → record d { size = d.size + n } ≡ added d text
+unfolding added
+counted d n text e h = rw (e, h) refl
+
+-- the last part of a text that is then whole
+pub added_last : (d e : Drafted) (x y whole : List ℕ) → e ≡ added d x → x ++ y ≡ whole → added e y ≡ added d whole
+added_last d e x y whole h w = ap (λ z. added z y) h ∙ added_twice d x y ∙ ap (added d) w

@@ -1,7 +1,8 @@
 -- Where sections stand in the order of their numbers, the one of a number is the first of that number.
 use Rattle.std.proofs.Common.{◌≡◌, ◌≢◌, ◌<◌, ◌+◌, ℕ, zero, suc, List, [], ◌∷◌, length, map, find, get_or, refl, ap, sym}
-use Rattle.std.proofs.Common.{◌∙◌, arith, Bool, true, false, cond, ◌==◌, slice_get, Option, Some, None}
+use Rattle.std.proofs.Common.{◌∙◌, subst, arith, Bool, true, false, cond, ◌==◌, slice_get, Option, Some, None}
 use Rattle.std.specs.Prelude.{AllPairs, All, IfNone, IfSome, MatchOption}
+use Rattle.std.proofs.lemmas.List.{get_or_default}
 use Rattle.elfobj.specs.Numbering.{IsNumberedAt}
 use Rattle.elfobj.specs.declared.section.LinkedIndex.{LinkedIndex}
 use Rattle.elfobj.specs.Sections.{LinkedSection, section_of}
@@ -51,3 +52,13 @@ pub found_or_none : (r : Option LinkedIndex) (xs : List LinkedSection) (k : Sect
     → MatchOption r (numbered xs k ≡ None) (λ i. numbered xs k ≡ slice_get xs i.0)
 found_or_none None xs k up h n = none_numbered xs k n
 found_or_none (Some i) xs k up h n = first_numbered xs k i.0 up h.within h.number_is
+
+-- the section at a place, whose number it is
+pub found_at : (xs : List LinkedSection) (sections : List Section) (k : SectionIndex) (i : ℕ) (s : Section)
+    → sections ≡ map section_of xs → AllPairs (λ (t u : Section). t.number.0 < u.number.0) sections
+    → i < length sections → s ≡ get_or sections i s → s.number.0 ≡ k.0 → numbered xs k ≡ slice_get xs i
+found_at xs sections k i s e up h is n =
+    let whole = ap (λ (ss : List Section). length ss) e in
+    first_numbered xs k i (subst (AllPairs (λ (t u : Section). t.number.0 < u.number.0)) e up) (omega (arith, h, whole))
+    (λ d. ap (λ (ss : List Section). (get_or ss i d).number.0) (sym e)
+    ∙ ap (λ (t : Section). t.number.0) (get_or_default sections i d s h) ∙ ap (λ (t : Section). t.number.0) (sym is) ∙ n)

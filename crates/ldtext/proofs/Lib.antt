@@ -1,5 +1,7 @@
 -- Lemmas of the crate.
 pub mod Draftings
+pub mod HexDigits
+pub mod MapLines
 pub mod Spelling
 pub mod FoundSections
 pub mod Merging

@@ -7,6 +7,14 @@ pub record Drafted : Type 0 where
   pub size : ℕ
   pub bytes : List ℕ
 
+-- a text of this state: one that is written has the size of its bytes
+abbrev pub drafted : (is_written : Bool) (measured : ℕ) (bytes : List ℕ) → Drafted
+drafted is_written measured bytes = record {
+  is_written = is_written;
+  size = if is_written then length bytes else measured;
+  bytes = bytes;
+}
+
 -- with bytes at its end
 unfoldable pub added : Drafted → List ℕ → Drafted
 added d more = record {

@@ -1,6 +1,6 @@
 //! A text that is made: measured first, and then written into room of that size.
 
-ghost use Rattle.std.specs.Prelude.{◌≡◌, ◌∷◌, [], OnOk, IfOk, false, true};
+ghost use Rattle.std.specs.Prelude.{◌≡◌, ◌∷◌, ◌+◌, [], OnOk, IfOk, false, true};
 ghost use Rattle.ldmodel.specs.Lines.{hex};
 ghost use Rattle.ldtext.specs.Drafts.{added};
 
@@ -13,16 +13,16 @@ use std::marker::Model;
 #[derive(Drop)]
 pub struct Draft {
     is_written: bool,
-    size: usize,
+    measured: usize,
     bytes: Vec<u8>,
 }
 
 impl Model for Draft {
-    ghost use Rattle.ldtext.specs.Drafts.{Drafted};
+    ghost use Rattle.ldtext.specs.Drafts.{Drafted, drafted};
 
     ghost Value = { Drafted };
 
-    ghost view = { λ d. record { is_written = d.is_written; size = d.size; bytes = d.bytes.items } };
+    ghost view = { λ d. drafted d.is_written d.measured d.bytes.items };
 }
 
 impl Draft {
@@ -34,7 +34,7 @@ impl Draft {
     {
         Draft {
             is_written: false,
-            size: 0,
+            measured: 0,
             bytes: Vec::new(alloc),
         }
     }
@@ -46,7 +46,7 @@ impl Draft {
         let bytes = Vec::with_capacity(alloc, size)?;
         Ok(Draft {
             is_written: true,
-            size: 0,
+            measured: 0,
             bytes,
         })
     }
@@ -55,7 +55,18 @@ impl Draft {
     pub fn size(&self) -> usize
         ensures { result ≡ self.now.size }
     {
-        self.size
+        if self.is_written {
+            self.bytes.len()
+        } else {
+            self.measured
+        }
+    }
+
+    /// Whether the bytes are written.
+    pub fn is_written(&self) -> bool
+        ensures { result ≡ self.now.is_written }
+    {
+        self.is_written
     }
 
     /// The bytes that were written.
@@ -65,40 +76,75 @@ impl Draft {
         self.bytes
     }
 
-    /// Adds bytes at the end.
+    /// Counts this number of bytes at the end of a text that is measured.
     ///
     /// # Errors
     ///
-    /// Where the size would pass the greatest `usize`, which memory never holds, or where there was not enough room.
-    #[tactic(auto, unfolding(crate::specs::Drafts::added))]
-    pub fn put(&mut self, bytes: &[u8]) -> Result<(), NoMemory>
-        ensures { OnOk result (self.new ≡ added self.old bytes.now) }
+    /// Where the size would pass the greatest `usize`, which memory never holds.
+    pub fn count(&mut self, more: usize) -> Result<(), NoMemory>
+        requires { self.old.is_written ≡ false }
+        ensures { OnOk result (self.new ≡ record self.old { size = self.old.size + more }) }
     {
-        let Some(size) = self.size.checked_add(bytes.len()) else {
+        let Some(measured) = self.measured.checked_add(more) else {
             return Err(AllocError);
         };
-        if !self.is_written {
-            self.size = size;
-            return Ok(());
-        }
-        self.bytes.extend_from_slice(bytes)?;
-        self.size = size;
+        self.measured = measured;
         Ok(())
     }
 
+    /// Adds bytes at the end of a text that is written.
+    ///
+    /// # Errors
+    ///
+    /// Where there was not enough room, and no memory for more.
+    pub fn write(&mut self, bytes: &[u8]) -> Result<(), NoMemory>
+        requires { self.old.is_written ≡ true }
+        ensures text { OnOk result (self.new ≡ added self.old bytes.now) }
+        ensures kept { self.new.is_written ≡ true }
+    {
+        self.bytes.extend_from_slice(bytes)?;
+        Ok(())
+    }
+
+    /// Adds a byte at the end of a text that is written; an error as for `write`.
+    pub fn write_byte(&mut self, byte: u8) -> Result<(), NoMemory>
+        requires { self.old.is_written ≡ true }
+        ensures text { OnOk result (self.new ≡ added self.old (byte ∷ [])) }
+        ensures kept { self.new.is_written ≡ true }
+    {
+        self.bytes.push(byte)?;
+        Ok(())
+    }
+
+    /// Adds a number as 16 hex digits at the end of a text that is written; an error as for `write`.
+    pub fn write_hex(&mut self, number: u64) -> Result<(), NoMemory>
+        requires { self.old.is_written ≡ true }
+        ensures text { OnOk result (self.new ≡ added self.old (hex number)) }
+        ensures kept { self.new.is_written ≡ true }
+    {
+        self.write(&hex_digits(number))
+    }
+
+    /// Adds bytes at the end; an error as for `count` and `write`.
+    pub fn put(&mut self, bytes: &[u8]) -> Result<(), NoMemory>
+        ensures { OnOk result (self.new ≡ added self.old bytes.now) }
+    {
+        if self.is_written {
+            self.write(bytes)
+        } else {
+            self.count(bytes.len())
+        }
+    }
+
     /// Adds a byte at the end; an error as for `put`.
-    #[tactic(auto, unfolding(crate::specs::Drafts::added))]
     pub fn put_byte(&mut self, byte: u8) -> Result<(), NoMemory>
         ensures { OnOk result (self.new ≡ added self.old (byte ∷ [])) }
     {
-        let Some(size) = self.size.checked_add(1) else {
-            return Err(AllocError);
-        };
         if self.is_written {
-            self.bytes.push(byte)?;
+            self.write_byte(byte)
+        } else {
+            self.count(1)
         }
-        self.size = size;
-        Ok(())
     }
 
     /// Adds a number as 16 hex digits at the end; an error as for `put`. Where the text is only measured, no digit is
@@ -107,12 +153,9 @@ impl Draft {
         ensures { OnOk result (self.new ≡ added self.old (hex number)) }
     {
         if self.is_written {
-            return self.put(&hex_digits(number));
+            self.write_hex(number)
+        } else {
+            self.count(16)
         }
-        let Some(size) = self.size.checked_add(16) else {
-            return Err(AllocError);
-        };
-        self.size = size;
-        Ok(())
     }
 }

@@ -1,41 +1,20 @@
 //! Numbers as 16 hex digits.
 
-ghost use Rattle.std.specs.Prelude.{◌≡◌, ◌/◌, ◌%◌, ◌^◌, ◌<◌, codes};
-ghost use Rattle.ldmodel.specs.Lines.{hex, hex_digit};
+ghost use Rattle.std.specs.Prelude.{◌≡◌};
+ghost use Rattle.ldmodel.specs.Lines.{hex};
 
-/// The digit that stands before `place` others.
-fn digit(value: u64, place: u32) -> u8
-    requires { place < 16 }
-    ensures { result ≡ hex_digit (value / 16 ^ place % 16) }
-{
-    let nibble = ((value >> (4 * place)) % 16) as u8;
-    if nibble < 10 {
-        b'0' + nibble
-    } else {
-        b'a' + (nibble - 10)
-    }
-}
+use std::simd::prelude::*;
 
-/// A number as 16 hex digits, `0` to `9` and `a` to `f`.
+/// A number as 16 hex digits, `0` to `9` and `a` to `f`, all looked up at once.
+#[inline(always)]
 pub fn hex_digits(value: u64) -> [u8; 16]
     ensures { result ≡ hex value }
 {
-    [
-        digit(value, 15),
-        digit(value, 14),
-        digit(value, 13),
-        digit(value, 12),
-        digit(value, 11),
-        digit(value, 10),
-        digit(value, 9),
-        digit(value, 8),
-        digit(value, 7),
-        digit(value, 6),
-        digit(value, 5),
-        digit(value, 4),
-        digit(value, 3),
-        digit(value, 2),
-        digit(value, 1),
-        digit(value, 0),
-    ]
+    // the low half of each byte is a digit: of the first eight every other one from the last but one, of the others
+    // every other one from the last
+    let halves = u64x2::from_array([value >> 4, value]).to_le_bytes() & u8x16::splat(15);
+    let digits = u8x16::from_array(*b"0123456789abcdef").swizzle_dyn(halves);
+    digits
+        .swizzle([7, 15, 6, 14, 5, 13, 4, 12, 3, 11, 2, 10, 1, 9, 0, 8])
+        .to_array()
 }

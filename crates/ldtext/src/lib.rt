@@ -8,6 +8,7 @@ mod fault_line;
 pub mod faults;
 mod hex;
 mod line;
+mod map_line;
 pub mod maps;
 pub mod members;
 mod named;

@@ -11,8 +11,9 @@ ghost use Rattle.ldtext.specs.ShownMap.{letters, piece_text, pieces_text, sectio
 
 use crate::draft::Draft;
 use crate::line::{Word, put_line};
+use crate::map_line::put_piece_line;
 use crate::members::Members;
-use crate::named::part_name;
+use crate::named::next_part_name;
 use crate::symbols::{MapSymbol, put_symbols};
 use ldmodel::laid::{Laid, Placed};
 use ldmodel::memory::NoMemory;
@@ -66,26 +67,21 @@ fn put_section(draft: &mut Draft, name: &[u8], placed: &Placed) -> Result<(), No
     )
 }
 
-/// `piece ADDRESS SIZE OBJECT SECTION`
+/// `piece ADDRESS SIZE OBJECT SECTION`; and the place of its section, given that of the piece before.
 fn put_piece<M: Members>(
     draft: &mut Draft,
     members: &M,
     piece: &Piece,
     start: u64,
-) -> Result<(), NoMemory>
+    last: usize,
+) -> Result<usize, NoMemory>
     ensures { OnOk result (draft.new
         ≡ added draft.old (piece_text (M.project members.now) (M.number members.now) piece.now start)) }
 {
-    put_line(
-        draft,
-        &[
-            Word::Bytes(b"piece"),
-            Word::Hex(start),
-            Word::Hex(piece.size),
-            Word::Bytes(members.name(piece.section.object)),
-            Word::Bytes(part_name(members, piece.section)),
-        ],
-    )
+    let object = members.name(piece.section.object);
+    let (name, place) = next_part_name(members, piece.section, last);
+    put_piece_line(draft, start, piece.size, object, name)?;
+    Ok(place)
 }
 
 /// The lines of a row, whose addresses are the first of `starts`, and the others of these.
@@ -100,11 +96,12 @@ fn put_pieces<'a, M: Members>(
     ensures rest { IfOk result (λ rest. rest.now ≡ drop (length row.now) starts.now) }
 {
     let mut rest = starts;
+    let mut place = 0;
     for piece in row {
         let Some((start, others)) = rest.split_first() else {
             return Ok(rest);
         };
-        put_piece(draft, members, piece, *start)?;
+        place = put_piece(draft, members, piece, *start, place)?;
         rest = others;
     }
     Ok(rest)

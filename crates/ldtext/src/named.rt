@@ -23,6 +23,21 @@ fn find_section(object: &Object, number: SectionIndex) -> Option<LinkedIndex>
     object.section_at(number)
 }
 
+/// The place of a section among those of an object, looked for at one place before all others.
+fn find_section_near(object: &Object, number: SectionIndex, likely: usize) -> Option<LinkedIndex>
+    ensures found { IfSome result (λ i. i.0 < length object.now.sections) }
+    ensures is { MatchOption result (numbered object.now.sections number ≡ None) (λ i.
+        numbered object.now.sections number ≡ slice_get object.now.sections i.0) }
+{
+    let Some(section) = object.sections().get(likely) else {
+        return find_section(object, number);
+    };
+    if section.number.0 == number.0 {
+        return Some(LinkedIndex(likely));
+    }
+    find_section(object, number)
+}
+
 /// The name of a section of an object; no bytes where there is none.
 pub fn section_name<M: Members>(members: &M, object: ObjectKey, section: SectionIndex) -> &[u8]
     ensures { result.now ≡ name_of_section (M.project members.now) (M.number members.now object.0) section }
@@ -43,6 +58,23 @@ pub fn part_name<M: Members>(members: &M, section: SectionKey) -> &[u8]
     match section.part {
         Part::InTable(number) => section_name(members, section.object, number),
         Part::InCommon(_) => b"COMMON",
+    }
+}
+
+/// The name of a part, and the place of its section. It is looked for after that of the part before, which is the place
+/// of most parts of a row.
+pub fn next_part_name<M: Members>(members: &M, section: SectionKey, last: usize) -> (&[u8], usize)
+    ensures { result.0.now ≡ name_of_part (M.project members.now) (M.number members.now section.object.0) section.part }
+{
+    let Part::InTable(number) = section.part else {
+        return (b"COMMON", last);
+    };
+    let Some(object) = members.object(section.object) else {
+        return (&[], last);
+    };
+    match find_section_near(object, number, last.wrapping_add(1)) {
+        Some(index) => (object.section_name(index), index.0),
+        None => (&[], last),
     }
 }
 

@@ -1,14 +1,13 @@
 //! The map's lines of symbols.
 
-ghost use Rattle.std.specs.Prelude.{◌≡◌, ◌≤◌, OnOk, IfOk, [], ◌∷◌, codes, drop, length};
+ghost use Rattle.std.specs.Prelude.{◌≡◌, ◌≤◌, OnOk, IfOk, drop, length};
 ghost use Rattle.ldmodel.specs.HandedOver.{decision_of};
-ghost use Rattle.ldmodel.specs.Lines.{line_of};
 ghost use Rattle.ldmodel.specs.OutputSymbols.{owner};
 ghost use Rattle.ldtext.specs.Drafts.{added};
-ghost use Rattle.ldtext.specs.ShownMap.{after, before, merged, symbol_text, symbols_text, value_text};
+ghost use Rattle.ldtext.specs.ShownMap.{after, before, merged, symbol_text, symbols_text};
 
 use crate::draft::Draft;
-use crate::line::{Word, put_line};
+use crate::map_line::put_symbol_line;
 use crate::members::Members;
 use ldmodel::memory::NoMemory;
 use ldmodel::names::{Case, Entry, ObjectKey};
@@ -38,38 +37,6 @@ fn owner_name<M: Members>(members: &M, case: Case) -> &[u8]
     }
 }
 
-/// `symbol VALUE NAME OWNER`
-fn put_named<'a>(
-    draft: &mut Draft,
-    value: Option<u64>,
-    name: &'a [u8],
-    owner: &'a [u8],
-) -> Result<(), NoMemory>
-    ensures { OnOk result (draft.new
-        ≡ added draft.old (line_of (codes "symbol" ∷ value_text value ∷ name.now ∷ owner.now ∷ []))) }
-{
-    match value {
-        Some(value) => put_line(
-            draft,
-            &[
-                Word::Bytes(b"symbol"),
-                Word::Hex(value),
-                Word::Bytes(name),
-                Word::Bytes(owner),
-            ],
-        ),
-        None => put_line(
-            draft,
-            &[
-                Word::Bytes(b"symbol"),
-                Word::Hyphens,
-                Word::Bytes(name),
-                Word::Bytes(owner),
-            ],
-        ),
-    }
-}
-
 /// The line of a name that stands for something, and none of another.
 #[tactic(auto, using(crate::proofs::Draftings::added_none))]
 fn put_symbol<M: Members>(
@@ -84,7 +51,7 @@ fn put_symbol<M: Members>(
         Case::Undefined => Ok(()),
         Case::Duplicate => Ok(()),
         Case::Strong(_) | Case::Weak(_) | Case::Common { .. } | Case::Script | Case::Provided => {
-            put_named(
+            put_symbol_line(
                 draft,
                 symbol.value,
                 symbol.name,

@@ -1,25 +1,6 @@
--- The 16 digits of a number, each by its own call.
-use Rattle.std.proofs.Common.{◌≡◌, refl}
-use Rattle.ldmodel.specs.Lines.{hex}
+-- The 16 digits of a number.
+use Rattle.ldtext.proofs.HexDigits.{sixteen}
 use Rattle.ldtext.proofs.hex.hex_digits.Goals as goal
 
 pub returns : goal.returns
-unfolding hex
-returns c = rw (
-  c.digit.ensures,
-  c.digit-2.ensures,
-  c.digit-3.ensures,
-  c.digit-4.ensures,
-  c.digit-5.ensures,
-  c.digit-6.ensures,
-  c.digit-7.ensures,
-  c.digit-8.ensures,
-  c.digit-9.ensures,
-  c.digit-10.ensures,
-  c.digit-11.ensures,
-  c.digit-12.ensures,
-  c.digit-13.ensures,
-  c.digit-14.ensures,
-  c.digit-15.ensures,
-  c.digit-16.ensures,
-) refl
+returns c = sixteen c.args.value c.ranges.value.fits

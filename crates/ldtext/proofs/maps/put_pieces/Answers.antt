@@ -34,7 +34,7 @@ loop-piece-preserved g c = record {
       c.loop-piece.draft _ _ c.args.row.now
       c.loop-piece.piece-index _ c.loop-piece.rest.now c.in-Some.others.now c.in-Some.start.now c.loop-piece-test.true
       c.in-Some.ensures.cases.0
-      c.in_ok-put_piece.ensures c.loop-piece.invariant.text;
+      c.in_ok-place.ensures c.loop-piece.invariant.text;
   rest = sym (next_left c.args.starts.now c.loop-piece.piece-index _ c.in-Some.others.now
       (sym c.loop-piece.invariant.rest ∙ c.in-Some.ensures.cases.0));
 }

@@ -1,23 +1,12 @@
--- 16 digits are counted.
-use Rattle.std.proofs.Common.{◌≡◌, ◌∙◌, ◌+◌, ℕ, length, refl, ap, sym, false}
-use Rattle.ldmodel.specs.Lines.{hex}
-use Rattle.ldtext.specs.Drafts.{Drafted, added}
+-- Where nothing is written, 16 digits are counted.
+use Rattle.std.proofs.Common.{◌≡◌, ◌∙◌, OnOk, ap, subst, sym, false}
+use Rattle.ldtext.specs.Drafts.{Drafted}
+use Rattle.ldtext.proofs.Draftings.{counted}
+use Rattle.ldtext.proofs.MapLines.{digits_long}
 use Rattle.ldtext.proofs.draft.Draft.put_hex.Goals as goal
 
-digits_long : (n : ℕ) → length (hex n) ≡ 16
-unfolding hex
-digits_long n = refl
-
-measured : (d : Drafted) (n : ℕ) → d.is_written ≡ false
-    → added d (hex n) ≡ record { is_written = d.is_written; size = d.size + 16; bytes = d.bytes }
-unfolding added
-measured d n e = rw (digits_long n, e) refl
-
-pub returns : goal.returns
-returns c =
-    let inside = c.self.inside in
-    let start : Drafted =
-    record { is_written = inside.is_written; size = inside.size; bytes = inside.bytes.items } in
-    ap (λ (n : ℕ). let d : Drafted = record { is_written = inside.is_written; size = n; bytes = inside.bytes.items } in d)
-    c.in-Some.ensures.1
-    ∙ sym (measured start c.args.number c.if-self.false) ∙ ap (λ d. added d (hex c.args.number)) c.self.view_is
+pub returns-else-self : goal.returns-else-self
+returns-else-self c =
+    let is : c.args.self.now.is_written ≡ false =
+    ap (λ (d : Drafted). d.is_written) (sym c.self.view_is) ∙ c.if-self.false in
+    subst (λ e. OnOk c.count.result (c.count.new.self ≡ e)) (counted c.args.self.now _ _ is (digits_long c.args.number)) c.count.ensures

@@ -1,0 +1,116 @@
+//! The map's lines of two names.
+
+ghost use Rattle.std.specs.Prelude.{◌≡◌, ◌+◌, ◌∷◌, ◌++◌, [], OnOk, codes, false, length, true};
+ghost use Rattle.ldmodel.specs.Lines.{hex, line_of};
+ghost use Rattle.ldtext.specs.Drafts.{added};
+ghost use Rattle.ldtext.specs.ShownMap.{value_text};
+
+use crate::draft::Draft;
+use crate::hex::hex_digits;
+use ldmodel::memory::NoMemory;
+use std::alloc::AllocError;
+
+/// Counts a line of two names and of this number of other bytes; an error as for `Draft::count`.
+#[inline(always)]
+fn count_line(draft: &mut Draft, others: usize, first: &[u8], second: &[u8]) -> Result<(), NoMemory>
+    requires { draft.old.is_written ≡ false }
+    ensures { OnOk result (draft.new
+        ≡ record draft.old { size = draft.old.size + (others + length first.now + length second.now) }) }
+{
+    let Some(names) = first.len().checked_add(second.len()) else {
+        return Err(AllocError);
+    };
+    let Some(all) = names.checked_add(others) else {
+        return Err(AllocError);
+    };
+    draft.count(all)
+}
+
+/// Writes the two names at the end of a line.
+#[inline(always)]
+fn write_names(draft: &mut Draft, first: &[u8], second: &[u8]) -> Result<(), NoMemory>
+    requires { draft.old.is_written ≡ true }
+    ensures { OnOk result (draft.new ≡ added draft.old (first.now ++ 32 ∷ [] ++ second.now ++ 10 ∷ [])) }
+{
+    draft.write(first)?;
+    draft.write_byte(b' ')?;
+    draft.write(second)?;
+    draft.write_byte(b'\n')
+}
+
+/// `piece ADDRESS SIZE ` of a line.
+#[inline(always)]
+fn piece_front(start: u64, size: u64) -> [u8; 40]
+    ensures { result ≡ codes "piece " ++ (hex start ++ 32 ∷ []) ++ (hex size ++ 32 ∷ []) }
+{
+    let start = hex_digits(start);
+    let size = hex_digits(size);
+    [
+        b'p', b'i', b'e', b'c', b'e', b' ', start[0], start[1], start[2], start[3], start[4],
+        start[5], start[6], start[7], start[8], start[9], start[10], start[11], start[12],
+        start[13], start[14], start[15], b' ', size[0], size[1], size[2], size[3], size[4],
+        size[5], size[6], size[7], size[8], size[9], size[10], size[11], size[12], size[13],
+        size[14], size[15], b' ',
+    ]
+}
+
+/// `piece ADDRESS SIZE OBJECT SECTION`
+pub fn put_piece_line(
+    draft: &mut Draft,
+    start: u64,
+    size: u64,
+    object: &[u8],
+    section: &[u8],
+) -> Result<(), NoMemory>
+    ensures { OnOk result (draft.new
+        ≡ added draft.old (line_of (codes "piece" ∷ hex start ∷ hex size ∷ object.now ∷ section.now ∷ []))) }
+{
+    if !draft.is_written() {
+        return count_line(draft, 42, object, section);
+    }
+    draft.write(&piece_front(start, size))?;
+    write_names(draft, object, section)
+}
+
+/// `symbol VALUE ` of a line.
+#[inline(always)]
+fn symbol_front(value: u64) -> [u8; 24]
+    ensures { result ≡ codes "symbol " ++ (hex value ++ 32 ∷ []) }
+{
+    let value = hex_digits(value);
+    [
+        b's', b'y', b'm', b'b', b'o', b'l', b' ', value[0], value[1], value[2], value[3], value[4],
+        value[5], value[6], value[7], value[8], value[9], value[10], value[11], value[12],
+        value[13], value[14], value[15], b' ',
+    ]
+}
+
+/// Writes `symbol VALUE ` of a line.
+#[inline(always)]
+fn write_symbol_front(draft: &mut Draft, value: Option<u64>) -> Result<(), NoMemory>
+    requires { draft.old.is_written ≡ true }
+    ensures text { OnOk result (draft.new ≡ added draft.old (codes "symbol " ++ (value_text value ++ 32 ∷ []))) }
+    ensures kept { draft.new.is_written ≡ true }
+{
+    match value {
+        Some(number) => draft.write(&symbol_front(number)),
+        None => draft.write(b"symbol ---------------- "),
+    }
+}
+
+/// `symbol VALUE NAME OWNER`
+pub fn put_symbol_line(
+    draft: &mut Draft,
+    value: Option<u64>,
+    name: &[u8],
+    owner: &[u8],
+) -> Result<(), NoMemory>
+    ensures { OnOk result (draft.new
+        ≡ added draft.old (line_of (codes "symbol" ∷ value_text value ∷ name.now ∷ owner.now ∷ []))) }
+{
+    if !draft.is_written() {
+        return count_line(draft, 26, name, owner);
+    }
+    write_symbol_front(draft, value)?;
+    write_names(draft, name, owner)
+}
