@@ -5,6 +5,7 @@ pub mod Adding
 pub mod Settling
 pub mod Cleared
 pub mod Growing
+pub mod Holding
 pub mod Placing
 pub mod Pairs
 pub mod Forgetting
