@@ -12,6 +12,7 @@ pub mod Forgetting
 pub mod Cutting
 pub mod Parked
 pub mod Spelling
+pub mod Repeating
 pub mod Ready
 pub mod Joined
 pub mod Ordered
