@@ -1,20 +1,18 @@
-use Rattle.std.proofs.Common.{◌≡◌, ◌<◌, ◌+◌, ◌-◌, ℕ, Bool, true, false, eqb, ◌||◌, length, get_or, set, take, drop, Vec}
-use Rattle.std.proofs.Common.{Global, List, [], ◌∷◌, ◌++◌, map, refl, ap, sym, ◌∙◌, subst, ⊎_elim, arith, append_assoc}
-use Rattle.std.proofs.Common.{append-nil, length-append, get_or-set_same, get_or-set_other}
-use Rattle.std.specs.List.{All, insert}
+use Rattle.std.proofs.Common.{◌≡◌, ◌<◌, ◌+◌, ◌-◌, ℕ, Bool, true, false, eqb, ◌||◌, length, get_or, take, drop, Vec}
+use Rattle.std.proofs.Common.{Global, List, [], ◌∷◌, ◌++◌, map, refl, ap, sym, ◌∙◌, ⊎_elim, arith, append_assoc}
+use Rattle.std.proofs.Common.{append-nil, length-append}
+use Rattle.std.specs.List.{All}
 use Rattle.std.specs.Vec.{vec_len, vec_capacity}
-use Rattle.std.proofs.Math.ListN.{length-set}
-use Rattle.std.proofs.lemmas.Bool.{cases_eq, cases_lt, eq-eqb, false≢true}
-use Rattle.std.proofs.lemmas.List.{get_or_default, take-append-drop, get_or_append_left, get_or-append_right, take_more}
-use Rattle.std.proofs.lemmas.List.Edits.{insert_end, insert-append_left}
+use Rattle.std.proofs.lemmas.Bool.{cases_lt, false≢true}
+use Rattle.std.proofs.lemmas.List.{take-append-drop, get_or_append_left, get_or-append_right, take_more}
 use Rattle.std.proofs.lemmas.List.Elements.{filter-append, All-map, All-append, All-nil, All-head, All-tail}
 use Rattle.symres.specs.declared.symbol.Declared.{Declared}
 use Rattle.symres.specs.declared.symbol.Numbered.{Numbered}
 use Rattle.ldmodel.specs.Names.{is_local}
 use Rattle.symres.specs.declared.places.Place.{Place}
-use Rattle.symres.specs.Numbers.{Entered, declared, own, entries, before, is_named, IsPlace, IsTable, IsSplit, named}
+use Rattle.symres.specs.Numbers.{Entered, declared, own, entries, before, is_named, IsPlace, IsSplit, named}
 use Rattle.symres.specs.Numbers.{HasRoom, Grows}
-use Rattle.symres.proofs.Naming.{named_yes, named_no, named_local, named_push}
+use Rattle.symres.proofs.Naming.{named_yes, named_push}
 
 pub entries-append : (k : ℕ) (xs ys : List Entered) → entries k (xs ++ ys) ≡ entries k xs ++ entries k ys
 entries-append k [] ys = refl

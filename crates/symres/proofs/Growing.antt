@@ -1,24 +1,18 @@
-use Rattle.std.proofs.Common.{◌≡◌, ◌<◌, ◌≤◌, ◌+◌, ℕ, zero, suc, Bool, true, false, cond, eqb, not, ◌&&◌, length, get_or}
-use Rattle.std.proofs.Common.{set, Vec, Global, List, [], ◌∷◌, ◌++◌, map, filter, refl, ap, sym, ◌∙◌, subst, ⊎_elim}
+use Rattle.std.proofs.Common.{◌≡◌, ◌<◌, ◌≤◌, ◌+◌, ℕ, zero, suc, false, cond, length, get_or}
+use Rattle.std.proofs.Common.{Vec, Global, List, [], ◌∷◌, ◌++◌, map, refl, ap, sym, ◌∙◌, subst, ⊎_elim}
 use Rattle.std.proofs.Common.{arith, Result, Ok, Err, OnOk}
-use Rattle.std.specs.Prelude.{count_by}
 use Rattle.std.specs.List.{All, remove}
 use Rattle.std.specs.Vec.{vec_len, vec_capacity}
-use Rattle.std.proofs.Math.ListN.{length-set}
-use Rattle.std.proofs.Common.{get_or-set_same, get_or-set_other, length-append}
-use Rattle.std.proofs.lemmas.Bool.{cases_eq, cases_lt}
-use Rattle.std.proofs.lemmas.List.{get_or_default, get_or_append_left, get_or-map, length-map}
-use Rattle.std.proofs.lemmas.List.Sums.{length-filter}
+use Rattle.std.proofs.Common.{length-append}
+use Rattle.std.proofs.lemmas.Bool.{cases_lt}
+use Rattle.std.proofs.lemmas.List.{get_or_append_left, get_or-map, length-map}
 use Rattle.std.proofs.lemmas.List.Elements.{All-head, All-tail}
 use Rattle.symres.specs.declared.symbol.Declared.{Declared}
 use Rattle.symres.specs.declared.symbol.Numbered.{Numbered}
 use Rattle.symres.specs.Numbers.{Entered, declared, own, is_named, named, entries, HasRoom, HasRow, RowsGrow}
-use Rattle.ldmodel.specs.Names.{is_local}
 use Rattle.symres.specs.declared.places.Place.{Place}
-use Rattle.symres.specs.Steps.{has_name}
 use Rattle.symres.specs.Objects.{IsKept, CanEnter}
-use Rattle.symres.proofs.Cleared.{named_now, unnamed}
-use Rattle.symres.proofs.Naming.{named_no, named_past}
+use Rattle.symres.proofs.Naming.{named_past}
 
 -- a name that no symbol has
 pub named_none : (k : ℕ) (ss : List Numbered) → All (λ (s : Numbered). is_named k s ≡ false) ss → named k ss ≡ []
@@ -68,93 +62,6 @@ grow_push old mid new row g e r = subst (RowsGrow old) (sym e) record {
       ap (λ (v : Vec Declared Global). v.items) (ap (λ q. get_or (mid ++ row ∷ []) q d) at ∙ last mid row d) ∙ r)
       (cases_lt k (length mid));
 }
-
-pub grow_set : (old mid : List (Vec Declared Global)) (n : ℕ) (v l : Vec Declared Global) → RowsGrow old mid
-    → n < length mid → v ≡ get_or mid n v → l.items ≡ v.items → vec_capacity v ≤ vec_capacity l
-    → RowsGrow old (set mid n l)
-grow_set old mid n v l g w e i c = record {
-  long = omega (arith, g.long, length-set mid n l);
-  items = λ k d h. items k d (omega (arith, g.long)) ∙ g.items k d h;
-  room = λ k d h. let a = room k d (omega (arith, g.long)) in let b = g.room k d h in omega (arith, a, b);
-  fresh = λ k d h m. items k d (omega (arith, length-set mid n l)) ∙ g.fresh k d h (omega (arith, length-set mid n l));
-}
-  where
-    there : (k : ℕ) (d : Vec Declared Global) → k ≡ n → get_or (set mid n l) k d ≡ l
-    there k d same = ap (λ q. get_or (set mid n l) q d) same ∙ get_or-set_same mid n l d w
-
-    here : (k : ℕ) (d : Vec Declared Global) → k < length mid → k ≡ n → get_or mid k d ≡ v
-    here k d h same = get_or_default mid k d v h ∙ ap (λ q. get_or mid q v) same ∙ sym e
-
-    items : (k : ℕ) (d : Vec Declared Global) → k < length mid → (get_or (set mid n l) k d).items
-        ≡ (get_or mid k d).items
-    items k d h = ⊎_elim
-        (λ same. ap (λ (x : Vec Declared Global). x.items) (there k d same) ∙ i
-        ∙ ap (λ (x : Vec Declared Global). x.items) (sym (here k d h same)))
-        (λ ne. ap (λ (x : Vec Declared Global). x.items) (get_or-set_other mid n k l d ne))
-        (cases_eq k n)
-
-    room : (k : ℕ) (d : Vec Declared Global) → k < length mid
-        → vec_capacity (get_or mid k d) ≤ vec_capacity (get_or (set mid n l) k d)
-    room k d h = ⊎_elim
-        (λ same. omega (arith, c, ap vec_capacity (there k d same), ap vec_capacity (here k d h same)))
-        (λ ne. omega (arith, ap vec_capacity (get_or-set_other mid n k l d ne)))
-        (cases_eq k n)
-
--- the rows of these symbols have room for all that have their name
-pub record Roomy (all ss : List Numbered) (rows : List (Vec Declared Global)) : Type 0 where
-  pub room : (k : ℕ) (d : Vec Declared Global) → k < length rows → has_name k ss ≡ true
-      → vec_len (get_or rows k d) + length (named k all) ≤ vec_capacity (get_or rows k d)
-
-pub roomy_start : (all : List Numbered) (rows : List (Vec Declared Global)) → Roomy all [] rows
-roomy_start all rows = record { room = λ k d h e. absurd (cc) }
-
-pub roomy_step : (all ss ss' : List Numbered) (s : Numbered) (mid : List (Vec Declared Global))
-    (v l : Vec Declared Global) (count : ℕ) → ss' ≡ ss ++ s ∷ [] → s.name < length mid → v ≡ get_or mid s.name v
-    → vec_len l + count ≤ vec_capacity l → count ≡ length (named s.name all) → Roomy all ss mid
-    → Roomy all ss' (set mid s.name l)
-roomy_step all ss ss' s mid v l count e w i c n r = record {
-  room = λ k d h q. ⊎_elim
-      (λ same.
-      let at : get_or (set mid s.name l) k d ≡ l = ap (λ j. get_or (set mid s.name l) j d) same
-      ∙ get_or-set_same mid s.name l d w in
-      omega (arith, ap vec_len at, ap vec_capacity at, n, ap (λ j. length (named j all)) same, c))
-      (λ ne.
-      let at : get_or (set mid s.name l) k d ≡ get_or mid k d = get_or-set_other mid s.name k l d ne in
-      let was : has_name k ss ≡ true =
-      sym (ap (has_name k) e ∙ named_now k ss s false (named_no k s (λ p. ne (sym p)))) ∙ q in
-      let old = r.room k d (omega (arith, length-set mid s.name l)) was in
-      omega (arith, ap vec_len at, ap vec_capacity at, old))
-      (cases_eq k s.name);
-}
-
-pub roomy_end : (all : List Numbered) (rows : List (Vec Declared Global)) → Roomy all all rows
-    → ((v : Vec Declared Global) → vec_len v ≤ vec_capacity v) → HasRoom rows all
-roomy_end all rows r small = λ k d h. go k d h (has_name k all) refl
-  where
-    go : (k : ℕ) (d : Vec Declared Global) → k < length rows → (b : Bool) → has_name k all ≡ b
-        → vec_len (get_or rows k d) + length (named k all) ≤ vec_capacity (get_or rows k d)
-    go k d h true e = r.room k d h e
-    go k d h false e = omega (arith, ap length (unnamed k all e), small (get_or rows k d))
-
-same_names : (k : ℕ) (ss : List Numbered) → All (λ (s : Numbered). not (is_local s.symbol.binding) ≡ true) ss
-    → filter (λ (s : Numbered). eqb s.name k) ss ≡ named k ss
-same_names k [] h = refl
-same_names k (s ∷ ss) h =
-    let P : Numbered → Type 0 = λ (s : Numbered). not (is_local s.symbol.binding) ≡ true in
-    ap (λ b. cond b (s ∷ filter (λ (x : Numbered). eqb x.name k) ss) (filter (λ (x : Numbered). eqb x.name k) ss))
-    (sym (ap (λ b. b && eqb s.name k) (All-head P s ss h)))
-    ∙ go (is_named k s) (same_names k ss (All-tail P s ss h))
-  where
-    go : (b : Bool) → filter (λ (x : Numbered). eqb x.name k) ss ≡ named k ss
-        → cond b (s ∷ filter (λ (x : Numbered). eqb x.name k) ss) (filter (λ (x : Numbered). eqb x.name k) ss)
-        ≡ cond b (s ∷ named k ss) (named k ss)
-    go true e = ap (λ l. s ∷ l) e
-    go false e = e
-
--- where no symbol is local, the name alone tells
-pub count_named : (k : ℕ) (ss : List Numbered) → All (λ (s : Numbered). not (is_local s.symbol.binding) ≡ true) ss
-    → count_by (λ (s : Numbered). eqb s.name k) ss ≡ length (named k ss)
-count_named k ss h = sym (length-filter (λ (s : Numbered). eqb s.name k) ss) ∙ ap length (same_names k ss h)
 
 pub kept_grown : (os : List Entered) (rows rows' : List (Vec Declared Global)) (place : List Place)
     → IsKept os rows place → RowsGrow rows rows' → IsKept os rows' place

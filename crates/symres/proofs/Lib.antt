@@ -5,12 +5,14 @@ pub mod Adding
 pub mod Settling
 pub mod Cleared
 pub mod Growing
+pub mod Holding
 pub mod Placing
 pub mod Pairs
 pub mod Forgetting
 pub mod Cutting
 pub mod Parked
 pub mod Spelling
+pub mod Repeating
 pub mod Ready
 pub mod Joined
 pub mod Ordered

@@ -1,7 +1,7 @@
 -- Rows to whose ends an object's declarations were put, and their rotation into place.
 use Rattle.std.proofs.Common.{◌≡◌, ◌<◌, ◌≤◌, ◌+◌, ◌-◌, ℕ, Bool, true, false, eqb, ◌||◌, ◌&&◌, length, get_or, set, take}
-use Rattle.std.proofs.Common.{drop, Vec, Global, List, [], ◌∷◌, ◌++◌, map, refl, ap, sym, ◌∙◌, subst, ⊎_elim, ◌⊎◌, inl}
-use Rattle.std.proofs.Common.{inr, cond, arith, append_assoc, append-nil, length-append, get_or-set_same, Some}
+use Rattle.std.proofs.Common.{drop, List, [], ◌∷◌, ◌++◌, map, refl, ap, sym, ◌∙◌, subst, ⊎_elim, ◌⊎◌, inl}
+use Rattle.std.proofs.Common.{inr, cond, arith, append_assoc, append-nil, length-append, Some}
 use Rattle.std.proofs.Common.{get_or-set_other}
 use Rattle.std.specs.Prelude.{slice_get}
 use Rattle.std.specs.List.{All, insert_slice}
@@ -9,9 +9,9 @@ use Rattle.std.specs.Vec.{vec_len, vec_capacity}
 use Rattle.std.proofs.Math.ListN.{length-set}
 use Rattle.std.proofs.Math.Seq.{take-append_seam, drop-append_seam}
 use Rattle.std.proofs.lemmas.Bool.{cases_eq, cases_lt, eq-eqb, false≢true}
-use Rattle.std.proofs.lemmas.List.{get_or_default, get_or_append_left, get_or-append_right, take_all, drop_all}
+use Rattle.std.proofs.lemmas.List.{get_or_append_left, get_or-append_right, take_all, drop_all}
 use Rattle.std.proofs.lemmas.List.{take-append-le, take-append-drop}
-use Rattle.std.proofs.lemmas.List.Elements.{filter-append, All-map, All-append, All-nil, All-take}
+use Rattle.std.proofs.lemmas.List.Elements.{filter-append, All-map, All-nil, All-take}
 use Rattle.std.proofs.lemmas.Option.{slice_get-get_or}
 use Rattle.symres.specs.declared.symbol.Declared.{Declared}
 use Rattle.symres.specs.declared.symbol.Numbered.{Numbered}

@@ -1,6 +1,6 @@
 -- The symbol tables that numbers of names stand for.
 use Rattle.std.specs.Prelude.{ℕ, ◌≡◌, ◌+◌, ◌≤◌, List, [], ◌∷◌, Option, Some, None, Bool, true, false, not, length, map}
-use Rattle.std.specs.Prelude.{filter, if◌then◌else◌}
+use Rattle.std.specs.Prelude.{◌<◌, filter, if◌then◌else◌, slice_index_or}
 use Rattle.std.specs.List.{All}
 use Rattle.elfobj.specs.Symbols.{NamedSymbol}
 use Rattle.ldmodel.specs.Names.{is_local}
@@ -40,6 +40,12 @@ pub record IsSpellable (names : List (Option (List ℕ))) (ss : List Numbered) :
 pub record Spells (names : List (Option (List ℕ))) (ss : List Numbered) (symbols : List NamedSymbol) : Type 0 where
   pub spelled : map (spell_symbol names) ss ≡ symbols
   pub well : IsSpellable names ss
+
+-- each of these is a symbol of this table, and has its name there unless it is local
+abbrev pub AreOf : List (Option (List ℕ)) → List NamedSymbol → List Numbered → Type 0
+AreOf names symbols ss =
+    All (λ (s : Numbered). (s.number < length symbols) × (is_local s.symbol.binding ≡ false
+    → (d : NamedSymbol) → IsNamed names s.name (slice_index_or symbols s.number d).name)) ss
 
 -- a symbol that other objects see
 abbrev pub is_seen : NamedSymbol → Bool

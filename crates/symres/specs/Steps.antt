@@ -1,6 +1,6 @@
 -- How far the rows are, where some of an object's symbols were taken.
 use Rattle.std.specs.Prelude.{ℕ, ◌≡◌, ◌<◌, ◌≤◌, ◌-◌, ◌==◌, ◌&&◌, Bool, true, false, List, [], ◌++◌, length}
-use Rattle.std.specs.Prelude.{slice_index_or, slice_get, if◌then◌else◌, Option, Some, None, ◌⊎◌, ◌+◌}
+use Rattle.std.specs.Prelude.{take, slice_index_or, slice_get, if◌then◌else◌, Option, Some, None, ◌⊎◌, ◌+◌}
 use Rattle.std.specs.List.{list_any, All}
 use Rattle.std.specs.Vec.{vec_len, vec_capacity}
 use Rattle.std.proofs.Common.{Vec, Global}
@@ -19,6 +19,18 @@ pub record Appended (key : ℕ) (ss : List Numbered) (old new : List (Vec Declar
       ≡ vec_len (slice_index_or old k d) + length (named k ss)
   pub room : (k : ℕ) (d : Vec Declared Global) → k < length old → vec_capacity (slice_index_or new k d)
       ≡ vec_capacity (slice_index_or old k d)
+
+-- the row has this number of entries more, after those that it had, and no less room
+pub record HoldsMore (n : ℕ) (old new : Vec Declared Global) : Type 0 where
+  pub items : take (length old.items) new.items ≡ old.items
+  pub len : length new.items ≡ length old.items + n
+  pub room : vec_capacity old ≤ vec_capacity new
+
+-- each row has an entry more for each of these symbols that has its name
+pub record Holds (ss : List Numbered) (old new : List (Vec Declared Global)) : Type 0 where
+  pub long : length new ≡ length old
+  pub row : (k : ℕ) (d : Vec Declared Global) → k < length old
+      → HoldsMore (length (named k ss)) (slice_index_or old k d) (slice_index_or new k d)
 
 -- the declarations of the objects in front, of those behind, and of the object of the key
 pub record AreParts (places : List Place) (at key : ℕ) (fs bs os : List Declared) : Type 0 where

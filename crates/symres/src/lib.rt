@@ -7,6 +7,7 @@ mod lists;
 pub mod names;
 mod objects;
 mod places;
+mod repeats;
 mod rows;
 pub mod symbol;
 mod tally;

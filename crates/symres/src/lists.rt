@@ -1,21 +1,24 @@
 //! Lists of numbered symbols that are set aside, so that entering an object takes no memory.
 
 ghost use Rattle.std.specs.Prelude.{◌≡◌, ◌≤◌, ◌<◌, ◌+◌, ◌++◌, ℕ, List, [], length, map, remove, take, vec_len};
-ghost use Rattle.std.specs.Prelude.{vec_capacity, OnOk, slice_index_or, true, false, ◌≢◌, MatchOption, Some};
+ghost use Rattle.std.specs.Prelude.{vec_capacity, IfOk, IfSome, OnOk, slice_index_or, true, false, ◌≢◌, MatchOption};
+ghost use Rattle.std.specs.Prelude.{Option, Some};
 ghost use Rattle.std.specs.List.{All};
 ghost use Rattle.std.proofs.Common.{Vec, Global};
 ghost use Rattle.elfobj.specs.Symbols.{NamedSymbol};
 ghost use Rattle.ldmodel.specs.Names.{is_local};
 ghost use Rattle.symres.specs.Known.{AddsNames};
 ghost use Rattle.symres.specs.Lists.{rooms, Takes, Adds};
-ghost use Rattle.symres.specs.Spelled.{HasName, spell_symbol, Spells, SpellsSeen};
+ghost use Rattle.symres.specs.Spelled.{AreOf, HasName, spell_symbol, Spells, SpellsSeen};
 ghost use Rattle.symres.specs.State.{slot, AreDistinct, HasList, IsNamed, KeepsNames};
 ghost use Rattle.symres.specs.declared.symbol.Numbered.{Numbered};
 
 use crate::known::Known;
+use crate::repeats::Repeats;
 use crate::symbol::{Numbered, is_visible};
 use elfobj::object::Object;
 use elfobj::relocation::SymbolIndex;
+use elfobj::span::Span;
 use std::alloc::AllocError;
 
 fn find(spare: &[Vec<Numbered>], count: usize) -> usize
@@ -98,9 +101,79 @@ fn place_after(at: usize, guess: Option<usize>) -> usize {
     }
 }
 
-/// A symbol of an object, by the number of its name, which may be guessed.
-fn numbered(known: &Known, object: &Object, number: u32, guess: Option<usize>) -> Numbered
+fn is_same_place(one: Span, other: Span) -> bool
+    ensures { result ≡ true → one ≡ other }
+{
+    one.start == other.start && one.end == other.end
+}
+
+/// The number of the name of a symbol, if the one at this place in the list has its name at the same bytes. They are
+/// not looked at.
+fn number_at(object: &Object, number: u32, list: &[Numbered], at: usize) -> Option<usize>
     requires within { number < length object.now.symbols }
+    requires list { All (λ (s : Numbered). s.number < length object.now.symbols) list.now }
+    ensures { (names : List (Option (List ℕ))) → AreOf names object.now.symbols list.now
+        → IfSome result (λ n. (d : NamedSymbol) → IsNamed names n (slice_index_or object.now.symbols number d).name) }
+{
+    if at >= list.len() {
+        return None;
+    }
+    let earlier = list[at];
+    let place = object.name_place(SymbolIndex(earlier.number));
+    if is_visible(&earlier.symbol) && is_same_place(place, object.name_place(SymbolIndex(number))) {
+        return Some(earlier.name);
+    }
+    None
+}
+
+/// The same for a symbol that was noted with the list in which it stands.
+fn number_noted(object: &Object, number: u32, list: &[Numbered], repeats: &Repeats) -> Option<usize>
+    requires within { number < length object.now.symbols }
+    requires list { All (λ (s : Numbered). s.number < length object.now.symbols) list.now }
+    ensures { (names : List (Option (List ℕ))) → AreOf names object.now.symbols list.now
+        → IfSome result (λ n. (d : NamedSymbol) → IsNamed names n (slice_index_or object.now.symbols number d).name) }
+{
+    match repeats.find(object.name_place(SymbolIndex(number))) {
+        Some(at) => number_at(object, number, list, at),
+        None => None,
+    }
+}
+
+/// The same in a list of all symbols so far, where the guesses are the list of those that were noted.
+fn number_guessed(
+    object: &Object,
+    number: u32,
+    list: &[Numbered],
+    guesses: &[Numbered],
+    repeats: &Repeats,
+) -> Option<usize>
+    requires within { number < length object.now.symbols }
+    requires list { All (λ (s : Numbered). s.number < length object.now.symbols) list.now }
+    ensures { (names : List (Option (List ℕ))) → AreOf names object.now.symbols list.now
+        → IfSome result (λ n. (d : NamedSymbol) → IsNamed names n (slice_index_or object.now.symbols number d).name) }
+{
+    match repeats.find(object.name_place(SymbolIndex(number))) {
+        Some(at) if at < guesses.len() => number_at(
+            object,
+            number,
+            list,
+            guesses[at].number as usize,
+        ),
+        _ => None,
+    }
+}
+
+/// A symbol of an object, by the number of its name, which may be told or guessed.
+fn numbered(
+    known: &Known,
+    object: &Object,
+    number: u32,
+    told: Option<usize>,
+    guess: Option<usize>,
+) -> Numbered
+    requires within { number < length object.now.symbols }
+    requires told { IfSome told (λ n. (d : NamedSymbol)
+        → IsNamed known.now.slots n (slice_index_or object.now.symbols number d).name) }
     requires known { (d : NamedSymbol) → is_local (slice_index_or object.now.symbols number d).symbol.binding ≡ false
         → (n : ℕ) × IsNamed known.now.slots n (slice_index_or object.now.symbols number d).name }
     ensures spelled { (d : NamedSymbol) → spell_symbol known.now.slots result
@@ -116,6 +189,13 @@ fn numbered(known: &Known, object: &Object, number: u32, guess: Option<usize>) -
             symbol,
         };
     }
+    if let Some(name) = told {
+        return Numbered {
+            name,
+            number,
+            symbol,
+        };
+    }
     match number_of(known, guess, object.name_of(SymbolIndex(number))) {
         Some(name) => Numbered {
             name,
@@ -127,8 +207,15 @@ fn numbered(known: &Known, object: &Object, number: u32, guess: Option<usize>) -
 }
 
 /// Writes the symbols of an object by the numbers of their names. `guesses` are some of these symbols, in the order of
-/// their table, with the numbers that their names may have: a name that has the number guessed is not hashed.
-pub fn number_all(known: &Known, object: &Object, guesses: &[Numbered], list: &mut Vec<Numbered>)
+/// their table, with the numbers that their names may have: a name that has the number guessed is not hashed. `repeats`
+/// has places in the list of guesses.
+pub fn number_all(
+    known: &Known,
+    object: &Object,
+    guesses: &[Numbered],
+    repeats: &Repeats,
+    list: &mut Vec<Numbered>,
+)
     requires known { All (λ (s : NamedSymbol). is_local s.symbol.binding ≡ false → (n : ℕ)
         × IsNamed known.now.slots n s.name) object.now.symbols }
     requires empty { list.old.items ≡ [] }
@@ -137,11 +224,36 @@ pub fn number_all(known: &Known, object: &Object, guesses: &[Numbered], list: &m
     ensures capacity { vec_capacity list.new ≡ vec_capacity list.old }
 {
     let mut at: usize = 0;
-    for number in 0..object.symbols().len() {
-        let guess = guess_at(guesses, at, number as u32);
+    for index in 0..object.symbols().len() {
+        let number = index as u32;
+        let guess = guess_at(guesses, at, number);
         at = place_after(at, guess);
-        list.push_reserved(numbered(known, object, number as u32, guess));
+        let told = number_guessed(object, number, list, guesses, repeats);
+        list.push_reserved(numbered(known, object, number, told, guess));
     }
+}
+
+/// The number of the name of a symbol. It becomes known if it isn't.
+fn add_name(
+    known: &mut Known,
+    object: &Object,
+    number: u32,
+    list: &[Numbered],
+    repeats: &mut Repeats,
+) -> Result<usize, AllocError>
+    requires within { number < length object.now.symbols }
+    requires list { AreOf known.old.slots object.now.symbols list.now }
+    ensures ok { IfOk result (λ n. (d : NamedSymbol)
+        → IsNamed known.new.slots n (slice_index_or object.now.symbols number d).name) }
+    ensures kept { KeepsNames known.old.slots known.new.slots }
+    ensures added { AddsNames known.old known.new }
+{
+    if let Some(name) = number_noted(object, number, list, repeats) {
+        return Ok(name);
+    }
+    let name = known.add(object.name_of(SymbolIndex(number)))?;
+    repeats.note(object.name_place(SymbolIndex(number)), list.len())?;
+    Ok(name)
 }
 
 /// Writes one symbol, if it isn't local, by the number of its name, which becomes known if it isn't.
@@ -150,8 +262,11 @@ fn add_seen(
     object: &Object,
     number: u32,
     list: &mut Vec<Numbered>,
+    repeats: &mut Repeats,
 ) -> Result<(), AllocError>
-    requires { number < length object.now.symbols }
+    requires within { number < length object.now.symbols }
+    requires list { AreOf known.old.slots object.now.symbols list.old.items }
+    ensures list { OnOk result (AreOf known.new.slots object.now.symbols list.new.items) }
     ensures spelled { OnOk result (SpellsSeen known.old.slots list.old.items (take number object.now.symbols)
         → SpellsSeen known.new.slots list.new.items (take (number + 1) object.now.symbols)) }
     ensures kept { KeepsNames known.old.slots known.new.slots }
@@ -161,7 +276,7 @@ fn add_seen(
     if !is_visible(&symbol) {
         return Ok(());
     }
-    let name = known.add(object.name_of(SymbolIndex(number)))?;
+    let name = add_name(known, object, number, list, repeats)?;
     list.push(Numbered {
         name,
         number,
@@ -170,19 +285,22 @@ fn add_seen(
     Ok(())
 }
 
-/// Writes the symbols of an object that aren't local, where names that are not known become so.
+/// Writes the symbols of an object that aren't local, where names that are not known become so. `repeats` is left with
+/// places in this list.
 pub fn number_new(
     known: &mut Known,
     object: &Object,
     list: &mut Vec<Numbered>,
+    repeats: &mut Repeats,
 ) -> Result<(), AllocError>
     requires { list.old.items ≡ [] }
     ensures spelled { OnOk result (SpellsSeen known.new.slots list.new.items object.now.symbols) }
     ensures kept { KeepsNames known.old.slots known.new.slots }
     ensures added { AddsNames known.old known.new }
 {
+    repeats.start(object.symbols().len());
     for number in 0..object.symbols().len() {
-        add_seen(known, object, number as u32, list)?;
+        add_seen(known, object, number as u32, list, repeats)?;
     }
     Ok(())
 }

@@ -25,6 +25,7 @@ ghost use Rattle.symres.specs.Tally.{declaration_of};
 use crate::known::Known;
 use crate::lists::{number_all, number_new, park, take_list};
 use crate::objects::Objects;
+use crate::repeats::Repeats;
 use crate::symbol::{Declared, Numbered};
 use crate::tally::decide;
 use elfobj::object::Object;
@@ -70,6 +71,8 @@ pub struct Names {
     spare: Vec<Vec<Numbered>>,
     // the symbols of the object that was reserved last, as others see them: it is likely to be entered next
     guesses: Vec<Numbered>,
+    // the places in `guesses` of symbols with long names
+    repeats: Repeats,
 }
 
 impl Model for Names {
@@ -114,6 +117,7 @@ fn make_ready(
     objects: &mut Objects,
     object: &Object,
     list: &mut Vec<Numbered>,
+    repeats: &mut Repeats,
 ) -> Result<(), NoMemory>
     ensures kept { KeepsNames known.old.slots known.new.slots }
     ensures added { AddsNames known.old known.new }
@@ -122,7 +126,7 @@ fn make_ready(
 {
     list.clear();
     list.reserve(object.symbols().len())?;
-    number_new(known, object, list)?;
+    number_new(known, object, list, repeats)?;
     grow_rows(objects, list)?;
     objects.reserve(list)
 }
@@ -134,6 +138,7 @@ fn make_ready_or_not(
     objects: &mut Objects,
     object: &Object,
     list: &mut Vec<Numbered>,
+    repeats: &mut Repeats,
 ) -> Result<(), NoMemory>
     ensures kept { KeepsNames known.old.slots known.new.slots }
     ensures refused { OnErr result (SameNames known.old.slots known.new.slots) }
@@ -143,7 +148,7 @@ fn make_ready_or_not(
     ensures ok { OnOk result (IsReady known.new.slots objects.new object.now.symbols) }
 {
     let count = known.len();
-    match make_ready(known, objects, object, list) {
+    match make_ready(known, objects, object, list, repeats) {
         Ok(()) => Ok(()),
         Err(refused) => {
             known.drop_newer(count);
@@ -160,6 +165,7 @@ fn reserve_fields(
     spare: &mut Vec<Vec<Numbered>>,
     object: &Object,
     list: &mut Vec<Numbered>,
+    repeats: &mut Repeats,
 ) -> Result<(), NoMemory>
     requires { vec_len spare.old + length objects.old.objects ≤ vec_capacity spare.old }
     ensures kept { KeepsNames known.old.slots known.new.slots }
@@ -173,7 +179,7 @@ fn reserve_fields(
     ensures list { OnOk result (HasList (rooms spare.new.items) (length object.now.symbols)) }
 {
     park(spare, object.symbols().len(), objects.len())?;
-    make_ready_or_not(known, objects, object, list)
+    make_ready_or_not(known, objects, object, list, repeats)
 }
 
 impl Names {
@@ -187,6 +193,7 @@ impl Names {
             objects: Objects::new(alloc),
             spare: Vec::new(alloc),
             guesses: Vec::new(alloc),
+            repeats: Repeats::new(alloc),
         }
     }
 
@@ -362,6 +369,7 @@ impl Names {
             &mut self.spare,
             object,
             &mut self.guesses,
+            &mut self.repeats,
         );
         let _known = self.known.len();
         reserved
@@ -380,7 +388,7 @@ impl Names {
     {
         let _known = self.known.len();
         let mut list = take_list(&mut self.spare, object.symbols().len());
-        number_all(&self.known, object, &self.guesses, &mut list);
+        number_all(&self.known, object, &self.guesses, &self.repeats, &mut list);
         self.objects.enter(key.0, at, list);
     }
 

@@ -1,8 +1,7 @@
 //! The rows of names: the entries of each, in object order and then symbol order.
 
-ghost use Rattle.indexmap.specs.IndexMap.{get};
-ghost use Rattle.std.specs.Prelude.{unwrap_or, count_by, nat_eq, ◌==◌, IfOk, OnOk, ◌≡◌, ◌<◌, ◌≤◌, ◌+◌, ◌++◌, ◌∷◌, []};
-ghost use Rattle.std.specs.Prelude.{ℕ, List, length, not, vec_len, vec_capacity, true, ◌⊎◌};
+ghost use Rattle.std.specs.Prelude.{OnErr, OnOk, ◌≡◌, ◌<◌, ◌≤◌, ◌+◌, ◌++◌, ◌∷◌, []};
+ghost use Rattle.std.specs.Prelude.{ℕ, List, length, not, take, vec_len, vec_capacity, true, false, ◌⊎◌};
 ghost use Rattle.std.specs.List.{All, insert_slice};
 ghost use Rattle.std.proofs.Common.{Vec, Global};
 ghost use Rattle.ldmodel.specs.Names.{is_local};
@@ -12,13 +11,12 @@ ghost use Rattle.symres.specs.Numbers.{before, declared, Entered, Grows, HasRoom
 ghost use Rattle.symres.specs.Numbers.{IsTable, KeepsRoom, others, RowsGrow, without};
 ghost use Rattle.symres.specs.Places.{AreSorted};
 ghost use Rattle.symres.specs.Steps.{AllGathered, Appended, AreParts, ClearedWhere, ends_in, ends_with, Gathered};
-ghost use Rattle.symres.specs.Steps.{HasRoomForOne, IsGathered, IsOwnStart, Settling};
+ghost use Rattle.symres.specs.Steps.{HasRoomForOne, Holds, IsGathered, IsOwnStart, Settling};
 
 use crate::places::{Place, is_in_front};
 use crate::symbol::{Declared, Numbered, is_visible};
-use indexmap::IndexMap;
 use ldmodel::names::Entry;
-use std::alloc::{AllocError, Global};
+use std::alloc::AllocError;
 
 fn is_before(places: &[Place], at: usize, key: usize, declared: &Declared) -> bool
     requires { AreSorted places.now }
@@ -284,42 +282,91 @@ pub fn remove_all(table: &mut Vec<Vec<Declared>>, key: usize, symbols: &[Numbere
     clear_all(table, key, symbols);
 }
 
-/// How many of the symbols have each name.
-fn count_all(alloc: Global, symbols: &[Numbered]) -> Result<IndexMap<usize, usize>, AllocError>
-    ensures { IfOk result (λ m. (k : ℕ) → unwrap_or (get nat_eq m k) 0
-        ≡ count_by (λ (s : Numbered). s.name == k) symbols.now) }
-{
-    let mut counts = IndexMap::new(alloc);
-    for symbol in symbols {
-        let count = counts.get(&symbol.name).copied().unwrap_or(0);
-        counts.insert(symbol.name, count + 1)?;
-    }
-    Ok(counts)
-}
-
-/// Makes room for this many more entries of a name. A row that has to grow does so by a quarter, as there are many rows.
-fn reserve_row(row: &mut Vec<Declared>, count: usize) -> Result<(), AllocError>
+/// Makes room for one more entry of a name. A row that has to grow does so by a quarter, as there are many rows.
+fn reserve_row(row: &mut Vec<Declared>) -> Result<(), AllocError>
     ensures items { row.new.items ≡ row.old.items }
     ensures capacity { vec_capacity row.old ≤ vec_capacity row.new }
-    ensures ok { OnOk result (vec_len row.new + count ≤ vec_capacity row.new) }
+    ensures ok { OnOk result (vec_len row.new < vec_capacity row.new) }
 {
-    if row.capacity() - row.len() >= count {
+    if row.len() < row.capacity() {
         return Ok(());
     }
-    row.reserve_exact(count.saturating_add(row.len() / 4))
+    row.reserve_exact(row.len() / 4 + 1)
 }
 
-/// Makes room in each row for those of the symbols that have its name. None of the symbols is local.
+/// Puts an entry at the end of a row, to hold room for a symbol that comes.
+fn hold_row(row: &mut Vec<Declared>, symbol: Numbered) -> Result<(), AllocError>
+    ensures capacity { vec_capacity row.old ≤ vec_capacity row.new }
+    ensures ok { OnOk result (row.new.items ≡ row.old.items ++ declared 0 symbol ∷ []) }
+    ensures refused { OnErr result (row.new.items ≡ row.old.items) }
+{
+    reserve_row(row)?;
+    row.push_reserved(declaration(0, symbol));
+    Ok(())
+}
+
+fn hold(table: &mut Vec<Vec<Declared>>, symbol: Numbered) -> Result<(), AllocError>
+    requires known { symbol.name < length table.old.items }
+    requires visible { is_local symbol.symbol.binding ≡ false }
+    ensures ok { OnOk result ((ss : List Numbered) (was : List (Vec Declared Global)) → Holds ss was table.old.items
+        → Holds (ss ++ symbol ∷ []) was table.new.items) }
+    ensures refused { OnErr result ((ss : List Numbered) (was : List (Vec Declared Global))
+        → Holds ss was table.old.items → Holds ss was table.new.items) }
+{
+    hold_row(&mut table[symbol.name], symbol)
+}
+
+/// Holds room for the symbols, and gives for how many of them there was memory.
+fn hold_all(table: &mut Vec<Vec<Declared>>, symbols: &[Numbered]) -> usize
+    requires visible { All (λ (s : Numbered). not (is_local s.symbol.binding) ≡ true) symbols.now }
+    requires known { All (HasRow (length table.old.items)) symbols.now }
+    ensures within { result ≤ length symbols.now }
+    ensures held { Holds (take result symbols.now) table.old.items table.new.items }
+{
+    for (at, symbol) in symbols.iter().enumerate() {
+        match hold(table, *symbol) {
+            Ok(()) => {}
+            Err(_refused) => return at,
+        }
+    }
+    symbols.len()
+}
+
+/// Takes the last entry out of the row of a symbol. Its room stays.
+fn release(table: &mut Vec<Vec<Declared>>, symbol: Numbered)
+    requires known { symbol.name < length table.old.items }
+    requires visible { is_local symbol.symbol.binding ≡ false }
+    ensures held { (left : List Numbered) (was : List (Vec Declared Global))
+        → Holds (symbol ∷ left) was table.old.items → Holds left was table.new.items }
+    ensures room { KeepsRoom table.old.items table.new.items }
+{
+    table[symbol.name].pop();
+}
+
+fn release_all(table: &mut Vec<Vec<Declared>>, symbols: &[Numbered])
+    requires visible { All (λ (s : Numbered). not (is_local s.symbol.binding) ≡ true) symbols.now }
+    requires known { All (HasRow (length table.old.items)) symbols.now }
+    ensures held { (was : List (Vec Declared Global)) → Holds symbols.now was table.old.items
+        → Holds [] was table.new.items }
+    ensures room { KeepsRoom table.old.items table.new.items }
+{
+    for symbol in symbols {
+        release(table, *symbol);
+    }
+}
+
+/// Makes room in each row for those of the symbols that have its name. None of the symbols is local. Nothing is counted:
+/// an entry for each symbol is put into its row, and then they are taken out again.
 pub fn reserve_all(table: &mut Vec<Vec<Declared>>, symbols: &[Numbered]) -> Result<(), AllocError>
     requires visible { All (λ (s : Numbered). not (is_local s.symbol.binding) ≡ true) symbols.now }
     requires known { All (HasRow (length table.old.items)) symbols.now }
     ensures same { RowsGrow table.old.items table.new.items }
     ensures room { OnOk result (HasRoom table.new.items symbols.now) }
 {
-    let counts = count_all(*table.allocator(), symbols)?;
-    for symbol in symbols {
-        let count = counts.get(&symbol.name).copied().unwrap_or(0);
-        reserve_row(&mut table[symbol.name], count)?;
+    let held = hold_all(table, symbols);
+    release_all(table, &symbols[..held]);
+    if held < symbols.len() {
+        return Err(AllocError);
     }
     Ok(())
 }

@@ -1,5 +1,5 @@
-use Rattle.std.proofs.Common.{◌≡◌, ◌∙◌, ◌∷◌, ◌++◌, [], ap, refl}
-use Rattle.symres.specs.Numbers.{declared, others}
+use Rattle.std.proofs.Common.{◌∙◌, ◌∷◌, ◌++◌, [], ap, refl}
+use Rattle.symres.specs.Numbers.{others}
 use Rattle.symres.specs.declared.symbol.Declared.{Declared}
 use Rattle.symres.proofs.Cleared.{marked, unmarked}
 use Rattle.symres.proofs.rows.gather.Goals as goal
