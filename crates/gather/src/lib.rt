@@ -10,6 +10,7 @@ pub mod marking;
 pub mod matcher;
 pub mod member;
 mod name_places;
+pub mod references;
 pub mod roots;
 pub mod rows;
 mod sorting;

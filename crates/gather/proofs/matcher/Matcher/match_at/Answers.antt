@@ -1,4 +1,4 @@
-use Rattle.std.proofs.Common.{◌≡◌, ◌<◌, ◌∙◌, ℕ, List, map, take, length, arith, ap, sym, Some, None}
+use Rattle.std.proofs.Common.{◌<◌, ◌∙◌, ℕ, List, map, length, arith, ap, sym, Some, None}
 use Rattle.std.specs.Option.{option_map}
 use Rattle.std.proofs.lemmas.List.{length-map}
 use Rattle.std.proofs.lemmas.Option.{slice_get-map}
