@@ -8,7 +8,7 @@ use Rattle.std.proofs.lemmas.List.{get_or_past, get_or-replicate, length-replica
 use Rattle.std.proofs.lemmas.List.Elements.{Contains-push, Contains-push_cases, Contains-append_left, Contains-get_or}
 use Rattle.std.proofs.lemmas.List.Sums.{sum_by-set}
 use Rattle.std.proofs.lemmas.Grind.{get_or_default_zero}
-use Rattle.gather.specs.Graphs.{Graph, IsIn, IsLive, LeadsTo, targets_of, IsMarked, IsVisit, from_root, from_live}
+use Rattle.gather.specs.Graphs.{Graph, IsIn, IsLive, LeadsTo, IsMarked, IsVisit, from_root, from_live}
 
 -- where the search stands: `at` is the section that is being expanded, or no section
 pub record Marks (g : Graph) (live : List Bool) (stack : List ℕ) (at : ℕ) : Type 0 where
@@ -90,6 +90,11 @@ visit_old : (g : Graph) (live : List Bool) (stack : List ℕ) (at next : ℕ) �
     → (IsIn g next → IsMarked live next) → Visited g live stack at next live stack
 visit_old g live stack at next m k = record { marks = m; marked = k; kept = λ _ x. x; same_work = refl }
 
+-- a section that is not left out is one
+in_within : (g : Graph) (s : ℕ) → IsIn g s → s < length g.out
+in_within g s i =
+    ⊎_elim (λ h. h) (λ h. absurd (false≢true (sym i ∙ get_or_past g.out s true h))) (cases_lt s (length g.out))
+
 pub visited : (g : Graph) (live : List Bool) (stack : List ℕ) (at next : ℕ) (live' : List Bool) (stack' : List ℕ)
     → Marks g live stack at → (IsIn g next → IsLive g next)
     → IsVisit g.out next live stack live' stack' → Visited g live stack at next live' stack'
@@ -102,9 +107,7 @@ visited g live stack at next live' stack' m l v = go (get_or g.out next true) (g
     go true u eo eu p = rw (p.0, p.1) (visit_old g live stack at next m (λ i. absurd (false≢true (sym i ∙ eo))))
     go false true eo eu p = rw (p.0, p.1) (visit_old g live stack at next m (λ _. eu))
     go false false eo eu p =
-        let inside : next < length g.out =
-        ⊎_elim (λ h. h) (λ h. absurd (false≢true (sym eo ∙ get_or_past g.out next true h)))
-        (cases_lt next (length g.out)) in
+        let inside : next < length g.out = in_within g next eo in
         rw (p.0, p.1) (visit_new g live stack at next m l (omega (arith, inside, m.long)) eo eu)
 
 -- the last of the stack is taken to be expanded
@@ -144,12 +147,18 @@ marks_end g live m r s = (m.sound s, all s)
         ⊎_elim (λ p. p) (⊎_elim (λ p. absurd (none_contained a p)) (λ q.
         absurd (omega (arith, q, m.long, marked_within live a (all a l))))) (m.closed a b (all a l) t i)
 
-pub leads_in : (g : Graph) (s b : ℕ) (items : List ℕ) → items ≡ targets_of g s → LeadsTo g s b → Contains items b
-leads_in g s b items e t = subst (λ l. Contains l b) (sym e) t.1
+-- these are the sections that section s refers to
+abbrev pub AreTargets : Graph → ℕ → List ℕ → Type 0
+AreTargets g s items = (b : ℕ) → b < length g.out → g.refers s b ↔ Contains items b
 
-pub leads_out : (g : Graph) (s k : ℕ) (items : List ℕ) → s < length g.out → items ≡ targets_of g s → k < length items
-    → LeadsTo g s (get_or items k 0)
-leads_out g s k items h e w = (h, subst (λ l. Contains l (get_or items k 0)) e (Contains-get_or items k 0 w))
+pub leads_in : (g : Graph) (s b : ℕ) (items : List ℕ) → AreTargets g s items → LeadsTo g s b → IsIn g b
+    → Contains items b
+leads_in g s b items are t i = (are b (in_within g b i)).0 t.1
+
+pub leads_out : (g : Graph) (s k : ℕ) (items : List ℕ) → s < length g.out → AreTargets g s items → k < length items
+    → IsIn g (get_or items k 0) → LeadsTo g s (get_or items k 0)
+leads_out g s k items h are w i =
+    (h, (are (get_or items k 0) (in_within g (get_or items k 0) i)).1 (Contains-get_or items k 0 w))
 
 -- what holds of each place holds of each that is contained
 pub each_contained : (xs : List ℕ) (P : ℕ → Type 0) → ((k : ℕ) → k < length xs → P (get_or xs k 0)) → (x : ℕ)

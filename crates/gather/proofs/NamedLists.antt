@@ -1,10 +1,10 @@
 -- Lists under names, and lists of what stands at names.
 use Rattle.std.proofs.Common.{◌≡◌, ◌+◌, ◌++◌, ◌∷◌, [], ℕ, List, Bool, true, false, cond, map, take, get_or, refl, ap}
-use Rattle.std.proofs.Common.{sym, ◌∙◌, arith, Option, Some}
+use Rattle.std.proofs.Common.{sym, ◌∙◌, ◌<◌, arith, length, Option, Some}
 use Rattle.std.specs.Prelude.{bytes_eq, slice_get}
-use Rattle.std.specs.Option.{option_map_or}
-use Rattle.std.proofs.lemmas.List.{take_more, map-append}
-use Rattle.std.proofs.lemmas.Option.{get_or_from_slice_get, slice_get_within}
+use Rattle.std.specs.Option.{option_map, option_map_or}
+use Rattle.std.proofs.lemmas.List.{get_or-map, get_or-take, length-map, length-take-le, map-append, take_more}
+use Rattle.std.proofs.lemmas.Option.{get_or_from_slice_get, slice_get-get_or, slice_get-map, slice_get_within}
 use Rattle.std.proofs.lemmas.Slice.Eq.{bytes_eq-Decides}
 
 equal_names : (a b : List ℕ) → bytes_eq a b ≡ true → a ≡ b
@@ -24,13 +24,30 @@ listed_more {W = W} items from name q new v x is has = go (bytes_eq name q) refl
         ∙ ap (λ n. option_map_or items (from n) [] ++ x ∷ []) (equal_names name q e)
     go false e i = ap (λ o. option_map_or items o []) i
 
--- one more of what stands at names
-pub map_more : {X Y : Type 0} (f : X → Y) (g : List ℕ → Y) (found : List X) (x : X) (names : List (List ℕ)) (i : ℕ)
-    (name : List ℕ) {new : List X}
-    → slice_get names i ≡ Some name → f x ≡ g name → map f found ≡ map g (take i names) → new ≡ found ++ x ∷ []
-    → map f new ≡ map g (take (i + 1) names)
-map_more f g found x names i name at is so_far pushed =
-    ap (map f) pushed ∙ map-append f found (x ∷ []) ∙ ap (λ ys. ys ++ f x ∷ []) so_far
-    ∙ ap (λ y. map g (take i names) ++ y ∷ []) (is ∙ ap g (sym (get_or_from_slice_get names i name [] at)))
-    ∙ sym (map-append g (take i names) (get_or names i [] ∷ []))
-    ∙ ap (map g) (sym (take_more names i [] (slice_get_within names i name at)))
+-- one more of what is so in a list
+pub map_more : {X Y : Type 0} (f : X → Y) (found : List X) (x : X) (ys : List Y) (i : ℕ) {new : List X}
+    → slice_get ys i ≡ Some (f x) → map f found ≡ take i ys → new ≡ found ++ x ∷ [] → map f new ≡ take (i + 1) ys
+map_more f found x ys i at so_far pushed =
+    ap (map f) pushed ∙ map-append f found (x ∷ []) ∙ ap (λ l. l ++ f x ∷ []) so_far
+    ∙ ap (λ y. take i ys ++ y ∷ []) (sym (get_or_from_slice_get ys i (f x) (f x) at))
+    ∙ sym (take_more ys i (f x) (slice_get_within ys i (f x) at))
+
+-- how many are found before a place
+pub found_before : {X Y : Type 0} (f : X → Y) (g : List ℕ → Y) (found : List X) (names : List (List ℕ)) (i : ℕ)
+    → map f found ≡ take i (map g names) → i < length names → length found ≡ i
+found_before f g found names i so_far low =
+    sym (length-map found f) ∙ ap length so_far
+    ∙ length-take-le i (map g names) (omega (arith, low, length-map names g))
+
+-- what is found at one place stands at another of the same name too
+pub same_name : {X Y : Type 0} (f : X → Y) (g : List ℕ → Y) (found : List X) (names : List (List ℕ)) (i j : ℕ) (d : X)
+    → map f found ≡ take i (map g names) → i < length names → j < i → slice_get names j ≡ slice_get names i
+    → slice_get (map g names) i ≡ Some (f (get_or found j d))
+same_name f g found names i j d so_far low before same =
+    let many : length found ≡ i = found_before f g found names i so_far low in
+    let here : get_or (map g names) j (f d) ≡ f (get_or found j d) =
+    sym (get_or-take i (map g names) j (f d) before) ∙ ap (λ l. get_or l j (f d)) (sym so_far)
+    ∙ get_or-map f found j d (f d) (omega (arith, many, before)) in
+    slice_get-map g names i ∙ ap (option_map g) (sym same) ∙ sym (slice_get-map g names j)
+    ∙ slice_get-get_or (map g names) j (f d) (omega (arith, low, before, length-map names g))
+    ∙ ap (λ y. Some y) here

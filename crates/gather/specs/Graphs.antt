@@ -2,28 +2,30 @@
 use Rattle.std.specs.Prelude.{ℕ, ◌≡◌, ◌<◌, ◌+◌, Bool, true, false, cond, ◌||◌, List, ◌∷◌, [], ◌++◌, length, slice_index}
 use Rattle.std.specs.Prelude.{slice_index_or, slice_range, slice_set, Contains}
 
--- sections by their numbers: of each whether it is left out, the numbers of the roots, and the numbers of the sections
--- that relocations refer to: those of section a are the targets from starts a up to starts (a + 1). A number past the
--- end of `out` is that of no section
-pub record Graph : Type 0 where
+-- sections by their numbers: of each whether it is left out, the numbers of the roots, and which section refers to which.
+-- A number past the end of `out` is that of no section
+pub record Graph : Type 1 where
   pub out : List Bool
   pub roots : List ℕ
-  pub starts : List ℕ
-  pub targets : List ℕ
+  pub refers : ℕ → ℕ → Type 0
+
+abbrev pub graph_of : List Bool → List ℕ → (ℕ → ℕ → Type 0) → Graph
+graph_of out roots refers = record { out = out; roots = roots; refers = refers }
+
+-- b is one of the numbers of the sections that section a refers to: the targets from starts a up to starts (a + 1)
+abbrev pub IsListed : (starts targets : List ℕ) → ℕ → ℕ → Type 0
+IsListed starts targets a b = Contains (slice_range targets (slice_index starts a) (slice_index starts (a + 1))) b
 
 abbrev pub graph : List Bool → (roots starts targets : List ℕ) → Graph
-graph out roots starts targets = record { out = out; roots = roots; starts = starts; targets = targets }
+graph out roots starts targets = graph_of out roots (IsListed starts targets)
 
 -- a section that is not left out
 abbrev pub IsIn : Graph → ℕ → Type 0
 IsIn g s = slice_index_or g.out s true ≡ false
 
-abbrev pub targets_of : Graph → ℕ → List ℕ
-targets_of g a = slice_range g.targets (slice_index g.starts a) (slice_index g.starts (a + 1))
-
 -- a relocation of a refers to b
 abbrev pub LeadsTo : Graph → ℕ → ℕ → Type 0
-LeadsTo g a b = (a < length g.out) × Contains (targets_of g a) b
+LeadsTo g a b = (a < length g.out) × g.refers a b
 
 -- a root, or what a live section refers to; none of them left out
 pub data IsLive (g : Graph) : ℕ → Type 0 where

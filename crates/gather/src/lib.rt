@@ -9,6 +9,8 @@ pub mod live_sections;
 pub mod marking;
 pub mod matcher;
 pub mod member;
+mod name_places;
+pub mod references;
 pub mod roots;
 pub mod rows;
 mod sorting;

@@ -1,12 +1,13 @@
 //! Which input statement takes a section.
 
-ghost use Rattle.std.specs.Prelude.{◌≡◌, IfOk, map};
+ghost use Rattle.std.specs.Prelude.{◌≡◌, ◌<◌, IfOk, OnOk, Some, length, map, slice_get, take};
 ghost use Rattle.elfobj.specs.Sections.{LinkedSection};
 ghost use Rattle.ldmodel.specs.FirstMatch.{first_match};
 ghost use Rattle.ldtree.specs.Numbered.{shown_inputs};
 ghost use Rattle.gather.specs.WordTables.{IsTableOf};
 ghost use Rattle.gather.specs.Matches.{matches_of, number_of};
 
+use crate::name_places::NamePlaces;
 use crate::word_table::WordTable;
 use elfobj::object::Object;
 use elfobj::section::LinkedIndex;
@@ -82,7 +83,29 @@ impl<'a> Matcher<'a> {
         self.words.first_taker(file, section)
     }
 
-    /// The input statements that take the sections of an object, in their order. An error says that memory ran out.
+    /// The input statement that takes the section of an object at this place. `found` are those of the sections before,
+    /// and `places` has sections before it.
+    fn match_at(
+        &self,
+        file: &[u8],
+        object: &Object,
+        places: &NamePlaces,
+        found: &[Option<InputIndex>],
+        place: usize,
+    ) -> Option<InputIndex>
+        requires place { place < length object.now.sections }
+        requires found { map number_of found.now
+            ≡ take place (matches_of self.now file.now object.now.sections) }
+        ensures { slice_get (matches_of self.now file.now object.now.sections) place ≡ Some (number_of result) }
+    {
+        match places.earlier(object, place) {
+            Some(other) => found[other],
+            None => self.first_match(file, object.section_name(LinkedIndex(place))),
+        }
+    }
+
+    /// The input statements that take the sections of an object, in their order. A long name is matched once, however
+    /// many sections have it where it lies. An error says that memory ran out.
     pub fn matches_of(
         &self,
         alloc: Global,
@@ -93,8 +116,11 @@ impl<'a> Matcher<'a> {
     {
         let count = object.sections().len();
         let mut found = Vec::with_capacity(alloc, count)?;
+        let mut places = NamePlaces::new(alloc);
         for place in 0..count {
-            found.push(self.first_match(file, object.section_name(LinkedIndex(place))))?;
+            let statement = self.match_at(file, object, &places, &found, place);
+            found.push(statement)?;
+            places.add(object, place)?;
         }
         Ok(found)
     }

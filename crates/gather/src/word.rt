@@ -2,10 +2,12 @@
 
 ghost use Rattle.std.specs.Prelude.{◌≡◌};
 ghost use Rattle.ldmodel.specs.FirstMatch.{is_any_match, word_takes};
+ghost use Rattle.ldpattern.specs.Matching.{is_match};
 ghost use Rattle.gather.specs.Matches.{number_of};
 ghost use Rattle.gather.specs.Words.{first_taker, shown_word, shown_words, takes_by};
 
 use ldmodel::rows::InputIndex;
+use ldpattern::law::match_by_splitting;
 use ldscript::tree::{Input, Pattern, SectionWord, matches};
 
 /// A word of an input statement, with the statement.
@@ -19,18 +21,26 @@ pub struct WordAt<'a> {
     pub word: &'a SectionWord,
 }
 
+/// Whether a pattern matches the name. A lone `*` does so without a look at the name.
+fn is_match(pattern: &Pattern, name: &[u8]) -> bool
+    ensures { result ≡ is_match pattern.now name.now }
+{
+    match_by_splitting();
+    pattern.is_any() || matches(pattern, name)
+}
+
 /// Whether some pattern matches the name.
 fn is_any_match(patterns: &[Pattern], name: &[u8]) -> bool
     ensures { result ≡ is_any_match patterns.now name.now }
 {
-    patterns.iter().any(|pattern| matches(pattern, name))
+    patterns.iter().any(|pattern| is_match(pattern, name))
 }
 
 /// Whether a word takes the sections of this name in the file of this name.
 fn word_takes(word: &SectionWord, file: &[u8], section: &[u8]) -> bool
     ensures { result ≡ word_takes file.now section.now word.now }
 {
-    matches(&word.pattern, section) && !is_any_match(word.excluded.as_slice(), file)
+    is_match(&word.pattern, section) && !is_any_match(word.excluded.as_slice(), file)
 }
 
 impl WordAt<'_> {
@@ -38,7 +48,7 @@ impl WordAt<'_> {
     pub fn takes(&self, file: &[u8], section: &[u8]) -> bool
         ensures { result ≡ takes_by file.now section.now (shown_word self.now) }
     {
-        matches(&self.input.file, file) && word_takes(self.word, file, section)
+        is_match(&self.input.file, file) && word_takes(self.word, file, section)
     }
 }
 

@@ -1,36 +1,37 @@
 use Rattle.std.proofs.Common.{◌≡◌, ◌<◌, ℕ, length, slice_index}
 use Rattle.std.specs.List.{Contains}
-use Rattle.gather.specs.Graphs.{Graph, graph, IsIn, IsMarked}
+use Rattle.gather.specs.Graphs.{Graph, graph_of, IsIn, IsMarked}
 use Rattle.gather.proofs.Marks.{Marks, work}
 use Rattle.gather.proofs.marking.reach.Given as goal
 
 abbrev pub invariant-loop-root : goal.invariant-loop-root
-invariant-loop-root l =
-    let g : Graph = graph l.out l.roots l.starts l.targets in
+invariant-loop-root g l =
+    let w : Graph = graph_of l.out l.roots (g.R.References.refers l.references) in
     record {
-      marks : Marks g l.live.items l.stack.items (length l.out);
-      roots : (k : ℕ) → k < l.root-index → IsIn g (slice_index l.roots k)
+      marks : Marks w l.live.items l.stack.items (length l.out);
+      roots : (k : ℕ) → k < l.root-index → IsIn w (slice_index l.roots k)
           → IsMarked l.live.items (slice_index l.roots k);
     }
 
 abbrev pub invariant-loop-target : goal.invariant-loop-target
-invariant-loop-target l =
-    let g : Graph = graph l.out l.roots l.starts l.targets in
+invariant-loop-target g l =
+    let w : Graph = graph_of l.out l.roots (g.R.References.refers l.references) in
     record {
-      marks : Marks g l.live.items l.stack.items l.section;
-      roots : (r : ℕ) → Contains l.roots r → IsIn g r → IsMarked l.live.items r;
+      marks : Marks w l.live.items l.stack.items l.section;
+      roots : (r : ℕ) → Contains l.roots r → IsIn w r → IsMarked l.live.items r;
       at : IsMarked l.live.items l.section;
-      seen : (k : ℕ) → k < l.target-index → IsIn g (slice_index l.row k) → IsMarked l.live.items (slice_index l.row k);
+      seen : (k : ℕ) → k < l.target-index → IsIn w (slice_index l.target-items k)
+          → IsMarked l.live.items (slice_index l.target-items k);
       work : work l.live.items l.stack.items ≡ work l.initial.live.items l.initial.stack.items;
     }
 
 abbrev pub invariant-loop-section : goal.invariant-loop-section
-invariant-loop-section l =
-    let g : Graph = graph l.out l.roots l.starts l.targets in
+invariant-loop-section g l =
+    let w : Graph = graph_of l.out l.roots (g.R.References.refers l.references) in
     record {
-      marks : Marks g l.live.items l.stack.items (length l.out);
-      roots : (r : ℕ) → Contains l.roots r → IsIn g r → IsMarked l.live.items r;
+      marks : Marks w l.live.items l.stack.items (length l.out);
+      roots : (r : ℕ) → Contains l.roots r → IsIn w r → IsMarked l.live.items r;
     }
 
 abbrev pub decreases-loop-section : goal.decreases-loop-section
-decreases-loop-section l = work l.live.items l.stack.items
+decreases-loop-section g l = work l.live.items l.stack.items

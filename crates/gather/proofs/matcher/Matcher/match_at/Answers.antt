@@ -1,0 +1,37 @@
+use Rattle.std.proofs.Common.{◌<◌, ◌∙◌, ℕ, List, map, length, arith, ap, sym, Some, None}
+use Rattle.std.specs.Option.{option_map}
+use Rattle.std.proofs.lemmas.List.{length-map}
+use Rattle.std.proofs.lemmas.Option.{slice_get-map}
+use Rattle.elfobj.specs.Sections.{LinkedSection}
+use Rattle.ldmodel.specs.FirstMatch.{first_match}
+use Rattle.gather.specs.Matches.{number_of}
+use Rattle.gather.proofs.NamedLists.{found_before, same_name}
+use Rattle.gather.proofs.matcher.Matcher.match_at.Goals as goal
+
+abbrev names : List LinkedSection → List (List ℕ)
+names sections = map (λ (s : LinkedSection). s.name) sections
+
+within : (sections : List LinkedSection) (place : ℕ) → place < length sections → place < length (names sections)
+within sections place low = omega (arith, low, length-map sections (λ (s : LinkedSection). s.name))
+
+pub bounds-found-other : goal.bounds-found-other
+bounds-found-other c =
+    omega (
+      arith,
+      c.in-Some.ensures.before,
+      found_before number_of (first_match c.args.self.now c.args.file.now) c.args.found.now
+          (names c.args.object.now.sections) c.args.place c.requires.found
+          (within c.args.object.now.sections c.args.place c.requires.place),
+    )
+
+pub returns-in-Some : goal.returns-in-Some
+returns-in-Some c =
+    same_name number_of (first_match c.args.self.now c.args.file.now) c.args.found.now
+    (names c.args.object.now.sections) c.args.place c.in-Some.other None c.requires.found
+    (within c.args.object.now.sections c.args.place c.requires.place) c.in-Some.ensures.before c.in-Some.ensures.same
+
+pub returns-in-None : goal.returns-in-None
+returns-in-None c =
+    slice_get-map (first_match c.args.self.now c.args.file.now) (names c.args.object.now.sections) c.args.place
+    ∙ ap (option_map (first_match c.args.self.now c.args.file.now)) c.section_name.ensures
+    ∙ ap (λ n. Some n) (sym c.first_match.ensures)
