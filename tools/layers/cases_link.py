@@ -1,13 +1,14 @@
-"""Whole streams of commands: the calculator's worked rows and its rows for images (all but those of more than 2^17
-bytes), random streams, lists of edits, all five kinds in each, of whose answers a checksum is printed, and worked rows
-of whose edits it is printed what they count. What must be printed is made of the calculator's answers
-(tools/calculator/answers.py), and of the counts below."""
+"""Whole streams of commands: the calculator's worked rows and its rows for images, random streams, lists of edits, all
+five kinds in each, of whose answers a checksum is printed, worked rows of whose edits it is printed what they count, and
+worked rows that a session answers while each call of its reader and of its writer fails in turn. What must be printed is
+made of the calculator's answers (tools/calculator/answers.py), and of the counts below."""
+import itertools
 import re
 import sys
 
 from calculator import answers, rows, streams, worked
 
-LONGEST_STREAM = 2 ** 17
+LONGEST_STREAM = 2 ** 17  # of a longer one the last byte is spelled once, and then how often it stands
 LONGEST_TITLE = 48
 SEEDS = range(1, 31)
 LISTS = range(1, 25)
@@ -42,14 +43,17 @@ MOST = {
     ("a call moves", 4): ((1, 0, 3, 1, 4120), 4121),
 }
 
+# The worked rows that are answered with each call of a device failing, and how many bytes its writer takes at most.
+FAILING = ["smallest program", "duplicate name", "collected"]
+LONGEST_WRITE = 100
+
 
 def frames():
     """The name, the options and the bytes of each stream."""
     sys.setrecursionlimit(10_000)
     for number, row in enumerate(worked.rows_with_images()):
-        if len(rows.stream(row)) <= LONGEST_STREAM:
-            title = re.sub(r"[^!-~]+", "-", row.title)[:LONGEST_TITLE]
-            yield f"row-{number:03}:{title}", row.options, rows.stream(row)
+        title = re.sub(r"[^!-~]+", "-", row.title)[:LONGEST_TITLE]
+        yield f"row-{number:03}:{title}", row.options, rows.stream(row)
     for seed in SEEDS:
         made = streams.Streams(seed).make()
         yield f"random-{seed:02}", made.options, made.data
@@ -63,18 +67,28 @@ def lists():
         yield f"edits-{seed:02}", made.options, made.data
 
 
-def counted():
-    """The name, the options and the bytes of each worked row whose counts are printed."""
+def of_titles(titles):
+    """The same of the worked rows of these titles."""
     for row in worked.all_rows():
-        if row.title in COUNTS:
+        if row.title in titles:
             yield row.title.replace(" ", "-"), row.options, rows.stream(row)
 
 
+def length_and_bytes(data):
+    """The word that says the length of a stream, and the bytes that follow it."""
+    if len(data) <= LONGEST_STREAM:
+        return len(data), data
+    spelled = data.rstrip(data[-1:]) + data[-1:]
+    return f"{len(spelled)}+{len(data) - len(spelled)}", spelled
+
+
 def cases(stream):
-    for kind, found in (("stream", frames()), ("list", lists()), ("counts", counted())):
+    for kind, found in (("stream", frames()), ("list", lists()), ("counts", of_titles(COUNTS)),
+                        ("devices", of_titles(FAILING))):
         for name, options, data in found:
-            stream.line(kind, name, len(data), *rows.words(options))
-            stream.data += data
+            length, spelled = length_and_bytes(data)
+            stream.line(kind, name, length, *rows.words(options))
+            stream.data += spelled
 
 
 def checksum(data):
@@ -144,8 +158,29 @@ def check_most(title, number, answer):
     assert all(a <= b for a, b in zip(found, (*most, written + length - end))), (title, number, found)
 
 
+def failing(options, data):
+    """The checksum of all answers, the status, and of the reads, writes and flushes how many there are, and how many bytes
+    are written where each of them fails. A byte is read at a time, at most LONGEST_WRITE are written, and each answer is
+    flushed before a byte of the next command is read."""
+    found, reads, at = [], [], 0
+    status = answers.answers(options, data, found.append)
+    ends = list(itertools.accumulate(map(len, found)))
+    starts = [0, *ends[:-1]]
+    for start in starts:
+        _, following = answers.next_command(data, at)
+        reads += [start] * (following - at)
+        at = following
+    reads.append(ends[-1])
+    writes = [at for start, end in zip(starts, ends) for at in range(start, end, LONGEST_WRITE)]
+    lines = [b"bytes %d sum %016x" % (ends[-1], checksum(b"".join(found))), b"status %d" % status]
+    for word, written in ((b"reads", reads), (b"writes", writes), (b"flushes", ends)):
+        lines.append(b"%s: %d failed, 0 wrong, %d bytes written" % (word, len(written), sum(written)))
+    return b"".join(line + b"\n" for line in lines)
+
+
 def expected(_stream):
     shown = (b"stream " + name.encode() + b"\n" + printed(options, data) for name, options, data in frames())
     unseen = (b"list " + name.encode() + b"\n" + summed(options, data) for name, options, data in lists())
-    work = (b"counts " + name.encode() + b"\n" + counts(name, options, data) for name, options, data in counted())
-    return b"".join([*(text + b"same\n" for text in (*shown, *unseen)), *work])
+    work = (b"counts " + name.encode() + b"\n" + counts(name, options, data) for name, options, data in of_titles(COUNTS))
+    failed = (b"devices " + name.encode() + b"\n" + failing(options, data) for name, options, data in of_titles(FAILING))
+    return b"".join([*(text + b"same\n" for text in (*shown, *unseen)), *work, *failed])

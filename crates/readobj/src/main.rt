@@ -26,7 +26,15 @@
 //! of the entry that it names. A local symbol has no NAME.
 //!
 //! Of bytes that are no object it prints `refused N` with the reader's number instead, and a line with two spaces and
-//! the place and the reason, for people. It ends with status 0 after the last object, with status 1 where the stream
+//! the place and the reason, for people.
+//!
+//! `variants` in place of `object` asks what the reader says of all beginnings of the object, the empty one and the whole
+//! one too, and of the object with one byte set to 00, 7F or FF, for every byte. It prints a line `variants TITLE`, then
+//! `beginnings` and a line `  FROM..TO: ANSWER` for all lengths from FROM to TO, then for each value `each byte VALUE`
+//! and the same for the places of the byte. ANSWER is `object`, or `refused N` where the bytes are refused and came back
+//! as they were, or `lost` where others came back.
+//!
+//! It ends with status 0 after the last object, with status 1 where the stream
 //! goes on with no object, and with status 3 where a device failed or memory was refused.
 #![tactic(auto)]
 
@@ -34,10 +42,12 @@ mod file;
 mod listing;
 mod names;
 mod stream;
+mod variants;
 
 use crate::file::show_file;
 use crate::listing::print_object;
-use crate::stream::{Frame, split_frame};
+use crate::stream::{Frame, Kind, split_frame};
+use crate::variants::print_variants;
 use elfobj::object::Object;
 use elfobj::refusal::ObjectRefusal;
 use elfwhy::explain::explain;
@@ -73,16 +83,32 @@ fn print_refusal<W: Write>(
     }
 }
 
-/// The lines of one object.
-fn show_object<W: Write>(alloc: Global, out: &mut W, frame: &Frame) -> io::Result<()> {
-    out.write_all(b"object ")?;
-    out.write_all(frame.title)?;
-    out.write_all(b"\n")?;
-    let bytes = Vec::from_slice(alloc, frame.bytes)?;
+/// The lines of one object, or why it is refused.
+fn show_object<W: Write>(alloc: Global, out: &mut W, bytes: &[u8]) -> io::Result<()> {
+    let bytes = Vec::from_slice(alloc, bytes)?;
     let mut meter = Meter::new();
     match Object::read(alloc, bytes, &mut meter) {
         Ok(object) => print_object(out, &object),
         Err((bytes, refusal)) => print_refusal(alloc, out, &bytes, refusal),
+    }
+}
+
+/// The word that begins a frame's line and what is printed of it.
+fn word_of(kind: Kind) -> &'static str {
+    match kind {
+        Kind::Object => "object ",
+        Kind::Variants => "variants ",
+    }
+}
+
+/// What a frame asks of its object.
+fn show_frame<W: Write>(alloc: Global, out: &mut W, frame: &Frame) -> io::Result<()> {
+    out.write_all(word_of(frame.kind).as_bytes())?;
+    out.write_all(frame.title)?;
+    out.write_all(b"\n")?;
+    match frame.kind {
+        Kind::Object => show_object(alloc, out, frame.bytes),
+        Kind::Variants => print_variants(alloc, out, frame.bytes),
     }
 }
 
@@ -96,7 +122,7 @@ fn show_objects<W: Write>(alloc: Global, out: &mut W, stream: &[u8]) -> io::Resu
         let Some((frame, others)) = split_frame(rest) else {
             return Ok(MALFORMED);
         };
-        show_object(alloc, out, &frame)?;
+        show_frame(alloc, out, &frame)?;
         rest = others;
     }
     Ok(READ)

@@ -1,10 +1,22 @@
-//! The stream of objects that is read: each is a line `object LEN` or `object LEN TITLE`, and LEN bytes right after it.
+//! The stream of objects that is read: each is a line `object LEN` or `object LEN TITLE`, or one with `variants` in place
+//! of `object`, and LEN bytes right after it.
 
 use std::str;
+
+/// What is asked of an object.
+#[derive(Clone, Copy, Debug)]
+pub enum Kind {
+    /// Its lines.
+    Object,
+    /// What is said of its beginnings, and of it with a byte set to another value.
+    Variants,
+}
 
 /// An object of the stream.
 #[derive(Clone, Copy, Debug)]
 pub struct Frame<'a> {
+    /// What is asked of it.
+    pub kind: Kind,
     /// What the line says of it, perhaps nothing.
     pub title: &'a [u8],
     /// Its bytes.
@@ -19,6 +31,17 @@ fn split_at_space(line: &[u8]) -> (&[u8], &[u8]) {
     }
 }
 
+/// What a word asks.
+fn kind_of(word: &[u8]) -> Option<Kind> {
+    if word == b"object".as_slice() {
+        Some(Kind::Object)
+    } else if word == b"variants".as_slice() {
+        Some(Kind::Variants)
+    } else {
+        None
+    }
+}
+
 fn number(digits: &[u8]) -> Option<usize> {
     str::from_utf8(digits).ok()?.parse().ok()
 }
@@ -29,10 +52,7 @@ pub fn split_frame(stream: &[u8]) -> Option<(Frame<'_>, &[u8])> {
     let (word, words) = split_at_space(&stream[..end]);
     let rest = &stream[end + 1..];
     let (digits, title) = split_at_space(words);
-    let length = number(digits)?;
-    if word != b"object".as_slice() || rest.len() < length {
-        return None;
-    }
-    let (bytes, rest) = rest.split_at(length);
-    Some((Frame { title, bytes }, rest))
+    let kind = kind_of(word)?;
+    let (bytes, rest) = rest.split_at_checked(number(digits)?)?;
+    Some((Frame { kind, title, bytes }, rest))
 }

@@ -16,6 +16,8 @@ pub enum Kind {
     Sum,
     /// What each edit counts in a session.
     Counts,
+    /// The answers where a call of a device fails.
+    Devices,
 }
 
 /// A stream of commands, and the session that is to answer it.
@@ -25,17 +27,20 @@ pub struct Frame<'a> {
     pub name: &'a str,
     /// The words after `ldi session`, one space between each two; `None` where there is none.
     pub words: Option<&'a str>,
-    /// The stream.
-    pub commands: &'a [u8],
+    /// The stream, but for what `repeats` adds.
+    commands: &'a [u8],
+    /// How often the last byte of the stream stands once more.
+    repeats: usize,
     /// What is asked of it.
     pub kind: Kind,
 }
 
 /// The words of a frame's line that say what is asked, with what they say.
-const KINDS: [(&str, Kind); 3] = [
+const KINDS: [(&str, Kind); 4] = [
     ("stream ", Kind::Answers),
     ("list ", Kind::Sum),
     ("counts ", Kind::Counts),
+    ("devices ", Kind::Devices),
 ];
 
 /// What a frame's line asks, and what comes after that.
@@ -48,14 +53,21 @@ fn read_kind(line: &str) -> Option<(Kind, &str)> {
     None
 }
 
+/// The number of bytes, and how often the last of them stands once more.
+fn read_length(word: &str) -> Option<(usize, usize)> {
+    match word.split_once('+') {
+        Some((length, repeats)) => Some((length.parse().ok()?, repeats.parse().ok()?)),
+        None => Some((word.parse().ok()?, 0)),
+    }
+}
+
 /// What it says after that: the name, the length of the stream, and the words.
-fn read_line(line: &str) -> Option<(&str, usize, Option<&str>)> {
+fn read_line(line: &str) -> Option<(&str, &str, Option<&str>)> {
     let (name, rest) = line.split_once(' ')?;
-    let (length, words) = match rest.split_once(' ') {
-        Some((length, words)) => (length, Some(words)),
-        None => (rest, None),
-    };
-    Some((name, length.parse().ok()?, words))
+    match rest.split_once(' ') {
+        Some((length, words)) => Some((name, length, Some(words))),
+        None => Some((name, rest, None)),
+    }
 }
 
 /// The first frame of these bytes, and the bytes after it; `None` where they begin with none.
@@ -64,12 +76,14 @@ pub fn split_frame(input: &[u8]) -> Option<(Frame<'_>, &[u8])> {
     let line = str::from_utf8(&input[..end]).ok()?;
     let (kind, line) = read_kind(line)?;
     let (name, length, words) = read_line(line)?;
+    let (length, repeats) = read_length(length)?;
     let (commands, rest) = input[end + 1..].split_at_checked(length)?;
     Some((
         Frame {
             name,
             words,
             commands,
+            repeats,
             kind,
         },
         rest,
@@ -77,6 +91,15 @@ pub fn split_frame(input: &[u8]) -> Option<(Frame<'_>, &[u8])> {
 }
 
 impl Frame<'_> {
+    /// The stream.
+    pub fn stream(&self, alloc: Global) -> Result<Vec<u8>, AllocError> {
+        let mut stream = Vec::from_slice(alloc, self.commands)?;
+        if let Some(last) = self.commands.last() {
+            stream.resize(stream.len().saturating_add(self.repeats), *last)?;
+        }
+        Ok(stream)
+    }
+
     /// All words of the command line.
     fn command_line(&self, alloc: Global) -> Result<Vec<String>, AllocError> {
         let mut args = Vec::new(alloc);

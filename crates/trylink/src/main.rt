@@ -7,16 +7,22 @@
 //!     stream NAME LEN WORDS..
 //!
 //! and a line feed, and then the LEN bytes of a stream. The WORDS, one space between each two, are those after
-//! `ldi session`.
+//! `ldi session`. `LEN+COUNT` in place of `LEN` says that the last byte of the stream stands COUNT times more.
 //!
-//! `list` in place of `stream` asks for a checksum in place of the answers, and `counts` for what each edit counts in a
-//! session.
+//! `list` in place of `stream` asks for a checksum in place of the answers, `counts` for what each edit counts in a
+//! session, and `devices` for what comes where a reader or a writer fails.
 //!
 //! For each frame it prints `stream NAME`, and then for each command the line of its answer. Under that of a map or of
 //! fault lines stands the text; that of an image goes on with a checksum (`answer::checksum`). Then it prints
 //! `status S`, and `same` where all ways give one status and the same bytes, or else where they differ. For a frame of
 //! `counts` it prints under the answer to each edit how many objects it read, names it decided, input sections it placed,
 //! relocations it evaluated and bytes of the image it wrote.
+//!
+//! For a frame of `devices` a session answers the stream through a reader that gives one byte a call and a writer that
+//! takes at most 100. It prints `bytes LENGTH sum CHECKSUM` of all answers and `status S`. Then sessions answer it with
+//! the first read failing, with the second, and so on until none fails; the same for writes and for flushes. It prints
+//! for each of the three how many of these sessions had a call that failed, how many ended with another fault than the
+//! device's or had written what is no beginning of the answers, and how many bytes all of them had written.
 #![tactic(auto)]
 
 mod answer;
@@ -24,6 +30,8 @@ mod answered;
 mod calls;
 mod command;
 mod counts;
+mod devices;
+mod failing;
 mod frame;
 mod session;
 
@@ -31,6 +39,7 @@ use crate::answer::checksum;
 use crate::answered::print_agreement;
 use crate::calls::answer_by_calls;
 use crate::counts::print_counts;
+use crate::failing::print_failing;
 use crate::frame::{Frame, Kind, split_frame};
 use crate::session::{answer_by_plain, answer_by_session};
 use std::alloc::Global;
@@ -47,6 +56,7 @@ fn word_of(kind: Kind) -> &'static str {
         Kind::Answers => "stream ",
         Kind::Sum => "list ",
         Kind::Counts => "counts ",
+        Kind::Devices => "devices ",
     }
 }
 
@@ -64,29 +74,35 @@ fn compare<W: Write>(
     ) else {
         return out.write_all(b"bad words\n");
     };
-    let by_session = answer_by_session(alloc, seed, first, frame.commands)?;
-    let by_plain = answer_by_plain(alloc, seed, second, frame.commands)?;
+    let stream = frame.stream(alloc)?;
+    let by_session = answer_by_session(alloc, seed, first, &stream)?;
+    let by_plain = answer_by_plain(alloc, seed, second, &stream)?;
     let by_calls = if frame.kind == Kind::Answers {
-        answer_by_calls(alloc, seed, third, frame.commands, out)?
+        answer_by_calls(alloc, seed, third, &stream, out)?
     } else {
         let mut unseen = Vec::new(alloc);
-        let run = answer_by_calls(alloc, seed, third, frame.commands, &mut unseen)?;
+        let run = answer_by_calls(alloc, seed, third, &stream, &mut unseen)?;
         writeln!(out, "sum {:016x}", checksum(&run.answers))?;
         run
     };
     print_agreement(&by_session, &by_plain, &by_calls, out)
 }
 
-/// Prints what the edits of a frame count in a session.
-fn count<W: Write>(
+/// Prints what a session does with the stream of a frame: what its edits count, or what comes where a device fails.
+fn observe<W: Write>(
     alloc: Global,
     seed: RandomState,
     frame: &Frame<'_>,
     out: &mut W,
 ) -> io::Result<()> {
-    match frame.options(alloc)? {
-        None => out.write_all(b"bad words\n"),
-        Some(options) => print_counts(alloc, seed, options, frame.commands, out),
+    let Some(options) = frame.options(alloc)? else {
+        return out.write_all(b"bad words\n");
+    };
+    let stream = frame.stream(alloc)?;
+    if frame.kind == Kind::Counts {
+        print_counts(alloc, seed, options, &stream, out)
+    } else {
+        print_failing(alloc, seed, &options, &stream, out)
     }
 }
 
@@ -101,7 +117,7 @@ fn try_frame<W: Write>(
     print_bytes(out, frame.name.as_bytes())?;
     out.write_all(b"\n")?;
     match frame.kind {
-        Kind::Counts => count(alloc, seed, frame, out),
+        Kind::Counts | Kind::Devices => observe(alloc, seed, frame, out),
         Kind::Answers | Kind::Sum => compare(alloc, seed, frame, out),
     }
 }

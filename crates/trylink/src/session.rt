@@ -6,6 +6,7 @@ use ldmodel::linker::Linker;
 use ldmodel::options::Options;
 use ldsession::session::Session;
 use ldstream::devices::{AnswerWriter, CommandReader};
+use ldstream::fault::RunFault;
 use ldstream::{Status, run};
 use relink::plain::Plain;
 use std::alloc::{AllocError, Global};
@@ -13,6 +14,15 @@ use std::hash::RandomState;
 
 /// The status after a device failed.
 const DEVICE: u8 = 3;
+
+/// The status after a run.
+pub fn status_of(outcome: Result<Status, RunFault>) -> u8 {
+    match outcome {
+        Ok(Status::Done(status)) => status,
+        Ok(Status::Malformed) => MALFORMED,
+        Err(_) => DEVICE,
+    }
+}
 
 /// The answers of a linker to a stream.
 fn answer_by<L: Linker>(
@@ -22,11 +32,7 @@ fn answer_by<L: Linker>(
 ) -> Result<Answered, AllocError> {
     let mut source = CommandReader::new(alloc, stream)?;
     let mut sink = AnswerWriter::new(alloc, Vec::new(alloc))?;
-    let status = match run(alloc, &mut source, &mut sink, linker) {
-        Ok(Status::Done(status)) => status,
-        Ok(Status::Malformed) => MALFORMED,
-        Err(_) => DEVICE,
-    };
+    let status = status_of(run(alloc, &mut source, &mut sink, linker));
     let answers = sink.into_writer();
     Ok(Answered { answers, status })
 }

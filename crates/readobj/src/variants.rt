@@ -1,0 +1,87 @@
+//! What the reader says of all beginnings of an object, and of the object with one byte set to another value.
+
+use elfobj::object::Object;
+use elfobj::refusal::ObjectRefusal;
+use ldbase::meter::Meter;
+use std::alloc::{AllocError, Global};
+use std::io;
+use std::io::Write;
+
+/// The values that a byte is set to.
+const VALUES: [u8; 3] = [0x00, 0x7f, 0xff];
+
+/// What the reader says of some bytes.
+#[derive(Clone, Copy, Debug, PartialEq, Eq)]
+enum Answer {
+    /// They are an object.
+    Object,
+    /// They are refused, and came back as they were.
+    Refused(ObjectRefusal),
+    /// They are refused, and others came back.
+    Lost,
+}
+
+/// What the reader says of these bytes.
+fn answer_to(alloc: Global, bytes: &[u8]) -> Result<Answer, AllocError> {
+    let given = Vec::from_slice(alloc, bytes)?;
+    let mut meter = Meter::new();
+    match Object::read(alloc, given, &mut meter) {
+        Ok(_) => Ok(Answer::Object),
+        Err((_, ObjectRefusal::NoMemory)) => Err(AllocError),
+        Err((back, refusal)) => Ok(if back.as_slice() == bytes {
+            Answer::Refused(refusal)
+        } else {
+            Answer::Lost
+        }),
+    }
+}
+
+/// The answers to all beginnings, the shortest first.
+fn answers_to_beginnings(alloc: Global, bytes: &[u8]) -> Result<Vec<Answer>, AllocError> {
+    let mut answers = Vec::new(alloc);
+    for length in 0..=bytes.len() {
+        answers.push(answer_to(alloc, &bytes[..length])?)?;
+    }
+    Ok(answers)
+}
+
+/// The answers where one byte is set to a value, the first byte first.
+fn answers_to_changes(alloc: Global, bytes: &[u8], value: u8) -> Result<Vec<Answer>, AllocError> {
+    let mut answers = Vec::new(alloc);
+    for at in 0..bytes.len() {
+        let mut changed = Vec::from_slice(alloc, bytes)?;
+        changed[at] = value;
+        answers.push(answer_to(alloc, &changed)?)?;
+    }
+    Ok(answers)
+}
+
+/// Prints the answers by their numbers from 0 on, in one line those that are the same one after another.
+fn print_runs<W: Write>(out: &mut W, answers: &[Answer]) -> io::Result<()> {
+    let mut from = 0;
+    for (at, answer) in answers.iter().enumerate() {
+        let next = at.saturating_add(1);
+        if answers.get(next) == Some(answer) {
+            continue;
+        }
+        write!(out, "  {from}..{at}: ")?;
+        match answer {
+            Answer::Object => writeln!(out, "object")?,
+            Answer::Refused(refusal) => writeln!(out, "refused {}", refusal.number())?,
+            Answer::Lost => writeln!(out, "lost")?,
+        }
+        from = next;
+    }
+    Ok(())
+}
+
+/// Prints what the reader says of all beginnings of an object, and of it with a byte set to each of the values.
+pub fn print_variants<W: Write>(alloc: Global, out: &mut W, bytes: &[u8]) -> io::Result<()> {
+    writeln!(out, "beginnings")?;
+    print_runs(out, &answers_to_beginnings(alloc, bytes)?)?;
+    for value in VALUES {
+        writeln!(out, "each byte {value:02x}")?;
+        print_runs(out, &answers_to_changes(alloc, bytes, value)?)?;
+    }
+    Ok(())
+}
