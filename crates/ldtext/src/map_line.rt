@@ -10,17 +10,17 @@ use crate::hex::hex_digits;
 use ldmodel::memory::NoMemory;
 use std::alloc::AllocError;
 
-/// Counts a line of two names and of this number of other bytes; an error as for `Draft::count`.
+/// Counts a line of these two words and of this number of other bytes; an error as for `Draft::count`.
 #[inline(always)]
 fn count_line(draft: &mut Draft, others: usize, first: &[u8], second: &[u8]) -> Result<(), NoMemory>
     requires { draft.old.is_written ≡ false }
     ensures { OnOk result (draft.new
         ≡ record draft.old { size = draft.old.size + (others + length first.now + length second.now) }) }
 {
-    let Some(names) = first.len().checked_add(second.len()) else {
+    let Some(words) = first.len().checked_add(second.len()) else {
         return Err(AllocError);
     };
-    let Some(all) = names.checked_add(others) else {
+    let Some(all) = words.checked_add(others) else {
         return Err(AllocError);
     };
     draft.count(all)
@@ -64,6 +64,7 @@ pub fn put_section_line(
         (codes "section" ∷ name.now ∷ hex numbers.0 ∷ hex numbers.1 ∷ hex numbers.2 ∷ flags.now ∷ []))) }
 {
     if !draft.is_written() {
+        // `section `, three numbers with a space around each, and a line feed
         return count_line(draft, 61, name, flags);
     }
     draft.write(b"section ")?;
@@ -113,6 +114,7 @@ pub fn put_piece_line(
         ≡ added draft.old (line_of (codes "piece" ∷ hex start ∷ hex size ∷ object.now ∷ section.now ∷ []))) }
 {
     if !draft.is_written() {
+        // `piece `, two numbers with a space after each, and after each name a space or a line feed
         return count_line(draft, 42, object, section);
     }
     draft.write(&piece_front(start, size))?;
@@ -156,6 +158,7 @@ pub fn put_symbol_line(
         ≡ added draft.old (line_of (codes "symbol" ∷ value_text value ∷ name.now ∷ owner.now ∷ []))) }
 {
     if !draft.is_written() {
+        // `symbol `, a number and a space, and after each name a space or a line feed
         return count_line(draft, 26, name, owner);
     }
     write_symbol_front(draft, value)?;
