@@ -1,5 +1,5 @@
 -- Three numbers, each in its place.
-use Rattle.std.proofs.Common.{◌≡◌, refl}
+use Rattle.std.proofs.Common.{refl}
 use Rattle.ldmodel.specs.Lines.{hex}
 use Rattle.ldtext.proofs.map_line.section_numbers.Goals as goal
 
