@@ -1,6 +1,6 @@
 -- Where sections stand in the order of their numbers, the one of a number is the first of that number.
-use Rattle.std.proofs.Common.{◌≡◌, ◌≢◌, ◌<◌, ◌+◌, ℕ, zero, suc, List, [], ◌∷◌, length, map, find, get_or, refl, ap, sym}
-use Rattle.std.proofs.Common.{◌∙◌, subst, arith, Bool, true, false, cond, ◌==◌, slice_get, Option, Some, None}
+use Rattle.std.proofs.Common.{◌≡◌, ◌≢◌, ◌<◌, ℕ, zero, suc, List, [], ◌∷◌, length, map, get_or, refl, ap, sym}
+use Rattle.std.proofs.Common.{◌∙◌, subst, arith, true, false, cond, ◌==◌, slice_get, Option, Some, None}
 use Rattle.std.specs.Prelude.{AllPairs, All, IfNone, IfSome, MatchOption}
 use Rattle.std.proofs.lemmas.List.{get_or_default}
 use Rattle.elfobj.specs.Numbering.{IsNumberedAt}

@@ -1,5 +1,5 @@
 -- The 16 hex digits of a number, each looked up in a table by four of its bits.
-use Rattle.std.proofs.Common.{◌≡◌, ◌∙◌, ◌<◌, ◌+◌, ◌*◌, ◌/◌, ◌%◌, ◌^◌, ℕ, List, [], ◌∷◌, Bool, false, ap, arith, cond, get_or, map, refl, sym}
+use Rattle.std.proofs.Common.{◌≡◌, ◌∙◌, ◌<◌, ◌+◌, ◌*◌, ◌/◌, ◌%◌, ◌^◌, ℕ, List, [], ◌∷◌, false, ap, arith, cond, get_or, map, refl}
 use Rattle.std.proofs.lemmas.List.FromFn.{get_or-map-range_with_len}
 use Rattle.std.proofs.Math.Nat.{div-div-eq-div-mul, mod-mod_of_dvd}
 use Rattle.std.proofs.lemmas.Nat.{and_mask}
@@ -8,7 +8,7 @@ use Rattle.std.proofs.lemmas.Simd.{get_or_narrower}
 use Rattle.std.specs.List.{range_with_len}
 use lib.Bits.{bit_and}
 use lib.Dec.{leb}
-use lib.Lanes.{Each1, digits_l, number_l}
+use lib.Lanes.{digits_l, number_l}
 use Rattle.ldmodel.specs.Lines.{hex, hex_digit}
 
 abbrev table : List ℕ

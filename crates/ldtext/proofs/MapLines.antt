@@ -44,3 +44,34 @@ pub symbol_long : (value : Option ℕ) (name owner : List ℕ)
 unfolding line_of hex
 symbol_long (Some x) name owner = ap length (sym (symbol_spelled (Some x) name owner)) ∙ omega (arith, names_long name owner)
 symbol_long None name owner = ap length (sym (symbol_spelled None name owner)) ∙ omega (arith, names_long name owner)
+
+pub entry_spelled : (entry : ℕ) → codes "entry " ++ hex entry ++ 10 ∷ [] ≡ line_of (codes "entry" ∷ hex entry ∷ [])
+unfolding line_of hex
+entry_spelled entry = refl
+
+abbrev numbers : (start load size : ℕ) → List ℕ
+numbers start load size = 32 ∷ (hex start ++ 32 ∷ []) ++ (hex load ++ 32 ∷ []) ++ (hex size ++ 32 ∷ [])
+
+-- what follows the name of a section
+section_last : (name flags middle : List ℕ) → name ++ middle ++ flags ++ 10 ∷ [] ≡ (name ++ (middle ++ (flags ++ []))) ++ 10 ∷ []
+section_last name flags middle =
+    ap (λ t. t ++ 10 ∷ []) (append_assoc name middle flags ∙ ap (λ t. name ++ (middle ++ t)) (sym (append-nil flags)))
+
+pub section_spelled : (name : List ℕ) (start load size : ℕ) (flags : List ℕ)
+    → codes "section " ++ name ++ numbers start load size ++ flags ++ 10 ∷ []
+    ≡ line_of (codes "section" ∷ name ∷ hex start ∷ hex load ∷ hex size ∷ flags ∷ [])
+unfolding line_of hex
+section_spelled name start load size flags =
+    ap (λ t. codes "section " ++ t) (section_last name flags (numbers start load size))
+
+rest_long : (name middle flags : List ℕ) → length (name ++ middle ++ flags ++ 10 ∷ [])
+    ≡ 1 + length middle + length name + length flags
+rest_long name middle flags = omega (arith, length-append {A = ℕ})
+
+pub section_long : (name : List ℕ) (start load size : ℕ) (flags : List ℕ)
+    → length (line_of (codes "section" ∷ name ∷ hex start ∷ hex load ∷ hex size ∷ flags ∷ []))
+    ≡ 61 + length name + length flags
+unfolding line_of hex
+section_long name start load size flags =
+    ap length (sym (section_spelled name start load size flags))
+    ∙ omega (arith, rest_long name (numbers start load size) flags)

@@ -1,4 +1,4 @@
-//! Lines: words with one space between each two, and a line feed at the end.
+//! Lines of words: one space between each two, and a line feed at the end.
 
 ghost use Rattle.std.specs.Prelude.{◌≡◌, OnOk, map};
 ghost use Rattle.ldmodel.specs.Lines.{line_of};
@@ -18,8 +18,6 @@ pub enum Word<'a> {
     Decimal(u128),
     /// A number as 16 hex digits.
     Hex(u64),
-    /// 16 hyphens.
-    Hyphens,
 }
 
 fn put_word(draft: &mut Draft, word: Word<'_>) -> Result<(), NoMemory>
@@ -32,7 +30,6 @@ fn put_word(draft: &mut Draft, word: Word<'_>) -> Result<(), NoMemory>
             draft.put(buffer.format(number).as_bytes())
         }
         Word::Hex(number) => draft.put_hex(number),
-        Word::Hyphens => draft.put(b"----------------"),
     }
 }
 

@@ -1,4 +1,4 @@
-//! The map's lines of two names.
+//! The map's lines: each counted by one sum, or written part by part.
 
 ghost use Rattle.std.specs.Prelude.{◌≡◌, ◌+◌, ◌∷◌, ◌++◌, [], OnOk, codes, false, length, true};
 ghost use Rattle.ldmodel.specs.Lines.{hex, line_of};
@@ -10,20 +10,68 @@ use crate::hex::hex_digits;
 use ldmodel::memory::NoMemory;
 use std::alloc::AllocError;
 
-/// Counts a line of two names and of this number of other bytes; an error as for `Draft::count`.
+/// Counts a line of these two words and of this number of other bytes; an error as for `Draft::count`.
 #[inline(always)]
 fn count_line(draft: &mut Draft, others: usize, first: &[u8], second: &[u8]) -> Result<(), NoMemory>
     requires { draft.old.is_written ≡ false }
     ensures { OnOk result (draft.new
         ≡ record draft.old { size = draft.old.size + (others + length first.now + length second.now) }) }
 {
-    let Some(names) = first.len().checked_add(second.len()) else {
+    let Some(words) = first.len().checked_add(second.len()) else {
         return Err(AllocError);
     };
-    let Some(all) = names.checked_add(others) else {
+    let Some(all) = words.checked_add(others) else {
         return Err(AllocError);
     };
     draft.count(all)
+}
+
+/// `entry ADDRESS`
+pub fn put_entry_line(draft: &mut Draft, entry: u64) -> Result<(), NoMemory>
+    ensures { OnOk result (draft.new ≡ added draft.old (line_of (codes "entry" ∷ hex entry ∷ []))) }
+{
+    draft.put(b"entry ")?;
+    draft.put_hex(entry)?;
+    draft.put_byte(b'\n')
+}
+
+/// ` START LOAD SIZE ` of a line.
+fn section_numbers(start: u64, load: u64, size: u64) -> [u8; 52]
+    ensures { result ≡ 32 ∷ (hex start ++ 32 ∷ []) ++ (hex load ++ 32 ∷ []) ++ (hex size ++ 32 ∷ []) }
+{
+    let start = hex_digits(start);
+    let load = hex_digits(load);
+    let size = hex_digits(size);
+    [
+        b' ', start[0], start[1], start[2], start[3], start[4], start[5], start[6], start[7],
+        start[8], start[9], start[10], start[11], start[12], start[13], start[14], start[15], b' ',
+        load[0], load[1], load[2], load[3], load[4], load[5], load[6], load[7], load[8], load[9],
+        load[10], load[11], load[12], load[13], load[14], load[15], b' ', size[0], size[1],
+        size[2], size[3], size[4], size[5], size[6], size[7], size[8], size[9], size[10], size[11],
+        size[12], size[13], size[14], size[15], b' ',
+    ]
+}
+
+/// `section NAME START LOAD SIZE FLAGS`
+pub fn put_section_line(
+    draft: &mut Draft,
+    name: &[u8],
+    numbers: (u64, u64, u64),
+    flags: &[u8],
+) -> Result<(), NoMemory>
+    ensures { OnOk result (draft.new
+        ≡ added draft.old (line_of
+        (codes "section" ∷ name.now ∷ hex numbers.0 ∷ hex numbers.1 ∷ hex numbers.2 ∷ flags.now ∷ []))) }
+{
+    if !draft.is_written() {
+        // `section `, three numbers with a space around each, and a line feed
+        return count_line(draft, 61, name, flags);
+    }
+    draft.write(b"section ")?;
+    draft.write(name)?;
+    draft.write(&section_numbers(numbers.0, numbers.1, numbers.2))?;
+    draft.write(flags)?;
+    draft.write_byte(b'\n')
 }
 
 /// Writes the two names at the end of a line.
@@ -66,6 +114,7 @@ pub fn put_piece_line(
         ≡ added draft.old (line_of (codes "piece" ∷ hex start ∷ hex size ∷ object.now ∷ section.now ∷ []))) }
 {
     if !draft.is_written() {
+        // `piece `, two numbers with a space after each, and after each name a space or a line feed
         return count_line(draft, 42, object, section);
     }
     draft.write(&piece_front(start, size))?;
@@ -109,6 +158,7 @@ pub fn put_symbol_line(
         ≡ added draft.old (line_of (codes "symbol" ∷ value_text value ∷ name.now ∷ owner.now ∷ []))) }
 {
     if !draft.is_written() {
+        // `symbol `, a number and a space, and after each name a space or a line feed
         return count_line(draft, 26, name, owner);
     }
     write_symbol_front(draft, value)?;

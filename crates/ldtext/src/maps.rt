@@ -10,8 +10,7 @@ ghost use Rattle.ldtext.specs.MapOf.{IsMapOf};
 ghost use Rattle.ldtext.specs.ShownMap.{letters, piece_text, pieces_text, section_text, sections_text, shown_map};
 
 use crate::draft::Draft;
-use crate::line::{Word, put_line};
-use crate::map_line::put_piece_line;
+use crate::map_line::{put_entry_line, put_piece_line, put_section_line};
 use crate::members::Members;
 use crate::named::next_part_name;
 use crate::symbols::{MapSymbol, put_symbols};
@@ -54,17 +53,8 @@ fn flags(placed: &Placed) -> &'static [u8]
 fn put_section(draft: &mut Draft, name: &[u8], placed: &Placed) -> Result<(), NoMemory>
     ensures { OnOk result (draft.new ≡ added draft.old (section_text name.now placed.now)) }
 {
-    put_line(
-        draft,
-        &[
-            Word::Bytes(b"section"),
-            Word::Bytes(name),
-            Word::Hex(placed.start),
-            Word::Hex(placed.load),
-            Word::Hex(placed.size),
-            Word::Bytes(flags(placed)),
-        ],
-    )
+    let numbers = (placed.start, placed.load, placed.size);
+    put_section_line(draft, name, numbers, flags(placed))
 }
 
 /// `piece ADDRESS SIZE OBJECT SECTION`; and the place of its section, given that of the piece before.
@@ -138,7 +128,7 @@ fn put_map<M: Members>(draft: &mut Draft, members: &M, parts: &MapParts<'_>) -> 
     ensures { OnOk result (draft.new
         ≡ added draft.old (shown_map (M.project members.now) (M.number members.now) parts.now)) }
 {
-    put_line(draft, &[Word::Bytes(b"entry"), Word::Hex(parts.entry)])?;
+    put_entry_line(draft, parts.entry)?;
     put_sections(draft, members, parts)?;
     put_symbols(draft, members, parts.named, parts.given)
 }

@@ -1,5 +1,5 @@
 -- Two numbers, each in its place.
-use Rattle.std.proofs.Common.{◌≡◌, refl}
+use Rattle.std.proofs.Common.{refl}
 use Rattle.ldmodel.specs.Lines.{hex}
 use Rattle.ldtext.proofs.map_line.piece_front.Goals as goal
 

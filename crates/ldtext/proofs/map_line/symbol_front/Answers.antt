@@ -1,5 +1,5 @@
 -- A number in its place.
-use Rattle.std.proofs.Common.{◌≡◌, refl}
+use Rattle.std.proofs.Common.{refl}
 use Rattle.ldmodel.specs.Lines.{hex}
 use Rattle.ldtext.proofs.map_line.symbol_front.Goals as goal
 

@@ -1,5 +1,5 @@
 -- The section at the likely place, where it has the number.
-use Rattle.std.proofs.Common.{◌≡◌, rules, sym}
+use Rattle.std.proofs.Common.{rules, sym}
 use Rattle.ldtext.proofs.FoundSections.{found_at}
 use Rattle.ldtext.proofs.named.find_section_near.Goals as goal
 
