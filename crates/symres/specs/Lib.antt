@@ -1,5 +1,6 @@
 -- What a table of names holds, and what its parts keep.
 pub mod State
+pub mod Hashing
 pub mod Known
 pub mod Places
 pub mod Numbers

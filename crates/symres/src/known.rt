@@ -9,6 +9,7 @@ ghost use Rattle.symres.specs.Known.{number_in};
 ghost use Rattle.symres.specs.Numbers.{is_used};
 ghost use Rattle.symres.specs.State.{slot, AreDistinct, IsInByteOrder, IsListing, IsNamed, KeepsNames};
 
+use crate::hashing::WordState;
 use crate::objects::Objects;
 use indexmap::IndexMap;
 use indexmap::map::Iter;
@@ -20,7 +21,7 @@ use std::marker::Model;
 /// Two tables that tell each other's contents: the number of a name, and the name of a number.
 #[derive(Drop)]
 pub struct Known {
-    numbers: IndexMap<Vec<u8>, usize, RandomState>,
+    numbers: IndexMap<Vec<u8>, usize, WordState>,
     names: Slab<Vec<u8>>,
 }
 
@@ -47,7 +48,7 @@ fn drop_unused(names: &mut Slab<Vec<u8>>, objects: &Objects)
     names.retain(|number, _name| objects.is_used(number));
 }
 
-fn is_numbered(numbers: &IndexMap<Vec<u8>, usize, RandomState>, number: usize, name: &[u8]) -> bool
+fn is_numbered(numbers: &IndexMap<Vec<u8>, usize, WordState>, number: usize, name: &[u8]) -> bool
     ensures { result ≡ is_number number (number_in name.now numbers.now.entries) }
 {
     match numbers.get(name) {
@@ -56,7 +57,7 @@ fn is_numbered(numbers: &IndexMap<Vec<u8>, usize, RandomState>, number: usize, n
     }
 }
 
-fn drop_unnumbered(names: &mut Slab<Vec<u8>>, numbers: &IndexMap<Vec<u8>, usize, RandomState>)
+fn drop_unnumbered(names: &mut Slab<Vec<u8>>, numbers: &IndexMap<Vec<u8>, usize, WordState>)
     ensures { (n : ℕ) → get names.new n
         ≡ kept_if (λ (v : Vec ℕ Global). is_number n (number_in v.items numbers.now.entries)) (get names.old n) }
 {
@@ -69,7 +70,7 @@ impl Known {
         ensures { result ≡ record { slots = []; order = [] } }
     {
         Known {
-            numbers: IndexMap::with_hasher(alloc, seed),
+            numbers: IndexMap::with_hasher(alloc, WordState::new(seed)),
             names: Slab::new(alloc),
         }
     }

@@ -1,6 +1,7 @@
 //! Names: which definition each name stands for, over all entered objects and the script.
 #![tactic(auto)]
 
+mod hashing;
 mod known;
 pub mod law;
 mod lists;
