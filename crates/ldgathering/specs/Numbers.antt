@@ -72,7 +72,8 @@ abbrev pub Refers : Project → ℕ → ℕ → Type 0
 Refers p a b = (s t : InputSection) → IsSectionAt p a s → IsSectionAt p b t → IsTrue (refers_to p s t)
 
 -- the parts by which references are found are those of the project
-pub record AreProjectReferences (p : Project) (naming : NamingState) (numbers : Numbers) (xs : List Gathered) : Type 0 where
+pub record AreProjectReferences (p : Project) (naming : NamingState) (numbers : Numbers) (xs : List Gathered)
+    : Type 0 where
   pub named : IsNaming p naming
   pub ascending : AscendingSections p
   pub sections : AreGathered p (by_place p) xs
