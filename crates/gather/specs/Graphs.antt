@@ -2,8 +2,8 @@
 use Rattle.std.specs.Prelude.{ℕ, ◌≡◌, ◌<◌, ◌+◌, Bool, true, false, cond, ◌||◌, List, ◌∷◌, [], ◌++◌, length, slice_index}
 use Rattle.std.specs.Prelude.{slice_index_or, slice_range, slice_set, Contains}
 
--- sections by their numbers: of each whether it is left out, the numbers of the roots, and which section refers to which.
--- A number past the end of `out` is that of no section
+-- sections by their numbers: of each whether it is left out, the numbers of the roots, and which section refers to
+-- which. A number past the end of `out` is that of no section
 pub record Graph : Type 1 where
   pub out : List Bool
   pub roots : List ℕ

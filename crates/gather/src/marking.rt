@@ -37,7 +37,8 @@ fn reach<R: References>(
     roots: &[usize],
     references: &R,
 ) -> Result<Vec<bool>, NoMemory>
-    requires { R.count references.now ≡ length out.now }
+    requires can { R.can_find references.now }
+    requires count { R.count references.now ≡ length out.now }
     ensures long { IfOk result (λ live. length live.items ≡ length out.now) }
     ensures live { IfOk result (λ live. (s : ℕ)
         → IsMarked live.items s ↔ IsLive (graph_of out.now roots.now (R.refers references.now)) s) }
@@ -67,7 +68,8 @@ pub fn mark_reached<R: References>(
     roots: &[usize],
     references: &R,
 ) -> Result<Vec<bool>, NoMemory>
-    requires { R.count references.now ≡ length out.now }
+    requires can { R.can_find references.now }
+    requires count { R.count references.now ≡ length out.now }
     ensures long { IfOk result (λ marks. length marks.items ≡ length out.now) }
     ensures reached { IfOk result (λ marks. (s : ℕ)
         → IsMarked marks.items s ↔ IsLive (graph_of out.now roots.now (R.refers references.now)) s) }

@@ -1,6 +1,6 @@
 //! Which input statement takes a section.
 
-ghost use Rattle.std.specs.Prelude.{◌≡◌, ◌<◌, IfOk, OnOk, Some, length, map, slice_get, take};
+ghost use Rattle.std.specs.Prelude.{◌≡◌, ◌<◌, IfOk, Some, length, map, slice_get, take};
 ghost use Rattle.elfobj.specs.Sections.{LinkedSection};
 ghost use Rattle.ldmodel.specs.FirstMatch.{first_match};
 ghost use Rattle.ldtree.specs.Numbered.{shown_inputs};

@@ -7,6 +7,9 @@ use ldmodel::memory::NoMemory;
 
 /// The references of sections that are known by their numbers, from 0 on.
 pub trait References {
+    /// When targets can be found: what the parts of an implementation must agree on.
+    ghost can_find: { Self → Type 0 };
+
     /// How many sections there are.
     ghost count: { Self → ℕ };
 
@@ -16,7 +19,8 @@ pub trait References {
     /// Makes `targets` the numbers of the sections that a section refers to, in any order. A number may stand there
     /// twice, and one that is not below the count is that of no section. An error says that memory ran out.
     fn find_targets(&self, section: usize, targets: &mut Vec<usize>) -> Result<(), NoMemory>
-        requires { section < count self.now }
+        requires can { can_find self.now }
+        requires within { section < count self.now }
         ensures { OnOk result ((next : ℕ) → next < count self.now
             → refers self.now section next ↔ Contains targets.new.items next) };
 }
@@ -53,6 +57,8 @@ fn row<'a>(starts: &[usize], targets: &'a [usize], section: usize) -> &'a [usize
 }
 
 impl<'a> References for Listed<'a> {
+    ghost can_find = { λ _. Unit {0} };
+
     ghost count = { λ l. l.count };
 
     ghost refers = { λ l. IsListed l.starts.now l.targets.now };

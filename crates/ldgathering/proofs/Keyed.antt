@@ -49,7 +49,7 @@ the_some None h = absurd (cc)
 the_some (Some m) h = (m, refl)
 
 module _ (p : Project) (xs : List Gathered) (are : AreGathered p (by_place p) xs) where
-  as_many : length xs ≡ length (input_sections p)
+  pub as_many : length xs ≡ length (input_sections p)
   as_many =
       sym (length-map xs (shown_facts (by_place p))) ∙ (ap length are.facts
       ∙ length-map (input_sections p) (facts p))

@@ -1,19 +1,23 @@
 -- Tables of the numbers that input sections have, and the sections that relocations refer to, by these.
-use Rattle.std.specs.Prelude.{◌≡◌, ◌<◌, ◌+◌, ◌++◌, ◌≤◌, ◌↔◌, ◌&&◌, ◌==◌, ℕ, Bool, List, Option, Some, None, Contains}
+use Rattle.std.specs.Prelude.{◌≡◌, ◌<◌, ◌++◌, ◌↔◌, ◌&&◌, ◌==◌, ℕ, Bool, List, Option, Some, None, Contains}
 use Rattle.std.specs.Prelude.{IsSome}
-use Rattle.std.specs.Prelude.{IsTrue, slice_get, slice_index, slice_index_or, slice_range, length}
+use Rattle.std.specs.Prelude.{IsTrue, slice_get, slice_index_or}
 use Rattle.std.specs.List.{list_any}
 use Rattle.std.specs.Option.{option_map_or}
 use Rattle.elfobj.specs.declared.relocation.Relocation.{Relocation}
+use Rattle.gather.specs.Apart.{AscendingSections}
+use Rattle.gather.specs.Gathered.{AreGathered}
 use Rattle.gather.specs.LiveMarks.{IsSectionAt}
 use Rattle.gather.specs.declared.gathered.Gathered.{Gathered}
 use Rattle.ldmodel.specs.HandedOver.{section_id}
-use Rattle.ldmodel.specs.Live.{is_section, target_section}
+use Rattle.ldmodel.specs.Live.{is_section, refers_to, target_section}
 use Rattle.ldmodel.specs.Project.{Project}
 use Rattle.ldmodel.specs.Sections.{InputSection, SectionId, is_same_part}
 use Rattle.ldmodel.specs.declared.sections.Part.{Part}
 use Rattle.ldmodel.specs.declared.sections.Part.TheVariants.{InTable, InCommon}
 use Rattle.ldmodel.specs.declared.sections.SectionKey.{SectionKey}
+use Rattle.ldnaming.specs.Naming.{IsNaming, NamingState}
+use Rattle.ldgathering.specs.Members.{by_place}
 use Rattle.ldgathering.specs.declared.numbers.Numbers.{Numbers}
 use Rattle.ldgathering.specs.declared.numbers.PartNumbers.{PartNumbers}
 
@@ -63,16 +67,14 @@ pub record AddsTargets (p : Project) (i : ℕ) (rs : List Relocation) (old new :
   pub is : new ≡ old ++ added
   pub are : AreTargets p i rs added
 
--- of the first n sections the numbers of those that each refers to, from where it starts up to where the next does
-pub record AreRows (p : Project) (n : ℕ) (starts targets : List ℕ) : Type 0 where
-  pub long : length starts ≡ n + 1
-  pub last : slice_index starts n ≡ length targets
-  pub within : (a : ℕ) → a < n + 1 → slice_index starts a ≤ length targets
-  pub row : (a : ℕ) (s : InputSection) → a < n → IsSectionAt p a s → AreTargets p s.id.object s.relocations
-      (slice_range targets (slice_index starts a) (slice_index starts (a + 1)))
+-- a relocation of section number a refers to section number b, where there are such sections
+abbrev pub Refers : Project → ℕ → ℕ → Type 0
+Refers p a b = (s t : InputSection) → IsSectionAt p a s → IsSectionAt p b t → IsTrue (refers_to p s t)
 
--- of each section
-abbrev pub AreAllRows : Project → (starts targets : List ℕ) → Type 0
-AreAllRows p starts targets =
-    (a : ℕ) (s : InputSection) → IsSectionAt p a s → AreTargets p s.id.object s.relocations
-    (slice_range targets (slice_index starts a) (slice_index starts (a + 1)))
+-- the parts by which references are found are those of the project
+pub record AreProjectReferences (p : Project) (naming : NamingState) (numbers : Numbers) (xs : List Gathered)
+    : Type 0 where
+  pub named : IsNaming p naming
+  pub ascending : AscendingSections p
+  pub sections : AreGathered p (by_place p) xs
+  pub numbered : AreProjectNumbers p numbers

@@ -11,18 +11,19 @@ ghost use Rattle.ldmodel.specs.Live.{live};
 ghost use Rattle.ldnaming.specs.Naming.{IsNaming};
 
 use crate::numbers::Numbers;
-use crate::references::find_references;
+use crate::references::ProjectReferences;
 use crate::targets::entry_section;
 use gather::gathered::Gathered;
 use gather::live_sections::not_out;
-use gather::marking::mark;
+use gather::marking::mark_reached;
 use gather::roots::roots;
 use ldmodel::memory::NoMemory;
 use ldnaming::naming::Naming;
 use ldproject::view::ProjectView;
 use std::alloc::Global;
 
-/// Marks the sections that the program needs. `out` says of each whether it is left out.
+/// Marks the sections that the program needs. `out` says of each whether it is left out. The relocations of the other
+/// sections are not gone through.
 fn mark_needed(
     alloc: Global,
     project: &ProjectView<'_>,
@@ -40,8 +41,13 @@ fn mark_needed(
     let numbers = Numbers::of(alloc, sections)?;
     let entry = numbers.find(entry_section(project, naming));
     let roots = roots(alloc, project.script(), sections, entry)?;
-    let found = find_references(alloc, project, naming, &numbers, sections)?;
-    mark(alloc, out, &roots, &found.starts, &found.targets)
+    let references = ProjectReferences {
+        project,
+        naming,
+        numbers: &numbers,
+        sections,
+    };
+    mark_reached(alloc, out, &roots, &references)
 }
 
 /// Marks the live sections. `out` says of each whether it is left out. An error says that memory ran out.

@@ -1,15 +1,13 @@
 //! The input sections that relocations refer to, by numbers.
 
-ghost use Rattle.std.specs.Prelude.{◌≡◌, ◌==◌, ◌++◌, IfOk, OnOk, option_to_list, []};
+ghost use Rattle.std.specs.Prelude.{◌≡◌, ◌==◌, ◌++◌, OnOk, length, option_to_list, []};
 ghost use Rattle.std.specs.List.{find};
 ghost use Rattle.std.specs.Option.{option_map_or};
 ghost use Rattle.elfobj.specs.Sections.{LinkedSection};
-ghost use Rattle.gather.specs.Apart.{AscendingSections};
-ghost use Rattle.gather.specs.Gathered.{AreGathered};
 ghost use Rattle.ldgathering.specs.Found.{relocations_of};
-ghost use Rattle.ldgathering.specs.Members.{by_place};
-ghost use Rattle.ldgathering.specs.Numbers.{AddsTargets, AreAllRows, AreProjectNumbers};
+ghost use Rattle.ldgathering.specs.Numbers.{AddsTargets, AreProjectNumbers, AreProjectReferences, Refers};
 ghost use Rattle.ldgathering.specs.Symbols.{IsObjectAt};
+ghost use Rattle.ldmodel.specs.InputSections.{input_sections};
 ghost use Rattle.ldnaming.specs.Naming.{IsNaming};
 
 use crate::numbers::Numbers;
@@ -18,19 +16,11 @@ use elfobj::object::Object;
 use elfobj::relocation::Relocation;
 use elfobj::section::SectionIndex;
 use gather::gathered::Gathered;
+use gather::references::References;
 use ldmodel::memory::NoMemory;
 use ldmodel::sections::Part;
 use ldnaming::naming::Naming;
 use ldproject::view::ProjectView;
-use std::alloc::Global;
-
-/// Of each input section the numbers of those that its relocations refer to: those of number `a` are
-/// `targets[starts[a]..starts[a + 1]]`.
-#[derive(Drop)]
-pub(crate) struct References {
-    pub(crate) starts: Vec<usize>,
-    pub(crate) targets: Vec<usize>,
-}
 
 /// Adds the number of a section, if there is one.
 fn add_number(targets: &mut Vec<usize>, number: Option<usize>) -> Result<(), NoMemory>
@@ -115,27 +105,26 @@ fn add_row(
     }
 }
 
-/// The references of all input sections. The time grows with the number of sections and of relocations. An error says
-/// that memory ran out.
-pub(crate) fn find_references(
-    alloc: Global,
-    project: &ProjectView<'_>,
-    naming: &Naming,
-    numbers: &Numbers,
-    sections: &[Gathered<'_>],
-) -> Result<References, NoMemory>
-    requires naming { IsNaming project.now naming.now }
-    requires ascending { AscendingSections project.now }
-    requires sections { AreGathered project.now (by_place project.now) sections.now }
-    requires numbers { AreProjectNumbers project.now numbers.now }
-    ensures { IfOk result (λ r. AreAllRows project.now r.starts.items r.targets.items) }
-{
-    let mut starts = Vec::new(alloc);
-    let mut targets = Vec::new(alloc);
-    starts.push(0)?;
-    for section in sections {
-        add_row(project, naming, numbers, section, &mut targets)?;
-        starts.push(targets.len())?;
+/// The references between the input sections of a project, by the relocations of these. They are found anew for each
+/// section that is asked for, and nothing is kept of them. The time for a section grows with its relocations.
+#[derive(Drop)]
+pub(crate) struct ProjectReferences<'a, 'p, 's> {
+    pub(crate) project: &'a ProjectView<'p>,
+    pub(crate) naming: &'a Naming,
+    pub(crate) numbers: &'a Numbers,
+    pub(crate) sections: &'a [Gathered<'s>],
+}
+
+impl<'a, 'p, 's> References for ProjectReferences<'a, 'p, 's> {
+    ghost can_find = { λ r. AreProjectReferences r.project.now r.naming.now r.numbers.now r.sections.now };
+
+    ghost count = { λ r. length (input_sections r.project.now) };
+
+    ghost refers = { λ r. Refers r.project.now };
+
+    fn find_targets(&self, section: usize, targets: &mut Vec<usize>) -> Result<(), NoMemory> {
+        targets.clear();
+        let section = &self.sections[section];
+        add_row(self.project, self.naming, self.numbers, section, targets)
     }
-    Ok(References { starts, targets })
 }

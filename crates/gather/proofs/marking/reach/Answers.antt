@@ -30,14 +30,14 @@ loop-section-init g c =
           c.loop-root.invariant.roots k (omega (arith, c.loop-root-test.false)));
     }
 
-pub find_targets-requires : goal.find_targets-requires
-find_targets-requires g c =
+pub find_targets-requires-clause-within : goal.find_targets-requires-clause-within
+find_targets-requires-clause-within g c =
     let m = c.loop-section.invariant.marks in
     let on : Contains c.loop-section.stack.items c.in-Some.section =
     rw c.in-Some.ensures.items (Contains-push c.pop.new.self.items c.in-Some.section) in
     let inside : c.in-Some.section < length c.loop-section.live.items =
     marked_within c.loop-section.live.items c.in-Some.section (m.on_stack _ on) in
-    omega (arith, inside, m.long, c.requires)
+    omega (arith, inside, m.long, c.requires.count)
 
 pub loop-target-init : goal.loop-target-init
 loop-target-init g c =
@@ -65,7 +65,7 @@ loop-target-preserved g c =
     omega (arith, inv.marks.long, marked_within c.loop-target.live.items c.in-Some.section inv.at) in
     let are : AreTargets w c.in-Some.section items =
     λ b low. subst (λ (l : List ℕ). w.refers c.in-Some.section b ↔ Contains l b)
-    (sym c.deref-target-items.ensures.value) (c.in_ok-find_targets.ensures b (omega (arith, low, c.requires))) in
+    (sym c.deref-target-items.ensures.value) (c.in_ok-find_targets.ensures b (omega (arith, low, c.requires.count))) in
     let l : IsIn w next → IsLive w next = λ h.
     from_live c.in-Some.section next (inv.marks.sound _ inv.at) (leads_out w c.in-Some.section i items here are in' h)
     h in
@@ -89,7 +89,7 @@ loop-section-preserved g c =
     omega (arith, inv.marks.long, marked_within c.loop-target.live.items c.in-Some.section inv.at) in
     let are : AreTargets w c.in-Some.section items =
     λ b low. subst (λ (l : List ℕ). w.refers c.in-Some.section b ↔ Contains l b)
-    (sym c.deref-target-items.ensures.value) (c.in_ok-find_targets.ensures b (omega (arith, low, c.requires))) in
+    (sym c.deref-target-items.ensures.value) (c.in_ok-find_targets.ensures b (omega (arith, low, c.requires.count))) in
     record {
       marks = marks_done w _ _ c.in-Some.section inv.marks
           (λ b t i. each_contained items (λ b. IsIn w b → IsMarked c.loop-target.live.items b) (λ k h.
