@@ -1,6 +1,6 @@
 """Whole streams of commands: the calculator's worked rows and its rows for images, random streams, lists of edits, all
-five kinds in each, of whose answers a checksum is printed, worked rows of whose edits it is printed what they count, and
-worked rows that a session answers while each call of its reader and of its writer fails in turn. What must be printed is
+five kinds in each, of whose answers a checksum is printed, worked rows of whose edits it is printed what they count,
+and worked rows that are answered while each call of a reader and of a writer fails in turn. What must be printed is
 made of the calculator's answers (tools/calculator/answers.py), and of the counts below."""
 import itertools
 import re
@@ -159,9 +159,9 @@ def check_most(title, number, answer):
 
 
 def failing(options, data):
-    """The checksum of all answers, the status, and of the reads, writes and flushes how many there are, and how many bytes
-    are written where each of them fails. A byte is read at a time, at most LONGEST_WRITE are written, and each answer is
-    flushed before a byte of the next command is read."""
+    """The checksum of all answers, the status, and of the reads, writes and flushes how many there are, and how many
+    bytes are written where each of them fails. A byte is read at a time, at most LONGEST_WRITE are written, and each
+    answer is flushed before a byte of the next command is read."""
     found, reads, at = [], [], 0
     status = answers.answers(options, data, found.append)
     ends = list(itertools.accumulate(map(len, found)))
@@ -179,8 +179,9 @@ def failing(options, data):
 
 
 def expected(_stream):
-    shown = (b"stream " + name.encode() + b"\n" + printed(options, data) for name, options, data in frames())
-    unseen = (b"list " + name.encode() + b"\n" + summed(options, data) for name, options, data in lists())
-    work = (b"counts " + name.encode() + b"\n" + counts(name, options, data) for name, options, data in of_titles(COUNTS))
-    failed = (b"devices " + name.encode() + b"\n" + failing(options, data) for name, options, data in of_titles(FAILING))
+    title = lambda kind, name: f"{kind} {name}\n".encode()
+    shown = (title("stream", name) + printed(options, data) for name, options, data in frames())
+    unseen = (title("list", name) + summed(options, data) for name, options, data in lists())
+    work = (title("counts", name) + counts(name, options, data) for name, options, data in of_titles(COUNTS))
+    failed = (title("devices", name) + failing(options, data) for name, options, data in of_titles(FAILING))
     return b"".join([*(text + b"same\n" for text in (*shown, *unseen)), *work, *failed])

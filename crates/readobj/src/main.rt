@@ -28,14 +28,14 @@
 //! Of bytes that are no object it prints `refused N` with the reader's number instead, and a line with two spaces and
 //! the place and the reason, for people.
 //!
-//! `variants` in place of `object` asks what the reader says of all beginnings of the object, the empty one and the whole
-//! one too, and of the object with one byte set to 00, 7F or FF, for every byte. It prints a line `variants TITLE`, then
-//! `beginnings` and a line `  FROM..TO: ANSWER` for all lengths from FROM to TO, then for each value `each byte VALUE`
-//! and the same for the places of the byte. ANSWER is `object`, or `refused N` where the bytes are refused and came back
-//! as they were, or `lost` where others came back.
+//! `variants` in place of `object` asks what the reader says of all beginnings of the object, from the empty one to the
+//! whole one, and of the object with one byte set to 00, 7F or FF, for every byte. It prints a line `variants TITLE`,
+//! then `beginnings` and a line `  FROM..TO: ANSWER` for all lengths from FROM to TO, then for each value
+//! `each byte VALUE` and the same for the places of the byte. ANSWER is `object`, or `refused N` where the bytes are
+//! refused and came back as they were, or `lost` where others came back.
 //!
-//! It ends with status 0 after the last object, with status 1 where the stream
-//! goes on with no object, and with status 3 where a device failed or memory was refused.
+//! It ends with status 0 after the last object, with status 1 where the stream goes on with no object, and with status 3
+//! where a device failed or memory was refused.
 #![tactic(auto)]
 
 mod file;

@@ -1,5 +1,5 @@
-//! The stream of objects that is read: each is a line `object LEN` or `object LEN TITLE`, or one with `variants` in place
-//! of `object`, and LEN bytes right after it.
+//! The stream of objects that is read: each is a line `object LEN` or `object LEN TITLE`, perhaps with `variants` for
+//! `object`, and LEN bytes right after it.
 
 use std::str;
 

@@ -14,9 +14,10 @@
 //!
 //! For each frame it prints `stream NAME`, and then for each command the line of its answer. Under that of a map or of
 //! fault lines stands the text; that of an image goes on with a checksum (`answer::checksum`). Then it prints
-//! `status S`, and `same` where all ways give one status and the same bytes, or else where they differ. For a frame of
-//! `counts` it prints under the answer to each edit how many objects it read, names it decided, input sections it placed,
-//! relocations it evaluated and bytes of the image it wrote.
+//! `status S`, and `same` where all ways give one status and the same bytes, or else where they differ.
+//!
+//! For a frame of `counts` it prints under the answer to each edit how many objects it read, names it decided, input
+//! sections it placed, relocations it evaluated and bytes of the image it wrote.
 //!
 //! For a frame of `devices` a session answers the stream through a reader that gives one byte a call and a writer that
 //! takes at most 100. It prints `bytes LENGTH sum CHECKSUM` of all answers and `status S`. Then sessions answer it with
