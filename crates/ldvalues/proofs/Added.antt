@@ -1,7 +1,6 @@
 -- Symbols of the output, one by one.
-use Rattle.std.proofs.Common.{◌≡◌, ◌∙◌, ℕ, ◌<◌, List, [], ◌∷◌, ◌++◌, get_or, ap, sym, refl}
-use Rattle.std.specs.Prelude.{Option, Some, None, slice_get, IfSome}
-use Rattle.std.specs.Borrow.{Bor}
+use Rattle.std.proofs.Common.{◌≡◌, ◌∙◌, ℕ, List, [], ◌∷◌, ◌++◌, ap, sym}
+use Rattle.std.specs.Prelude.{Option, Some, slice_get}
 use Rattle.std.specs.Option.{option_map}
 use Rattle.ldmodel.specs.HandedOver.{decision_of}
 use Rattle.ldmodel.specs.Layout.{Layout, script_value}
@@ -10,10 +9,8 @@ use Rattle.ldmodel.specs.OutputSymbols as model
 use Rattle.ldmodel.specs.OutputSymbols.{output_symbol}
 use Rattle.ldmodel.specs.Project.{Project}
 use Rattle.ldmodel.specs.SymbolValues.{SymbolValue, decided_value, name_value}
-use Rattle.ldmodel.specs.declared.names.Case.{Case}
 use Rattle.ldnaming.specs.Decided.{case_at}
 use Rattle.ldtargets.specs.Values.{value_of}
-use Rattle.ldtargets.specs.declared.value.SymbolValue as code
 use Rattle.symres.specs.State.{IsNamed}
 use Rattle.ldvalues.specs.ScriptValues.{value_in}
 use Rattle.ldvalues.specs.Symbols.{AddsSymbols, AreSources, defined, shown}

@@ -1,12 +1,11 @@
 -- The names that stand for something are declared, and symbols of them in byte order are those of the output.
-use Rattle.std.proofs.Common.{◌≡◌, ◌∙◌, ℕ, suc, ◌+◌, ◌<◌, ◌≤◌, ◌⊎◌, List, [], ◌∷◌, ◌++◌, length, map, filter, get_or}
-use Rattle.std.proofs.Common.{ap, sym, subst, refl, arith, Bool, true, false, cond, inl, inr, ⊎_elim}
+use Rattle.std.proofs.Common.{◌≡◌, ◌∙◌, ℕ, suc, ◌+◌, ◌⊎◌, List, [], ◌∷◌, ◌++◌, length, map, filter, get_or}
+use Rattle.std.proofs.Common.{ap, sym, subst, refl, arith, Bool, true, false, cond, inl, inr}
 use Rattle.std.specs.Prelude.{Option, Some, None, bytes_eq, Contains}
 use Rattle.std.proofs.lemmas.List.{get_or_default, length-map, map-append}
 use Rattle.std.proofs.lemmas.List.Elements.{filter-append}
 use Rattle.std.proofs.lemmas.Slice.Eq.{bytes_eq-Decides}
-use Rattle.std.specs.List.Sorted.{IsSortedBy}
-use Rattle.ldtext.proofs.ByteOrder.{Asc, In, Name, contained_in, distinct_once, filtered_asc, filtered_in, in_contained}
+use Rattle.ldtext.proofs.ByteOrder.{Asc, In, Name, contained_in, distinct_once, filtered_asc, filtered_in}
 use Rattle.ldtext.proofs.ByteOrder.{in_filtered, in_sorted, same_list, sorted_asc, sorted_in}
 use Rattle.ldtree.specs.Given.{assigned_from, assigned_here, given_as, provided_from}
 use Rattle.ldtree.specs.Numbering.{AssignmentAt, CommonAt, assigned_by, assigned_in, common_commands}
@@ -26,7 +25,7 @@ use Rattle.ldvalues.specs.Candidates.{names_of, AreCandidates}
 use Rattle.ldvalues.specs.Symbols.{AddsSymbols, defined, defined_symbols, distinct_first, fresh, shown}
 use Rattle.ldvalues.specs.declared.candidate.Candidate.{Candidate}
 use Rattle.ldvalues.specs.declared.values.OutputSymbol.{OutputSymbol}
-use Rattle.ldvalues.proofs.Distinct.{first_asc, first_in, in_first, names_up}
+use Rattle.ldvalues.proofs.Distinct.{first_asc, first_in, names_up}
 use Rattle.ldvalues.proofs.Listing.{declared_in}
 
 -- ---- what stands for something is declared

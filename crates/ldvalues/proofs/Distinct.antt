@@ -1,5 +1,5 @@
 -- The first of each run of alike names in a sorted list.
-use Rattle.std.proofs.Common.{◌≡◌, ◌≢◌, ◌∙◌, ℕ, zero, suc, ◌+◌, ◌-◌, ◌<◌, ◌≤◌, ◌⊎◌, List, [], ◌∷◌, ◌++◌, length, map}
+use Rattle.std.proofs.Common.{◌≡◌, ◌≢◌, ◌∙◌, ℕ, zero, suc, ◌+◌, ◌-◌, ◌<◌, ◌≤◌, ◌⊎◌, List, [], ◌∷◌, ◌++◌, length}
 use Rattle.std.proofs.Common.{get_or, ap, sym, subst, refl, arith, Bool, true, false, cond, inl, inr, ⊎_elim, append-nil}
 use Rattle.std.specs.Prelude.{bytes_eq, nat_lt, ◌&&◌}
 use Rattle.std.specs.Cmp.{IsStrictWeakOrder}

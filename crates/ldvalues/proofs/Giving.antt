@@ -7,7 +7,6 @@ use Rattle.std.proofs.lemmas.Option.{slice_get-map, slice_get-get_or, slice_get_
 use Rattle.std.proofs.Math.Seq.{take-suc}
 use Rattle.std.proofs.lemmas.Bool.{cases_eq, cases_lt}
 use Rattle.std.proofs.lemmas.List.{get_or_default, map-append, take_all, get_or-set_same, get_or-set_other}
-use Rattle.std.proofs.lemmas.List.{get_or-map, length-map}
 use Rattle.ldtree.specs.declared.statement.Statement.{Statement}
 use Rattle.ldmodel.specs.Layout.{Layout, ScriptSymbol}
 use Rattle.ldmodel.specs.Lent.{name_given_by, symbol_of}
@@ -21,7 +20,7 @@ use Rattle.ldnumbers.specs.SymbolTable.{AreValuesOf, value_of}
 use Rattle.ldnumbers.specs.Tables.{entry_under, symbol_number}
 use Rattle.symres.specs.State.{IsNamed}
 use Rattle.ldvalues.specs.GivenTable.{IsGivenTable}
-use Rattle.ldvalues.specs.ScriptValues.{AreScriptValues, value_in}
+use Rattle.ldvalues.specs.ScriptValues.{AreScriptValues}
 use Rattle.ldvalues.specs.declared.script_values.ScriptValues.{ScriptValues}
 
 pub take_more : {X : Type 0} (xs : List X) (i : ℕ) (x : X) → i < length xs → get_or xs i x ≡ x

@@ -1,4 +1,4 @@
-use Rattle.std.proofs.Common.{◌∙◌, None, Some, sym}
+use Rattle.std.proofs.Common.{◌∙◌, sym}
 use Rattle.ldvalues.specs.LinkView.{known_link}
 use Rattle.ldvalues.proofs.EntryCase.{entry_named, no_entry}
 use Rattle.ldvalues.proofs.values.entry_value.Goals as goal

@@ -15,7 +15,7 @@ returns c =
         naming = c.requires.naming;
         script = sym c.script-script.ensures;
         names = subst (λ (vs : List code.SymbolValue).
-            AreNameValues (known_link c.args.project.now s c.args.naming.now) vs) (sym c.deref.ensures.value) names;
+            AreNameValues (known_link c.args.project.now s c.args.naming.now) vs) (sym c.deref-2.ensures.value) names;
         given = given;
       });
     }
