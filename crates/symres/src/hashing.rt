@@ -10,10 +10,8 @@ use std::hash::{BuildHasher, DefaultHasher, Hasher, RandomState};
 #[derive(Clone, Copy)]
 pub struct WordHasher {
     hasher: DefaultHasher,
-    // the last eight bytes
+    // the bytes since the last whole word, after a one
     word: u64,
-    // how many there were
-    count: u64,
 }
 
 impl WordHasher {
@@ -23,10 +21,11 @@ impl WordHasher {
     fn add(&mut self, byte: u8)
         ensures { self.new ≡ with_byte self.old byte }
     {
+        let is_last = self.word >> 56 != 0;
         self.word = self.word << 8 | byte as u64;
-        self.count = self.count.wrapping_add(1);
-        if self.count % 8 == 0 {
+        if is_last {
             self.hasher.write_u64(self.word);
+            self.word = 1;
         }
     }
 }
@@ -79,8 +78,7 @@ impl BuildHasher for WordState {
     fn build_hasher(&self) -> WordHasher {
         WordHasher {
             hasher: self.seed.build_hasher(),
-            word: 0,
-            count: 0,
+            word: 1,
         }
     }
 }
