@@ -1,5 +1,5 @@
 -- What the hasher of names computes.
-use Rattle.std.specs.Prelude.{ℕ, ◌*◌, ◌/◌, ◌%◌, ◌^◌, ◌==◌, List, if◌then◌else◌, bit_or}
+use Rattle.std.specs.Prelude.{ℕ, ◌*◌, ◌/◌, ◌%◌, ◌^◌, ◌==◌, List, length, slice_index_or, if◌then◌else◌, bit_or}
 use Rattle.std.specs.List.{fold}
 use Rattle.std.specs.Hash.{u64}
 use Rattle.std.specs.Hash.DefaultHasher as sip
@@ -18,8 +18,11 @@ with_byte h byte =
     if h.word / 2 ^ 56 == 0 then record { hasher = h.hasher; word = word }
     else record { hasher = fold sip.write h.hasher (u64 word); word = 1 }
 
+-- more bytes than one are handed on as they are
 abbrev pub with_bytes : WordHasher → List ℕ → WordHasher
-with_bytes h bytes = fold with_byte h bytes
+with_bytes h bytes =
+    if length bytes == 1 then with_byte h (slice_index_or bytes 0 0)
+    else record { hasher = sip.write h.hasher bytes; word = h.word }
 
 unfoldable pub hash_of : WordHasher → ℕ
 hash_of h = sip.finish (fold sip.write h.hasher (u64 h.word))

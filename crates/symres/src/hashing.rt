@@ -5,8 +5,8 @@ ghost use Rattle.std.specs.RandomState.{initial_hasher};
 
 use std::hash::{BuildHasher, DefaultHasher, Hasher, RandomState};
 
-/// Hands bytes on in words of eight. A table that hashes a name makes a call for each byte, and the hasher of `std` takes
-/// several times longer for eight bytes one by one than for eight at once.
+/// Hands bytes on in words of eight. A table that hashes a name writes its length and then makes a call for each byte,
+/// and the hasher of `std` takes several times longer for eight bytes one by one than for eight at once.
 #[derive(Clone, Copy)]
 pub struct WordHasher {
     hasher: DefaultHasher,
@@ -43,10 +43,12 @@ impl Hasher for WordHasher {
         hasher.finish()
     }
 
-    #[inline(always)]
+    // the bytes of a length come together
     fn write(&mut self, bytes: &[u8]) {
-        for byte in bytes {
-            self.add(*byte);
+        if bytes.len() == 1 {
+            self.add(bytes[0]);
+        } else {
+            self.hasher.write(bytes);
         }
     }
 
