@@ -236,6 +236,15 @@ split_at ps at key os n h f = record {
 up_low : (at j : ℕ) → j < at → up at j ≡ j
 up_low at j h = ap (λ b. cond b j (j + 1)) (lt-ltb j at h)
 
+-- where all places are in front none moves
+pub none_moved : (at : ℕ) (places : List Place) → ((k : ℕ) (d : Place) → k < length places
+    → (get_or places k d).at < at) → AreMoved (up at) places places
+none_moved at places low = record {
+  long = refl;
+  key = λ k d h. refl;
+  at = λ k d h. sym (up_low at (get_or places k d).at (low k d h));
+}
+
 up_high : (at j : ℕ) → at ≤ j → up at j ≡ j + 1
 up_high at j h = ap (λ b. cond b j (j + 1)) (le-ltb j at h)
 

@@ -335,6 +335,20 @@ table_added place at key ss old mid new a r xs ys s t room = record {
       ∙ sym (entries-append k xs (record { key = key; symbols = ss; room = room } ∷ ys));
 }
 
+-- an object that comes last is in its place
+pub table_last : (key : ℕ) (ss : List Numbered) (old new : List Row) → Appended key ss old new
+    → (xs ys : List Entered) → ys ≡ [] → IsTable old (xs ++ ys) → (room : ℕ)
+    → IsTable new (xs ++ record { key = key; symbols = ss; room = room } ∷ ys)
+table_last key ss old new a xs ys none t room = record {
+  row = λ k d h.
+      let was : (get_or old k d).items ≡ entries k xs = t.row k d (omega (arith, a.long)) ∙ entries-append k xs ys
+      ∙ ap (λ l. entries k xs ++ entries k l) none ∙ append-nil (entries k xs) in
+      a.items k d (omega (arith, a.long)) ∙ ap (λ l. l ++ own k key ss) was
+      ∙ ap (λ l. entries k xs ++ l) (sym (append-nil (own k key ss)))
+      ∙ ap (λ l. entries k xs ++ (own k key ss ++ entries k l)) (sym none)
+      ∙ sym (entries-append k xs (record { key = key; symbols = ss; room = room } ∷ ys));
+}
+
 pub all_grow : (place : List Place) (at key : ℕ) (ss : List Numbered) (old mid new : List Row) → Appended key ss old mid
     → Settling place at key ss [] mid new → Grows old new ss
 all_grow place at key ss old mid new a r = record {

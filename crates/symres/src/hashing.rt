@@ -5,15 +5,13 @@ ghost use Rattle.std.specs.RandomState.{initial_hasher};
 
 use std::hash::{BuildHasher, DefaultHasher, Hasher, RandomState};
 
-/// Hands bytes on in words of eight. A table that hashes a name makes a call for each byte, and the hasher of `std` takes
-/// several times longer for eight bytes one by one than for eight at once.
+/// Hands bytes on in words of eight. A table that hashes a name writes its length and then makes a call for each byte,
+/// and the hasher of `std` takes several times longer for eight bytes one by one than for eight at once.
 #[derive(Clone, Copy)]
 pub struct WordHasher {
     hasher: DefaultHasher,
-    // the last eight bytes
+    // the bytes since the last whole word, after a one
     word: u64,
-    // how many there were
-    count: u64,
 }
 
 impl WordHasher {
@@ -23,10 +21,11 @@ impl WordHasher {
     fn add(&mut self, byte: u8)
         ensures { self.new ≡ with_byte self.old byte }
     {
+        let is_last = self.word >> 56 != 0;
         self.word = self.word << 8 | byte as u64;
-        self.count = self.count.wrapping_add(1);
-        if self.count % 8 == 0 {
+        if is_last {
             self.hasher.write_u64(self.word);
+            self.word = 1;
         }
     }
 }
@@ -44,10 +43,12 @@ impl Hasher for WordHasher {
         hasher.finish()
     }
 
-    #[inline(always)]
+    // the bytes of a length come together
     fn write(&mut self, bytes: &[u8]) {
-        for byte in bytes {
-            self.add(*byte);
+        if bytes.len() == 1 {
+            self.add(bytes[0]);
+        } else {
+            self.hasher.write(bytes);
         }
     }
 
@@ -79,8 +80,7 @@ impl BuildHasher for WordState {
     fn build_hasher(&self) -> WordHasher {
         WordHasher {
             hasher: self.seed.build_hasher(),
-            word: 0,
-            count: 0,
+            word: 1,
         }
     }
 }

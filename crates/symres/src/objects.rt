@@ -11,7 +11,7 @@ ghost use Rattle.symres.specs.Numbers.{without};
 ghost use Rattle.symres.specs.declared.symbol.Declared.{Declared};
 ghost use Rattle.symres.specs.declared.symbol.Numbered.{Numbered};
 
-use crate::places::{Place, count_below, find, move_down, move_up};
+use crate::places::{Place, count_below, find, make_gap, move_down};
 use crate::rows::{add_all, grow_to, remove_all, reserve_all};
 use crate::symbol::{Declared, Numbered};
 use std::alloc::{AllocError, Global};
@@ -182,9 +182,10 @@ impl Objects {
         ensures order { self.new.order_room + 1 ≡ self.old.order_room }
         ensures places { self.new.place_room + 1 ≡ self.old.place_room }
     {
-        add_all(&mut self.rows, &self.places, at, key, &symbols);
+        let count = self.order.len();
+        add_all(&mut self.rows, &self.places, at, count, key, &symbols);
         let number = count_below(&self.places, key);
-        move_up(&mut self.places, at);
+        make_gap(&mut self.places, at, count);
         self.places.insert(number, Place { key, at }).unwrap();
         self.order.insert(at, Placed { key, symbols }).unwrap();
     }

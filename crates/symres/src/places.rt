@@ -61,7 +61,7 @@ pub fn is_in_front(places: &[Place], at: usize, key: usize) -> bool
 }
 
 /// Makes a gap at `at` in the places of objects.
-pub fn move_up(places: &mut [Place], at: usize)
+fn move_up(places: &mut [Place], at: usize)
     requires { All (λ (p : Place). p.at < 2 ^ 64 - 1) places.old }
     ensures { AreMoved (up at) places.old places.new }
 {
@@ -69,6 +69,17 @@ pub fn move_up(places: &mut [Place], at: usize)
         if place.at >= at {
             place.at += 1;
         }
+    }
+}
+
+/// The same in the places of this number of objects: a gap after the last of them moves none.
+pub fn make_gap(places: &mut [Place], at: usize, count: usize)
+    requires fits { All (λ (p : Place). p.at < 2 ^ 64 - 1) places.old }
+    requires within { All (λ (p : Place). p.at < count) places.old }
+    ensures { AreMoved (up at) places.old places.new }
+{
+    if at < count {
+        move_up(places, at);
     }
 }
 

@@ -166,23 +166,27 @@ fn settle_all(
 }
 
 /// Adds what an object declares, after the objects in front. It takes no memory. Each row is gone through once, however
-/// many of the symbols have its name.
+/// many of the symbols have its name, and not at all where the object comes after all `count` that are there.
 pub fn add_all(
     table: &mut Vec<Vec<Declared>>,
     places: &[Place],
     at: usize,
+    count: usize,
     key: usize,
     symbols: &[Numbered],
 )
     requires sorted { AreSorted places.now }
     requires known { All (HasRow (length table.old.items)) symbols.now }
     requires room { HasRoom table.old.items symbols.now }
-    ensures table { (xs ys : List Entered) → IsSplit places.now at key xs ys → IsTable table.old.items (xs ++ ys)
+    ensures table { (xs ys : List Entered) → IsSplit places.now at key xs ys → (count ≤ at → ys ≡ [])
+        → IsTable table.old.items (xs ++ ys)
         → (room : ℕ) → IsTable table.new.items (xs ++ record { key = key; symbols = symbols.now; room = room } ∷ ys) }
     ensures grows { Grows table.old.items table.new.items symbols.now }
 {
     append_all(table, key, symbols);
-    settle_all(table, places, at, key, symbols);
+    if at < count {
+        settle_all(table, places, at, key, symbols);
+    }
 }
 
 fn drop_key(row: &mut Vec<Declared>, key: usize)

@@ -1,4 +1,4 @@
-use Rattle.std.proofs.Common.{◌+◌, ◌%◌, ◌^◌, Bool, ap, cond, sym}
+use Rattle.std.proofs.Common.{◌/◌, ◌^◌, Bool, ap, cond, sym}
 use Rattle.std.specs.List.{fold}
 use Rattle.std.specs.Hash.{u64}
 use Rattle.std.specs.Hash.DefaultHasher.{write}
@@ -7,28 +7,24 @@ use Rattle.symres.specs.Hashing.{shifted, with_byte}
 use Rattle.symres.specs.declared.hashing.WordHasher.{WordHasher}
 use Rattle.symres.proofs.hashing.WordHasher.add.Goals as goal
 
-pub returns-then-self-eq0 : goal.returns-then-self-eq0
+pub returns-then-is_last : goal.returns-then-is_last
 unfolding with_byte
-returns-then-self-eq0 c =
+returns-then-is_last c =
     let h = c.args.self.now in
     let word = shifted h.word c.args.byte in
-    let count = (h.count + 1) % 2 ^ 64 in
-    let make : Bool → WordHasher = λ b. record {
-      hasher = cond b (fold write h.hasher (u64 word)) h.hasher;
-      word = word;
-      count = count;
-    } in
-    rw c.write_u64.ensures (sym (ap make (eq-eqb (count % 8) 0 c.if-self-eq0.true)))
+    let make : Bool → WordHasher = λ b. cond b (record { hasher = h.hasher; word = word }) (record {
+      hasher = fold write h.hasher (u64 word);
+      word = 1;
+    }) in
+    rw c.write_u64.ensures (sym (ap make (ne_eqb (h.word / 2 ^ 56) 0 c.if-is_last.true)))
 
-pub returns-else-self-eq0 : goal.returns-else-self-eq0
+pub returns-else-is_last : goal.returns-else-is_last
 unfolding with_byte
-returns-else-self-eq0 c =
+returns-else-is_last c =
     let h = c.args.self.now in
     let word = shifted h.word c.args.byte in
-    let count = (h.count + 1) % 2 ^ 64 in
-    let make : Bool → WordHasher = λ b. record {
-      hasher = cond b (fold write h.hasher (u64 word)) h.hasher;
-      word = word;
-      count = count;
-    } in
-    sym (ap make (ne_eqb (count % 8) 0 c.if-self-eq0.false))
+    let make : Bool → WordHasher = λ b. cond b (record { hasher = h.hasher; word = word }) (record {
+      hasher = fold write h.hasher (u64 word);
+      word = 1;
+    }) in
+    sym (ap make (eq-eqb (h.word / 2 ^ 56) 0 c.if-is_last.false))
