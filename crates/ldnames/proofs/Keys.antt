@@ -108,9 +108,6 @@ has_name names x k h = (x.name, h.1)
 
 -- ---- keys that are noted
 
-pub no_keys : (names : List (Option (List ℕ))) (symbols : List NamedSymbol) → AreNoted names symbols []
-no_keys names symbols i k d l = absurd (omega (arith, l))
-
 pub one_noted : (names : List (Option (List ℕ))) (symbols : List NamedSymbol) (keys : List NameKey) (key : NameKey)
     (number : ℕ) → length keys ≡ number
     → ((d : NamedSymbol) → IsNotedFor names (get_or symbols number d) key) → AreNoted names symbols keys
