@@ -13,9 +13,10 @@ use Rattle.ldnames.specs.Change.{put_in, symbols_at, symbols_or}
 use Rattle.ldnames.specs.Counted.{CountsNames}
 use Rattle.ldnames.specs.Decided.{AreCases, HasCase}
 use Rattle.ldnames.specs.Decisions.{IsNoted, IsWhole}
-use Rattle.ldnames.specs.Texts.{AreDone, DecidedFor, HasPlaces, IsCleared, IsWhere}
+use Rattle.ldnames.specs.Texts.{AreDone, DecidedFor, HasPlaces, AreFound, IsCleared}
 use Rattle.ldnames.specs.declared.change.ObjectAt.{ObjectAt}
 use Rattle.ldnames.specs.declared.change.ObjectChange.{ObjectChange}
+use Rattle.ldnames.specs.declared.texts.KeySource.TheVariants as sources
 use Rattle.ldnames.proofs.Clearing.{none_cleared}
 use Rattle.ldnames.proofs.Exchanging.{Law, in_names, in_objects, in_order, out_names, out_objects, out_order, room_back}
 use Rattle.ldnames.proofs.OneName.{raised_twice}
@@ -25,7 +26,7 @@ use Rattle.ldnames.proofs.Touched.{case_within, complete_after, entries_same, so
 -- ---- of an object, if there is one
 
 pub there_is : (s : State) (o : Option ObjectAt) (x : ObjectAt) → o ≡ Some x → AreThere s o
-    → IsWhere s (Some x.place) (symbols_at x)
+    → AreFound s (sources.Entered x.place) (symbols_at x)
 there_is s o x e h = let there : AreThere s (Some x) = subst (AreThere s) e h in there
 
 pub cleared_some : (names : List (Option (List ℕ))) (o : Option ObjectAt) (x : ObjectAt) (old new : List (Option Case))

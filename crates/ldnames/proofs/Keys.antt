@@ -1,17 +1,20 @@
 -- The keys of the names of symbols.
 use Rattle.std.proofs.Common.{◌≡◌, ◌∙◌, ◌<◌, ℕ, Bool, true, false, not, List, [], Option, Some, None, length, map}
 use Rattle.std.proofs.Common.{get_or, ap, sym}
-use Rattle.std.proofs.Common.{subst, slice_get, refl}
+use Rattle.std.proofs.Common.{subst, slice_get, refl, arith, ⊎_elim, ◌++◌, ◌∷◌}
 use Rattle.std.specs.Prelude.{IfNone, IfSome}
 use Rattle.std.specs.Option.{option_map}
-use Rattle.std.proofs.lemmas.List.{get_or-map}
+use Rattle.std.proofs.lemmas.Bool.{cases_lt}
+use Rattle.std.proofs.lemmas.List.{get_or-map, get_or_append_left, get_or_push, length_push}
 use Rattle.std.proofs.lemmas.Option.{slice_get-get_or, slice_get-map}
 use Rattle.elfobj.specs.Symbols.{NamedSymbol}
 use Rattle.elfobj.specs.declared.symbol.Symbol.{Symbol}
 use Rattle.ldmodel.specs.Names.{is_local}
 use Rattle.ldmodel.specs.declared.names.NameKey.{NameKey}
 use Rattle.symres.specs.State.{HasName, IsNameAt, IsNamed, IsSeenAt, State}
-use Rattle.ldnames.specs.Texts.{AreKnown, IsKeyOf, IsWhere}
+use Rattle.ldnames.specs.declared.texts.KeySource.{KeySource}
+use Rattle.ldnames.specs.declared.texts.KeySource.TheVariants as sources
+use Rattle.ldnames.specs.Texts.{AreFound, AreKnown, AreNoted, IsKeyOf, IsNotedFor}
 
 abbrev Table : Type 0
 Table = ℕ × List NamedSymbol
@@ -52,10 +55,10 @@ pub record Stands (s : State) (place : ℕ) (symbols : List NamedSymbol) : Type 
   pub within : place < length s.objects
   pub is : (t : Table) → (get_or s.objects place t).1 ≡ symbols
 
-pub stands : (s : State) (o : Option ℕ) (place : ℕ) (symbols : List NamedSymbol) → o ≡ Some place
-    → IsWhere s o symbols → Stands s place symbols
+pub stands : (s : State) (o : KeySource) (place : ℕ) (symbols : List NamedSymbol) → o ≡ sources.Entered place
+    → AreFound s o symbols → Stands s place symbols
 stands s o place symbols e h =
-    let there : IsWhere s (Some place) symbols = subst (λ (o : Option ℕ). IsWhere s o symbols) e h in
+    let there : AreFound s (sources.Entered place) symbols = subst (λ (o : KeySource). AreFound s o symbols) e h in
     record { within = there.0; is = there.1 }
 
 pub seen_at : (s : State) (place number : ℕ) (symbols : List NamedSymbol) → Stands s place symbols
@@ -72,10 +75,6 @@ pub name_at : (s : State) (place number n : ℕ) (symbols : List NamedSymbol) (d
     → IsNameAt s.names s.objects place number n → IsNamed s.names n (get_or symbols number d).name
 name_at s place number n symbols d h named =
     subst (λ (ss : List NamedSymbol). IsNamed s.names n (get_or ss number d).name) (h.is (0, [])) (named (0, []) d)
-
-pub known_here : (s : State) (o : Option ℕ) (symbols : List NamedSymbol) → o ≡ None → IsWhere s o symbols
-    → AreKnown s.names symbols
-known_here s o symbols e h = subst (λ (o : Option ℕ). IsWhere s o symbols) e h
 
 some_same : (x y : List ℕ) → Some x ≡ Some y → x ≡ y
 some_same x y h = cc
@@ -106,3 +105,19 @@ key_by_bytes names symbols number name d r l is known seen =
 pub has_name : (names : List (Option (List ℕ))) (x : NamedSymbol) (k : NameKey) → IsKeyOf names x (Some k)
     → HasName names k.0
 has_name names x k h = (x.name, h.1)
+
+-- ---- keys that are noted
+
+pub one_noted : (names : List (Option (List ℕ))) (symbols : List NamedSymbol) (keys : List NameKey) (key : NameKey)
+    (number : ℕ) → length keys ≡ number
+    → ((d : NamedSymbol) → IsNotedFor names (get_or symbols number d) key) → AreNoted names symbols keys
+    → AreNoted names symbols (keys ++ key ∷ [])
+one_noted names symbols keys key number long is noted i k d l =
+    ⊎_elim
+    (λ lt.
+    subst (IsNotedFor names (get_or symbols i d)) (sym (get_or_append_left keys (key ∷ []) k i lt)) (noted i k d lt))
+    (λ ge.
+    let at : length keys ≡ i = omega (arith, ge, l, length_push keys key) in
+    subst (IsNotedFor names (get_or symbols i d)) (sym (get_or_push keys key k i at))
+    (subst (λ (j : ℕ). IsNotedFor names (get_or symbols j d) key) (sym long ∙ at) (is d)))
+    (cases_lt i (length keys))

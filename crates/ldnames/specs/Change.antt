@@ -5,9 +5,10 @@ use Rattle.symres.specs.Changes.{Enters, Withdraws}
 use Rattle.symres.specs.State.{IsFresh, MayEnter, State, without}
 use Rattle.ldnames.specs.Counted.{declared_in}
 use Rattle.ldnames.specs.Decisions.{DecisionsState}
-use Rattle.ldnames.specs.Texts.{IsWhere}
+use Rattle.ldnames.specs.Texts.{AreFound}
 use Rattle.ldnames.specs.declared.change.ObjectAt.{ObjectAt}
 use Rattle.ldnames.specs.declared.change.ObjectChange.{ObjectChange}
+use Rattle.ldnames.specs.declared.texts.KeySource.TheVariants as sources
 
 abbrev pub Table : Type 0
 Table = ℕ × List NamedSymbol
@@ -92,4 +93,4 @@ PutsIn old new key (Some x) = Enters old new key x.place (symbols_at x)
 -- the object is there, if there is one
 abbrev pub AreThere : State → Option ObjectAt → Type 0
 AreThere s None = Unit {0}
-AreThere s (Some x) = IsWhere s (Some x.place) (symbols_at x)
+AreThere s (Some x) = AreFound s (sources.Entered x.place) (symbols_at x)

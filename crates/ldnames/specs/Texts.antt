@@ -14,6 +14,8 @@ use Rattle.ldmodel.specs.declared.names.Case.{Case}
 use Rattle.ldmodel.specs.declared.names.NameKey.{NameKey}
 use Rattle.symres.specs.State.{HasName, IsNamed, State, slot}
 use Rattle.ldnames.specs.Counted.{declared_in}
+use Rattle.ldnames.specs.declared.texts.KeySource.{KeySource}
+use Rattle.ldnames.specs.declared.texts.KeySource.TheVariants as sources
 use Rattle.ldnames.specs.Decided.{AreCases, HasCase, IsCase, KeepsCases, case_at}
 
 -- a local symbol has no key; that of another is the key of its name
@@ -26,10 +28,20 @@ abbrev pub AreKnown : List (Option (List ℕ)) → List NamedSymbol → Type 0
 AreKnown names symbols =
     All (λ (s : NamedSymbol). is_local s.symbol.binding ≡ false → (k : ℕ) × IsNamed names k s.name) symbols
 
--- the object at the place has these symbols; without a place their names are known
-abbrev pub IsWhere : State → Option ℕ → List NamedSymbol → Type 0
-IsWhere s None symbols = AreKnown s.names symbols
-IsWhere s (Some place) symbols =
+-- unless the symbol is local, the key is that of its name
+abbrev pub IsNotedFor : List (Option (List ℕ)) → NamedSymbol → NameKey → Type 0
+IsNotedFor names s k = is_local s.symbol.binding ≡ false → IsNamed names k.0 s.name
+
+-- these keys are noted for the first of these symbols
+abbrev pub AreNoted : List (Option (List ℕ)) → List NamedSymbol → List NameKey → Type 0
+AreNoted names symbols keys =
+    (i : ℕ) (k : NameKey) (d : NamedSymbol) → i < length keys
+    → IsNotedFor names (slice_index_or symbols i d) (slice_index_or keys i k)
+
+-- the object at the place has these symbols; or their names are known, and keys are noted
+abbrev pub AreFound : State → KeySource → List NamedSymbol → Type 0
+AreFound s (sources.Noted keys) symbols = AreKnown s.names symbols × AreNoted s.names symbols keys.now
+AreFound s (sources.Entered place) symbols =
     (place < length s.objects)
     × ((t : ℕ × List NamedSymbol) → (slice_index_or s.objects place t).1 ≡ symbols)
 

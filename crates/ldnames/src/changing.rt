@@ -5,15 +5,17 @@ ghost use Rattle.ldnames.specs.Change.{AreThere, changed_tables, declared_by, Is
 ghost use Rattle.ldnames.specs.Counted.{CountsNames};
 ghost use Rattle.ldnames.specs.Decided.{AreCases};
 ghost use Rattle.ldnames.specs.Decisions.{AreKept};
-ghost use Rattle.ldnames.specs.Texts.{AreDone, AreKnown, DecidedFor, HasPlaces, IsCleared};
+ghost use Rattle.ldnames.specs.Texts.{AreDone, AreKnown, AreNoted, DecidedFor, HasPlaces, IsCleared};
 ghost use Rattle.symres.specs.State.{AreDistinct};
 
 use crate::cases::Cases;
 use crate::change::{ObjectAt, ObjectChange, reverse};
 use crate::decisions::Decisions;
 use crate::exchange::{put_in, take_out};
-use crate::texts::{clear_names, decide_names};
+use crate::noted::note_keys;
+use crate::texts::{KeySource, clear_names, decide_names};
 use ldbase::meter::Meter;
+use ldmodel::names::NameKey;
 use ldscript::script::Script;
 use symres::law::entered_again;
 use symres::names::Names;
@@ -26,20 +28,22 @@ fn clear_names_of(names: &Names, at: Option<ObjectAt<'_>>, cases: &mut Cases)
     ensures { IsCleared names.now.names (symbols_or at.entry) cases.old cases.new }
 {
     match at {
-        Some(at) => clear_names(names, Some(at.place), at.object, cases),
+        Some(at) => clear_names(names, KeySource::Entered(at.place), at.object, cases),
         None => {}
     }
 }
 
-/// Decides the names that an object declared that went, if one went.
+/// Decides the names that an object declared that went, if one went. `noted` are keys of them.
 fn decide_gone(
     names: &Names,
     script: &Script,
     out: Option<ObjectAt<'_>>,
+    noted: &[NameKey],
     cases: &mut Cases,
     meter: &mut Meter,
 )
     requires known { AreKnown names.now.names (symbols_or out) }
+    requires noted { AreNoted names.now.names (symbols_or out) noted.now }
     requires distinct { AreDistinct names.now.names }
     requires room { HasPlaces names.now.names cases.old }
     ensures long { length cases.new ≡ length cases.old }
@@ -49,7 +53,14 @@ fn decide_gone(
 {
     let _names = meter.names();
     match out {
-        Some(at) => decide_names(names, script, None, at.object, cases, meter),
+        Some(at) => decide_names(
+            names,
+            script,
+            KeySource::Noted(noted),
+            at.object,
+            cases,
+            meter,
+        ),
         None => {}
     }
 }
@@ -72,7 +83,14 @@ fn decide_come(
 {
     let _names = meter.names();
     match into {
-        Some(at) => decide_names(names, script, Some(at.place), at.object, cases, meter),
+        Some(at) => decide_names(
+            names,
+            script,
+            KeySource::Entered(at.place),
+            at.object,
+            cases,
+            meter,
+        ),
         None => {}
     }
 }
@@ -92,10 +110,18 @@ impl Decisions {
         entered_again();
         let _known = self.names.known();
         clear_names_of(&self.names, change.out, &mut self.cases);
+        note_keys(&self.names, change.out, &mut self.noted);
         take_out(&mut self.names, change.key, change.out);
         put_in(&mut self.names, change.key, change.into);
         clear_names_of(&self.names, change.into, &mut self.cases);
-        decide_gone(&self.names, script, change.out, &mut self.cases, meter);
+        decide_gone(
+            &self.names,
+            script,
+            change.out,
+            &self.noted,
+            &mut self.cases,
+            meter,
+        );
         decide_come(&self.names, script, change.into, &mut self.cases, meter);
     }
 

@@ -40,6 +40,8 @@ pub struct Decisions {
     pub(crate) cases: Cases,
     // whether the names are known to stand in byte order
     pub(crate) in_order: bool,
+    // room for the keys of the names of the object that goes at a change
+    pub(crate) noted: Vec<NameKey>,
 }
 
 impl Model for Decisions {
@@ -74,6 +76,7 @@ impl Decisions {
             names,
             cases,
             in_order: true,
+            noted: Vec::new(alloc),
         })
     }
 

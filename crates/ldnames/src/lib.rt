@@ -10,6 +10,7 @@ mod entered;
 mod exchange;
 pub mod keyed;
 pub mod law;
+mod noted;
 mod room;
 mod single;
 mod texts;

@@ -12,6 +12,7 @@ ghost use Rattle.symres.specs.State.{entries_of, Forgets, HasName, IsNamed, MayE
 use crate::cases::Cases;
 use crate::change::ObjectChange;
 use crate::decisions::Decisions;
+use crate::noted::reserve_keys;
 use crate::single::given_case;
 use elfobj::object::Object;
 use ldbase::memory::NoMemory;
@@ -155,6 +156,7 @@ impl Decisions {
         ensures used { KeepsUsed self.old.names self.new.names }
         ensures ready { OnOk result (IsReadyFor self.new change.now) }
     {
+        reserve_keys(&mut self.noted, change)?;
         match change.into {
             Some(at) => make_room(
                 &mut self.names,

@@ -7,7 +7,8 @@ ghost use Rattle.ldbase.specs.Counts.{Counts};
 ghost use Rattle.ldmodel.specs.Names.{is_local};
 ghost use Rattle.ldmodel.specs.declared.names.Case.{Case};
 ghost use Rattle.ldnames.specs.Decided.{AreCases};
-ghost use Rattle.ldnames.specs.Texts.{AreDone, DecidedFor, DecidesOnce, HasPlaces, IsCleared, IsKeyOf, IsWhere};
+ghost use Rattle.ldnames.specs.Texts.{AreDone, AreFound, AreKnown, AreNoted, DecidedFor, DecidesOnce, HasPlaces};
+ghost use Rattle.ldnames.specs.Texts.{IsCleared, IsKeyOf};
 ghost use Rattle.symres.specs.State.{AreDistinct, HasName};
 
 use crate::cases::Cases;
@@ -19,33 +20,67 @@ use ldscript::script::Script;
 use symres::names::Names;
 use symres::symbol::is_visible;
 
-/// The key of the name of a symbol that isn't local. Where the object stands at a place, nothing is hashed.
-fn key_of_seen(
+/// Where the keys of the names that an object declares stand, so that the names need not be hashed.
+#[derive(Clone, Copy)]
+pub enum KeySource<'a> {
+    /// The object is entered at this place.
+    Entered(usize),
+    /// The object isn't entered. These are the keys of its first symbols; what stands for a local one is not read.
+    Noted(&'a [NameKey]),
+}
+
+/// The key of the name of a symbol that isn't local, which is hashed where no key is noted for the symbol.
+fn key_noted(
     names: &Names,
-    place: Option<usize>,
+    keys: &[NameKey],
     object: &Object,
     symbol: SymbolIndex,
 ) -> Option<NameKey>
-    requires found { IsWhere names.now place object.now.symbols }
+    requires known { AreKnown names.now.names object.now.symbols }
+    requires noted { AreNoted names.now.names object.now.symbols keys.now }
     requires number { symbol.0 < length object.now.symbols }
     requires seen { (d : NamedSymbol) → is_local (slice_index_or object.now.symbols symbol.0 d).symbol.binding ≡ false }
     ensures { (d : NamedSymbol) → IsKeyOf names.now.names (slice_index_or object.now.symbols symbol.0 d) result }
 {
-    match place {
-        Some(place) => Some(names.key_at(place, symbol)),
-        None => names.key_named(object.name_of(symbol)),
+    let number = symbol.0 as usize;
+    if number < keys.len() {
+        return Some(keys[number]);
+    }
+    names.key_named(object.name_of(symbol))
+}
+
+/// The key of the name of a symbol that isn't local.
+fn key_of_seen(
+    names: &Names,
+    source: KeySource<'_>,
+    object: &Object,
+    symbol: SymbolIndex,
+) -> Option<NameKey>
+    requires found { AreFound names.now source object.now.symbols }
+    requires number { symbol.0 < length object.now.symbols }
+    requires seen { (d : NamedSymbol) → is_local (slice_index_or object.now.symbols symbol.0 d).symbol.binding ≡ false }
+    ensures { (d : NamedSymbol) → IsKeyOf names.now.names (slice_index_or object.now.symbols symbol.0 d) result }
+{
+    match source {
+        KeySource::Entered(place) => Some(names.key_at(place, symbol)),
+        KeySource::Noted(keys) => key_noted(names, keys, object, symbol),
     }
 }
 
 /// The key of the name of a symbol, if it isn't local.
-fn key_of(names: &Names, place: Option<usize>, object: &Object, number: usize) -> Option<NameKey>
-    requires found { IsWhere names.now place object.now.symbols }
+pub fn key_of(
+    names: &Names,
+    source: KeySource<'_>,
+    object: &Object,
+    number: usize,
+) -> Option<NameKey>
+    requires found { AreFound names.now source object.now.symbols }
     requires number { number < length object.now.symbols }
     ensures { (d : NamedSymbol) → IsKeyOf names.now.names (slice_index_or object.now.symbols number d) result }
 {
     let symbols = object.symbols();
     if is_visible(&symbols[number]) {
-        return key_of_seen(names, place, object, SymbolIndex(number as u32));
+        return key_of_seen(names, source, object, SymbolIndex(number as u32));
     }
     None
 }
@@ -53,12 +88,12 @@ fn key_of(names: &Names, place: Option<usize>, object: &Object, number: usize) -
 /// Clears the case of the name of a symbol.
 fn clear_name(
     names: &Names,
-    place: Option<usize>,
+    source: KeySource<'_>,
     object: &Object,
     number: usize,
     cases: &mut Cases,
 )
-    requires found { IsWhere names.now place object.now.symbols }
+    requires found { AreFound names.now source object.now.symbols }
     requires number { number < length object.now.symbols }
     requires distinct { AreDistinct names.now.names }
     requires room { HasPlaces names.now.names cases.old }
@@ -66,21 +101,21 @@ fn clear_name(
         → IsCleared names.now.names before start cases.old
         → IsCleared names.now.names (before ++ slice_index_or object.now.symbols number d ∷ []) start cases.new }
 {
-    match key_of(names, place, object, number) {
+    match key_of(names, source, object, number) {
         Some(key) => cases.set(key.0, None),
         None => {}
     }
 }
 
 /// Clears the cases of the names that an object declares.
-pub fn clear_names(names: &Names, place: Option<usize>, object: &Object, cases: &mut Cases)
-    requires found { IsWhere names.now place object.now.symbols }
+pub fn clear_names(names: &Names, source: KeySource<'_>, object: &Object, cases: &mut Cases)
+    requires found { AreFound names.now source object.now.symbols }
     requires distinct { AreDistinct names.now.names }
     requires room { HasPlaces names.now.names cases.old }
     ensures { IsCleared names.now.names object.now.symbols cases.old cases.new }
 {
     for number in 0..object.symbols().len() {
-        clear_name(names, place, object, number, cases);
+        clear_name(names, source, object, number, cases);
     }
 }
 
@@ -102,13 +137,13 @@ fn decide_once(names: &Names, script: &Script, key: NameKey, cases: &mut Cases, 
 fn decide_name(
     names: &Names,
     script: &Script,
-    place: Option<usize>,
+    source: KeySource<'_>,
     object: &Object,
     number: usize,
     cases: &mut Cases,
     meter: &mut Meter,
 )
-    requires found { IsWhere names.now place object.now.symbols }
+    requires found { AreFound names.now source object.now.symbols }
     requires number { number < length object.now.symbols }
     requires distinct { AreDistinct names.now.names }
     requires room { HasPlaces names.now.names cases.old }
@@ -118,7 +153,7 @@ fn decide_name(
         → DecidedFor script.now names.now start cases.new m meter.new seen
         (before ++ slice_index_or object.now.symbols number d ∷ []) }
 {
-    match key_of(names, place, object, number) {
+    match key_of(names, source, object, number) {
         Some(key) => decide_once(names, script, key, cases, meter),
         None => {}
     }
@@ -128,12 +163,12 @@ fn decide_name(
 pub fn decide_names(
     names: &Names,
     script: &Script,
-    place: Option<usize>,
+    source: KeySource<'_>,
     object: &Object,
     cases: &mut Cases,
     meter: &mut Meter,
 )
-    requires found { IsWhere names.now place object.now.symbols }
+    requires found { AreFound names.now source object.now.symbols }
     requires distinct { AreDistinct names.now.names }
     requires room { HasPlaces names.now.names cases.old }
     ensures long { length cases.new ≡ length cases.old }
@@ -143,6 +178,6 @@ pub fn decide_names(
 {
     let _names = meter.names();
     for number in 0..object.symbols().len() {
-        decide_name(names, script, place, object, number, cases, meter);
+        decide_name(names, script, source, object, number, cases, meter);
     }
 }

@@ -1,5 +1,5 @@
 use Rattle.std.proofs.Common.{length, arith, refl}
-use Rattle.ldnames.proofs.MakingRoom.{below_after, complete_refused, noted_none_more, noted_not, noted_same}
+use Rattle.ldnames.proofs.MakingRoom.{below_after, complete_refused, noted_none_more}
 use Rattle.ldnames.proofs.MakingRoom.{unused_after, used_twice, whole_same}
 use Rattle.ldnames.proofs.room.make_room.Goals as goal
 

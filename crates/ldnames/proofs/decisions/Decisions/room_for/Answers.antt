@@ -12,3 +12,9 @@ returns-in-Some-clause-ready c =
     both_ok c.make_room.result c.make_room.ensures.ready
     (ready_come c.make_room.new.names c.make_room.new.cases c.args.change.now c.in-Some.at c.in-Some.is
     (subst (λ (ts : List Table). Fits ts c.args.change.now) (sym c.make_room.ensures.objects) fits))
+
+pub returns-in_err-reserve_keys-clause-kept : goal.returns-in_err-reserve_keys-clause-kept
+returns-in_err-reserve_keys-clause-kept c = rw (← c.self.view_is) at c.requires.kept
+
+pub returns-in-None-clause-kept : goal.returns-in-None-clause-kept
+returns-in-None-clause-kept c = rw (← c.self.view_is) at c.requires.kept
