@@ -47,8 +47,10 @@ phase (suc (suc (suc (suc (suc (suc (suc (suc zero)))))))) k j h l = let e : 840
 phase (suc (suc (suc (suc (suc (suc (suc (suc (suc n))))))))) k j h l = absurd (omega arith)
 
 -- a byte of a run, in the chunk that it lies in
-pub run_byte : (canvas chunk pattern : List ℕ) (at start k size i : ℕ) → start ≡ 840 * k → 0 < length pattern → length pattern ≤ 8 → ((j : ℕ) → j < size → get_or canvas (at + start + j) 0 ≡ get_or chunk j 0)
-    → ((j : ℕ) → j < size → get_or chunk j 0 ≡ get_or pattern (j % length pattern) 0) → start ≤ i → i < start + size → get_or canvas (at + i) 0 ≡ get_or pattern (i % length pattern) 0
+pub run_byte : (canvas chunk pattern : List ℕ) (at start k size i : ℕ) → start ≡ 840 * k → 0 < length pattern
+    → length pattern ≤ 8 → ((j : ℕ) → j < size → get_or canvas (at + start + j) 0 ≡ get_or chunk j 0)
+    → ((j : ℕ) → j < size → get_or chunk j 0 ≡ get_or pattern (j % length pattern) 0) → start ≤ i → i < start + size
+    → get_or canvas (at + i) 0 ≡ get_or pattern (i % length pattern) 0
 run_byte canvas chunk pattern at start k size i e some most w f a b =
     let d : at + start + (i - start) ≡ at + i = omega arith in
     let g : 840 * k + (i - start) ≡ i = omega arith in

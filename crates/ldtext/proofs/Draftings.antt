@@ -51,7 +51,8 @@ added_three d e f x y z a b P p =
     subst P (ap (λ w. added w z) (b ∙ ap (λ w. added w y) a) ∙ added_twice (added d x) y z ∙ added_twice d x (y ++ z)) p
 
 -- bytes at the end of a text that is written
-pub written_more : (b : Bool) (n : ℕ) (xs more : List ℕ) → b ≡ true → drafted b n (xs ++ more) ≡ added (drafted b n xs) more
+pub written_more : (b : Bool) (n : ℕ) (xs more : List ℕ) → b ≡ true
+    → drafted b n (xs ++ more) ≡ added (drafted b n xs) more
 unfolding added
 written_more b n xs more e = rw (e, length-append xs more) refl
 

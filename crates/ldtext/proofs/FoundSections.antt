@@ -61,4 +61,5 @@ found_at xs sections k i s e up h is n =
     let whole = ap (λ (ss : List Section). length ss) e in
     first_numbered xs k i (subst (AllPairs (λ (t u : Section). t.number.0 < u.number.0)) e up) (omega (arith, h, whole))
     (λ d. ap (λ (ss : List Section). (get_or ss i d).number.0) (sym e)
-    ∙ ap (λ (t : Section). t.number.0) (get_or_default sections i d s h) ∙ ap (λ (t : Section). t.number.0) (sym is) ∙ n)
+    ∙ ap (λ (t : Section). t.number.0) (get_or_default sections i d s h)
+    ∙ ap (λ (t : Section). t.number.0) (sym is) ∙ n)

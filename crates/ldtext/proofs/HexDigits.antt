@@ -1,5 +1,6 @@
 -- The 16 hex digits of a number, each looked up in a table by four of its bits.
-use Rattle.std.proofs.Common.{◌≡◌, ◌∙◌, ◌<◌, ◌+◌, ◌*◌, ◌/◌, ◌%◌, ◌^◌, ℕ, List, [], ◌∷◌, false, ap, arith, cond, get_or, map, refl}
+use Rattle.std.proofs.Common.{◌≡◌, ◌∙◌, ◌<◌, ◌+◌, ◌*◌, ◌/◌, ◌%◌, ◌^◌, ℕ, List, [], ◌∷◌}
+use Rattle.std.proofs.Common.{false, ap, arith, cond, get_or, map, refl}
 use Rattle.std.proofs.lemmas.List.FromFn.{get_or-map-range_with_len}
 use Rattle.std.proofs.Math.Nat.{div-div-eq-div-mul, mod-mod_of_dvd}
 use Rattle.std.proofs.lemmas.Nat.{and_mask}

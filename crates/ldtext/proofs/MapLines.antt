@@ -1,5 +1,6 @@
 -- How the map's lines of two names are spelled, and how long they are.
-use Rattle.std.proofs.Common.{◌≡◌, ◌∙◌, ◌+◌, ◌∷◌, [], ◌++◌, ap, ℕ, List, length, arith, length-append, append_assoc, append-nil, codes, refl, sym}
+use Rattle.std.proofs.Common.{◌≡◌, ◌∙◌, ◌+◌, ◌∷◌, [], ◌++◌, ap, ℕ, List, length, arith, length-append}
+use Rattle.std.proofs.Common.{append_assoc, append-nil, codes, refl, sym}
 use Rattle.std.specs.Prelude.{Option, Some, None}
 use Rattle.ldmodel.specs.Lines.{hex, line_of}
 use Rattle.ldtext.specs.ShownMap.{value_text}
@@ -42,7 +43,8 @@ symbol_spelled None name owner = ap (λ t. codes "symbol " ++ (value_text None +
 pub symbol_long : (value : Option ℕ) (name owner : List ℕ)
     → length (line_of (codes "symbol" ∷ value_text value ∷ name ∷ owner ∷ [])) ≡ 26 + length name + length owner
 unfolding line_of hex
-symbol_long (Some x) name owner = ap length (sym (symbol_spelled (Some x) name owner)) ∙ omega (arith, names_long name owner)
+symbol_long (Some x) name owner =
+    ap length (sym (symbol_spelled (Some x) name owner)) ∙ omega (arith, names_long name owner)
 symbol_long None name owner = ap length (sym (symbol_spelled None name owner)) ∙ omega (arith, names_long name owner)
 
 pub entry_spelled : (entry : ℕ) → codes "entry " ++ hex entry ++ 10 ∷ [] ≡ line_of (codes "entry" ∷ hex entry ∷ [])
@@ -53,7 +55,8 @@ abbrev numbers : (start load size : ℕ) → List ℕ
 numbers start load size = 32 ∷ (hex start ++ 32 ∷ []) ++ (hex load ++ 32 ∷ []) ++ (hex size ++ 32 ∷ [])
 
 -- what follows the name of a section
-section_last : (name flags middle : List ℕ) → name ++ middle ++ flags ++ 10 ∷ [] ≡ (name ++ (middle ++ (flags ++ []))) ++ 10 ∷ []
+section_last : (name flags middle : List ℕ)
+    → name ++ middle ++ flags ++ 10 ∷ [] ≡ (name ++ (middle ++ (flags ++ []))) ++ 10 ∷ []
 section_last name flags middle =
     ap (λ t. t ++ 10 ∷ []) (append_assoc name middle flags ∙ ap (λ t. name ++ (middle ++ t)) (sym (append-nil flags)))
 

@@ -30,7 +30,11 @@ impl<'a, 'p> LinkView<'a, 'p> {
     ghost use Rattle.ldvalues.specs.ScriptValues.{AreScriptValues};
     ghost use Rattle.ldvalues.specs.LinkView.{IsLinkView, known_link};
 
-    /// The link of a project with these names, at the layout of `starts` and `given`. An error says that memory ran out.
+    /// The link of a project with these names, at the layout of `starts` and `given`.
+    ///
+    /// # Errors
+    ///
+    /// Where memory runs out.
     pub fn new(
         alloc: Global,
         project: &'a ProjectView<'p>,

@@ -34,8 +34,8 @@
 //! `each byte VALUE` and the same for the places of the byte. ANSWER is `object`, or `refused N` where the bytes are
 //! refused and came back as they were, or `lost` where others came back.
 //!
-//! It ends with status 0 after the last object, with status 1 where the stream goes on with no object, and with status 3
-//! where a device failed or memory was refused.
+//! It ends with status 0 after the last object, with status 1 where the stream goes on with no object, and with status
+//! 3 where a device failed or memory was refused.
 #![tactic(auto)]
 
 mod file;

@@ -359,8 +359,8 @@ fn release_all(table: &mut Vec<Vec<Declared>>, symbols: &[Numbered])
     }
 }
 
-/// Makes room in each row for those of the symbols that have its name. None of the symbols is local. Nothing is counted:
-/// an entry for each symbol is put into its row, and then they are taken out again.
+/// Makes room in each row for those of the symbols that have its name. None of the symbols is local. Nothing is
+/// counted: an entry for each symbol is put into its row, and then they are taken out again.
 pub fn reserve_all(table: &mut Vec<Vec<Declared>>, symbols: &[Numbered]) -> Result<(), AllocError>
     requires visible { All (λ (s : Numbered). not (is_local s.symbol.binding) ≡ true) symbols.now }
     requires known { All (HasRow (length table.old.items)) symbols.now }

@@ -16,7 +16,11 @@ loop-k-preserved c =
     record {
       written = λ i a. elim (cases_lt i (840 * c.loop-k.k)) [
         | inl x ↦ w.before (c.args.at + i) (omega arith) ∙ c.loop-k.invariant.written i x
-        | inr x ↦ run_byte c.write.new.self.bytes c.chunk_of-chunk.result c.args.pattern.now c.args.at (840 * c.loop-k.k) c.loop-k.k 840 i refl c.requires.some c.requires.most (λ j l. w.written j (omega (arith, c.chunk_of-chunk.ensures.len))) (λ j l. c.chunk_of-chunk.ensures.filled j (omega arith)) x (omega arith)
+        | inr x ↦
+            run_byte c.write.new.self.bytes c.chunk_of-chunk.result c.args.pattern.now c.args.at (840 * c.loop-k.k)
+            c.loop-k.k 840 i refl c.requires.some c.requires.most
+            (λ j l. w.written j (omega (arith, c.chunk_of-chunk.ensures.len)))
+            (λ j l. c.chunk_of-chunk.ensures.filled j (omega arith)) x (omega arith)
       ];
       before = λ o a. w.before o (omega arith) ∙ c.loop-k.invariant.before o a;
       after = λ o a. w.after o (omega (arith, c.chunk_of-chunk.ensures.len)) ∙ c.loop-k.invariant.after o (omega arith);
@@ -38,6 +42,11 @@ returns-clause-written c =
     let rest : c.args.n % 840 < 840 = mod-lt c.args.n (omega arith) in
     λ i h. elim (cases_lt i (840 * c.loop-k.k)) [
       | inl x ↦ c.write-2.ensures.before (c.args.at + i) (omega arith) ∙ c.loop-k.invariant.written i x
-      | inr x ↦ run_byte c.write-2.new.self.bytes c.chunk_of-chunk.result c.args.pattern.now c.args.at (c.args.n - c.args.n % 840) c.loop-k.k (c.args.n % 840) i start c.requires.some c.requires.most
-          (λ j l. c.write-2.ensures.written j (omega (arith, length-take-le (c.args.n % 840) c.chunk_of-chunk.result (omega (arith, c.chunk_of-chunk.ensures.len)))) ∙ get_or-take (c.args.n % 840) c.chunk_of-chunk.result j 0 l) (λ j l. c.chunk_of-chunk.ensures.filled j (omega arith)) (omega arith) (omega arith)
+      | inr x ↦
+          let long = length-take-le (c.args.n % 840) c.chunk_of-chunk.result (omega (arith, c.chunk_of-chunk.ensures.len)) in
+          run_byte c.write-2.new.self.bytes c.chunk_of-chunk.result c.args.pattern.now c.args.at
+          (c.args.n - c.args.n % 840) c.loop-k.k (c.args.n % 840) i start c.requires.some c.requires.most
+          (λ j l. c.write-2.ensures.written j (omega (arith, long))
+          ∙ get_or-take (c.args.n % 840) c.chunk_of-chunk.result j 0 l)
+          (λ j l. c.chunk_of-chunk.ensures.filled j (omega arith)) (omega arith) (omega arith)
     ]

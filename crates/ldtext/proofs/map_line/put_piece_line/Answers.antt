@@ -15,4 +15,5 @@ pub returns : goal.returns
 returns c =
     let spelled = piece_spelled c.args.start c.args.size c.args.object.now c.args.section.now in
     subst (λ e. OnOk c.write_names.result (c.write_names.new.draft ≡ e))
-    (added_last c.args.draft.now _ _ _ _ c.in_ok-write.ensures.text (rw c.piece_front.ensures spelled)) c.write_names.ensures
+    (added_last c.args.draft.now _ _ _ _ c.in_ok-write.ensures.text (rw c.piece_front.ensures spelled))
+    c.write_names.ensures

@@ -39,7 +39,8 @@ returns-clause-spelled c = λ d.
     let seen : is_local (get_or xs c.args.number d).symbol.binding ≡ false =
     ap (λ (y : Symbol). is_local y.binding) (sym is)
     ∙ visible_is (is_local symbol.binding) c.if-not-is_visible.ensures in
-    spelled_seen c.args.known.now.slots (record { name = c.in-Some-number_of.name; number = c.args.number; symbol = symbol })
+    spelled_seen c.args.known.now.slots
+    (record { name = c.in-Some-number_of.name; number = c.args.number; symbol = symbol })
     (get_or xs c.args.number d) is seen
     (c.in-Some-number_of.ensures.number
     ∙ ap Some (sym (name_is xs c.args.number c.name_of.result.now d c.name_of.ensures c.requires.within)))

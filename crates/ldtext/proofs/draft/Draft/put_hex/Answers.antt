@@ -9,4 +9,5 @@ pub returns-else-self : goal.returns-else-self
 returns-else-self c =
     let is : c.args.self.now.is_written ≡ false =
     ap (λ (d : Drafted). d.is_written) (sym c.self.view_is) ∙ c.if-self.false in
-    subst (λ e. OnOk c.count.result (c.count.new.self ≡ e)) (counted c.args.self.now _ _ is (digits_long c.args.number)) c.count.ensures
+    subst (λ e. OnOk c.count.result (c.count.new.self ≡ e))
+    (counted c.args.self.now _ _ is (digits_long c.args.number)) c.count.ensures

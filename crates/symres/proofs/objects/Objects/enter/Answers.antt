@@ -1,4 +1,5 @@
-use Rattle.std.proofs.Common.{◌≡◌, ◌≤◌, ◌∙◌, ap, sym, subst, length, arith, Vec, Global, take, drop, eqb, false, ◌++◌, []}
+use Rattle.std.proofs.Common.{◌≡◌, ◌≤◌, ◌∙◌, ap, sym, subst, length, arith, Vec, Global, take, drop, eqb, false}
+use Rattle.std.proofs.Common.{◌++◌, []}
 use Rattle.std.specs.List.{All, insert}
 use Rattle.std.specs.Vec.{vec_capacity}
 use Rattle.std.proofs.lemmas.List.{drop_all, length-map, take-append-drop}
