@@ -28,7 +28,8 @@ loop-k-preserved c =
       room = w.room ∙ c.loop-k.invariant.room;
       counted = λ n. (
           let sum : 840 * c.loop-k.k + (840 + n) ≡ 840 * (c.loop-k.k + 1) + n = omega arith in
-          ap (λ (m : Counts). raised m Bytes n) (w.counted ∙ ap (λ (l : ℕ). raised c.loop-k.meter Bytes l) c.chunk_of-chunk.ensures.len)
+          ap (λ (m : Counts). raised m Bytes n)
+          (w.counted ∙ ap (λ (l : ℕ). raised c.loop-k.meter Bytes l) c.chunk_of-chunk.ensures.len)
           ∙ raised_more c.loop-k.meter 840 n (840 + n) refl
           ∙ c.loop-k.invariant.counted (840 + n)
           ∙ ap (λ (k : ℕ). raised c.args.meter.now Bytes k) sum
@@ -43,7 +44,8 @@ returns-clause-written c =
     λ i h. elim (cases_lt i (840 * c.loop-k.k)) [
       | inl x ↦ c.write-2.ensures.before (c.args.at + i) (omega arith) ∙ c.loop-k.invariant.written i x
       | inr x ↦
-          let long = length-take-le (c.args.n % 840) c.chunk_of-chunk.result (omega (arith, c.chunk_of-chunk.ensures.len)) in
+          let long =
+          length-take-le (c.args.n % 840) c.chunk_of-chunk.result (omega (arith, c.chunk_of-chunk.ensures.len)) in
           run_byte c.write-2.new.self.bytes c.chunk_of-chunk.result c.args.pattern.now c.args.at
           (c.args.n - c.args.n % 840) c.loop-k.k (c.args.n % 840) i start c.requires.some c.requires.most
           (λ j l. c.write-2.ensures.written j (omega (arith, long))
