@@ -1,6 +1,6 @@
 -- Fields of the ELF header, by their offsets in `Elf64_Ehdr` (gABI, "ELF Header").
 use Rattle.std.specs.Prelude.{ℕ, List, slice_index}
-use Rattle.elfdefs.specs.Numbers.{u16_at, u32_at, u64_at}
+use Rattle.elffile.specs.Numbers.{u16_at, u32_at, u64_at}
 
 -- byte i of the identification
 abbrev pub e_ident : List ℕ → ℕ → ℕ

@@ -1,3 +1,8 @@
+pub mod Numbers
+pub mod SectionKinds
+pub mod SymbolKinds
+pub mod RelocationKinds
+pub mod RefusalNumber
 pub mod ElfHeader
 pub mod SectionTable
 pub mod SectionHeaders

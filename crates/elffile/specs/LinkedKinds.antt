@@ -1,10 +1,10 @@
 -- Which sections are linked: those with SHF_ALLOC and one of the types of `SectionKinds` (gABI, "Sections"; psABI,
 -- "Section types").
 use Rattle.std.specs.Prelude.{Option, None, Bool, not, ◌==◌, if◌then◌else◌, bit_and}
-use Rattle.elfdefs.specs.SectionKinds.{kind_of}
+use Rattle.elffile.specs.SectionKinds.{kind_of}
 use Rattle.elffile.specs.declared.section_header.SectionHeader.{SectionHeader}
-use Rattle.elfdefs.specs.declared.section.SectionKind.{SectionKind}
-use Rattle.elfdefs.specs.declared.constants.TheConstants.{SHF_ALLOC}
+use Rattle.elffile.specs.declared.section.SectionKind.{SectionKind}
+use Rattle.elffile.specs.declared.constants.TheConstants.{SHF_ALLOC}
 
 abbrev pub is_alloc : SectionHeader → Bool
 is_alloc h = not (bit_and h.sh_flags SHF_ALLOC == 0)

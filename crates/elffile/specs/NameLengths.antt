@@ -1,7 +1,7 @@
 -- What a reader of many names keeps of a string table: for each byte the length of the name that begins there.
 use Rattle.std.specs.Prelude.{ℕ, List, [], ◌∷◌, length, ◌+◌, Option, Some, None, Bool, ◌==◌, ◌||◌, if◌then◌else◌}
 use Rattle.elffile.specs.Names.{string_at, is_graphic, is_name}
-use Rattle.elfdefs.specs.declared.constants.TheConstants.{MAX_NAME_LENGTH}
+use Rattle.elffile.specs.declared.constants.TheConstants.{MAX_NAME_LENGTH}
 
 -- the length of a name, and 0 for none within the limits
 abbrev pub length_of_name : Option (List ℕ) → ℕ

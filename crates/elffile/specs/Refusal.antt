@@ -7,14 +7,14 @@ use Rattle.std.specs.Option.{option_map_or}
 use Rattle.elffile.specs.ElfHeader.{e_ident, e_type, e_machine, e_version, e_shoff, e_shentsize, e_shnum, e_shstrndx}
 use Rattle.elffile.specs.SectionHeaders.{header, headers}
 use Rattle.elffile.specs.Names.{string_at, is_name}
-use Rattle.elfdefs.specs.SectionKinds.{kind_of}
+use Rattle.elffile.specs.SectionKinds.{kind_of}
 use Rattle.elffile.specs.LinkedKinds.{is_alloc}
 use Rattle.elffile.specs.Sections.{name_table}
 use Rattle.elffile.specs.Tables.{has_wrong_symbol_table, has_wrong_symbol, has_wrong_relocation_section, has_wrong_type, has_wrong_bounds, has_overlap}
 use Rattle.elffile.specs.declared.section_header.SectionHeader.{SectionHeader}
-use Rattle.elfdefs.specs.declared.constants.TheConstants.{ELFCLASS64, ELFDATA2LSB, EV_CURRENT, ET_REL, EM_X86_64, MAX_SECTION_HEADERS, SHT_NULL, SHT_STRTAB, SHT_NOBITS, PROFILE_FLAGS, MAX_SECTION_SIZE}
-use Rattle.elfdefs.specs.declared.refusal.ObjectRefusal.{ObjectRefusal}
-use Rattle.elfdefs.specs.declared.refusal.ObjectRefusal.TheVariants.{Short, NotElf, Machine, SectionTable, SectionCount, SectionBounds, SectionProfile, SymbolTable, Symbol, RelocationSection, RelocationType, FieldBounds, FieldOverlap, NoMemory}
+use Rattle.elffile.specs.declared.constants.TheConstants.{ELFCLASS64, ELFDATA2LSB, EV_CURRENT, ET_REL, EM_X86_64, MAX_SECTION_HEADERS, SHT_NULL, SHT_STRTAB, SHT_NOBITS, PROFILE_FLAGS, MAX_SECTION_SIZE}
+use Rattle.elffile.specs.declared.refusal.ObjectRefusal.{ObjectRefusal}
+use Rattle.elffile.specs.declared.refusal.ObjectRefusal.TheVariants.{Short, NotElf, Machine, SectionTable, SectionCount, SectionBounds, SectionProfile, SymbolTable, Symbol, RelocationSection, RelocationType, FieldBounds, FieldOverlap, NoMemory}
 
 -- headers of type NULL are not looked at
 abbrev pub is_looked_at : SectionHeader → Bool

@@ -1,6 +1,6 @@
 -- Entries of a relocation section (gABI, "Relocation", `Elf64_Rela`: 24 bytes each).
 use Rattle.std.specs.Prelude.{ℕ, zero, suc, ◌+◌, ◌*◌, ◌/◌, ◌%◌, ◌^◌, List, [], ◌∷◌, ◌++◌}
-use Rattle.elfdefs.specs.Numbers.{u64_at, i64_at}
+use Rattle.elffile.specs.Numbers.{u64_at, i64_at}
 use Rattle.elffile.specs.declared.relocation_entry.RelocationEntry.{RelocationEntry}
 
 -- the entry whose 24 bytes begin at a place

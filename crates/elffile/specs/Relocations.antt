@@ -1,12 +1,12 @@
 -- Relocations of a section (x86-64 psABI, "Relocation Types").
 use Rattle.std.specs.Prelude.{ℕ, ◌+◌, ◌/◌, List, [], ◌∷◌, map, find, Option, Some, None, Bool, false, ◌&&◌, ◌||◌, ◌==◌, nat_lt, min, max, unwrap_or}
 use Rattle.std.specs.List.{list_any}
-use Rattle.elfdefs.specs.RelocationKinds.{relocation_kind, width}
+use Rattle.elffile.specs.RelocationKinds.{relocation_kind, width}
 use Rattle.elffile.specs.SectionHeaders.{headers}
 use Rattle.elffile.specs.RelocationEntries.{relocation_entries_below, r_sym, r_type}
-use Rattle.elfdefs.specs.declared.constants.TheConstants.{SHT_RELA, SHT_REL}
-use Rattle.elfdefs.specs.declared.relocation.Relocation.{Relocation}
-use Rattle.elfdefs.specs.declared.relocation.RelocationKind.TheVariants as kind
+use Rattle.elffile.specs.declared.constants.TheConstants.{SHT_RELA, SHT_REL}
+use Rattle.elffile.specs.declared.relocation.Relocation.{Relocation}
+use Rattle.elffile.specs.declared.relocation.RelocationKind.TheVariants as kind
 use Rattle.elffile.specs.declared.relocation_entry.RelocationEntry.{RelocationEntry}
 use Rattle.elffile.specs.declared.section_header.SectionHeader.{SectionHeader}
 

@@ -1,7 +1,7 @@
 -- The section header table (gABI, "Section Header", `Elf64_Shdr`: 64 bytes each).
 use Rattle.std.specs.Prelude.{ℕ, zero, suc, ◌+◌, ◌*◌, List, [], ◌∷◌, ◌++◌}
 use Rattle.std.specs.List.{slice_range}
-use Rattle.elfdefs.specs.Numbers.{u32_at, u64_at}
+use Rattle.elffile.specs.Numbers.{u32_at, u64_at}
 use Rattle.elffile.specs.ElfHeader.{e_shoff, e_shnum}
 use Rattle.elffile.specs.declared.section_header.SectionHeader.{SectionHeader}
 

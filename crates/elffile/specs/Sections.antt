@@ -6,11 +6,11 @@ use Rattle.elffile.specs.LinkedKinds.{linked_kind}
 use Rattle.elffile.specs.Names.{string_at}
 use Rattle.elffile.specs.Relocations.{relocations_at}
 use Rattle.elffile.specs.declared.section_header.SectionHeader.{SectionHeader}
-use Rattle.elfdefs.specs.declared.section.SectionIndex.{SectionIndex}
-use Rattle.elfdefs.specs.declared.section.Section.{Section}
-use Rattle.elfdefs.specs.declared.section.SectionKind.{SectionKind}
-use Rattle.elfdefs.specs.declared.section.SectionKind.TheVariants.{Nobits}
-use Rattle.elfdefs.specs.declared.relocation.Relocation.{Relocation}
+use Rattle.elffile.specs.declared.section.SectionIndex.{SectionIndex}
+use Rattle.elffile.specs.declared.section.Section.{Section}
+use Rattle.elffile.specs.declared.section.SectionKind.{SectionKind}
+use Rattle.elffile.specs.declared.section.SectionKind.TheVariants.{Nobits}
+use Rattle.elffile.specs.declared.relocation.Relocation.{Relocation}
 
 -- a linked section, with its own bytes (none for NOBITS) and its relocations in table order
 pub record LinkedSection : Type 0 where

@@ -1,6 +1,6 @@
 -- Entries of the symbol table (gABI, "Symbol Table", `Elf64_Sym`: 24 bytes each).
 use Rattle.std.specs.Prelude.{ℕ, zero, suc, ◌+◌, ◌*◌, ◌/◌, ◌%◌, List, [], ◌∷◌, ◌++◌, slice_index}
-use Rattle.elfdefs.specs.Numbers.{u16_at, u32_at, u64_at}
+use Rattle.elffile.specs.Numbers.{u16_at, u32_at, u64_at}
 use Rattle.elffile.specs.declared.symbol_entry.SymbolEntry.{SymbolEntry}
 
 -- the entry whose 24 bytes begin at a place

@@ -1,16 +1,16 @@
 -- The symbols of an object (gABI, "Symbol Table").
 use Rattle.std.specs.Prelude.{ℕ, ◌/◌, List, [], ◌∷◌, map, position, find, Option, Some, None, Bool, ◌==◌, if◌then◌else◌, unwrap_or}
-use Rattle.elfdefs.specs.SymbolKinds.{binding_of, symbol_kind_of}
+use Rattle.elffile.specs.SymbolKinds.{binding_of, symbol_kind_of}
 use Rattle.elffile.specs.Names.{string_at}
 use Rattle.elffile.specs.SectionHeaders.{header, headers, file_bytes}
 use Rattle.elffile.specs.SymbolEntries.{symbol_entries_below, st_bind, st_type}
-use Rattle.elfdefs.specs.declared.constants.TheConstants.{SHT_SYMTAB, STB_LOCAL, SHN_UNDEF, SHN_ABS, SHN_COMMON}
+use Rattle.elffile.specs.declared.constants.TheConstants.{SHT_SYMTAB, STB_LOCAL, SHN_UNDEF, SHN_ABS, SHN_COMMON}
 use Rattle.elffile.specs.declared.section_header.SectionHeader.{SectionHeader}
-use Rattle.elfdefs.specs.declared.symbol.Binding.TheVariants as binding
-use Rattle.elfdefs.specs.declared.symbol.Symbol.{Symbol}
-use Rattle.elfdefs.specs.declared.symbol.SymbolKind.TheVariants as kind
-use Rattle.elfdefs.specs.declared.symbol.SymbolPlace.{SymbolPlace}
-use Rattle.elfdefs.specs.declared.symbol.SymbolPlace.TheVariants as place
+use Rattle.elffile.specs.declared.symbol.Binding.TheVariants as binding
+use Rattle.elffile.specs.declared.symbol.Symbol.{Symbol}
+use Rattle.elffile.specs.declared.symbol.SymbolKind.TheVariants as kind
+use Rattle.elffile.specs.declared.symbol.SymbolPlace.{SymbolPlace}
+use Rattle.elffile.specs.declared.symbol.SymbolPlace.TheVariants as place
 use Rattle.elffile.specs.declared.symbol_entry.SymbolEntry.{SymbolEntry}
 
 -- a symbol, with its name where it isn't local

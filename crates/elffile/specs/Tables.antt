@@ -11,15 +11,15 @@ use Rattle.elffile.specs.Names.{string_at, is_name}
 use Rattle.elffile.specs.SymbolEntries.{st_bind, st_type}
 use Rattle.elffile.specs.Symbols.{is_symbol_table, symbol_table_number, symbol_table, entries_of, strings_of, symbols_of}
 use Rattle.elffile.specs.RelocationEntries.{r_sym, r_type}
-use Rattle.elfdefs.specs.RelocationKinds.{relocation_kind}
+use Rattle.elffile.specs.RelocationKinds.{relocation_kind}
 use Rattle.elffile.specs.Relocations.{is_relocation_section, changes, relocation_entries, relocations_at, share_bytes, field_end}
 use Rattle.elffile.specs.Sections.{section_of, sections_of}
-use Rattle.elfdefs.specs.declared.constants.TheConstants.{SHT_STRTAB, SHT_REL, STB_LOCAL, STB_GLOBAL, STB_WEAK, STT_SECTION, STT_FILE, STT_COMMON, SHN_UNDEF, SHN_ABS, SHN_COMMON, MAX_SECTION_SIZE}
-use Rattle.elfdefs.specs.declared.relocation.Relocation.{Relocation}
+use Rattle.elffile.specs.declared.constants.TheConstants.{SHT_STRTAB, SHT_REL, STB_LOCAL, STB_GLOBAL, STB_WEAK, STT_SECTION, STT_FILE, STT_COMMON, SHN_UNDEF, SHN_ABS, SHN_COMMON, MAX_SECTION_SIZE}
+use Rattle.elffile.specs.declared.relocation.Relocation.{Relocation}
 use Rattle.elffile.specs.declared.relocation_entry.RelocationEntry.{RelocationEntry}
-use Rattle.elfdefs.specs.declared.section.Section.{Section}
-use Rattle.elfdefs.specs.declared.section.SectionKind.{SectionKind}
-use Rattle.elfdefs.specs.declared.section.SectionKind.TheVariants.{Nobits}
+use Rattle.elffile.specs.declared.section.Section.{Section}
+use Rattle.elffile.specs.declared.section.SectionKind.{SectionKind}
+use Rattle.elffile.specs.declared.section.SectionKind.TheVariants.{Nobits}
 use Rattle.elffile.specs.declared.section_header.SectionHeader.{SectionHeader}
 use Rattle.elffile.specs.declared.symbol_entry.SymbolEntry.{SymbolEntry}
 

@@ -4,14 +4,14 @@ ghost use Rattle.std.specs.Prelude.{◌≡◌, ◌≤◌, IfNone, false, find, l
 ghost use Rattle.elffile.specs.ElfHeader.{e_shoff, e_shnum, e_shstrndx};
 ghost use Rattle.elffile.specs.Refusal.{holds, header_refusals};
 ghost use Rattle.elffile.specs.SectionTable.{IsTableWithin, IsCountRight, HasSectionTable};
-ghost use Rattle.elfdefs.specs.declared.refusal.ObjectRefusal.TheVariants.{Short, NotElf, Machine, SectionTable, SectionCount};
+ghost use Rattle.elffile.specs.declared.refusal.ObjectRefusal.TheVariants.{Short, NotElf, Machine, SectionTable, SectionCount};
 
-use elfdefs::constants::{
+use crate::constants::{
     EHDR_SIZE, ELFCLASS64, ELFDATA2LSB, EM_X86_64, ET_REL, EV_CURRENT, MAX_SECTION_HEADERS,
     SHDR_SIZE,
 };
-use elfdefs::numbers::{read_u16, read_u32, read_u64};
-use elfdefs::refusal::ObjectRefusal;
+use crate::numbers::{read_u16, read_u32, read_u64};
+use crate::refusal::ObjectRefusal;
 
 /// Field `e_shoff`: where the section headers begin in the file.
 pub fn section_table_offset(bytes: &[u8]) -> u64

@@ -7,9 +7,9 @@ ghost use Rattle.elffile.specs.NameLengths.{first_length, length_before, name_le
 ghost use Rattle.elffile.specs.Names.{is_graphic};
 ghost use Rattle.elffile.specs.SectionHeaders.{file_bytes};
 
+use crate::constants::MAX_NAME_LENGTH;
 use crate::section_header::SectionHeader;
 use crate::span::Span;
-use elfdefs::constants::MAX_NAME_LENGTH;
 use std::alloc::{AllocError, Global};
 
 /// Whether a byte may stand in a name: one from `!` to `~`.

@@ -3,8 +3,8 @@
 ghost use Rattle.std.specs.Prelude.{◌≡◌, ◌≤◌, ◌+◌, length};
 ghost use Rattle.elffile.specs.RelocationEntries.{relocation_entry_at};
 
-use elfdefs::numbers::{read_i64, read_u64};
-use elfdefs::relocation::{Relocation, RelocationKind, SymbolIndex};
+use crate::numbers::{read_i64, read_u64};
+use crate::relocation::{Relocation, RelocationKind, SymbolIndex};
 
 /// An entry.
 #[derive(Clone, Copy)]

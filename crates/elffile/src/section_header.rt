@@ -5,14 +5,14 @@ ghost use Rattle.std.specs.Prelude.{◌≡◌, ◌≤◌, ◌+◌, IfOk, length}
 ghost use Rattle.elffile.specs.SectionHeaders.{header_at, headers};
 ghost use Rattle.elffile.specs.SectionTable.{HasSectionTable};
 
-use crate::elf_header::{section_count, section_table_offset};
-use crate::names::StringTable;
-use elfdefs::constants::{
+use crate::constants::{
     MAX_SECTION_SIZE, PROFILE_FLAGS, SHDR_SIZE, SHF_ALLOC, SHT_NOBITS, SHT_NULL, SHT_REL, SHT_RELA,
     SHT_SYMTAB,
 };
-use elfdefs::numbers::{read_u32, read_u64};
-use elfdefs::section::SectionKind;
+use crate::elf_header::{section_count, section_table_offset};
+use crate::names::StringTable;
+use crate::numbers::{read_u32, read_u64};
+use crate::section::SectionKind;
 use std::alloc::{AllocError, Global};
 
 /// The fields of a section header that the reader looks at.

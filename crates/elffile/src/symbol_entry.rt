@@ -4,14 +4,14 @@
 ghost use Rattle.std.specs.Prelude.{◌≡◌, ◌≤◌, ◌+◌, length};
 ghost use Rattle.elffile.specs.SymbolEntries.{symbol_entry_at};
 
-use crate::names::StringTable;
-use elfdefs::constants::{
+use crate::constants::{
     MAX_SECTION_SIZE, SHN_ABS, SHN_COMMON, SHN_UNDEF, STB_GLOBAL, STB_LOCAL, STB_WEAK, STT_COMMON,
     STT_FILE, STT_FUNC, STT_NOTYPE, STT_OBJECT, STT_SECTION,
 };
-use elfdefs::numbers::{read_u16, read_u32, read_u64};
-use elfdefs::section::SectionIndex;
-use elfdefs::symbol::{Binding, Symbol, SymbolKind, SymbolPlace};
+use crate::names::StringTable;
+use crate::numbers::{read_u16, read_u32, read_u64};
+use crate::section::SectionIndex;
+use crate::symbol::{Binding, Symbol, SymbolKind, SymbolPlace};
 
 /// The fields of an entry that the reader looks at.
 #[derive(Clone, Copy)]
@@ -30,7 +30,7 @@ pub struct SymbolEntry {
 
 impl SymbolEntry {
     ghost use Rattle.elffile.specs.SymbolEntries.{st_bind, st_type};
-    ghost use Rattle.elfdefs.specs.SymbolKinds.{binding_of, symbol_kind_of};
+    ghost use Rattle.elffile.specs.SymbolKinds.{binding_of, symbol_kind_of};
     ghost use Rattle.elffile.specs.Symbols.{symbol_place_of, symbol_of};
     ghost use Rattle.elffile.specs.TableOf.{table_of};
     ghost use Rattle.elffile.specs.Tables.{is_local, is_nowhere, is_wrong_local, is_wrong_non_local, is_wrong_common, is_wrong_symbol};

@@ -11,14 +11,14 @@ use Rattle.elffile.specs.RelocationEntries.{relocation_entry_at, relocation_entr
 use Rattle.elffile.specs.Relocations.{field_end, relocation_of}
 use Rattle.elfobj.specs.Runs.{IsTableOf, has_refused_entry, is_refused_for}
 use Rattle.elffile.specs.Tables.{is_outside}
-use Rattle.elfdefs.specs.declared.relocation.Relocation.{Relocation}
+use Rattle.elffile.specs.declared.relocation.Relocation.{Relocation}
 use Rattle.elffile.specs.declared.relocation_entry.RelocationEntry.{RelocationEntry}
 use Rattle.elfobj.specs.declared.relocation_fault.EntryFault.{EntryFault}
 use Rattle.elfobj.specs.declared.relocation_fault.EntryFault.TheVariants.{Any, Symbol, Kind, Bounds}
 use Rattle.elfobj.specs.declared.relocation_run.SectionTable.{SectionTable}
-use Rattle.elfdefs.specs.declared.section.Section.{Section}
-use Rattle.elfdefs.specs.declared.section.SectionKind.{SectionKind}
-use Rattle.elfdefs.specs.declared.section.SectionKind.TheVariants.{Progbits, Nobits, Note, InitArray, FiniArray, PreinitArray, Unwind}
+use Rattle.elffile.specs.declared.section.Section.{Section}
+use Rattle.elffile.specs.declared.section.SectionKind.{SectionKind}
+use Rattle.elffile.specs.declared.section.SectionKind.TheVariants.{Progbits, Nobits, Note, InitArray, FiniArray, PreinitArray, Unwind}
 use Rattle.elfobj.proofs.RelocationReads.{none_mapped}
 
 -- a field that lies in a section lies in all that are no smaller

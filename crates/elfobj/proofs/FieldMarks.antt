@@ -10,8 +10,8 @@ use Rattle.elfobj.specs.Places.{relocations_in}
 use Rattle.elfobj.specs.Profile.{AreApart}
 use Rattle.elffile.specs.Relocations.{field_end, meets, share_bytes}
 use Rattle.elffile.specs.declared.span.Span.{Span}
-use Rattle.elfdefs.specs.declared.relocation.Relocation.{Relocation}
-use Rattle.elfdefs.specs.declared.relocation.RelocationKind.TheVariants as kind
+use Rattle.elffile.specs.declared.relocation.Relocation.{Relocation}
+use Rattle.elffile.specs.declared.relocation.RelocationKind.TheVariants as kind
 use Rattle.elfobj.proofs.RelocationLimits.{all_apart}
 
 abbrev pub no_relocation : Relocation

@@ -16,9 +16,9 @@ use Rattle.elfobj.specs.Runs.{AreTablesOf, IsTableOf}
 use Rattle.elffile.specs.Tables.{has_field_outside, has_wrong_bounds, is_outside, linked_sections}
 use Rattle.elffile.specs.declared.span.Span.{Span}
 use Rattle.elfobj.specs.declared.relocation_run.SectionTable.{SectionTable}
-use Rattle.elfdefs.specs.declared.refusal.ObjectRefusal.TheVariants.{FieldBounds, RelocationSection, RelocationType}
-use Rattle.elfdefs.specs.declared.relocation.Relocation.{Relocation}
-use Rattle.elfdefs.specs.declared.section.Section.{Section}
+use Rattle.elffile.specs.declared.refusal.ObjectRefusal.TheVariants.{FieldBounds, RelocationSection, RelocationType}
+use Rattle.elffile.specs.declared.relocation.Relocation.{Relocation}
+use Rattle.elffile.specs.declared.section.Section.{Section}
 use Rattle.elfobj.proofs.FieldMarks.{stretch_at, stretch_length}
 use Rattle.elfobj.proofs.Limits.{cond_none}
 use Rattle.elfobj.proofs.RelocationLimits.{field_inside}

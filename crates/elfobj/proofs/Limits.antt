@@ -17,10 +17,10 @@ use Rattle.elffile.specs.Refusal.{holds, is_looked_at, is_out_of_bounds, is_outs
 use Rattle.elffile.specs.SectionHeaders.{header}
 use Rattle.elffile.specs.LinkedKinds.{is_alloc, linked_kind}
 use Rattle.elffile.specs.Sections.{linked_as, linked_section, sections_below, sections_of, name_of, contents}
-use Rattle.elfdefs.specs.declared.refusal.ObjectRefusal.{ObjectRefusal}
-use Rattle.elfdefs.specs.declared.refusal.ObjectRefusal.TheVariants.{Short, NotElf, Machine, SectionTable, SectionCount, SectionBounds, SectionProfile, SymbolTable, Symbol, RelocationSection, RelocationType, FieldBounds, FieldOverlap}
-use Rattle.elfdefs.specs.declared.section.SectionKind.{SectionKind}
-use Rattle.elfdefs.specs.declared.section.SectionKind.TheVariants.{Progbits, Nobits, Note, InitArray, FiniArray, PreinitArray, Unwind}
+use Rattle.elffile.specs.declared.refusal.ObjectRefusal.{ObjectRefusal}
+use Rattle.elffile.specs.declared.refusal.ObjectRefusal.TheVariants.{Short, NotElf, Machine, SectionTable, SectionCount, SectionBounds, SectionProfile, SymbolTable, Symbol, RelocationSection, RelocationType, FieldBounds, FieldOverlap}
+use Rattle.elffile.specs.declared.section.SectionKind.{SectionKind}
+use Rattle.elffile.specs.declared.section.SectionKind.TheVariants.{Progbits, Nobits, Note, InitArray, FiniArray, PreinitArray, Unwind}
 use Rattle.elffile.specs.declared.section_header.SectionHeader.{SectionHeader}
 use Rattle.elfobj.proofs.Passing.{none_at}
 use Rattle.elfobj.proofs.Steps.{linkable, linked_parts, kind_not_null}

@@ -8,9 +8,9 @@ use Rattle.elffile.specs.Spans.{IsInside, bytes_at}
 use Rattle.elffile.specs.Symbols.{symbols_of}
 use Rattle.elffile.specs.declared.span.Span.{Span}
 use Rattle.elfobj.specs.declared.place.Place.{Place}
-use Rattle.elfdefs.specs.declared.relocation.Relocation.{Relocation}
-use Rattle.elfdefs.specs.declared.section.Section.{Section}
-use Rattle.elfdefs.specs.declared.symbol.Symbol.{Symbol}
+use Rattle.elffile.specs.declared.relocation.Relocation.{Relocation}
+use Rattle.elffile.specs.declared.section.Section.{Section}
+use Rattle.elffile.specs.declared.symbol.Symbol.{Symbol}
 
 -- a part that a change of one element leaves
 pub part_kept : {X Y : Type 0} (f : X → Y) (xs : List X) (i : ℕ) (d x : X) → i < length xs → f x ≡ f (get_or xs i d) → map f (set xs i x) ≡ map f xs

@@ -9,8 +9,8 @@ use Rattle.elffile.specs.SectionHeaders.{file_bytes, header, headers}
 use Rattle.elffile.specs.Sections.{name_table}
 use Rattle.elfobj.specs.Linkable.{PassesTests}
 use Rattle.elffile.specs.Refusal.{holds, is_outside_profile_by, header_refusals, section_refusals, symbol_refusals, relocation_refusals, object_refusal}
-use Rattle.elfdefs.specs.declared.refusal.ObjectRefusal.{ObjectRefusal}
-use Rattle.elfdefs.specs.declared.refusal.ObjectRefusal.TheVariants.{NoMemory, SectionBounds, SectionProfile}
+use Rattle.elffile.specs.declared.refusal.ObjectRefusal.{ObjectRefusal}
+use Rattle.elffile.specs.declared.refusal.ObjectRefusal.TheVariants.{NoMemory, SectionBounds, SectionProfile}
 use Rattle.elffile.specs.declared.section_header.SectionHeader.{SectionHeader}
 
 -- the ELF header is refused

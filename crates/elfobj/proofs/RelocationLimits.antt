@@ -14,11 +14,11 @@ use Rattle.elffile.specs.SectionHeaders.{header}
 use Rattle.elffile.specs.Sections.{LinkedSection, linked_section, section_of, sections_below, sections_of}
 use Rattle.elffile.specs.Symbols.{symbols_of}
 use Rattle.elffile.specs.Tables.{has_field_outside, has_overlap, has_shared_bytes, has_strange_symbol, has_wrong_bounds, has_wrong_relocation_section, is_outside, names_no_symbol}
-use Rattle.elfdefs.specs.declared.relocation.Relocation.{Relocation}
+use Rattle.elffile.specs.declared.relocation.Relocation.{Relocation}
 use Rattle.elffile.specs.declared.relocation_entry.RelocationEntry.{RelocationEntry}
-use Rattle.elfdefs.specs.declared.section.Section.{Section}
-use Rattle.elfdefs.specs.declared.section.SectionKind.{SectionKind}
-use Rattle.elfdefs.specs.declared.section.SectionKind.TheVariants.{Progbits, Nobits, Note, InitArray, FiniArray, PreinitArray, Unwind}
+use Rattle.elffile.specs.declared.section.Section.{Section}
+use Rattle.elffile.specs.declared.section.SectionKind.{SectionKind}
+use Rattle.elffile.specs.declared.section.SectionKind.TheVariants.{Progbits, Nobits, Note, InitArray, FiniArray, PreinitArray, Unwind}
 use Rattle.elffile.specs.declared.section_header.SectionHeader.{SectionHeader}
 use Rattle.elfobj.proofs.Limits.{accepted_parts}
 

@@ -20,14 +20,14 @@ use Rattle.elffile.specs.Sections.{LinkedSection, linked_section, section_of, se
 use Rattle.elffile.specs.Symbols.{symbols_of}
 use Rattle.elffile.specs.Tables.{has_field_outside, has_overlap, has_shared_bytes, has_strange_symbol, has_strange_type, has_wrong_bounds, has_wrong_relocation_section, has_wrong_type, is_outside, is_wrong_below, linked_sections}
 use Rattle.elffile.specs.declared.span.Span.{Span}
-use Rattle.elfdefs.specs.declared.refusal.ObjectRefusal.{ObjectRefusal}
-use Rattle.elfdefs.specs.declared.refusal.ObjectRefusal.TheVariants.{FieldOverlap, FieldBounds, NoMemory, RelocationSection, RelocationType}
-use Rattle.elfdefs.specs.declared.relocation.Relocation.{Relocation}
+use Rattle.elffile.specs.declared.refusal.ObjectRefusal.{ObjectRefusal}
+use Rattle.elffile.specs.declared.refusal.ObjectRefusal.TheVariants.{FieldOverlap, FieldBounds, NoMemory, RelocationSection, RelocationType}
+use Rattle.elffile.specs.declared.relocation.Relocation.{Relocation}
 use Rattle.elffile.specs.declared.relocation_entry.RelocationEntry.{RelocationEntry}
 use Rattle.elfobj.specs.declared.relocation_fault.EntryFault.TheVariants.{Any, Symbol, Kind, Bounds}
 use Rattle.elfobj.specs.declared.relocation_run.SectionTable.{SectionTable}
-use Rattle.elfdefs.specs.declared.section.Section.{Section}
-use Rattle.elfdefs.specs.declared.section.SectionKind.{SectionKind}
+use Rattle.elffile.specs.declared.section.Section.{Section}
+use Rattle.elffile.specs.declared.section.SectionKind.{SectionKind}
 use Rattle.elffile.specs.declared.section_header.SectionHeader.{SectionHeader}
 use Rattle.elfobj.proofs.Found.{found_is, found_not, relocations_in_file}
 

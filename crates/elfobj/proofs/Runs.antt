@@ -11,11 +11,11 @@ use Rattle.elffile.specs.RelocationEntries.{relocation_entry_at, relocation_entr
 use Rattle.elffile.specs.Relocations.{relocation_of, relocations_at}
 use Rattle.elfobj.specs.Runs.{AreRuns, IsCovered, IsRun, IsTableOf, table_entries}
 use Rattle.elffile.specs.declared.span.Span.{Span}
-use Rattle.elfdefs.specs.declared.relocation.Relocation.{Relocation}
+use Rattle.elffile.specs.declared.relocation.Relocation.{Relocation}
 use Rattle.elfobj.specs.declared.relocation_run.Run.{Run}
 use Rattle.elfobj.specs.declared.relocation_run.SectionTable.{SectionTable}
-use Rattle.elfdefs.specs.declared.section.Section.{Section}
-use Rattle.elfdefs.specs.declared.section.SectionKind.TheVariants.{Progbits}
+use Rattle.elffile.specs.declared.section.Section.{Section}
+use Rattle.elffile.specs.declared.section.SectionKind.TheVariants.{Progbits}
 use Rattle.elffile.proofs.Cuts.{cut_cut}
 
 -- entries one after another

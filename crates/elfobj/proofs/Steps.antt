@@ -10,13 +10,13 @@ use Rattle.elffile.specs.Names.{is_name}
 use Rattle.elfobj.specs.Places.{AreRead, IsFileWithin, IsWithin, name_in, bytes_in}
 use Rattle.elffile.specs.Refusal.{holds, is_looked_at, is_out_of_bounds, is_outside_profile}
 use Rattle.elffile.specs.SectionHeaders.{header}
-use Rattle.elfdefs.specs.SectionKinds.{kind_of}
+use Rattle.elffile.specs.SectionKinds.{kind_of}
 use Rattle.elffile.specs.LinkedKinds.{is_alloc, linked_kind}
 use Rattle.elffile.specs.Sections.{LinkedSection, section_of, linked_as, sections_below, name_of}
 use Rattle.elfobj.specs.declared.place.Place.{Place}
-use Rattle.elfdefs.specs.declared.section.Section.{Section}
-use Rattle.elfdefs.specs.declared.section.SectionKind.{SectionKind}
-use Rattle.elfdefs.specs.declared.section.SectionKind.TheVariants.{Progbits, Nobits, Note, InitArray, FiniArray, PreinitArray, Unwind}
+use Rattle.elffile.specs.declared.section.Section.{Section}
+use Rattle.elffile.specs.declared.section.SectionKind.{SectionKind}
+use Rattle.elffile.specs.declared.section.SectionKind.TheVariants.{Progbits, Nobits, Note, InitArray, FiniArray, PreinitArray, Unwind}
 use Rattle.elffile.specs.declared.section_header.SectionHeader.{SectionHeader}
 use Rattle.elfobj.proofs.Passing.{none_at}
 

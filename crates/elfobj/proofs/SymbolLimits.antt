@@ -11,11 +11,11 @@ use Rattle.elfobj.specs.Profile.{IsCommonBlock, IsNameOf, IsSectionBelow, IsSymb
 use Rattle.elffile.specs.Refusal.{holds, object_refusal}
 use Rattle.elffile.specs.SymbolEntries.{st_bind}
 use Rattle.elffile.specs.Symbols.{NamedSymbol, entries_of, named_symbol, null_symbol, strings_of, symbol_of, symbol_table, symbols_from, symbols_in, symbols_of}
-use Rattle.elfdefs.specs.SymbolKinds.{binding_of}
+use Rattle.elffile.specs.SymbolKinds.{binding_of}
 use Rattle.elffile.specs.Tables.{has_wrong_entry, has_wrong_symbol, is_local, is_not_local, is_wrong_common, is_wrong_non_local, is_wrong_symbol}
 use Rattle.elffile.specs.declared.section_header.SectionHeader.{SectionHeader}
-use Rattle.elfdefs.specs.declared.symbol.Binding.TheVariants.{Local, Global, Weak}
-use Rattle.elfdefs.specs.declared.symbol.SymbolPlace.TheVariants.{Common, Undefined, Absolute, Section}
+use Rattle.elffile.specs.declared.symbol.Binding.TheVariants.{Local, Global, Weak}
+use Rattle.elffile.specs.declared.symbol.SymbolPlace.TheVariants.{Common, Undefined, Absolute, Section}
 use Rattle.elffile.specs.declared.symbol_entry.SymbolEntry.{SymbolEntry}
 use Rattle.elfobj.proofs.Limits.{accepted_parts, name_told}
 use Rattle.elfobj.proofs.SymbolTables.{entries_length, table_in_file}

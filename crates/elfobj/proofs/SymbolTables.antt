@@ -13,9 +13,9 @@ use Rattle.elffile.specs.SymbolEntries.{symbol_entries_below, symbol_entry_at}
 use Rattle.elffile.specs.Symbols.{NamedSymbol, entries_of, is_symbol_table, named_symbol, null_symbol, strings_of, symbol_name, symbol_of, symbol_table, symbols_from, symbols_in, symbols_of}
 use Rattle.elffile.specs.Tables.{has_misplaced_entry, has_wrong_entry, has_wrong_header, has_wrong_symbol, has_wrong_symbol_table, is_string_table, is_wrong_non_local, is_wrong_symbol, is_wrong_symbol_table}
 use Rattle.elffile.specs.declared.span.Span.{Span}
-use Rattle.elfdefs.specs.declared.refusal.ObjectRefusal.TheVariants.{SymbolTable, Symbol as WrongSymbol}
+use Rattle.elffile.specs.declared.refusal.ObjectRefusal.TheVariants.{SymbolTable, Symbol as WrongSymbol}
 use Rattle.elffile.specs.declared.section_header.SectionHeader.{SectionHeader}
-use Rattle.elfdefs.specs.declared.symbol.Symbol.{Symbol}
+use Rattle.elffile.specs.declared.symbol.Symbol.{Symbol}
 use Rattle.elffile.specs.declared.symbol_entry.SymbolEntry.{SymbolEntry}
 use Rattle.elfobj.proofs.Found.{IsTableIn, found_is, found_not, strings_type, symbols_in_file}
 use Rattle.elfobj.proofs.Passing.{none_at}

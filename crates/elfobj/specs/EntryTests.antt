@@ -4,9 +4,9 @@ use Rattle.elffile.specs.RelocationEntries.{relocation_entry_at}
 use Rattle.elfobj.specs.Runs.{has_refused_entry, is_refused_for}
 use Rattle.elfobj.specs.declared.relocation_fault.EntryFault.{EntryFault}
 use Rattle.elfobj.specs.declared.relocation_run.SectionTable.{SectionTable}
-use Rattle.elfdefs.specs.declared.section.Section.{Section}
-use Rattle.elfdefs.specs.declared.section.SectionKind.{SectionKind}
-use Rattle.elfdefs.specs.declared.section.SectionKind.TheVariants.{Nobits}
+use Rattle.elffile.specs.declared.section.Section.{Section}
+use Rattle.elffile.specs.declared.section.SectionKind.{SectionKind}
+use Rattle.elffile.specs.declared.section.SectionKind.TheVariants.{Nobits}
 
 abbrev pub ends_in : SectionKind → ℕ → ℕ
 ends_in Nobits size = 0

@@ -1,5 +1,5 @@
-pub use Rattle.elfdefs.specs.RelocationKinds
-pub use Rattle.elfdefs.specs.RefusalNumber
+pub use Rattle.elffile.specs.RelocationKinds
+pub use Rattle.elffile.specs.RefusalNumber
 pub use Rattle.elffile.specs.Names
 pub use Rattle.elffile.specs.Symbols
 pub use Rattle.elffile.specs.Relocations

@@ -10,12 +10,12 @@ use Rattle.elffile.specs.Sections.{sections_of, LinkedSection, section_of, name_
 use Rattle.elffile.specs.Symbols.{symbols_of}
 use Rattle.elfobj.specs.declared.place.Place.{Place}
 use Rattle.elffile.specs.declared.span.Span.{Span}
-use Rattle.elfdefs.specs.declared.relocation.Relocation.{Relocation}
-use Rattle.elfdefs.specs.declared.refusal.ObjectRefusal.TheVariants.{SectionBounds, SectionProfile}
-use Rattle.elfdefs.specs.declared.section.Section.{Section}
-use Rattle.elfdefs.specs.declared.section.SectionKind.{SectionKind}
+use Rattle.elffile.specs.declared.relocation.Relocation.{Relocation}
+use Rattle.elffile.specs.declared.refusal.ObjectRefusal.TheVariants.{SectionBounds, SectionProfile}
+use Rattle.elffile.specs.declared.section.Section.{Section}
+use Rattle.elffile.specs.declared.section.SectionKind.{SectionKind}
 use Rattle.elffile.specs.declared.section_header.SectionHeader.{SectionHeader}
-use Rattle.elfdefs.specs.declared.symbol.Symbol.{Symbol}
+use Rattle.elffile.specs.declared.symbol.Symbol.{Symbol}
 
 -- no test of the section headers alone refuses
 pub record PassesTests (bytes : List ℕ) : Type 0 where

@@ -6,12 +6,12 @@ use Rattle.elffile.specs.Symbols.{NamedSymbol}
 use Rattle.elfobj.specs.declared.place.Place.{Place}
 use Rattle.elffile.specs.Spans.{IsInside, bytes_at}
 use Rattle.elffile.specs.declared.span.Span.{Span}
-use Rattle.elfdefs.specs.declared.relocation.Relocation.{Relocation}
-use Rattle.elfdefs.specs.declared.section.Section.{Section}
-use Rattle.elfdefs.specs.declared.section.SectionKind.{SectionKind}
-use Rattle.elfdefs.specs.declared.section.SectionKind.TheVariants.{Nobits}
+use Rattle.elffile.specs.declared.relocation.Relocation.{Relocation}
+use Rattle.elffile.specs.declared.section.Section.{Section}
+use Rattle.elffile.specs.declared.section.SectionKind.{SectionKind}
+use Rattle.elffile.specs.declared.section.SectionKind.TheVariants.{Nobits}
 use Rattle.elffile.specs.declared.section_header.SectionHeader.{SectionHeader}
-use Rattle.elfdefs.specs.declared.symbol.Symbol.{Symbol}
+use Rattle.elffile.specs.declared.symbol.Symbol.{Symbol}
 
 abbrev pub name_in : List ℕ → Place → List ℕ
 name_in bytes p = bytes_at bytes p.name

@@ -7,16 +7,16 @@ use Rattle.elffile.specs.Names.{is_name}
 use Rattle.elffile.specs.Relocations.{field_end, meets}
 use Rattle.elffile.specs.Sections.{LinkedSection}
 use Rattle.elffile.specs.Symbols.{NamedSymbol}
-use Rattle.elfdefs.specs.declared.constants.TheConstants.{PROFILE_FLAGS, SHF_ALLOC}
-use Rattle.elfdefs.specs.declared.relocation.Relocation.{Relocation}
-use Rattle.elfdefs.specs.declared.section.SectionKind.{SectionKind}
-use Rattle.elfdefs.specs.declared.section.SectionKind.TheVariants.{Nobits}
-use Rattle.elfdefs.specs.declared.symbol.Binding.{Binding}
-use Rattle.elfdefs.specs.declared.symbol.Binding.TheVariants.{Local, Global}
-use Rattle.elfdefs.specs.declared.symbol.Symbol.{Symbol}
-use Rattle.elfdefs.specs.declared.symbol.SymbolPlace.{SymbolPlace}
-use Rattle.elfdefs.specs.declared.symbol.SymbolPlace.{SymbolPlace}
-use Rattle.elfdefs.specs.declared.symbol.SymbolPlace.TheVariants.{Common, Section}
+use Rattle.elffile.specs.declared.constants.TheConstants.{PROFILE_FLAGS, SHF_ALLOC}
+use Rattle.elffile.specs.declared.relocation.Relocation.{Relocation}
+use Rattle.elffile.specs.declared.section.SectionKind.{SectionKind}
+use Rattle.elffile.specs.declared.section.SectionKind.TheVariants.{Nobits}
+use Rattle.elffile.specs.declared.symbol.Binding.{Binding}
+use Rattle.elffile.specs.declared.symbol.Binding.TheVariants.{Local, Global}
+use Rattle.elffile.specs.declared.symbol.Symbol.{Symbol}
+use Rattle.elffile.specs.declared.symbol.SymbolPlace.{SymbolPlace}
+use Rattle.elffile.specs.declared.symbol.SymbolPlace.{SymbolPlace}
+use Rattle.elffile.specs.declared.symbol.SymbolPlace.TheVariants.{Common, Section}
 
 -- how many bytes of the file a section of so many bytes has
 abbrev pub size_in_file : SectionKind → ℕ → ℕ

@@ -5,7 +5,7 @@ ghost use Rattle.std.specs.List.{All, AllPairs, slice_get};
 ghost use Rattle.std.specs.List.Sorted.{IsNonDecreasingBy, IsPermutation};
 ghost use Rattle.ldbase.specs.Raised.{raised};
 ghost use Rattle.ldbase.specs.declared.meter.Count.TheVariants.{Objects};
-ghost use Rattle.elfdefs.specs.declared.refusal.ObjectRefusal.TheVariants.{NoMemory};
+ghost use Rattle.elffile.specs.declared.refusal.ObjectRefusal.TheVariants.{NoMemory};
 
 use crate::field::put_in_order;
 use crate::place::Place;

@@ -1,3 +1,3 @@
 //! Why bytes are no object.
 
-pub use elfdefs::refusal::ObjectRefusal;
+pub use elffile::refusal::ObjectRefusal;

@@ -1,3 +1,3 @@
 //! Relocations as callers see them.
 
-pub use elfdefs::relocation::{Relocation, RelocationKind, SymbolIndex};
+pub use elffile::relocation::{Relocation, RelocationKind, SymbolIndex};

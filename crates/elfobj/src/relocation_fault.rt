@@ -10,7 +10,7 @@ use crate::entry_test::{is_table_refused, none_passed};
 use crate::field::is_outside;
 use crate::relocation_run::{SectionTable, class_range};
 use crate::section::{Section, SectionKind};
-use elfdefs::constants::RELA_SIZE;
+use elffile::constants::RELA_SIZE;
 use elffile::relocation_entry::RelocationEntry;
 use std::alloc::{AllocError, Global};
 

@@ -10,7 +10,7 @@ ghost use Rattle.elfobj.specs.Runs.{AreRuns, IsCovered, IsTableOf, table_entries
 
 use crate::relocation::Relocation;
 use crate::section::Section;
-use elfdefs::constants::RELA_SIZE;
+use elffile::constants::RELA_SIZE;
 use elffile::relocation_entry::read_relocation_entry;
 use elffile::span::{EMPTY_SPAN, Span};
 use std::alloc::{AllocError, Global};

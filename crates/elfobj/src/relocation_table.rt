@@ -17,7 +17,7 @@ ghost use Rattle.elffile.specs.SectionTable.{HasSectionTable};
 ghost use Rattle.elffile.specs.Sections.{sections_of};
 ghost use Rattle.elffile.specs.Symbols.{symbols_of};
 ghost use Rattle.elffile.specs.Tables.{is_linked, is_wrong_below, is_wrong_table, linked_sections};
-ghost use Rattle.elfdefs.specs.declared.refusal.ObjectRefusal.TheVariants.{NoMemory, RelocationSection};
+ghost use Rattle.elffile.specs.declared.refusal.ObjectRefusal.TheVariants.{NoMemory, RelocationSection};
 
 use crate::field_marks::is_any_shared;
 use crate::refusal::ObjectRefusal;
@@ -25,7 +25,7 @@ use crate::relocation_fault::{EntryFault, is_any_refused, smallest_first};
 use crate::relocation_run::{Relocations, SectionTable, read_tables};
 use crate::section::Section;
 use crate::symbol_table::symbol_table_number;
-use elfdefs::constants::{RELA_SIZE, SHT_REL};
+use elffile::constants::{RELA_SIZE, SHT_REL};
 use elffile::section_header::SectionHeader;
 use elffile::span::Span;
 use std::alloc::{AllocError, Global};

@@ -8,7 +8,7 @@ ghost use Rattle.elffile.specs.Refusal.{holds, is_out_of_bounds, is_outside_prof
 ghost use Rattle.elffile.specs.SectionHeaders.{header, headers as headers_of};
 ghost use Rattle.elffile.specs.SectionTable.{HasSectionTable};
 ghost use Rattle.elffile.specs.TableOf.{table_of};
-ghost use Rattle.elfdefs.specs.declared.refusal.ObjectRefusal.TheVariants.{NoMemory, SectionBounds};
+ghost use Rattle.elffile.specs.declared.refusal.ObjectRefusal.TheVariants.{NoMemory, SectionBounds};
 
 use crate::linked::{Linked, linked_sections};
 use crate::place::place_relocations;
@@ -17,7 +17,7 @@ use crate::relocation::Relocation;
 use crate::relocation_run::Relocations;
 use crate::relocation_table::read_relocations;
 use crate::symbol_table::{Symbols, read_symbols};
-use elfdefs::constants::SHT_STRTAB;
+use elffile::constants::SHT_STRTAB;
 use elffile::elf_header::{header_refusal, name_table_number};
 use elffile::names::StringTable;
 use elffile::section_header::{SectionHeader, read_headers};

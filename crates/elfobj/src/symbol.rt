@@ -1,3 +1,3 @@
 //! Symbols as callers see them.
 
-pub use elfdefs::symbol::{Binding, Symbol, SymbolKind, SymbolPlace};
+pub use elffile::symbol::{Binding, Symbol, SymbolKind, SymbolPlace};

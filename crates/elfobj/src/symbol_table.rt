@@ -12,11 +12,11 @@ ghost use Rattle.elfobj.specs.Linkable.{IsNameTable, PassesTests};
 ghost use Rattle.elffile.specs.Symbols.{entries_of, is_symbol_table, symbol_name, symbols_from, symbols_of};
 ghost use Rattle.elffile.specs.TableOf.{table_of};
 ghost use Rattle.elffile.specs.Tables.{has_misplaced_entry, has_wrong_header, is_local, is_string_table, is_wrong_non_local, is_wrong_symbol};
-ghost use Rattle.elfdefs.specs.declared.refusal.ObjectRefusal.TheVariants.{NoMemory};
+ghost use Rattle.elffile.specs.declared.refusal.ObjectRefusal.TheVariants.{NoMemory};
 
 use crate::refusal::ObjectRefusal;
 use crate::symbol::{Binding, Symbol, SymbolKind, SymbolPlace};
-use elfdefs::constants::{SHT_STRTAB, SYM_SIZE};
+use elffile::constants::{SHT_STRTAB, SYM_SIZE};
 use elffile::elf_header::name_table_number;
 use elffile::names::StringTable;
 use elffile::section_header::SectionHeader;

@@ -9,8 +9,8 @@ use Rattle.std.proofs.lemmas.Bool.{false≢true, and_parts}
 use Rattle.std.proofs.lemmas.Bool.Decides.{nat_tests}
 use Rattle.std.proofs.lemmas.Slice.Eq.{bytes_eq-Decides}
 use Rattle.std.proofs.lemmas.Iterator.Adapters.{position_from-zero}
-use Rattle.ldpattern.specs.Parts.{Part, AnyRun, AnyByte, Byte, OneOf}
-use Rattle.ldpattern.specs.Matching.{is_match, exact_name}
+use Rattle.ldterms.specs.Parts.{Part, AnyRun, AnyByte, Byte, OneOf}
+use Rattle.ldterms.specs.Matching.{is_match, exact_name}
 use Rattle.ldtree.specs.Numbering.{InputStatementAt, input_statements}
 use Rattle.ldtree.specs.declared.input.Input.{Input}
 use Rattle.ldtree.specs.declared.input.SectionWord.{SectionWord}

@@ -9,3 +9,17 @@ pub mod GatheredLists
 pub mod MemberFacts
 pub mod KeptNumbers
 pub mod Ascending
+pub mod Seen
+pub mod Lists
+pub mod Owners
+pub mod Merging
+pub mod Owning
+pub mod Collecting
+pub mod ByNumber
+pub mod Named
+pub mod Preparing
+pub mod Sorting
+pub mod Tables
+pub mod Keyed
+pub mod Referring
+pub mod Starting

@@ -9,3 +9,9 @@ pub mod LeftOut
 pub mod Members
 pub mod Roots
 pub mod Apart
+pub mod Symbols
+pub mod ProjectMatches
+pub mod ProjectMembers
+pub mod Found
+pub mod Numbers
+pub mod Gathering

@@ -2,7 +2,7 @@
 use Rattle.std.specs.Prelude.{ℕ, ◌+◌, List, [], ◌∷◌, ◌++◌, map, Option, Some, None, Bool, false, ◌&&◌, if◌then◌else◌}
 use Rattle.std.specs.Prelude.{bytes_eq, is_none, min}
 use Rattle.std.specs.Option.{option_map_or}
-use Rattle.ldpattern.specs.Matching.{is_match, exact_name}
+use Rattle.ldterms.specs.Matching.{is_match, exact_name}
 use Rattle.ldtree.specs.Numbering.{InputStatementAt}
 use Rattle.ldtree.specs.declared.input.Input.{Input}
 use Rattle.ldtree.specs.declared.input.SectionWord.{SectionWord}

@@ -2,13 +2,13 @@
 
 ghost use Rattle.std.specs.Prelude.{◌≡◌};
 ghost use Rattle.ldmodel.specs.FirstMatch.{is_any_match, word_takes};
-ghost use Rattle.ldpattern.specs.Matching.{is_match};
+ghost use Rattle.ldterms.specs.Matching.{is_match};
 ghost use Rattle.gather.specs.Matches.{number_of};
 ghost use Rattle.gather.specs.Words.{first_taker, shown_word, shown_words, takes_by};
 
 use ldmodel::rows::InputIndex;
-use ldpattern::law::match_by_splitting;
 use ldscript::tree::{Input, Pattern, SectionWord, matches};
+use ldterms::pattern_law::match_by_splitting;
 
 /// A word of an input statement, with the statement.
 #[derive(Clone, Copy)]

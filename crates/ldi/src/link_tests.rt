@@ -1,10 +1,10 @@
 //! Links of files, with the status, the text on standard error and the map that they must have.
 
 use crate::tests::OBJECT_A;
-use ldlink::ending::{exit_status, message};
-use ldlink::file::ObjectFile;
-use ldlink::files_link::link;
 use ldmodel::options::Options;
+use relink::ending::{exit_status, message};
+use relink::file::ObjectFile;
+use relink::files_link::link;
 use std::alloc::{AllocError, Global};
 use std::hash::RandomState;
 use std::process::Abort;

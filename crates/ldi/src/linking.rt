@@ -2,9 +2,9 @@
 
 use crate::files::{IMAGE_MODE, MAP_MODE, read_file, read_objects, write_file};
 use crate::{DEVICE, NO_MEMORY};
-use ldlink::ending::{exit_status, message};
-use ldlink::files_link::link;
 use ldmodel::options::Options;
+use relink::ending::{exit_status, message};
+use relink::files_link::link;
 use relink::output::Output;
 use std::hash::RandomState;
 use std::io;

@@ -1,3 +1,9 @@
+pub mod Entries
+pub mod HeaderNames
+pub mod TailOfLink
+pub mod Ordering
+pub mod ProgramHeaders
+pub mod Sorts
 pub mod Adding
 pub mod Counting
 pub mod FileOrder

@@ -10,7 +10,7 @@ use Rattle.std.proofs.lemmas.Bool.Decides.{nat_tests}
 use Rattle.std.proofs.lemmas.List.{get_or_append_left, get_or-append-add, length-append}
 use Rattle.std.proofs.lemmas.List.Elements.{All-append, All-cons, All-nil, filter-append}
 use Rattle.byteorder.specs.Endian.{little_bytes}
-use Rattle.ldexpr.specs.DotForms.{DotForm, Advance, Align, Offset, dot_form}
+use Rattle.ldterms.specs.DotForms.{DotForm, Advance, Align, Offset, dot_form}
 use Rattle.ldtree.specs.Widths.{byte_count}
 use Rattle.ldtree.specs.declared.common.Assignment.{Assignment}
 use Rattle.ldtree.specs.declared.common.Common.{Common}

@@ -1,3 +1,6 @@
+pub mod HeaderRecord
+pub mod SegmentBytes
+pub mod Tables
 pub mod Drawing
 pub mod Grown
 pub mod InMemory

@@ -22,8 +22,8 @@ use Rattle.ldmodel.specs.declared.names.ObjectKey.{ObjectKey}
 use Rattle.ldmodel.specs.declared.sections.Part.{Part}
 use Rattle.ldmodel.specs.declared.sections.SectionKey.{SectionKey}
 use Rattle.ldlaws.specs.FileOrder.{AreInFileOrder}
-use Rattle.ldstarts.specs.Starts.{AreStarts}
-use Rattle.ldstarts.specs.declared.starts.Starts.{Starts}
+use Rattle.ldlayout.specs.Starts.{AreStarts}
+use Rattle.ldlayout.specs.declared.starts.Starts.{Starts}
 use Rattle.ldtargets.specs.Earlier as earlier
 use Rattle.ldtargets.specs.Earlier.{HasStayedAt, IsComplete, IsKept, IsPieceOf}
 use Rattle.ldtargets.specs.KnownLink.{IsSymbolOf, KnownLink, name_of_object}

@@ -16,7 +16,7 @@ use Rattle.ldmodel.specs.Rows.{Piece, rows}
 use Rattle.ldmodel.specs.Sections.{InputSection}
 use Rattle.ldmodel.specs.declared.laid.Placed.{Placed}
 use Rattle.ldlaws.specs.Spread.{entries_in}
-use Rattle.lddrawing.specs.Output.{IsOffset}
+use Rattle.ldoutput.specs.Output.{IsOffset}
 use Rattle.ldproject.specs.Inputs.{shown_input, shown_inputs}
 use Rattle.ldproject.specs.declared.input.Input.{Input}
 use Rattle.ldkept.specs.FileStarts.{AreStartsOf, IsFileStart, IsObjectName, IsOwned, entries_of, file_start}

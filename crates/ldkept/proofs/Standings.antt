@@ -17,9 +17,9 @@ use Rattle.ldmodel.specs.Stayed as model
 use Rattle.ldmodel.specs.Stayed.{LinkedPiece, linked_piece, linked_pieces, range_in}
 use Rattle.ldmodel.specs.SymbolValues.{is_part, placed_part}
 use Rattle.ldmodel.specs.declared.sections.SectionKey.{SectionKey}
-use Rattle.ldstarts.specs.Starts.{AreStarts, IsPartPlace, place_in}
-use Rattle.ldstarts.specs.declared.starts.PartPlace.{PartPlace}
-use Rattle.ldstarts.specs.declared.starts.Starts.{Starts}
+use Rattle.ldlayout.specs.Starts.{AreStarts, IsPartPlace, place_in}
+use Rattle.ldlayout.specs.declared.starts.PartPlace.{PartPlace}
+use Rattle.ldlayout.specs.declared.starts.Starts.{Starts}
 use Rattle.ldtargets.specs.Earlier.{range_of}
 use Rattle.ldtargets.specs.declared.earlier.FileRange.{FileRange}
 use Rattle.ldkept.specs.FileStarts.{AreFileStarts, IsFileStart, IsOwned, bytes_from, entries_of, range_from}

@@ -13,7 +13,7 @@ use Rattle.ldlaws.specs.ImageBytes.{AreNamed}
 use Rattle.ldlaws.specs.PlacedOnce.{Differ}
 use Rattle.ldlaws.specs.Spread.{EachLater, IsSpread, entries_in}
 use Rattle.ldproject.specs.declared.input.Input.{Input}
-use Rattle.ldstarts.specs.declared.starts.PartPlace.{PartPlace}
+use Rattle.ldlayout.specs.declared.starts.PartPlace.{PartPlace}
 use Rattle.ldtargets.specs.declared.earlier.FileRange.{FileRange}
 use Rattle.ldkept.specs.declared.file_starts.FileStart.{FileStart}
 use Rattle.ldkept.specs.declared.file_starts.FileStarts.{FileStarts}

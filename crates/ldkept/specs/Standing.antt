@@ -2,9 +2,9 @@
 use Rattle.std.specs.Prelude.{Bool, Option, option_and_then, ◌==◌, ◌&&◌}
 use Rattle.std.specs.Option.{option_map}
 use Rattle.ldmodel.specs.declared.sections.SectionKey.{SectionKey}
-use Rattle.ldstarts.specs.Starts.{place_in}
-use Rattle.ldstarts.specs.declared.starts.PartPlace.{PartPlace}
-use Rattle.ldstarts.specs.declared.starts.Starts.{Starts}
+use Rattle.ldlayout.specs.Starts.{place_in}
+use Rattle.ldlayout.specs.declared.starts.PartPlace.{PartPlace}
+use Rattle.ldlayout.specs.declared.starts.Starts.{Starts}
 use Rattle.ldtargets.specs.declared.earlier.FileRange.{FileRange}
 use Rattle.ldkept.specs.FileStarts.{range_at}
 use Rattle.ldkept.specs.declared.file_starts.FileStarts.{FileStarts}

@@ -13,8 +13,8 @@ use Rattle.ldmodel.specs.declared.names.ObjectKey.{ObjectKey}
 use Rattle.ldmodel.specs.declared.sections.Part.{Part}
 use Rattle.ldmodel.specs.declared.sections.SectionKey.{SectionKey}
 use Rattle.ldnaming.specs.Naming.{NamingState}
-use Rattle.ldstarts.specs.Starts.{AreStarts}
-use Rattle.ldstarts.specs.declared.starts.Starts.{Starts}
+use Rattle.ldlayout.specs.Starts.{AreStarts}
+use Rattle.ldlayout.specs.declared.starts.Starts.{Starts}
 use Rattle.ldtargets.specs.KnownLink.{KnownLink}
 use Rattle.ldtargets.specs.declared.earlier.FileRange.{FileRange}
 use Rattle.ldtargets.specs.declared.value.SymbolValue.{SymbolValue}

@@ -1,12 +1,12 @@
 -- What is kept of a link without faults.
 use Rattle.std.specs.Prelude.{◌≡◌}
-use Rattle.ldlaying.specs.Laying.{IsLaying}
+use Rattle.ldlayout.specs.Laying.{IsLaying}
 use Rattle.ldmodel.specs.Rows.{rows}
 use Rattle.ldmodel.specs.Stayed.{GoodLink}
 use Rattle.ldproject.specs.ByPlace.{rows_in}
 use Rattle.ldlaws.specs.Untouched.{IsGood}
 use Rattle.ldmodel.specs.Edits.{AreNamesDistinct}
-use Rattle.ldstarts.specs.Starts.{AreStarts}
+use Rattle.ldlayout.specs.Starts.{AreStarts}
 use Rattle.ldkept.specs.FileStarts.{AreFileStarts}
 use Rattle.ldkept.specs.SymbolTable.{AreSymbolValues}
 use Rattle.ldkept.specs.declared.good.Good.{Good}

@@ -2,20 +2,20 @@
 
 ghost use Rattle.std.specs.Prelude.{◌≡◌, IfOk};
 ghost use Rattle.std.specs.List.{list_any};
-ghost use Rattle.ldlaying.specs.Laying.{IsLaying};
+ghost use Rattle.ldlayout.specs.Laying.{IsLaying};
 ghost use Rattle.ldmodel.specs.Layout.{Layout};
 ghost use Rattle.ldkept.specs.FileStarts.{AreFileStarts, AreStartsOf, file_start, has_no_name, range_at, range_from};
 
-use lddrawing::good::{are_numbered, is_good};
-use lddrawing::offsets::offsets;
 use ldlaws::gathering::{live_by_path, once_in_rows};
 use ldlaws::layout::{nothing_meets, placed_are_rows};
-use ldlaying::laying::Laying;
+use ldlayout::laying::Laying;
+use ldlayout::starts::PartPlace;
 use ldmodel::laid::Placed;
 use ldmodel::memory::NoMemory;
+use ldoutput::good::{are_numbered, is_good};
+use ldoutput::offsets::offsets;
 use ldproject::input::Input;
 use ldproject::view::ProjectView;
-use ldstarts::starts::PartPlace;
 use ldtargets::earlier::FileRange;
 use std::alloc::{AllocError, Global};
 

@@ -2,9 +2,9 @@
 
 use crate::file_starts::FileStarts;
 use crate::symbol_table::SymbolTable;
-use ldlaying::laying::Laying;
+use ldlayout::laying::Laying;
+use ldlayout::starts::Starts;
 use ldmodel::rows::Piece;
-use ldstarts::starts::Starts;
 
 /// What is kept of a link without faults: its rows, its layout, where its input sections and its output sections stand,
 /// and what its symbols are worth, by its own places.

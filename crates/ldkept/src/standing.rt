@@ -4,8 +4,8 @@ ghost use Rattle.std.specs.Prelude.{◌≡◌};
 ghost use Rattle.ldkept.specs.Standing.{standing_in};
 
 use crate::file_starts::FileStarts;
+use ldlayout::starts::Starts;
 use ldmodel::sections::SectionKey;
-use ldstarts::starts::Starts;
 use ldtargets::earlier::FileRange;
 
 /// Where an input section stands.

@@ -1,7 +1,7 @@
 //! Which input sections of a link stayed where an earlier link has them.
 
 ghost use Rattle.std.specs.Prelude.{◌≡◌, IsSome, None, Option, slice_index_or, true};
-ghost use Rattle.lddrawing.specs.Kept.{IsSound};
+ghost use Rattle.ldoutput.specs.Kept.{IsSound};
 ghost use Rattle.ldmodel.specs.Stayed.{GoodLink};
 ghost use Rattle.ldtargets.specs.Earlier.{IsComplete};
 ghost use Rattle.ldtargets.specs.KnownLink.{KnownLink};
@@ -14,9 +14,9 @@ use elfobj::object::Object;
 use elfobj::relocation::SymbolIndex;
 use elfobj::symbol::Symbol;
 use ldlaws::segments::{files_in_order, sections_in_file};
+use ldlayout::starts::Starts;
 use ldmodel::names::ObjectKey;
 use ldmodel::sections::SectionKey;
-use ldstarts::starts::Starts;
 use ldtargets::earlier::{Earlier, FileRange};
 use ldtargets::value::SymbolValue;
 

@@ -2,9 +2,9 @@
 use Rattle.std.proofs.Common.{◌≡◌, ℕ, ◌∙◌, sym, ap, Bool, true, false, cond, List, Option, Some, None, Result, Ok, Err, refl}
 use Rattle.std.proofs.Common.{subst}
 use Rattle.std.specs.Option.{option_map}
-use Rattle.ldexpr.specs.Expressions as expression
-use Rattle.ldexpr.specs.Expressions.{Expr}
-use Rattle.ldexpr.specs.declared.operator.BinaryOperator.{BinaryOperator}
+use Rattle.ldterms.specs.Expressions as expression
+use Rattle.ldterms.specs.Expressions.{Expr}
+use Rattle.ldterms.specs.declared.operator.BinaryOperator.{BinaryOperator}
 use Rattle.ldmodel.specs.Chain.{and_then}
 use Rattle.ldmodel.specs.Value.{Scope, ValueFault, NotReady, value, named, is_true, unary_value, binary_value}
 use Rattle.ldmodel.specs.Value.{decides_alone, aligned, asked_of_region, asked_of_section}

@@ -9,9 +9,9 @@ use Rattle.std.proofs.lemmas.Bool.{or_parts}
 use Rattle.std.proofs.lemmas.List.Folds.{find-append}
 use Rattle.std.proofs.lemmas.Slice.Eq.{bytes_eq-Decides}
 use Rattle.byteorder.specs.Endian.{little_bytes}
-use Rattle.ldexpr.specs.DotForms.{DotForm, Advance, Align, Offset, dot_form}
-use Rattle.ldexpr.specs.Expressions as expression
-use Rattle.ldexpr.specs.Expressions.{Expr}
+use Rattle.ldterms.specs.DotForms.{DotForm, Advance, Align, Offset, dot_form}
+use Rattle.ldterms.specs.Expressions as expression
+use Rattle.ldterms.specs.Expressions.{Expr}
 use Rattle.ldtree.specs.Numbering.{commons_of}
 use Rattle.ldtree.specs.Widths.{byte_count}
 use Rattle.ldtree.specs.declared.common.Common.{Common}

@@ -4,9 +4,9 @@ use Rattle.std.proofs.Common.{Option, Some, None, Result, Ok, Err, refl, ap, ◌
 use Rattle.std.specs.List.{list_any}
 use Rattle.std.proofs.lemmas.Bool.{ltb-false}
 use Rattle.byteorder.specs.Endian.{little_bytes}
-use Rattle.ldexpr.specs.DotForms.{DotForm, Advance, Align, Offset, dot_form}
-use Rattle.ldexpr.specs.Expressions as expression
-use Rattle.ldexpr.specs.Expressions.{Expr}
+use Rattle.ldterms.specs.DotForms.{DotForm, Advance, Align, Offset, dot_form}
+use Rattle.ldterms.specs.Expressions as expression
+use Rattle.ldterms.specs.Expressions.{Expr}
 use Rattle.ldtree.specs.Widths.{byte_count}
 use Rattle.ldtree.specs.declared.common.Common.{Common}
 use Rattle.ldtree.specs.declared.common.Common.TheVariants as common

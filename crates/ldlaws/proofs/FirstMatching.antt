@@ -4,8 +4,8 @@ use Rattle.std.proofs.Common.{sym, ◌∙◌, subst, ⊎_elim, arith, Option, So
 use Rattle.std.specs.List.{Contains, list_any, position, position_from}
 use Rattle.std.proofs.lemmas.Bool.{and_parts, and_from, true≢false, false_from_ne_true}
 use Rattle.std.proofs.lemmas.Iterator.Adapters.{position_from-zero}
-use Rattle.ldpattern.specs.Matching.{Matches, is_match}
-use Rattle.ldpattern.specs.Parts as pattern
+use Rattle.ldterms.specs.Matching.{Matches, is_match}
+use Rattle.ldterms.specs.Parts as pattern
 use Rattle.ldtree.specs.Numbering.{InputStatementAt, input_statements}
 use Rattle.ldtree.specs.declared.input.Input.{Input}
 use Rattle.ldtree.specs.declared.input.SectionWord.{SectionWord}

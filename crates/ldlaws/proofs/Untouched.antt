@@ -6,7 +6,7 @@ use Rattle.std.specs.List.{Contains, cons_option, filter_map}
 use Rattle.std.specs.Option.{option_map_or}
 use Rattle.std.proofs.lemmas.Bool.{false≢true, true≢false, leb-true, ltb-true, eqb-true, eq-eqb}
 use Rattle.std.proofs.lemmas.Slice.Eq.{bytes_eq-Decides}
-use Rattle.elfdefs.specs.Numbers.{u16_at}
+use Rattle.elffile.specs.Numbers.{u16_at}
 use Rattle.elfobj.specs.Object.{ObjectData, object_of}
 use Rattle.elfobj.specs.RelocationKinds.{width}
 use Rattle.elfobj.specs.Sections.{LinkedSection, sections_of}

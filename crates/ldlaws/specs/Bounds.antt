@@ -1,7 +1,7 @@
 -- Numbers below 2^64, as those of addresses are: in an expression, and in what it may name.
 use Rattle.std.specs.Prelude.{◌≡◌, ℕ, ◌^◌, ◌<◌, List, Some}
-use Rattle.ldexpr.specs.Expressions as expression
-use Rattle.ldexpr.specs.Expressions.{Expr}
+use Rattle.ldterms.specs.Expressions as expression
+use Rattle.ldterms.specs.Expressions.{Expr}
 use Rattle.ldmodel.specs.Value.{Scope, SectionNumbers, RegionNumbers}
 
 -- the numbers of an expression, as every text spells them

@@ -5,7 +5,7 @@ use Rattle.elfobj.specs.Symbols.{NamedSymbol}
 use Rattle.elfobj.specs.declared.relocation.Relocation.{Relocation}
 use Rattle.elfobj.specs.declared.relocation.RelocationKind.TheVariants as kind
 use Rattle.elfobj.specs.declared.relocation.RelocationKind.TheVariants.{Plt32}
-use Rattle.ldexpr.specs.Expressions.{Number}
+use Rattle.ldterms.specs.Expressions.{Number}
 use Rattle.ldtree.specs.declared.common.DotCommand.TheVariants.{Set}
 use Rattle.ldtree.specs.declared.statement.ItemCommand.TheVariants as item
 use Rattle.elfobj.specs.declared.symbol.Binding.TheVariants.{Global}

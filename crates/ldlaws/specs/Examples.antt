@@ -11,8 +11,8 @@ use Rattle.elfobj.specs.declared.symbol.Binding.TheVariants.{Global}
 use Rattle.elfobj.specs.declared.symbol.SymbolKind.TheVariants.{NoType}
 use Rattle.elfobj.specs.declared.symbol.SymbolPlace.{SymbolPlace}
 use Rattle.elfobj.specs.declared.symbol.SymbolPlace.TheVariants as place
-use Rattle.ldpattern.specs.Parts as pattern
-use Rattle.ldexpr.specs.Expressions.{Dot}
+use Rattle.ldterms.specs.Parts as pattern
+use Rattle.ldterms.specs.Expressions.{Dot}
 use Rattle.ldtree.specs.declared.common.Common.TheVariants as commons
 use Rattle.ldtree.specs.declared.input.Input.{Input}
 use Rattle.ldtree.specs.declared.input.SectionWord.{SectionWord}

@@ -1,8 +1,8 @@
 -- Which input statement takes an input section, as the manual says it: by how names split among the parts of patterns
 -- (GNU ld manual, "Input Section Basics", "Input Section Wildcard Patterns").
 use Rattle.std.specs.Prelude.{◌≡◌, ℕ, List, ◌∷◌, ◌++◌, length, Any, Contains}
-use Rattle.ldpattern.specs.Matching.{Matches}
-use Rattle.ldpattern.specs.Parts as pattern
+use Rattle.ldterms.specs.Matching.{Matches}
+use Rattle.ldterms.specs.Parts as pattern
 use Rattle.ldtree.specs.Numbering.{InputStatementAt, input_statements}
 use Rattle.ldtree.specs.declared.input.Input.{Input}
 use Rattle.ldtree.specs.declared.input.SectionWord.{SectionWord}

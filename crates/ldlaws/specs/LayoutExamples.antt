@@ -2,7 +2,7 @@
 use Rattle.std.specs.Prelude.{ℕ, List, [], ◌∷◌, map, Option, Some, None, Result, Ok, Err, codes}
 use Rattle.elfobj.specs.declared.section.SectionKind.{SectionKind}
 use Rattle.elfobj.specs.declared.section.SectionKind.TheVariants.{Progbits, Nobits}
-use Rattle.ldexpr.specs.Expressions.{Number}
+use Rattle.ldterms.specs.Expressions.{Number}
 use Rattle.ldtree.specs.declared.common.DotCommand.{DotCommand}
 use Rattle.ldtree.specs.declared.common.DotCommand.TheVariants.{Set, Add}
 use Rattle.ldtree.specs.declared.section.BodyCommand.TheVariants as body

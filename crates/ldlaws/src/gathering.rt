@@ -17,7 +17,7 @@ ghost use Rattle.ldlaws.specs.FirstMatches.{IsFirstMatch, IsUnmatched};
 ghost use Rattle.ldlaws.specs.PlacedOnce.{AreNumbered, Differ};
 ghost use Rattle.ldlaws.specs.Spread.{EachLater};
 
-use ldpattern::law::match_by_splitting;
+use ldterms::pattern_law::match_by_splitting;
 
 /// The input statement that takes a section is the first one of the script that matches it: its file pattern matches
 /// the object's name, and one of its words the section's name and no excluded pattern of that word the object's.

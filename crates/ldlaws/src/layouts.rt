@@ -1,7 +1,7 @@
 //! Small scripts, and what the layout says of them.
 
 ghost use Rattle.std.specs.Prelude.{◌≡◌, [], ◌∷◌, Err, codes, drop, take};
-ghost use Rattle.ldexpr.specs.Expressions.{Number};
+ghost use Rattle.ldterms.specs.Expressions.{Number};
 ghost use Rattle.ldtree.specs.declared.common.DotCommand.TheVariants.{Add, Set};
 ghost use Rattle.ldmodel.specs.Fault.{AddressesMeet, LoadAddressesMeet, MovedBack, PastAddressSpace, RegionFull};
 ghost use Rattle.ldmodel.specs.Link.{link};

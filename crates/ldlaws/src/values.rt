@@ -1,7 +1,7 @@
 //! Laws of expressions.
 
 ghost use Rattle.std.specs.Prelude.{◌≡◌, ◌<◌, ◌^◌, ℕ, Ok};
-ghost use Rattle.ldexpr.specs.Expressions.{Expr};
+ghost use Rattle.ldterms.specs.Expressions.{Expr};
 ghost use Rattle.ldmodel.specs.Value.{Scope, value};
 ghost use Rattle.ldlaws.specs.Bounds.{DoAgree, HasSmallNumbers, IsSmallScope};
 

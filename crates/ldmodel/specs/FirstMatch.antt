@@ -3,8 +3,8 @@
 -- EXCLUDE_FILE before a word leaves files out for that word alone.
 use Rattle.std.specs.Prelude.{ℕ, List, Option, Bool, not, ◌&&◌, position}
 use Rattle.std.specs.List.{list_any}
-use Rattle.ldpattern.specs.Matching.{is_match}
-use Rattle.ldpattern.specs.Parts as pattern
+use Rattle.ldterms.specs.Matching.{is_match}
+use Rattle.ldterms.specs.Parts as pattern
 use Rattle.ldtree.specs.Numbering.{InputStatementAt, input_statements}
 use Rattle.ldtree.specs.declared.input.Input.{Input}
 use Rattle.ldtree.specs.declared.input.SectionWord.{SectionWord}

@@ -1,8 +1,8 @@
 -- The names that the expressions of a script mention (GNU ld manual, "Expressions in Linker Scripts"), in the order of
 -- the text: symbols, output sections and regions.
 use Rattle.std.specs.Prelude.{ℕ, List, [], ◌∷◌, ◌++◌, flat_map, Option, Some, None}
-use Rattle.ldexpr.specs.Expressions.{Expr, Number, Dot, Name, Unary, Binary, Choice, OfRegion, OfSection, AlignDot}
-use Rattle.ldexpr.specs.Expressions.{Align}
+use Rattle.ldterms.specs.Expressions.{Expr, Number, Dot, Name, Unary, Binary, Choice, OfRegion, OfSection, AlignDot}
+use Rattle.ldterms.specs.Expressions.{Align}
 use Rattle.ldtree.specs.declared.common.Common.{Common}
 use Rattle.ldtree.specs.declared.common.Common.TheVariants as common
 use Rattle.ldtree.specs.declared.common.DotCommand.{DotCommand}

@@ -7,7 +7,7 @@ use Rattle.std.specs.Prelude.{if◌then◌else◌, bytes_eq}
 use Rattle.std.specs.Int.{is_power_of_two, next_multiple_of}
 use Rattle.std.specs.List.{last_or}
 use Rattle.std.specs.Option.{option_map_or}
-use Rattle.ldexpr.specs.Expressions.{Expr}
+use Rattle.ldterms.specs.Expressions.{Expr}
 use Rattle.ldtree.specs.declared.section.Load.{Load}
 use Rattle.ldtree.specs.declared.section.Load.TheVariants.{Unstated, At, InRegion}
 use Rattle.ldtree.specs.declared.section.OutputSection.{OutputSection}

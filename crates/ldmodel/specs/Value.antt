@@ -5,16 +5,16 @@ use Rattle.std.specs.Prelude.{ℕ, ◌-◌, ◌*◌, ◌/◌, ◌%◌, ◌^◌, 
 use Rattle.std.specs.Prelude.{nat_lt, nat_le, ◌==◌, bit_and, bit_or, if◌then◌else◌}
 use Rattle.std.specs.Option.{option_map}
 use Rattle.std.specs.Int.{is_power_of_two, next_multiple_of}
-use Rattle.ldexpr.specs.Expressions as expression
-use Rattle.ldexpr.specs.Expressions.{Expr}
-use Rattle.ldexpr.specs.declared.operator.UnaryOperator.{UnaryOperator}
-use Rattle.ldexpr.specs.declared.operator.UnaryOperator.TheVariants as unary
-use Rattle.ldexpr.specs.declared.operator.BinaryOperator.{BinaryOperator}
-use Rattle.ldexpr.specs.declared.operator.BinaryOperator.TheVariants as binary
-use Rattle.ldexpr.specs.declared.expression.RegionQuery.{RegionQuery}
-use Rattle.ldexpr.specs.declared.expression.RegionQuery.TheVariants as region
-use Rattle.ldexpr.specs.declared.expression.SectionQuery.{SectionQuery}
-use Rattle.ldexpr.specs.declared.expression.SectionQuery.TheVariants as section
+use Rattle.ldterms.specs.Expressions as expression
+use Rattle.ldterms.specs.Expressions.{Expr}
+use Rattle.ldterms.specs.declared.operator.UnaryOperator.{UnaryOperator}
+use Rattle.ldterms.specs.declared.operator.UnaryOperator.TheVariants as unary
+use Rattle.ldterms.specs.declared.operator.BinaryOperator.{BinaryOperator}
+use Rattle.ldterms.specs.declared.operator.BinaryOperator.TheVariants as binary
+use Rattle.ldterms.specs.declared.expression.RegionQuery.{RegionQuery}
+use Rattle.ldterms.specs.declared.expression.RegionQuery.TheVariants as region
+use Rattle.ldterms.specs.declared.expression.SectionQuery.{SectionQuery}
+use Rattle.ldterms.specs.declared.expression.SectionQuery.TheVariants as section
 use Rattle.ldmodel.specs.Chain.{and_then}
 use Rattle.ldmodel.specs.Arithmetic.{plus_modulo, minus_modulo}
 

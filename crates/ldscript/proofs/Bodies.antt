@@ -6,7 +6,7 @@ use Rattle.ldtokens.specs.Words.{is_free_name, is_free_word, is_reserved}
 use Rattle.ldtokens.specs.declared.token.Mark.{Mark}
 use Rattle.ldtokens.specs.declared.token.Mark.TheVariants.{OpenParenthesis, CloseBrace, Semicolon, Assign, AddAssign}
 use Rattle.ldtokens.specs.declared.token.Mode.TheVariants.{Pattern}
-use Rattle.ldexpr.specs.Expressions.{Expr}
+use Rattle.ldterms.specs.Expressions.{Expr}
 use Rattle.ldscript.specs.Steps.{◌▸◌, mark, token, key, statements}
 use Rattle.ldscript.specs.Grammar.{dot_command, common, in_parentheses, width_word, input, body_command, body_statement}
 use Rattle.ldscript.specs.Readings.{NoneAt, data_part, width_part}

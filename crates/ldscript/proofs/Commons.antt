@@ -3,7 +3,7 @@ use Rattle.std.proofs.Common.{List, ℕ}
 use Rattle.ldtokens.specs.Tokens.{Lexeme}
 use Rattle.ldtokens.specs.declared.token.Mark.TheVariants.{OpenParenthesis, CloseParenthesis, Semicolon, Comma, Assign, AddAssign}
 use Rattle.ldtokens.specs.declared.token.Mode.{Mode}
-use Rattle.ldexpr.specs.Expressions.{Expr}
+use Rattle.ldterms.specs.Expressions.{Expr}
 use Rattle.ldscript.specs.Steps.{◌▸◌, mark, name_in, string}
 use Rattle.ldscript.specs.Grammar.{ended, set_to, dot_change, assign, provided_name, provided, provide, asserted, assertion, common}
 use Rattle.ldscript.specs.Readings.{NoneAt}

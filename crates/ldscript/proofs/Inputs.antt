@@ -7,9 +7,9 @@ use Rattle.ldtokens.specs.Words.{is_free_word, is_reserved}
 use Rattle.ldtokens.specs.declared.token.Mark.{Mark}
 use Rattle.ldtokens.specs.declared.token.Mark.TheVariants.{OpenParenthesis, CloseParenthesis, CloseBrace, Semicolon}
 use Rattle.ldtokens.specs.declared.token.Mode.TheVariants.{Pattern}
-use Rattle.ldpattern.specs.Parts as patterns
-use Rattle.ldpattern.specs.Spelling.{Spells}
-use Rattle.ldpattern.proofs.Reading.{one_pattern}
+use Rattle.ldterms.specs.Parts as patterns
+use Rattle.ldterms.specs.Spelling.{Spells}
+use Rattle.ldterms.proofs.Reading.{one_pattern}
 use Rattle.ldscript.specs.Steps.{Part, ◌▸◌, mark, token, key, pattern, some, statements}
 use Rattle.ldscript.specs.Grammar.{sort, excluded, exclusion, one, bare, selection, plain, kept, input, input_statement}
 use Rattle.ldscript.specs.Readings.{NoneAt, Reads, excluded_files, word_part, selected}

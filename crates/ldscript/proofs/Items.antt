@@ -7,8 +7,8 @@ use Rattle.ldtokens.specs.Words.{is_free_name, is_reserved}
 use Rattle.ldtokens.specs.declared.token.Mark.{Mark}
 use Rattle.ldtokens.specs.declared.token.Mark.TheVariants.{OpenBrace, CloseBrace, Semicolon, Colon, Assign, Greater}
 use Rattle.ldtokens.specs.declared.token.Mode.TheVariants.{Expression}
-use Rattle.ldexpr.specs.Expressions.{Expr}
-use Rattle.ldexpr.specs.Grammar.{Whole}
+use Rattle.ldterms.specs.Expressions.{Expr}
+use Rattle.ldterms.specs.Grammar.{Whole}
 use Rattle.ldscript.specs.Steps.{◌▸◌, mark, token, key, name, optional, expression, statements}
 use Rattle.ldscript.specs.Grammar.{ended, in_parentheses, dot_command, common, address, at_address, load_in_head, load_in_tail, alignment, section, body_statement, input_statement, discarded, discard, item_command, item_statement}
 use Rattle.ldscript.specs.Readings.{Takes, TakesOnly, NoneAt, NoneUntil, Reads, EndsSection, TakesTail, tail_part, opened_part, head_part, discard_head}

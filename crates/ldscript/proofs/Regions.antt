@@ -5,8 +5,8 @@ use Rattle.ldtokens.specs.Tokens.{Lexeme, Name, Punctuation}
 use Rattle.ldtokens.specs.declared.token.Mark.{Mark}
 use Rattle.ldtokens.specs.declared.token.Mark.TheVariants.{CloseBrace, Colon, Comma, Assign}
 use Rattle.ldtokens.specs.declared.token.Mode.TheVariants.{Expression}
-use Rattle.ldexpr.specs.Expressions.{Expr}
-use Rattle.ldexpr.specs.Grammar.{Stops, Whole}
+use Rattle.ldterms.specs.Expressions.{Expr}
+use Rattle.ldterms.specs.Grammar.{Stops, Whole}
 use Rattle.ldscript.specs.Steps.{◌▸◌, mark, token, key, name, each, expression}
 use Rattle.ldscript.specs.Grammar.{ended, region_head, region_middle, region}
 use Rattle.ldtree.specs.declared.statement.Region.{Region}

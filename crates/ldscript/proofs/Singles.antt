@@ -8,8 +8,8 @@ use Rattle.ldtokens.specs.declared.token.Mark.{Mark}
 use Rattle.ldtokens.specs.declared.token.Mark.TheVariants.{OpenParenthesis, CloseParenthesis, Semicolon, Comma, Assign, AddAssign}
 use Rattle.ldtokens.specs.declared.token.Mode.{Mode}
 use Rattle.ldtokens.specs.declared.token.Mode.TheVariants.{Expression, Pattern}
-use Rattle.ldexpr.specs.Expressions.{Expr}
-use Rattle.ldexpr.specs.Grammar.{Whole, Stops, StopsAt, Sign}
+use Rattle.ldterms.specs.Expressions.{Expr}
+use Rattle.ldterms.specs.Grammar.{Whole, Stops, StopsAt, Sign}
 use Rattle.ldscript.specs.Steps.{Part, ◌▸◌, token, mark, word_in, key, is_name_spelling, is_name_in, name_in, name, string, expression}
 use Rattle.ldscript.specs.Grammar.{ended, set_to, add_to, dot_change, dot_command, assign, provided_name, provided, provide, asserted, assertion, common, in_parentheses}
 use Rattle.ldtree.specs.declared.common.Assignment.{Assignment}

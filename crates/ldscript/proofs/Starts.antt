@@ -3,10 +3,10 @@ use Rattle.std.proofs.Common.{◌≡◌, ◌∙◌, sym, ap, ℕ, List, ◌∷�
 use Rattle.ldtokens.specs.Tokens.{Lexeme, lexeme, Punctuation}
 use Rattle.ldtokens.specs.declared.token.Mark.{Mark}
 use Rattle.ldtokens.specs.declared.token.Mark.TheVariants.{OpenParenthesis}
-use Rattle.ldexpr.specs.Operators.{unary_of}
-use Rattle.ldexpr.specs.declared.operator.UnaryOperator.{UnaryOperator}
-use Rattle.ldexpr.specs.Expressions.{Expr}
-use Rattle.ldexpr.specs.Grammar.{Word, Terminal, Numeral, Worded, Sign, terminal_of, Begins, Level, Spells, number, dot, name, group, of_region, of_section, align, one_argument, two_arguments, primary, unary, operand, binary, operators, choice}
+use Rattle.ldterms.specs.Operators.{unary_of}
+use Rattle.ldterms.specs.declared.operator.UnaryOperator.{UnaryOperator}
+use Rattle.ldterms.specs.Expressions.{Expr}
+use Rattle.ldterms.specs.Grammar.{Word, Terminal, Numeral, Worded, Sign, terminal_of, Begins, Level, Spells, number, dot, name, group, of_region, of_section, align, one_argument, two_arguments, primary, unary, operand, binary, operators, choice}
 use Rattle.ldscript.specs.Steps.{mark}
 
 same_first : (x y : Lexeme) (r s : List Lexeme) → x ∷ r ≡ y ∷ s → x ≡ y

@@ -24,8 +24,8 @@ use Rattle.ldtokens.specs.declared.token.Mark.{Mark}
 use Rattle.ldtokens.specs.declared.token.Mark.TheVariants.{OpenParenthesis, CloseParenthesis, OpenBrace, CloseBrace, Semicolon, Colon, Comma, Assign, AddAssign, Greater}
 use Rattle.ldtokens.specs.declared.token.Mode.{Mode}
 use Rattle.ldtokens.specs.declared.token.Mode.TheVariants.{Expression, Pattern}
-use Rattle.ldexpr.specs.Expressions.{Expr}
-use Rattle.ldpattern.specs.Parts as patterns
+use Rattle.ldterms.specs.Expressions.{Expr}
+use Rattle.ldterms.specs.Parts as patterns
 use Rattle.ldtree.specs.Fill.{fill_of}
 use Rattle.ldscript.specs.Steps.{Part, ◌▸◌, ◌or◌, nothing, optional, each, some, token, mark, statements, on_line, key, name_in, name, string, expression, pattern}
 use Rattle.ldtree.specs.declared.input.Sort.{Sort}

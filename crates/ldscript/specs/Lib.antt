@@ -1,10 +1,10 @@
 pub use Rattle.ldtokens.specs.Limits
 pub use Rattle.ldtokens.specs.Tokens
-pub use Rattle.ldexpr.specs.Operators
-pub use Rattle.ldexpr.specs.Expressions
-pub use Rattle.ldexpr.specs.DotForms
-pub use Rattle.ldpattern.specs.Parts
-pub use Rattle.ldpattern.specs.Matching
+pub use Rattle.ldterms.specs.Operators
+pub use Rattle.ldterms.specs.Expressions
+pub use Rattle.ldterms.specs.DotForms
+pub use Rattle.ldterms.specs.Parts
+pub use Rattle.ldterms.specs.Matching
 pub use Rattle.ldtree.specs.Dots
 pub use Rattle.ldtree.specs.Fill
 pub use Rattle.ldtree.specs.Given

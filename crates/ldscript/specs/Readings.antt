@@ -3,8 +3,8 @@ use Rattle.std.specs.Prelude.{◌≡◌, ◌<◌, ◌≤◌, List, codes, length
 use Rattle.ldtokens.specs.Tokens.{Lexeme, Discard}
 use Rattle.ldtokens.specs.declared.token.Mark.TheVariants.{OpenParenthesis, CloseParenthesis, OpenBrace, Colon, Greater, Assign}
 use Rattle.ldtokens.specs.declared.token.Mode.TheVariants.{Expression, Pattern}
-use Rattle.ldexpr.specs.Expressions.{Expr}
-use Rattle.ldpattern.specs.Parts as patterns
+use Rattle.ldterms.specs.Expressions.{Expr}
+use Rattle.ldterms.specs.Parts as patterns
 use Rattle.ldscript.specs.Steps.{Part, ◌▸◌, key, mark, optional, pattern, some, token}
 use Rattle.ldscript.specs.Grammar.{bare, one, selection, width_word, in_parentheses, alignment, at_address, in_region, at_region, filled}
 use Rattle.ldtree.specs.declared.input.SectionWord.{SectionWord}

@@ -9,10 +9,10 @@ use Rattle.ldtokens.specs.declared.token.Mark.{Mark}
 use Rattle.ldtokens.specs.declared.token.Mark.TheVariants.{Semicolon}
 use Rattle.ldtokens.specs.declared.token.Mode.{Mode}
 use Rattle.ldtokens.specs.declared.token.Mode.TheVariants.{Expression, Pattern}
-use Rattle.ldexpr.specs.Expressions.{Expr}
-use Rattle.ldexpr.specs.Grammar.{Spells, Whole}
-use Rattle.ldpattern.specs.Parts as patterns
-use Rattle.ldpattern.specs.Spelling as spelling
+use Rattle.ldterms.specs.Expressions.{Expr}
+use Rattle.ldterms.specs.Grammar.{Spells, Whole}
+use Rattle.ldterms.specs.Parts as patterns
+use Rattle.ldterms.specs.Spelling as spelling
 
 abbrev pub Part : Type 1
 Part = List Lexeme → List Lexeme → Type 0

@@ -8,7 +8,7 @@ ghost use Rattle.ldscript.specs.Readings.{Reads, Finds, data_part, width_part};
 use crate::read_common::{common, dot_command};
 use crate::read_input::input;
 use crate::steps::{after, after_key, in_parentheses};
-use ldexpr::reader::Parsed;
+use ldterms::reader::Parsed;
 use ldtokens::cursor::Cursor;
 use ldtokens::token::{Mark, Mode};
 use ldtree::formula::Formula;

@@ -7,7 +7,7 @@ ghost use Rattle.ldscript.specs.Grammar.{assign as assign_part, asserted as asse
 ghost use Rattle.ldscript.specs.Readings.{Reads, Finds};
 
 use crate::steps::{after, after_key, ended, front_name, plain_name};
-use ldexpr::reader::Parsed;
+use ldterms::reader::Parsed;
 use ldtokens::cursor::Cursor;
 use ldtokens::name::ScriptName;
 use ldtokens::token::{Mark, Mode};

@@ -7,8 +7,8 @@ ghost use Rattle.ldscript.specs.Grammar.{bare, one, sort as sort_part, plain as 
 ghost use Rattle.ldscript.specs.Readings.{Reads, Finds, excluded_files as excluded_files_part, selected, word_part};
 
 use crate::steps::{after, after_key};
-use ldexpr::reader::Parsed;
-use ldpattern::pattern::Pattern;
+use ldterms::pattern::Pattern;
+use ldterms::reader::Parsed;
 use ldtokens::cursor::Cursor;
 use ldtokens::token::{Mark, Mode};
 use ldtokens::words::is_free_word;

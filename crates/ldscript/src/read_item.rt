@@ -10,7 +10,7 @@ use crate::read_common::{common, dot_command};
 use crate::read_input::inputs;
 use crate::read_section::section;
 use crate::steps::after;
-use ldexpr::reader::Parsed;
+use ldterms::reader::Parsed;
 use ldtokens::cursor::Cursor;
 use ldtokens::token::{Mark, Mode, TokenKind};
 use ldtree::held::Held;

@@ -4,10 +4,10 @@ ghost use Rattle.std.specs.Prelude.{◌≡◌, ◌<◌, ℕ, List, IsTrue, lengt
 ghost use Rattle.ldscript.specs.Steps.{◌▸◌, each, expression, mark};
 ghost use Rattle.ldscript.specs.Grammar.{region as region_part, region_head as region_head_part, region_middle as region_middle_part};
 ghost use Rattle.ldscript.specs.Readings.{Reads, ReadsOnly, Finds, Follows};
-ghost use Rattle.ldexpr.specs.Grammar.{Stops, Whole};
+ghost use Rattle.ldterms.specs.Grammar.{Stops, Whole};
 
 use crate::steps::{after, after_key, ended, plain_name};
-use ldexpr::reader::{Parsed, expr};
+use ldterms::reader::{Parsed, expr};
 use ldtokens::cursor::Cursor;
 use ldtokens::name::ScriptName;
 use ldtokens::token::{Mark, Mode};

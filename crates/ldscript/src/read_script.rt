@@ -10,7 +10,7 @@ use crate::read_common::common;
 use crate::read_item::items;
 use crate::read_region::regions;
 use crate::steps::{after, after_key, name_in_parentheses};
-use ldexpr::reader::Parsed;
+use ldterms::reader::Parsed;
 use ldtokens::cursor::Cursor;
 use ldtokens::name::ScriptName;
 use ldtokens::token::{Mark, Mode};

@@ -8,7 +8,7 @@ ghost use Rattle.ldtree.specs.declared.section.Load.{Load};
 
 use crate::read_body::body;
 use crate::steps::{after, after_key, ended, in_parentheses, plain_name};
-use ldexpr::reader::Parsed;
+use ldterms::reader::Parsed;
 use ldtokens::cursor::Cursor;
 use ldtokens::name::ScriptName;
 use ldtokens::token::{Mark, Mode};

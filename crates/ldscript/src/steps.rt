@@ -4,12 +4,12 @@ ghost use Rattle.std.specs.Prelude.{◌≡◌, ◌<◌, ◌∷◌, ◌==◌, ◌
 ghost use Rattle.std.specs.List.{list_all};
 ghost use Rattle.ldtokens.specs.Bytes.{is_name_byte};
 ghost use Rattle.ldtokens.specs.Tokens.{Lexeme};
-ghost use Rattle.ldexpr.specs.Grammar.{StopsAt, Whole, Sign};
+ghost use Rattle.ldterms.specs.Grammar.{StopsAt, Whole, Sign};
 ghost use Rattle.ldscript.specs.Steps.{◌▸◌, key, mark as mark_part, token, word_in, is_name_in, is_name_spelling, name_in, name as name_part, string, expression};
 ghost use Rattle.ldscript.specs.Grammar.{ended as ended_part, in_parentheses as parenthesized};
 ghost use Rattle.ldscript.specs.Readings.{Reads, Finds, Follows};
 
-use ldexpr::reader::{Parsed, expr};
+use ldterms::reader::{Parsed, expr};
 use ldtokens::bytes::{byte_at, is_name_byte, is_name_start};
 use ldtokens::cursor::Cursor;
 use ldtokens::token::{Mark, Mode};

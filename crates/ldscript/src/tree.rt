@@ -1,9 +1,9 @@
 //! The parts of a script's tree: statements, expressions, patterns and names. A crate above names these alone.
 
-pub use ldexpr::dot_forms::DotForm;
-pub use ldexpr::expression::{Expr, RegionQuery, SectionQuery};
-pub use ldexpr::operator::{BinaryOperator, UnaryOperator};
-pub use ldpattern::pattern::{Pattern, matches};
+pub use ldterms::dot_forms::DotForm;
+pub use ldterms::expression::{Expr, RegionQuery, SectionQuery};
+pub use ldterms::operator::{BinaryOperator, UnaryOperator};
+pub use ldterms::pattern::{Pattern, matches};
 pub use ldtokens::name::ScriptName;
 pub use ldtree::common::{Assertion, Assignment, Common, DotCommand};
 pub use ldtree::fill::Fill;

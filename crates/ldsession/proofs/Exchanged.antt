@@ -5,8 +5,8 @@ use Rattle.std.specs.List.{AllZip, insert, remove}
 use Rattle.std.specs.Prelude.{IfSome, is_some, slice_get, unwrap_or}
 use Rattle.std.proofs.lemmas.List.{length-map}
 use Rattle.std.proofs.lemmas.List.Edits.{length-insert, length-remove}
-use Rattle.ldgathering.specs.Matches.{IsMatched}
-use Rattle.ldgathering.specs.declared.matches.Matches.{Matches}
+use Rattle.gather.specs.ProjectMatches.{IsMatched}
+use Rattle.gather.specs.declared.matches.Matches.{Matches}
 use Rattle.ldmodel.specs.Edits.{unnamed}
 use Rattle.ldmodel.specs.Project.{NamedObject}
 use Rattle.ldproject.specs.Listing.{Entry, found_under, objects_of}

@@ -10,7 +10,7 @@ use Rattle.ldkept.specs.Origins.{AreOrigins}
 use Rattle.ldmodel.specs.Edits.{unnamed}
 use Rattle.ldmodel.specs.Link.{link}
 use Rattle.ldmodel.specs.Project.{NamedObject, Project}
-use Rattle.ldgathering.specs.declared.matches.Matches.{Matches}
+use Rattle.gather.specs.declared.matches.Matches.{Matches}
 use Rattle.ldnaming.specs.Naming.{NamingState}
 use Rattle.ldproject.specs.Holding.{Holding, Listing, SameHolding, held, listing_of, next_listing, project_of}
 use Rattle.ldproject.specs.Listing.{AreKeysDistinct, Contents, Entry, found_under, keys_of, objects_of}

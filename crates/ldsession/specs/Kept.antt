@@ -1,8 +1,8 @@
 -- What a session keeps of a project beside the project and its link.
 use Rattle.std.specs.Prelude.{◌≡◌, List}
 use Rattle.std.specs.List.{AllZip}
-use Rattle.ldgathering.specs.Matches.{IsMatched}
-use Rattle.ldgathering.specs.declared.matches.Matches.{Matches}
+use Rattle.gather.specs.ProjectMatches.{IsMatched}
+use Rattle.gather.specs.declared.matches.Matches.{Matches}
 use Rattle.ldnames.specs.Decisions.{AreKept}
 use Rattle.ldnaming.specs.Naming.{NamingState}
 use Rattle.ldproject.specs.Holding.{Listing}

@@ -1,7 +1,7 @@
 -- The matches of all objects, in the order of the objects, while one object changes.
 use Rattle.std.specs.Prelude.{ℕ, ⊤, List, Option, Some, None, insert, remove, slice_get}
-use Rattle.ldgathering.specs.Matches.{IsMatched}
-use Rattle.ldgathering.specs.declared.matches.Matches.{Matches}
+use Rattle.gather.specs.ProjectMatches.{IsMatched}
+use Rattle.gather.specs.declared.matches.Matches.{Matches}
 use Rattle.ldmodel.specs.Project.{NamedObject}
 use Rattle.ldtree.specs.declared.statement.Statement.{Statement}
 

@@ -1,7 +1,7 @@
 //! A link over what a session keeps.
 
 ghost use Rattle.std.specs.Prelude.{◌≡◌, IfOk, IfSome, OnErr, OnOk, map};
-ghost use Rattle.ldgathering.specs.Matches.{AreMatched};
+ghost use Rattle.gather.specs.ProjectMatches.{AreMatched};
 ghost use Rattle.ldkept.specs.Stays.{last_of};
 ghost use Rattle.ldmodel.specs.Project.{NamedObject};
 ghost use Rattle.ldnaming.specs.Naming.{IsNaming};
@@ -15,8 +15,8 @@ ghost use Rattle.relink.specs.Ended.{HasLast};
 ghost use Rattle.relink.specs.Reads.{ReadsNothing};
 
 use crate::last::{Followed, LastGood};
+use gather::matches::{Matches, lend_all};
 use ldfields::canvas::Canvas;
-use ldgathering::matches::{Matches, lend_all};
 use ldkept::stays::Last;
 use ldmodel::memory::NoMemory;
 use ldmodel::meter::Meter;

@@ -5,7 +5,7 @@ ghost use Rattle.ldproject.specs.Listing.{found_under};
 ghost use Rattle.ldsession.specs.Matches.{IsMatchedOr, exchanged, gone_at, put_at, taken_at};
 
 use gather::matcher::Matcher;
-use ldgathering::matches::{Matches, match_object};
+use gather::matches::{Matches, match_object};
 use ldmodel::memory::NoMemory;
 use ldmodel::names::ObjectKey;
 use ldproject::project::Next;

@@ -1,6 +1,6 @@
 -- How lists of mentions grow by an expression.
 use Rattle.std.proofs.Common.{◌≡◌, ℕ, List, [], ◌∷◌, ◌++◌, refl, ap, ◌∙◌, sym, append_assoc}
-use Rattle.ldexpr.specs.Expressions.{Expr}
+use Rattle.ldterms.specs.Expressions.{Expr}
 use Rattle.ldtree.specs.Mentions.{Mention, RegionUsed, used, regions_of, in_expression}
 
 used_append : (xs ys : List (List ℕ)) → used (xs ++ ys) ≡ used xs ++ used ys

@@ -1,8 +1,8 @@
 -- Uses of `.` that the profile does not have.
 use Rattle.std.specs.Prelude.{List, Bool, false, ◌||◌, is_none}
 use Rattle.std.specs.List.{list_any}
-use Rattle.ldexpr.specs.Expressions.{Expr, has_dot, has_align_dot}
-use Rattle.ldexpr.specs.DotForms.{dot_form}
+use Rattle.ldterms.specs.Expressions.{Expr, has_dot, has_align_dot}
+use Rattle.ldterms.specs.DotForms.{dot_form}
 use Rattle.ldtree.specs.declared.common.Common.{Common}
 use Rattle.ldtree.specs.declared.common.Common.TheVariants as commons
 use Rattle.ldtree.specs.declared.common.DotCommand.{DotCommand}

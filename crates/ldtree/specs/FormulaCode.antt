@@ -1,11 +1,11 @@
 -- Expressions one part behind the other, operands first: a proof tells formulas apart by this.
 use Rattle.std.specs.Prelude.{◌≡◌, ℕ, List, [], ◌∷◌, ◌++◌, refl}
 use Rattle.std.proofs.Common.{ap, ◌∙◌, append_assoc}
-use Rattle.ldexpr.specs.declared.operator.UnaryOperator.{UnaryOperator}
-use Rattle.ldexpr.specs.declared.operator.BinaryOperator.{BinaryOperator}
-use Rattle.ldexpr.specs.declared.expression.RegionQuery.{RegionQuery}
-use Rattle.ldexpr.specs.declared.expression.SectionQuery.{SectionQuery}
-use Rattle.ldexpr.specs.Expressions.{Expr, Number, Dot, Name, Unary, Binary, Choice, OfRegion, OfSection, AlignDot, Align}
+use Rattle.ldterms.specs.declared.operator.UnaryOperator.{UnaryOperator}
+use Rattle.ldterms.specs.declared.operator.BinaryOperator.{BinaryOperator}
+use Rattle.ldterms.specs.declared.expression.RegionQuery.{RegionQuery}
+use Rattle.ldterms.specs.declared.expression.SectionQuery.{SectionQuery}
+use Rattle.ldterms.specs.Expressions.{Expr, Number, Dot, Name, Unary, Binary, Choice, OfRegion, OfSection, AlignDot, Align}
 
 pub data Instruction : Type 0 where
   PushNumber : (value : ℕ) → Instruction

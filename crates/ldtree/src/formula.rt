@@ -1,9 +1,9 @@
 //! Expressions as parts of a tree.
 
 ghost use Rattle.std.specs.Prelude.{◌≡◌};
-ghost use Rattle.ldexpr.specs.Expressions.{expr_of};
+ghost use Rattle.ldterms.specs.Expressions.{expr_of};
 
-use ldexpr::expression::Expr;
+use ldterms::expression::Expr;
 use std::fmt;
 use std::marker::Model;
 
@@ -14,7 +14,7 @@ pub struct Formula {
 }
 
 impl Model for Formula {
-    ghost use Rattle.ldexpr.specs.Expressions.{Expr, expr_of};
+    ghost use Rattle.ldterms.specs.Expressions.{Expr, expr_of};
     ghost use Rattle.std.specs.Prelude.{List};
     ghost use Rattle.std.specs.Coded.{codes, code_by};
     ghost use Rattle.ldtree.specs.FormulaCode.{Instruction, to_instructions, from_instructions, from_to};

@@ -1,7 +1,7 @@
 //! Input statements: which sections of which files go here.
 
 use crate::sequence::Sequence;
-use ldpattern::pattern::Pattern;
+use ldterms::pattern::Pattern;
 
 /// In which order the sections that a statement takes stand.
 #[derive(Clone, Copy, Debug, PartialEq, Eq)]

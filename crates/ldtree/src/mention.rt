@@ -1,7 +1,7 @@
 //! What a script does with names, as a list in the order of the text.
 
 ghost use Rattle.std.specs.Prelude.{[], ◌∷◌, OnOk};
-ghost use Rattle.ldexpr.specs.Expressions.{expr_of};
+ghost use Rattle.ldterms.specs.Expressions.{expr_of};
 ghost use Rattle.ldtree.specs.Mentions.{in_assignment, in_body, in_body_command, in_common, in_dot_command, in_expression, in_item_command, in_items, in_load_head, in_load_tail, in_optional, in_region_name, in_regions, in_section, in_top_command, mentions};
 ghost use Rattle.ldtree.specs.Listed.{Adds, mention_of};
 
@@ -9,7 +9,7 @@ use crate::common::{Assignment, Common, DotCommand};
 use crate::formula::Formula;
 use crate::section::{BodyCommand, BodyStatement, Load, OutputSection};
 use crate::statement::{Command, Item, ItemCommand, Region, Statement};
-use ldexpr::expression::Expr;
+use ldterms::expression::Expr;
 use ldtokens::name::ScriptName;
 use std::alloc::AllocFailed;
 

@@ -1,11 +1,11 @@
 //! The symbols that an expression names.
 
 ghost use Rattle.std.specs.Prelude.{OnOk};
-ghost use Rattle.ldexpr.specs.Expressions.{expr_of};
+ghost use Rattle.ldterms.specs.Expressions.{expr_of};
 ghost use Rattle.ldtree.specs.Given.{symbols_of};
 ghost use Rattle.ldtree.specs.Tables.{AddsNames};
 
-use ldexpr::expression::Expr;
+use ldterms::expression::Expr;
 use std::alloc::AllocError;
 
 /// Adds the symbols that an expression names to a list, from left to right, each as often as it is named.

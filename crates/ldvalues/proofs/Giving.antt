@@ -16,8 +16,8 @@ use Rattle.ldnaming.specs.Naming.{NamingState}
 use Rattle.ldnaming.specs.Sorted.{AreSorted}
 use Rattle.ldnaming.specs.declared.sorted.NamedKey.{NamedKey}
 use Rattle.place.specs.Places.{AreOf, Places}
-use Rattle.ldnumbers.specs.SymbolTable.{AreValuesOf, value_of}
-use Rattle.ldnumbers.specs.Tables.{entry_under, symbol_number}
+use Rattle.ldscope.specs.SymbolTable.{AreValuesOf, value_of}
+use Rattle.ldscope.specs.Tables.{entry_under, symbol_number}
 use Rattle.symres.specs.State.{IsNamed}
 use Rattle.ldvalues.specs.GivenTable.{IsGivenTable}
 use Rattle.ldvalues.specs.ScriptValues.{AreScriptValues}

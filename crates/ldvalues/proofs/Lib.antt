@@ -5,3 +5,10 @@ pub mod Listing
 pub mod Added
 pub mod Distinct
 pub mod Defined
+-- Lemmas of the crate.
+pub mod Regions
+pub mod Members
+pub mod Declared
+pub mod Looking
+pub mod Failing
+pub mod Searching

@@ -1,6 +1,6 @@
 -- What the script gives names, and the order of names.
-use Rattle.ldlaying.specs.Laying.{IsLaying}
-use Rattle.ldlaying.specs.declared.laying.Laying.{Laying}
+use Rattle.ldlayout.specs.Laying.{IsLaying}
+use Rattle.ldlayout.specs.declared.laying.Laying.{Laying}
 use Rattle.ldmodel.specs.Layout.{Layout}
 use Rattle.ldmodel.specs.Project.{Project}
 use Rattle.ldnaming.specs.Naming.{NamingState}

@@ -6,3 +6,5 @@ pub mod LinkView
 pub mod Values
 pub mod Candidates
 pub mod Symbols
+pub mod AssertedSymbols
+pub mod FinalScope

@@ -4,7 +4,7 @@ use Rattle.ldmodel.specs.Layout.{Layout, script_value}
 use Rattle.ldmodel.specs.Project.{Project}
 use Rattle.ldnaming.specs.Decided.{HasCase}
 use Rattle.ldnaming.specs.Naming.{IsNaming, NamingState}
-use Rattle.ldstarts.specs.Starts.{AreStarts}
+use Rattle.ldlayout.specs.Starts.{AreStarts}
 use Rattle.ldtargets.specs.KnownLink.{KnownLink}
 use Rattle.ldvalues.specs.declared.link_view.LinkView.{LinkView}
 

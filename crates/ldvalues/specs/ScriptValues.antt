@@ -1,7 +1,7 @@
 -- A table of the values that a script gives names.
 use Rattle.std.specs.Prelude.{◌≡◌, ℕ, List, Option}
 use Rattle.ldmodel.specs.Layout.{Layout, script_value}
-use Rattle.ldnumbers.specs.Tables.{entry_under, symbol_number}
+use Rattle.ldscope.specs.Tables.{entry_under, symbol_number}
 use Rattle.ldvalues.specs.declared.script_values.ScriptValues.{ScriptValues}
 
 -- the value that a table has for a name

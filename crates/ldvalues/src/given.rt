@@ -4,7 +4,7 @@
 ghost use Rattle.std.specs.Prelude.{IfOk};
 
 use crate::script_values::ScriptValues;
-use ldlaying::laying::Laying;
+use ldlayout::laying::Laying;
 use ldmodel::memory::NoMemory;
 use ldnaming::naming::Naming;
 use ldnaming::sorted::NamedKey;

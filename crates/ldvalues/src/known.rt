@@ -8,7 +8,7 @@ ghost use Rattle.ldmodel.specs.NameFaults.{object_name};
 ghost use Rattle.ldmodel.specs.Names.{is_local};
 ghost use Rattle.ldmodel.specs.Project.{Project};
 ghost use Rattle.ldmodel.specs.SymbolValues.{placed_part};
-ghost use Rattle.ldstarts.specs.Starts.{AreStarts};
+ghost use Rattle.ldlayout.specs.Starts.{AreStarts};
 ghost use Rattle.ldtargets.specs.KnownLink.{IsCaseOf, IsNameOf, IsScriptValueOf, KnownLink, object_of, start_of};
 ghost use Rattle.ldvalues.specs.LinkView.{IsLinkView};
 ghost use Rattle.ldvalues.specs.Seen.{is_seen};
@@ -17,10 +17,10 @@ use crate::link_view::LinkView;
 use elfobj::object::Object;
 use elfobj::relocation::SymbolIndex;
 use elfobj::symbol::Binding;
+use ldlayout::starts::Starts;
 use ldmodel::names::{Case, NameKey, ObjectKey};
 use ldmodel::sections::SectionKey;
 use ldproject::view::ProjectView;
-use ldstarts::starts::Starts;
 use ldtargets::known::Known;
 
 /// Whether a symbol declares its name to other objects.

@@ -3,15 +3,15 @@
 ghost use Rattle.std.specs.Prelude.{◌≡◌, IfOk};
 ghost use Rattle.ldmodel.specs.Layout.{Layout};
 ghost use Rattle.ldnaming.specs.Naming.{IsNaming};
-ghost use Rattle.ldstarts.specs.Starts.{AreStarts};
+ghost use Rattle.ldlayout.specs.Starts.{AreStarts};
 ghost use Rattle.ldvalues.specs.Seen.{AreSeen};
 
 use crate::given::Given;
 use crate::given_table::given_table;
+use ldlayout::starts::Starts;
 use ldmodel::memory::NoMemory;
 use ldnaming::naming::Naming;
 use ldproject::view::ProjectView;
-use ldstarts::starts::Starts;
 use std::alloc::Global;
 
 /// A link whose names are decided and whose parts have their places: it is `Known` to the evaluation of relocations.

@@ -7,8 +7,8 @@ ghost use Rattle.ldtree.specs.declared.statement.Statement.{Statement};
 ghost use Rattle.ldmodel.specs.Layout.{Layout, ScriptSymbol};
 ghost use Rattle.ldmodel.specs.Lent.{name_given_by};
 ghost use Rattle.place.specs.Places.{AreOf};
-ghost use Rattle.ldnumbers.specs.SymbolTable.{AreValuesOf};
-ghost use Rattle.ldnumbers.specs.Tables.{symbol_number};
+ghost use Rattle.ldscope.specs.SymbolTable.{AreValuesOf};
+ghost use Rattle.ldscope.specs.Tables.{symbol_number};
 ghost use Rattle.ldvalues.specs.ScriptValues.{AreScriptValues, value_in};
 
 use ldmodel::memory::NoMemory;

@@ -19,9 +19,9 @@ use Rattle.ldmodel.specs.Rows.{Piece}
 use Rattle.ldmodel.specs.SectionEnd.{placed_section, section_end, with_section}
 use Rattle.ldmodel.specs.SectionHead.{Head, head_of}
 use Rattle.ldmodel.specs.declared.rows.Piece as rows
-use Rattle.ldnumbers.specs.Keyed.{piece_at}
-use Rattle.ldnumbers.specs.Naming.{Naming, piece_named, row_named}
-use Rattle.ldnumbers.specs.SectionTable.{keyed_piece}
+use Rattle.ldscope.specs.Keyed.{piece_at}
+use Rattle.ldscope.specs.Naming.{Naming, piece_named, row_named}
+use Rattle.ldscope.specs.SectionTable.{keyed_piece}
 use Rattle.ldlaws.specs.Alike.{AreAlike, AreBodiesAlike, BodiesStayAlike, HeadsAgree, given_names, names_given}
 use Rattle.ldlaws.specs.Alike.{with_symbols}
 use Rattle.place.proofs.Adding.{end_is}

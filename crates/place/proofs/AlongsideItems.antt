@@ -18,10 +18,10 @@ use Rattle.ldmodel.specs.Placement.{item_command_step, item_step, next_row, sect
 use Rattle.ldmodel.specs.Rows.{Piece}
 use Rattle.ldmodel.specs.declared.rows.Piece as rows
 use Rattle.ldlaws.specs.Alike.{AreAlike, ItemsStayAlike, StatementsStayAlike, names_given}
-use Rattle.ldnumbers.specs.Earlier.{AreStartsOf}
-use Rattle.ldnumbers.specs.Keyed.{KeyedSection, section_of}
-use Rattle.ldnumbers.specs.Naming.{Naming, row_named}
-use Rattle.ldnumbers.specs.Wholes.{starts_in}
+use Rattle.ldscope.specs.Earlier.{AreStartsOf}
+use Rattle.ldscope.specs.Keyed.{KeyedSection, section_of}
+use Rattle.ldscope.specs.Naming.{Naming, row_named}
+use Rattle.ldscope.specs.Wholes.{starts_in}
 use Rattle.place.proofs.Alongside.{names_on}
 use Rattle.place.proofs.Ending.{Chained, chained}
 use Rattle.place.proofs.InParts.{in_parts, whole}

@@ -3,7 +3,7 @@ use Rattle.std.proofs.Common.{◌≡◌, ℕ, zero, suc, ◌+◌, ◌≤◌, ◌
 use Rattle.std.proofs.Common.{Option, Some, None, IfSome, IfNone}
 use Rattle.std.proofs.Common.{Result, Ok, Err, OnOk, refl, ap, arith}
 use Rattle.ldmodel.specs.declared.rows.Piece.{Piece}
-use Rattle.ldnumbers.specs.Keyed.{KeyedSection}
+use Rattle.ldscope.specs.Keyed.{KeyedSection}
 use Rattle.place.specs.Counted.{Resumes, entries, left_after}
 use Rattle.place.specs.declared.script.Input.{Input}
 use Rattle.place.specs.declared.state.Here.{Here}

@@ -4,9 +4,9 @@ use Rattle.std.specs.List.{last_or}
 use Rattle.std.specs.Option.{option_map_or}
 use Rattle.ldmodel.specs.Layout.{PlacedSection}
 use Rattle.ldmodel.specs.SectionHead.{difference_in, difference_of, same_region}
-use Rattle.ldnumbers.specs.Keyed.{KeyedSection, section_of}
-use Rattle.ldnumbers.specs.Naming.{Naming}
-use Rattle.ldnumbers.specs.SectionTable.{nameless, difference_by}
+use Rattle.ldscope.specs.Keyed.{KeyedSection, section_of}
+use Rattle.ldscope.specs.Naming.{Naming}
+use Rattle.ldscope.specs.SectionTable.{nameless, difference_by}
 
 last_difference : (n m : Naming) (region : Option (List ℕ)) (a b : Option PlacedSection) (xs : List KeyedSection)
     → option_map_or difference_of a 0 ≡ option_map_or difference_of b 0

@@ -10,9 +10,9 @@ use Rattle.ldmodel.specs.Fault.{PastAddressSpace}
 use Rattle.ldmodel.specs.Layout.{PlacedSection, address, region_named}
 use Rattle.ldmodel.specs.SectionEnd.{placed_section, section_end, with_section, with_room, load_region}
 use Rattle.ldmodel.specs.SectionHead.{Head}
-use Rattle.ldnumbers.specs.Keyed.{KeyedSection, section_of}
-use Rattle.ldnumbers.specs.Naming.{Naming}
-use Rattle.ldnumbers.specs.Outputs.{Outputs}
+use Rattle.ldscope.specs.Keyed.{KeyedSection, section_of}
+use Rattle.ldscope.specs.Naming.{Naming}
+use Rattle.ldscope.specs.Outputs.{Outputs}
 use Rattle.place.specs.Ends.{body_alone, ended_body, load_end}
 use Rattle.std.proofs.lemmas.List.{map-append}
 use Rattle.ldmodel.specs.Layout.{MemoryRegion}

@@ -4,7 +4,7 @@ use Rattle.std.proofs.Common.{refl, sym, ap, ◌∙◌, arith}
 use Rattle.std.proofs.lemmas.Bool.{eqb-true, eqb-false}
 use Rattle.ldmodel.specs.Chain.{run}
 use Rattle.ldmodel.specs.Placement.{placement, statement_step}
-use Rattle.ldnumbers.specs.Naming.{Naming}
+use Rattle.ldscope.specs.Naming.{Naming}
 use Rattle.place.specs.State.{layout_of, fault_of as fault_named}
 use Rattle.place.specs.declared.fault.PlaceFault.{PlaceFault}
 use Rattle.place.specs.declared.fault.PlaceFault.TheVariants as place_fault
@@ -21,7 +21,7 @@ use Rattle.ldmodel.specs.Overlaps.{overlaps}
 use Rattle.ldmodel.specs.Project.{Project}
 use Rattle.ldmodel.specs.Rows.{Piece}
 use Rattle.ldmodel.specs.declared.fault.Fault as code_fault
-use Rattle.ldoverlap.specs.Meetings.{AreOverlaps}
+use Rattle.place.specs.Meetings.{AreOverlaps}
 use Rattle.place.proofs.Outputs.{outputs_are}
 use Rattle.place.specs.Outcomes.{IsGood, AreMeetings, Reports, Stops}
 use Rattle.place.specs.Places.{IsPlacement, Places}

@@ -6,9 +6,9 @@ use Rattle.std.specs.List.{list_any}
 use Rattle.std.specs.Prelude.{bytes_eq, ◌==◌}
 use Rattle.std.proofs.lemmas.List.{map-append}
 use Rattle.byteorder.specs.Endian.{little_bytes}
-use Rattle.ldexpr.specs.Expressions as expression
-use Rattle.ldexpr.specs.Expressions.{Expr}
-use Rattle.ldexpr.specs.DotForms.{DotForm, Advance, Align, Offset, dot_form}
+use Rattle.ldterms.specs.Expressions as expression
+use Rattle.ldterms.specs.Expressions.{Expr}
+use Rattle.ldterms.specs.DotForms.{DotForm, Advance, Align, Offset, dot_form}
 use Rattle.ldtree.specs.Widths.{byte_count}
 use Rattle.ldtree.specs.declared.common.Assignment.{Assignment}
 use Rattle.ldtree.specs.declared.common.Common.{Common}

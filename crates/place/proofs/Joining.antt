@@ -7,7 +7,7 @@ use Rattle.ldmodel.specs.Fault.{Fault}
 use Rattle.ldmodel.specs.Layout.{Layout}
 use Rattle.ldmodel.specs.Placement.{item_step, statement_step}
 use Rattle.ldmodel.specs.Rows.{Piece}
-use Rattle.ldnumbers.specs.Naming.{Naming}
+use Rattle.ldscope.specs.Naming.{Naming}
 use Rattle.place.proofs.Ending.{chained}
 use Rattle.place.proofs.Grows.{given_is}
 use Rattle.place.proofs.InParts.{before_same, in_parts}

@@ -11,9 +11,9 @@ use Rattle.ldmodel.specs.Placement.{placement, statement_step}
 use Rattle.ldmodel.specs.Rows.{Piece}
 use Rattle.ldmodel.specs.declared.script_symbol.CommonIndex.{CommonIndex}
 use Rattle.ldlaws.specs.Alike.{AreAlike, names_given}
-use Rattle.ldnumbers.specs.Naming.{Naming}
-use Rattle.ldnumbers.specs.ProvidedTable.{provided_names}
-use Rattle.ldnumbers.specs.SymbolTable.{AreFound, Rises}
+use Rattle.ldscope.specs.Naming.{Naming}
+use Rattle.ldscope.specs.ProvidedTable.{provided_names}
+use Rattle.ldscope.specs.SymbolTable.{AreFound, Rises}
 use Rattle.place.proofs.Beginning.{begins_same}
 use Rattle.place.specs.Boundaries.{data_in, AreBoundariesOf}
 use Rattle.place.specs.Alongside.{ScriptAlongside}

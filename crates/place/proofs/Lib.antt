@@ -1,3 +1,11 @@
+pub mod Covering
+pub mod Apart
+pub mod Finding
+pub mod Named
+pub mod MeetingOutputs
+pub mod Hulls
+pub mod FirstMet
+pub mod Ranking
 pub mod Naming
 pub mod Valued
 pub mod Differences

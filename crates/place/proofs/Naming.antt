@@ -7,8 +7,8 @@ use mathlib.Core.Path.{fun_ext}
 use Rattle.ldmodel.specs.Layout.{PlacedSection, scope_of, section_named}
 use Rattle.ldmodel.specs.Value.{SectionNumbers}
 use Rattle.ldmodel.specs.declared.laid.Placed.{Placed}
-use Rattle.ldnumbers.specs.Keyed.{KeyedSection, section_of}
-use Rattle.ldnumbers.specs.Naming.{Naming}
+use Rattle.ldscope.specs.Keyed.{KeyedSection, section_of}
+use Rattle.ldscope.specs.Naming.{Naming}
 use Rattle.place.specs.State.{layout_of}
 use Rattle.place.specs.declared.state.Done.{Done}
 use Rattle.place.specs.declared.state.Here.{Here}

@@ -12,8 +12,8 @@ use Rattle.ldmodel.specs.Chain.{run}
 use Rattle.ldmodel.specs.Layout.{Layout}
 use Rattle.ldmodel.specs.Placement.{item_step}
 use Rattle.ldmodel.specs.Rows.{Piece}
-use Rattle.ldnumbers.specs.Keyed.{section_of}
-use Rattle.ldnumbers.specs.Naming.{Naming}
+use Rattle.ldscope.specs.Keyed.{section_of}
+use Rattle.ldscope.specs.Naming.{Naming}
 use Rattle.place.proofs.Following.{grown_by, next_at}
 use Rattle.place.proofs.Runs.{run_more, run_stops}
 use Rattle.place.specs.Boundaries.{AreNoted, IsAt, IsBoundary, sections_at}

@@ -18,8 +18,8 @@ use Rattle.ldmodel.specs.Rows.{Piece}
 use Rattle.ldmodel.specs.SectionEnd.{freed_from, load_region}
 use Rattle.ldmodel.specs.declared.laid.Placed.{Placed}
 use Rattle.ldmodel.specs.declared.rows.Piece as rows
-use Rattle.ldnumbers.specs.Keyed.{section_of}
-use Rattle.ldnumbers.specs.Naming.{Naming, row_named}
+use Rattle.ldscope.specs.Keyed.{section_of}
+use Rattle.ldscope.specs.Naming.{Naming, row_named}
 use Rattle.place.proofs.Adding.{section_grows}
 use Rattle.place.proofs.Beginning.{first_part}
 use Rattle.place.proofs.Ending.{chained}

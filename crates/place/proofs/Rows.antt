@@ -4,8 +4,8 @@ use Rattle.std.proofs.Math.ListN.{get_or-map}
 use Rattle.std.proofs.lemmas.List.{length-map}
 use Rattle.ldmodel.specs.Placement.{next_row}
 use Rattle.ldmodel.specs.declared.rows.Piece as code
-use Rattle.ldnumbers.specs.Keyed.{section_of}
-use Rattle.ldnumbers.specs.Naming.{Naming, row_named, rows_named}
+use Rattle.ldscope.specs.Keyed.{section_of}
+use Rattle.ldscope.specs.Naming.{Naming, row_named, rows_named}
 use Rattle.place.specs.State.{layout_of}
 use Rattle.place.specs.declared.state.Done.{Done}
 use Rattle.place.specs.declared.state.Here.{Here}

@@ -15,17 +15,17 @@ use Rattle.ldmodel.specs.Rows.{Piece}
 use Rattle.ldmodel.specs.declared.laid.Placed.{Placed}
 use Rattle.ldmodel.specs.declared.laid.PlacedData as code_data
 use Rattle.ldmodel.specs.declared.rows.Piece as rows
-use Rattle.ldnumbers.specs.Keyed.{KeyedSection, data_at, data_at_of, piece_at, section_of}
-use Rattle.ldnumbers.specs.Naming.{Naming, piece_named, row_named}
-use Rattle.ldnumbers.specs.SectionTable.{taken_pieces}
-use Rattle.ldnumbers.specs.Wholes.{all_data_in, starts_in}
+use Rattle.ldscope.specs.Keyed.{KeyedSection, data_at, data_at_of, piece_at, section_of}
+use Rattle.ldscope.specs.Naming.{Naming, piece_named, row_named}
+use Rattle.ldscope.specs.SectionTable.{taken_pieces}
+use Rattle.ldscope.specs.Wholes.{all_data_in, starts_in}
 use Rattle.place.proofs.Adding.{SectionGrown, enumerate_more, section_grows}
 use Rattle.place.proofs.Beginning.{mapped_part}
 use Rattle.place.proofs.Grows.{the_piece}
 use Rattle.place.proofs.Wholes.{data_whole, starts_whole}
 use Rattle.place.specs.Boundaries.{data_in}
 use Rattle.place.specs.Leads.{Begins, Leads, counts_of}
-use Rattle.ldnumbers.specs.Earlier.{IsTaken, earlier_of, part_of}
+use Rattle.ldscope.specs.Earlier.{IsTaken, earlier_of, part_of}
 use Rattle.place.specs.declared.kept.Kept.{Kept}
 
 -- the one after the first ones of a list

@@ -1,12 +1,12 @@
 -- The number of an expression, as the code evaluates it.
 use Rattle.std.proofs.Common.{◌≡◌, ℕ, Result, ap, ◌∙◌}
-use Rattle.ldexpr.specs.Expressions.{Expr}
+use Rattle.ldterms.specs.Expressions.{Expr}
 use Rattle.ldmodel.specs.Layout.{number, value_at, scope_of}
 use Rattle.ldmodel.specs.Value.{Scope, value}
-use Rattle.ldvalue.specs.Outcomes.{outcome_of}
-use Rattle.ldvalue.specs.declared.value.ValueFault as code
-use Rattle.ldnumbers.specs.Naming.{Naming}
-use Rattle.ldnumbers.specs.SectionTable.{nameless}
+use Rattle.ldscope.specs.Outcomes.{outcome_of}
+use Rattle.ldscope.specs.declared.value.ValueFault as code
+use Rattle.ldscope.specs.Naming.{Naming}
+use Rattle.ldscope.specs.SectionTable.{nameless}
 use Rattle.place.proofs.Naming.{same_scope}
 use Rattle.place.specs.State.{layout_of}
 use Rattle.place.specs.declared.state.Done.{Done}

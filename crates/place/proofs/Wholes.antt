@@ -7,10 +7,10 @@ use Rattle.std.specs.Prelude.{flat_map}
 use Rattle.std.specs.List.{enumerate_from}
 use Rattle.ldmodel.specs.Layout.{PlacedPiece}
 use Rattle.ldmodel.specs.Lent.{placed_of, starts_of, numbered}
-use Rattle.ldnumbers.specs.Keyed.{KeyedPiece, KeyedSection, section_of, piece_at}
-use Rattle.ldnumbers.specs.Naming.{Naming}
-use Rattle.ldnumbers.specs.SectionTable.{Ends as KeyedEnds}
-use Rattle.ldnumbers.specs.Wholes.{counts_in, placed_in, starts_in, data_in, all_data_in}
+use Rattle.ldscope.specs.Keyed.{KeyedPiece, KeyedSection, section_of, piece_at}
+use Rattle.ldscope.specs.Naming.{Naming}
+use Rattle.ldscope.specs.SectionTable.{Ends as KeyedEnds}
+use Rattle.ldscope.specs.Wholes.{counts_in, placed_in, starts_in, data_in, all_data_in}
 use Rattle.place.specs.Places.{Ends}
 
 pub placed_whole : (n : Naming) (xs : List KeyedSection) → placed_in xs ≡ map placed_of (map (section_of n) xs)

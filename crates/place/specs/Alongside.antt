@@ -18,10 +18,10 @@ use Rattle.ldmodel.specs.Lent.{starts_of}
 use Rattle.ldmodel.specs.Placement.{item_step, section_step, statement_step}
 use Rattle.ldmodel.specs.Rows.{Piece}
 use Rattle.ldlaws.specs.Alike.{AreAlike, AreBodiesAlike, names_given}
-use Rattle.ldnumbers.specs.Earlier.{AreStartsOf}
-use Rattle.ldnumbers.specs.Keyed.{KeyedSection}
-use Rattle.ldnumbers.specs.Naming.{Naming, row_named}
-use Rattle.ldnumbers.specs.Wholes.{starts_in}
+use Rattle.ldscope.specs.Earlier.{AreStartsOf}
+use Rattle.ldscope.specs.Keyed.{KeyedSection}
+use Rattle.ldscope.specs.Naming.{Naming, row_named}
+use Rattle.ldscope.specs.Wholes.{starts_in}
 use Rattle.place.specs.Earlier.{Same}
 use Rattle.place.specs.Inputs.{rows_of}
 use Rattle.place.specs.Leads.{Leads}

@@ -4,7 +4,7 @@ use Rattle.ldbase.specs.Counts.{Counts}
 use Rattle.ldbase.specs.Raised.{raised}
 use Rattle.ldbase.specs.declared.meter.Count.TheVariants.{Pieces}
 use Rattle.ldmodel.specs.declared.rows.Piece.{Piece}
-use Rattle.ldnumbers.specs.Keyed.{KeyedSection}
+use Rattle.ldscope.specs.Keyed.{KeyedSection}
 use Rattle.place.specs.declared.script.Input.{Input}
 use Rattle.place.specs.declared.state.Frame.{Frame}
 use Rattle.place.specs.declared.state.Here.{Here}

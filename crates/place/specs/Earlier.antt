@@ -6,7 +6,7 @@ use Rattle.ldmodel.specs.Chain.{run}
 use Rattle.ldmodel.specs.Layout.{Layout}
 use Rattle.ldmodel.specs.Placement.{item_step, statement_step}
 use Rattle.ldmodel.specs.Rows.{Piece}
-use Rattle.ldnumbers.specs.Naming.{Naming}
+use Rattle.ldscope.specs.Naming.{Naming}
 use Rattle.place.specs.Boundaries.{AreBoundaries, AreBoundariesOf}
 use Rattle.place.specs.Inputs.{rows_of}
 use Rattle.place.specs.Leads.{Leads}

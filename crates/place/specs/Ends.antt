@@ -7,9 +7,9 @@ use Rattle.ldmodel.specs.Chain.{and_then}
 use Rattle.ldmodel.specs.Fault.{Fault}
 use Rattle.ldmodel.specs.Layout.{Layout, MemoryRegion, PlacedSection, address, nothing_placed, region_named}
 use Rattle.ldmodel.specs.SectionEnd.{load_region, with_room}
-use Rattle.ldnumbers.specs.Keyed.{piece_at, data_at}
-use Rattle.ldnumbers.specs.Naming.{Naming}
-use Rattle.ldnumbers.specs.SectionTable.{keyed_piece}
+use Rattle.ldscope.specs.Keyed.{piece_at, data_at}
+use Rattle.ldscope.specs.Naming.{Naming}
+use Rattle.ldscope.specs.SectionTable.{keyed_piece}
 use Rattle.place.specs.State.{layout_of}
 use Rattle.place.specs.declared.state.Done.{Done}
 use Rattle.place.specs.declared.state.Here.{Here}

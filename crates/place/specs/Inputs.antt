@@ -1,7 +1,7 @@
 -- The rows that a layout is made from.
 use Rattle.std.specs.Prelude.{List, map}
 use Rattle.ldmodel.specs.Rows.{Piece}
-use Rattle.ldnumbers.specs.Naming.{Naming, rows_named}
+use Rattle.ldscope.specs.Naming.{Naming, rows_named}
 use Rattle.place.specs.declared.script.Input.{Input}
 
 abbrev pub rows_of : Naming → Input → List (List Piece)

@@ -5,7 +5,7 @@ use Rattle.ldmodel.specs.Fault.{Fault}
 use Rattle.ldmodel.specs.Layout.{Layout, PlacedSection}
 use Rattle.ldmodel.specs.Lent.{data_of, placed_of, starts_of, symbol_of}
 use Rattle.ldmodel.specs.declared.script_symbol.CommonIndex.{CommonIndex}
-use Rattle.ldnumbers.specs.SymbolTable.{AreFound, Rises}
+use Rattle.ldscope.specs.SymbolTable.{AreFound, Rises}
 use Rattle.place.specs.Boundaries.{data_in}
 use Rattle.place.specs.Places.{Places}
 use Rattle.place.specs.declared.kept.Kept.{Kept}

@@ -1,3 +1,8 @@
+pub mod Firsts
+pub mod Hulls
+pub mod Extents
+pub mod Found
+pub mod Meetings
 -- What the layout of a script is, as the code holds it.
 pub mod State
 pub mod Inputs

@@ -5,7 +5,7 @@ use Rattle.ldtree.specs.declared.statement.Item.{Item}
 use Rattle.ldtree.specs.declared.statement.ItemCommand.{ItemCommand}
 use Rattle.ldtree.specs.declared.statement.ItemCommand.TheVariants as item
 use Rattle.ldtree.specs.declared.statement.Statement.{Statement}
-use Rattle.ldnumbers.specs.Outputs.{IsOutput}
+use Rattle.ldscope.specs.Outputs.{IsOutput}
 
 -- those of a script are those of these statements, and others after them
 pub record AreFirst (script : List Statement) (items : List Item) : Type 0 where

@@ -9,7 +9,7 @@ use Rattle.ldmodel.specs.Placement.{placement}
 use Rattle.ldmodel.specs.Project.{Project}
 use Rattle.ldmodel.specs.Rows.{Piece}
 use Rattle.ldmodel.specs.declared.fault.Fault as code_fault
-use Rattle.ldnumbers.specs.ProvidedTable.{provided_names}
+use Rattle.ldscope.specs.ProvidedTable.{provided_names}
 use Rattle.place.specs.Boundaries.{AreBoundariesOf}
 use Rattle.place.specs.Places.{AreOf, IsFirstFault, Places, StandsFor}
 use Rattle.place.specs.declared.fault.PlaceFault.{PlaceFault}

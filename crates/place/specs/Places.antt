@@ -15,8 +15,8 @@ use Rattle.ldmodel.specs.declared.laid.PlacedData.{PlacedData}
 use Rattle.ldmodel.specs.declared.laid.PlacedRegion.{PlacedRegion}
 use Rattle.ldmodel.specs.declared.script_symbol.CommonIndex.{CommonIndex}
 use Rattle.ldmodel.specs.declared.script_symbol.ScriptSymbol.{ScriptSymbol}
-use Rattle.ldnumbers.specs.ProvidedTable.{provided_names}
-use Rattle.ldnumbers.specs.SymbolTable.{AreFound, Rises}
+use Rattle.ldscope.specs.ProvidedTable.{provided_names}
+use Rattle.ldscope.specs.SymbolTable.{AreFound, Rises}
 use Rattle.place.specs.Boundaries.{AreBoundariesOf}
 use Rattle.place.specs.declared.boundary.Boundary.{Boundary}
 

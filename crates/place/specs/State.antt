@@ -5,10 +5,10 @@ use Rattle.ldmodel.specs.Fault.{Fault}
 use Rattle.ldmodel.specs.Fault as fault
 use Rattle.ldmodel.specs.Layout.{Layout}
 use Rattle.ldmodel.specs.declared.rows.Piece as rows
-use Rattle.ldnumbers.specs.Keyed.{piece_at, data_at, section_of}
-use Rattle.ldnumbers.specs.Naming.{Naming, row_named}
-use Rattle.ldnumbers.specs.SectionTable.{keyed_piece}
-use Rattle.ldnumbers.specs.SymbolTable.{named}
+use Rattle.ldscope.specs.Keyed.{piece_at, data_at, section_of}
+use Rattle.ldscope.specs.Naming.{Naming, row_named}
+use Rattle.ldscope.specs.SectionTable.{keyed_piece}
+use Rattle.ldscope.specs.SymbolTable.{named}
 use Rattle.place.specs.declared.state.Here.{Here}
 use Rattle.place.specs.declared.state.Done.{Done}
 use Rattle.place.specs.declared.state.Frame.{Frame}

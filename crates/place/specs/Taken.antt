@@ -4,8 +4,8 @@ use Rattle.ldtree.specs.declared.section.OutputSection.{OutputSection}
 use Rattle.ldtree.specs.declared.statement.Item.{Item}
 use Rattle.ldtree.specs.declared.statement.ItemCommand.TheVariants.{Section}
 use Rattle.ldmodel.specs.SectionEnd.{freed_from, load_region}
-use Rattle.ldnumbers.specs.Earlier.{IsTaken, earlier_of}
-use Rattle.ldnumbers.specs.Keyed.{KeyedSection}
+use Rattle.ldscope.specs.Earlier.{IsTaken, earlier_of}
+use Rattle.ldscope.specs.Keyed.{KeyedSection}
 use Rattle.place.specs.declared.boundary.Boundary.{Boundary}
 use Rattle.place.specs.declared.script.Input.{Input}
 use Rattle.place.specs.declared.state.Done.{Done}

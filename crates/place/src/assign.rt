@@ -2,12 +2,12 @@
 
 ghost use Rattle.std.specs.Prelude.{◌≡◌};
 ghost use Rattle.ldmodel.specs.Assigning.{assigned, common_step};
-ghost use Rattle.ldnumbers.specs.Naming.{Naming};
+ghost use Rattle.ldscope.specs.Naming.{Naming};
 ghost use Rattle.place.specs.State.{layout_of, Gives};
 
 use crate::state::{Done, Here};
 use crate::stop::Stop;
-use ldnumbers::provided::Provided;
+use ldscope::provided::Provided;
 use ldscript::tree::{Assignment, Common};
 
 impl<'a> Here<'a> {

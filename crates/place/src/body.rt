@@ -1,12 +1,12 @@
 //! The body of an output section.
 
 ghost use Rattle.std.specs.Prelude.{◌≤◌, ◌≡◌, ◌+◌, length, drop, OnOk, IfSome};
-ghost use Rattle.ldexpr.specs.DotForms.{dot_form};
-ghost use Rattle.ldexpr.specs.Expressions.{expr_of};
+ghost use Rattle.ldterms.specs.DotForms.{dot_form};
+ghost use Rattle.ldterms.specs.Expressions.{expr_of};
 ghost use Rattle.ldmodel.specs.Body.{advanced, body_command_step, body_step, data_step, input_step, moved};
 ghost use Rattle.ldmodel.specs.Body.{piece_placed, piece_start, pieces_placed, set_to};
 ghost use Rattle.ldmodel.specs.Chain.{run};
-ghost use Rattle.ldnumbers.specs.Naming.{Naming, piece_named, row_named};
+ghost use Rattle.ldscope.specs.Naming.{Naming, piece_named, row_named};
 ghost use Rattle.place.specs.Alongside.{BodyAlongside, IfInput, StartAt, StartsThere};
 ghost use Rattle.place.specs.Counted.{Counted, Entered};
 ghost use Rattle.place.specs.State.{body_of, Gives};
@@ -15,7 +15,7 @@ use crate::state::{Frame, Here};
 use crate::stop::Stop;
 use ldlaws::layout::steps_stay_alike;
 use ldmodel::rows::Piece;
-use ldnumbers::sections::{DataAt, PieceAt};
+use ldscope::sections::{DataAt, PieceAt};
 use ldscript::tree::{BodyCommand, BodyStatement, DotCommand, DotForm, Expr, Formula, Width};
 
 impl<'d, 'a> Frame<'d, 'a> {

@@ -10,9 +10,9 @@ ghost use Rattle.place.specs.declared.fault.PlaceFault.TheVariants.{NoMemory};
 
 use crate::stop::Stop;
 use ldmodel::fault::{Fault, MentionIndex};
-use ldnumbers::named::{output_named, region_named};
+use ldscope::mentioned::{mention_of, mentioned_names};
+use ldscope::named::{output_named, region_named};
 use ldscript::script::Script;
-use ldvalue::mentioned::{mention_of, mentioned_names};
 use std::alloc::{AllocError, Global};
 
 /// Why a script has no layout.

@@ -6,7 +6,7 @@ ghost use Rattle.std.specs.Option.{option_copied, option_map_or};
 ghost use Rattle.ldmodel.specs.Layout.{MemoryRegion, address, region_named};
 ghost use Rattle.ldmodel.specs.SectionHead.{first_free, given, given_alignment, given_load, head_of, load_address};
 ghost use Rattle.ldmodel.specs.SectionHead.{next_free, number_if_given, start_of, unstated_load, widest};
-ghost use Rattle.ldnumbers.specs.Naming.{Naming, row_named};
+ghost use Rattle.ldscope.specs.Naming.{Naming, row_named};
 ghost use Rattle.place.specs.Heads.{given_of, head_from, Yields};
 ghost use Rattle.place.specs.State.{layout_of, outcome};
 

@@ -6,7 +6,7 @@ ghost use Rattle.place.specs.Leads.{Keeps};
 use crate::boundary::Boundary;
 use crate::placement::Placement;
 use ldmodel::script_symbol::{CommonIndex, ScriptSymbol};
-use ldnumbers::earlier::Earlier;
+use ldscope::earlier::Earlier;
 
 /// What is kept of an earlier layout, and how far it holds.
 #[derive(Clone, Copy)]

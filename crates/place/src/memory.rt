@@ -3,7 +3,7 @@
 ghost use Rattle.std.specs.Prelude.{◌≡◌};
 ghost use Rattle.ldmodel.specs.Chain.{run};
 ghost use Rattle.ldmodel.specs.Placement.{region_step};
-ghost use Rattle.ldnumbers.specs.Naming.{Naming};
+ghost use Rattle.ldscope.specs.Naming.{Naming};
 ghost use Rattle.place.specs.State.{layout_of, Gives};
 
 use crate::state::{Done, Here};

@@ -1,8 +1,8 @@
 //! The layout of a script.
 
 ghost use Rattle.std.specs.Prelude.{◌≡◌, [], map, IfErr, IfOk, IfSome};
-ghost use Rattle.ldnumbers.specs.Naming.{Naming, rows_named};
-ghost use Rattle.ldnumbers.specs.ProvidedTable.{provided_names};
+ghost use Rattle.ldscope.specs.Naming.{Naming, rows_named};
+ghost use Rattle.ldscope.specs.ProvidedTable.{provided_names};
 ghost use Rattle.place.specs.Counted.{CountsPieces, entries};
 ghost use Rattle.place.specs.Kept.{IsKept};
 ghost use Rattle.place.specs.Outcomes.{IsGood, IsWhy, Stops};
@@ -10,6 +10,7 @@ ghost use Rattle.place.specs.Places.{IsPlacement};
 
 use crate::fault::{PlaceFault, reported};
 use crate::kept::Kept;
+use crate::overlaps::overlaps;
 use crate::placement::Placement;
 use crate::script::Input;
 use crate::state::{Done, Here};
@@ -18,11 +19,10 @@ use ldlaws::layout::steps_stay_alike;
 use ldmodel::meter::{Count, Meter};
 use ldmodel::rows::Piece;
 use ldmodel::script_symbol::CommonIndex;
-use ldnumbers::provided::Provided;
-use ldnumbers::regions::Regions;
-use ldnumbers::sections::Sections;
-use ldnumbers::symbols::Symbols;
-use ldoverlap::overlaps::overlaps;
+use ldscope::provided::Provided;
+use ldscope::regions::Regions;
+use ldscope::sections::Sections;
+use ldscope::symbols::Symbols;
 use ldscript::script::Script;
 use std::alloc::{AllocError, Global};
 

@@ -11,7 +11,7 @@ use crate::boundary::Boundary;
 use crate::kept::Kept;
 use ldmodel::laid::{Laid, Placed, PlacedData, PlacedRegion};
 use ldmodel::script_symbol::{CommonIndex, ScriptSymbol};
-use ldnumbers::earlier::Earlier;
+use ldscope::earlier::Earlier;
 use std::marker::Model;
 
 /// Where everything of a script stands: its output sections, their input sections and data commands, `.` before its

@@ -1,17 +1,17 @@
 //! Expressions where they stand.
 
 ghost use Rattle.std.specs.Prelude.{◌≡◌};
-ghost use Rattle.ldexpr.specs.Expressions.{expr_of};
+ghost use Rattle.ldterms.specs.Expressions.{expr_of};
 ghost use Rattle.ldmodel.specs.Layout.{number};
-ghost use Rattle.ldnumbers.specs.Naming.{Naming};
+ghost use Rattle.ldscope.specs.Naming.{Naming};
 ghost use Rattle.place.specs.State.{layout_of, outcome};
 
 use crate::state::{Done, Here};
 use crate::stop::Stop;
 use ldmodel::laid::{Placed, PlacedRegion};
+use ldscope::scope::Scope;
+use ldscope::value::{ValueFault, value};
 use ldscript::tree::{Expr, Formula};
-use ldvalue::scope::Scope;
-use ldvalue::value::{ValueFault, value};
 
 /// What an expression may name where the layout has come to.
 #[derive(Clone, Copy)]
@@ -23,7 +23,7 @@ struct Ready<'s, 'a> {
 impl<'s, 'a> Scope for Ready<'s, 'a> {
     ghost use Rattle.std.specs.Prelude.{⊤};
     ghost use Rattle.ldmodel.specs.Layout.{scope_of};
-    ghost use Rattle.ldnumbers.specs.SectionTable.{nameless};
+    ghost use Rattle.ldscope.specs.SectionTable.{nameless};
     ghost use Rattle.place.specs.State.{layout_of};
 
     ghost can_look_up = { λ _. ⊤ };

@@ -3,8 +3,8 @@
 ghost use Rattle.std.specs.Prelude.{◌≡◌, ◌≤◌, ◌<◌, ◌+◌, [], length, map, OnOk, IfOk, false, true};
 ghost use Rattle.ldmodel.specs.Chain.{run};
 ghost use Rattle.ldmodel.specs.Placement.{statement_step};
-ghost use Rattle.ldnumbers.specs.Earlier.{earlier_of};
-ghost use Rattle.ldnumbers.specs.Naming.{Naming};
+ghost use Rattle.ldscope.specs.Earlier.{earlier_of};
+ghost use Rattle.ldscope.specs.Naming.{Naming};
 ghost use Rattle.place.specs.Alongside.{ScriptAlongside};
 ghost use Rattle.place.specs.Boundaries.{AreBoundariesOf};
 ghost use Rattle.place.specs.Counted.{entries};
@@ -19,7 +19,7 @@ use crate::state::{Done, Here};
 use crate::stop::Stop;
 use ldlaws::layout::steps_stay_alike;
 use ldmodel::rows::Piece;
-use ldnumbers::provided::Provided;
+use ldscope::provided::Provided;
 use ldscript::tree::{Command, Statement};
 use std::alloc::Global;
 

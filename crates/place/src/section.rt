@@ -4,8 +4,8 @@ ghost use Rattle.std.specs.Prelude.{◌≡◌, ◌≤◌, ◌+◌, [], length, O
 ghost use Rattle.ldmodel.specs.Body.{body_step};
 ghost use Rattle.ldmodel.specs.Chain.{run};
 ghost use Rattle.ldmodel.specs.Placement.{opened, section_step};
-ghost use Rattle.ldnumbers.specs.Naming.{Naming, row_named};
-ghost use Rattle.ldnumbers.specs.Outputs.{IsOutput};
+ghost use Rattle.ldscope.specs.Naming.{Naming, row_named};
+ghost use Rattle.ldscope.specs.Outputs.{IsOutput};
 ghost use Rattle.place.specs.Alongside.{BodyAlongside, SectionAlongside};
 ghost use Rattle.place.specs.Heads.{head_from};
 ghost use Rattle.place.specs.State.{body_from, layout_of, Gives};
@@ -16,7 +16,7 @@ use crate::state::{Done, Frame, Here};
 use crate::stop::Stop;
 use ldlaws::layout::steps_stay_alike;
 use ldmodel::rows::Piece;
-use ldnumbers::provided::Provided;
+use ldscope::provided::Provided;
 use ldscript::tree::OutputSection;
 use std::alloc::Global;
 

@@ -1,10 +1,10 @@
 //! A layout, as far as it has come.
 
 use ldmodel::rows::Piece;
-use ldnumbers::provided::Provided;
-use ldnumbers::regions::Regions;
-use ldnumbers::sections::{DataAt, PieceAt, Sections};
-use ldnumbers::symbols::Symbols;
+use ldscope::provided::Provided;
+use ldscope::regions::Regions;
+use ldscope::sections::{DataAt, PieceAt, Sections};
+use ldscope::symbols::Symbols;
 
 /// Where a layout has come to: what changes from statement to statement, in the body of an output section too.
 #[derive(Drop)]

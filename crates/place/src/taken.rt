@@ -3,9 +3,9 @@
 ghost use Rattle.std.specs.Prelude.{◌≡◌, ◌≤◌, ◌<◌, [], length, take, IfOk, IfSome, IfErr, OnOk, Ok, false, true};
 ghost use Rattle.ldmodel.specs.Chain.{run};
 ghost use Rattle.ldmodel.specs.Placement.{item_step};
-ghost use Rattle.ldnumbers.specs.Earlier.{earlier_of};
-ghost use Rattle.ldnumbers.specs.Naming.{Naming};
-ghost use Rattle.ldnumbers.specs.SymbolTable.{AreFound, Rises};
+ghost use Rattle.ldscope.specs.Earlier.{earlier_of};
+ghost use Rattle.ldscope.specs.Naming.{Naming};
+ghost use Rattle.ldscope.specs.SymbolTable.{AreFound, Rises};
 ghost use Rattle.place.specs.Boundaries.{AreNoted};
 ghost use Rattle.place.specs.Earlier.{Earlier};
 ghost use Rattle.place.specs.Inputs.{rows_of};

@@ -1,7 +1,7 @@
 //! A layout that is whole.
 
 ghost use Rattle.std.specs.Prelude.{◌≡◌, IfOk};
-ghost use Rattle.ldnumbers.specs.Naming.{Naming};
+ghost use Rattle.ldscope.specs.Naming.{Naming};
 ghost use Rattle.place.specs.Places.{AreOf};
 ghost use Rattle.place.specs.State.{layout_of};
 
@@ -9,7 +9,7 @@ use crate::boundary::Boundary;
 use crate::placement::Placement;
 use crate::state::{Done, Here};
 use ldmodel::script_symbol::CommonIndex;
-use ldnumbers::wholes::{counts_of, data_commands_of, numbers_of, regions_of, starts_of};
+use ldscope::wholes::{counts_of, data_commands_of, numbers_of, regions_of, starts_of};
 use std::alloc::{AllocError, Global};
 
 /// A whole layout, with where it had come to before each output section and after all, and the PROVIDEs that were in

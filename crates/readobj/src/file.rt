@@ -1,9 +1,9 @@
 //! What is printed of a file that the command line names.
 
+use crate::why::explain::explain;
 use elfobj::object::Object;
 use elfobj::refusal::ObjectRefusal;
 use elfobj::section::LinkedIndex;
-use elfwhy::explain::explain;
 use filearg::file::{NamedFile, print_too_long};
 use ldbase::meter::Meter;
 use std::alloc::Global;

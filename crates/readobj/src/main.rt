@@ -43,14 +43,15 @@ mod listing;
 mod names;
 mod stream;
 mod variants;
+mod why;
 
 use crate::file::show_file;
 use crate::listing::print_object;
 use crate::stream::{Frame, Kind, split_frame};
 use crate::variants::print_variants;
+use crate::why::explain::explain;
 use elfobj::object::Object;
 use elfobj::refusal::ObjectRefusal;
-use elfwhy::explain::explain;
 use filearg::fault::FileFault;
 use filearg::file::{NamedFile, named_file};
 use ldbase::meter::Meter;

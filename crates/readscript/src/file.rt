@@ -1,9 +1,9 @@
 //! What is printed of a file that the command line names.
 
+use crate::why::explain::explain;
 use filearg::file::{NamedFile, print_too_long};
 use ldscript::refusal::ScriptRefusal;
 use ldscript::script::Script;
-use scriptwhy::explain::explain;
 use std::alloc::Global;
 use std::io;
 use std::io::{ErrorKind, Write};

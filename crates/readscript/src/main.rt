@@ -69,6 +69,7 @@ mod section;
 mod statement;
 mod text;
 mod tokens;
+mod why;
 
 use crate::file::show_file;
 use crate::frame::{Frame, Next, next_frame};

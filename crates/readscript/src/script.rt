@@ -2,8 +2,8 @@
 
 use crate::statement::push_statement;
 use crate::text::{is_shown, push_text};
+use crate::why::explain::explain;
 use ldscript::script::Script;
-use scriptwhy::explain::explain;
 use std::alloc::{AllocError, Global};
 use std::fmt::Write;
 

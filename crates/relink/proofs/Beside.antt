@@ -8,11 +8,11 @@ use Rattle.ldimage.specs.Stretches.{EndsBy}
 use Rattle.ldkept.specs.Stays.{AreStays, IsLastOf, LastState, last_of, range_of}
 use Rattle.ldkept.specs.declared.stays.Last.{Last}
 use Rattle.ldkept.specs.declared.stays.Stays.{Stays}
-use Rattle.lddrawing.specs.Drawable.{IsDrawableAt}
-use Rattle.lddrawing.specs.Kept.{IsSound}
+use Rattle.ldoutput.specs.Drawable.{IsDrawableAt}
+use Rattle.ldoutput.specs.Kept.{IsSound}
 use Rattle.ldlaws.specs.Untouched.{IsGood}
-use Rattle.ldlaying.specs.Laying.{IsLaying}
-use Rattle.ldlaying.specs.declared.laying.Laying.{Laying}
+use Rattle.ldlayout.specs.Laying.{IsLaying}
+use Rattle.ldlayout.specs.declared.laying.Laying.{Laying}
 use Rattle.ldmodel.specs.Counts.{Counts}
 use Rattle.ldmodel.specs.Edits.{AreNamesDistinct}
 use Rattle.ldmodel.specs.Image.{image}
@@ -27,9 +27,9 @@ use Rattle.ldmodel.specs.Stayed.{GoodLink}
 use Rattle.ldmodel.specs.declared.sections.SectionKey.{SectionKey}
 use Rattle.ldnaming.specs.Naming.{NamingState}
 use Rattle.ldproject.specs.ByPlace.{faults_in}
-use Rattle.ldrelocating.specs.Beside.{IsRelocatedBeside, new_link}
-use Rattle.ldrelocating.specs.Runs.{AreRunsUnless}
-use Rattle.ldrelocating.specs.declared.relocated.Relocated.{Relocated}
+use Rattle.ldoutput.specs.Beside.{IsRelocatedBeside, new_link}
+use Rattle.ldoutput.specs.Runs.{AreRunsUnless}
+use Rattle.ldoutput.specs.declared.relocated.Relocated.{Relocated}
 use Rattle.ldtargets.specs.Earlier.{IsComplete}
 use Rattle.ldtargets.specs.KnownLink.{KnownLink}
 use Rattle.ldvalues.specs.LinkView.{IsLinkView, known_link}

@@ -3,3 +3,5 @@ pub mod Placing
 pub mod Reading
 pub mod Stopping
 pub mod Working
+mod Courses
+mod Words

@@ -15,7 +15,7 @@ use Rattle.ldmodel.specs.SessionWork.{entries_from}
 use Rattle.ldmodel.specs.Stayed.{GoodLink}
 use Rattle.ldmodel.specs.declared.rows.Piece as code
 use Rattle.ldproject.specs.ByPlace.{piece_in, rows_in}
-use Rattle.ldrelocating.specs.Beside.{new_link}
+use Rattle.ldoutput.specs.Beside.{new_link}
 use Rattle.place.specs.Counted.{CountsPieces, entries}
 use Rattle.relink.specs.Counted.{ArePlaced}
 use Rattle.relink.specs.Phases.{HasOld}

@@ -18,8 +18,8 @@ use Rattle.ldmodel.specs.Project.{Project}
 use Rattle.ldmodel.specs.SectionHeaders.{image_length}
 use Rattle.ldmodel.specs.Stayed.{GoodLink, retargeted}
 use Rattle.ldmodel.specs.WorkBound.{IsImageWork, bytes_stayed, retargeted_bytes, sites_outside}
-use Rattle.ldrelocating.specs.Beside.{new_link}
-use Rattle.ldrelocating.specs.declared.relocated.Relocated.{Relocated}
+use Rattle.ldoutput.specs.Beside.{new_link}
+use Rattle.ldoutput.specs.declared.relocated.Relocated.{Relocated}
 use Rattle.place.specs.Counted.{CountsPieces}
 use Rattle.relink.specs.Counted.{AreDrawn, AreEvaluated, ArePlaced, CountsFields}
 use Rattle.relink.specs.Worked.{IsLinkWork}

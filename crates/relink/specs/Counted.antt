@@ -8,8 +8,8 @@ use Rattle.ldkept.specs.First.{IsNext}
 use Rattle.ldkept.specs.Stays.{IsLastOf, LastState, last_of}
 use Rattle.ldkept.specs.declared.stays.Stays.{Stays}
 use Rattle.ldlaws.specs.Untouched.{IsGood}
-use Rattle.ldlaying.specs.Laying.{IsLaying}
-use Rattle.ldlaying.specs.declared.laying.Laying.{Laying}
+use Rattle.ldlayout.specs.Laying.{IsLaying}
+use Rattle.ldlayout.specs.declared.laying.Laying.{Laying}
 use Rattle.ldmodel.specs.Layout.{Layout}
 use Rattle.ldmodel.specs.Link.{layout}
 use Rattle.ldmodel.specs.Project.{Project}
@@ -17,8 +17,8 @@ use Rattle.ldmodel.specs.Rows.{rows}
 use Rattle.ldmodel.specs.SessionWork.{entries_from}
 use Rattle.ldmodel.specs.Stayed.{GoodLink, retargeted}
 use Rattle.ldmodel.specs.WorkBound.{IsImageWork, retargeted_bytes, sites_outside}
-use Rattle.ldrelocating.specs.Beside.{new_link}
-use Rattle.ldrelocating.specs.declared.relocated.Relocated.{Relocated}
+use Rattle.ldoutput.specs.Beside.{new_link}
+use Rattle.ldoutput.specs.declared.relocated.Relocated.{Relocated}
 use Rattle.place.specs.Counted.{CountsPieces}
 
 -- only input sections are counted: at most the entries of all rows; where the project follows the earlier one at once,

@@ -6,3 +6,6 @@ pub mod Reads
 pub mod Worked
 pub mod Stops
 pub mod Unbounded
+pub mod Adding
+pub mod Answer
+pub mod Message

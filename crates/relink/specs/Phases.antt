@@ -9,8 +9,8 @@ use Rattle.ldkept.specs.Stays.{IsLastOf, LastState, last_of, range_of}
 use Rattle.ldkept.specs.Table.{IsTable}
 use Rattle.ldkept.specs.declared.stays.Stays.{Stays}
 use Rattle.ldlaws.specs.Untouched.{IsGood}
-use Rattle.ldlaying.specs.Laying.{IsLaying}
-use Rattle.ldlaying.specs.declared.laying.Laying.{Laying}
+use Rattle.ldlayout.specs.Laying.{IsLaying}
+use Rattle.ldlayout.specs.declared.laying.Laying.{Laying}
 use Rattle.ldmodel.specs.Assertions.{assertion_faults}
 use Rattle.ldmodel.specs.Edits.{AreNamesDistinct}
 use Rattle.ldmodel.specs.Image.{image}
@@ -23,10 +23,10 @@ use Rattle.ldmodel.specs.SectionHeaders.{image_length}
 use Rattle.ldmodel.specs.Stayed.{GoodLink}
 use Rattle.ldnaming.specs.Naming.{NamingState}
 use Rattle.ldproject.specs.ByPlace.{rows_in}
-use Rattle.ldrelocating.specs.Beside.{new_link}
-use Rattle.ldrelocating.specs.Runs.{AreRunsUnless}
-use Rattle.ldrelocating.specs.declared.relocated.Relocated.{Relocated}
-use Rattle.ldstarts.specs.Starts.{AreStarts}
+use Rattle.ldoutput.specs.Beside.{new_link}
+use Rattle.ldoutput.specs.Runs.{AreRunsUnless}
+use Rattle.ldoutput.specs.declared.relocated.Relocated.{Relocated}
+use Rattle.ldlayout.specs.Starts.{AreStarts}
 use Rattle.ldvalues.specs.LinkView.{IsLinkView, known_link}
 use Rattle.ldvalues.specs.Values.{AreValues}
 use Rattle.ldvalues.specs.declared.link_view.LinkView.{LinkView}

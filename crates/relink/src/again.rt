@@ -1,7 +1,7 @@
 //! A link over what is kept: names that are decided, matches that are found, and an earlier link, if there is one.
 
 ghost use Rattle.std.specs.Prelude.{◌≡◌, IfErr, IfOk, IfSome, OnErr, OnOk, map};
-ghost use Rattle.ldgathering.specs.Matches.{AreMatched};
+ghost use Rattle.gather.specs.ProjectMatches.{AreMatched};
 ghost use Rattle.ldkept.specs.Stays.{last_of};
 ghost use Rattle.ldmodel.specs.Link.{link};
 ghost use Rattle.ldmodel.specs.Rows as model;
@@ -16,17 +16,17 @@ ghost use Rattle.relink.specs.Worked.{HasWorked};
 
 use crate::passes::{Arrangement, arranged, evaluated, valued};
 use crate::stop::Stop;
-use lddrawing::image::draw_image;
+use gather::matches::Matches;
 use ldfields::canvas::Canvas;
-use ldgathering::matches::Matches;
 use ldkept::good::Good;
 use ldkept::marks::marks_of;
 use ldkept::stays::{Last, Stays};
 use ldkept::symbol_table::SymbolTable;
-use ldlisting::map::map_text;
 use ldmodel::memory::NoMemory;
 use ldmodel::meter::Meter;
 use ldnaming::naming::Naming;
+use ldoutput::image::draw_image;
+use ldoutput::map::map_text;
 use ldproject::view::ProjectView;
 use ldvalues::given::Given;
 use ldvalues::link_view::LinkView;

@@ -5,8 +5,8 @@ ghost use Rattle.ldmodel.specs.Link.{link};
 
 use crate::again::{Ended, relink};
 use crate::output::Output;
+use gather::matches::{lend_all, match_all};
 use ldfields::canvas::Canvas;
-use ldgathering::matches::{lend_all, match_all};
 use ldmodel::memory::NoMemory;
 use ldmodel::meter::Meter;
 use ldnaming::naming::Naming;

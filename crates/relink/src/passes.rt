@@ -1,9 +1,9 @@
 //! The phases of a link that may have faults, each with an early end.
 
 ghost use Rattle.std.specs.Prelude.{◌≡◌, IfErr, IfOk, IfSome, OnOk, map};
-ghost use Rattle.ldgathering.specs.Matches.{AreMatched};
+ghost use Rattle.gather.specs.ProjectMatches.{AreMatched};
 ghost use Rattle.ldkept.specs.Stays.{last_of};
-ghost use Rattle.ldlaying.specs.Laying.{HasLayout};
+ghost use Rattle.ldlayout.specs.Laying.{HasLayout};
 ghost use Rattle.ldmodel.specs.Link.{gathering_faults, layout, link, placed, unless};
 ghost use Rattle.ldmodel.specs.Rows as model;
 ghost use Rattle.ldmodel.specs.declared.fault.Fault.TheVariants.{Orphan};
@@ -16,26 +16,26 @@ ghost use Rattle.relink.specs.Reads.{EndsReadingNothing, ReadsNothing};
 ghost use Rattle.relink.specs.Stops.{IsStop};
 
 use crate::stop::{Stop, end_if_faulty};
-use ldasserting::asserting::assertion_faults;
-use lddrawing::good::is_good;
-use lddrawing::length::image_length;
-use ldgathering::gathering::Gathering;
-use ldgathering::matches::Matches;
+use gather::gathering::Gathering;
+use gather::matches::Matches;
 use ldkept::file_starts::FileStarts;
 use ldkept::first::resumed;
 use ldkept::stays::{Last, Stays};
-use ldlaying::laying::{LayFault, Laying};
-use ldlisting::fault_lines::fault_text;
+use ldlayout::laying::{LayFault, Laying};
+use ldlayout::length::length_fault;
+use ldlayout::starts::Starts;
 use ldmodel::fault::Fault;
 use ldmodel::memory::NoMemory;
 use ldmodel::meter::Meter;
 use ldmodel::rows::Piece;
 use ldmodel::sections::SectionKey;
 use ldnaming::naming::Naming;
+use ldoutput::fault_lines::fault_text;
+use ldoutput::good::is_good;
+use ldoutput::length::image_length;
+use ldoutput::relocated::Relocated;
 use ldproject::view::ProjectView;
-use ldrelocating::relocated::Relocated;
-use ldsegments::length::length_fault;
-use ldstarts::starts::Starts;
+use ldvalues::asserting::assertion_faults;
 use ldvalues::given::Given;
 use ldvalues::link_view::LinkView;
 use ldvalues::values::Values;

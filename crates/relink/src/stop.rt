@@ -6,9 +6,9 @@ ghost use Rattle.ldmodel.specs.Link.{Link, faulty, unless};
 ghost use Rattle.ldproject.specs.ByPlace.{faults_in};
 ghost use Rattle.relink.specs.Stops.{IsStop};
 
-use ldlisting::fault_lines::fault_text;
 use ldmodel::fault::Fault;
 use ldmodel::memory::NoMemory;
+use ldoutput::fault_lines::fault_text;
 use ldproject::view::ProjectView;
 use std::alloc::{AllocError, Global};
 

@@ -1,9 +1,9 @@
 //! Answers to commands: as a session spells them, and as they are printed here.
 
+use crate::stream::printing::print_bytes;
 use ldmodel::edit::{EditRefusal, Linked};
 use std::io;
 use std::io::Write;
-use trystream::printing::print_bytes;
 
 /// An answer.
 #[derive(Clone, Copy, Debug)]

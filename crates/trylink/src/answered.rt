@@ -1,8 +1,8 @@
 //! What a whole stream is answered, and whether the ways agree.
 
+use crate::stream::printing::print_bytes;
 use std::io;
 use std::io::Write;
-use trystream::printing::print_bytes;
 
 /// The status after bytes that no command begins.
 pub const MALFORMED: u8 = 2;

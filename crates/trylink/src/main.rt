@@ -35,6 +35,7 @@ mod devices;
 mod failing;
 mod frame;
 mod session;
+mod stream;
 
 use crate::answer::checksum;
 use crate::answered::print_agreement;
@@ -43,13 +44,13 @@ use crate::counts::print_counts;
 use crate::failing::print_failing;
 use crate::frame::{Frame, Kind, split_frame};
 use crate::session::{answer_by_plain, answer_by_session};
+use crate::stream::layer::{CUT, DONE, FAILED};
+use crate::stream::printing::print_bytes;
 use std::alloc::Global;
 use std::hash::RandomState;
 use std::io;
 use std::io::{BufWriter, Read, Write};
 use std::process::ExitCode;
-use trystream::layer::{CUT, DONE, FAILED};
-use trystream::printing::print_bytes;
 
 /// The word that begins a frame's line and what is printed of it.
 fn word_of(kind: Kind) -> &'static str {

@@ -1,5 +1,5 @@
 use Rattle.std.proofs.Common.{refl}
-use Rattle.ldpattern.specs.Matching.{is_match}
+use Rattle.ldterms.specs.Matching.{is_match}
 use Rattle.ldmodel.specs.FirstMatch.{first_match}
 use Rattle.ldmodel.specs.Gathering.{is_out}
 use Rattle.ldmodel.specs.InputSections.{input_sections}

@@ -1,6 +1,6 @@
 -- Each link is computed.
 use Rattle.std.proofs.Common.{refl}
-use Rattle.ldexpr.specs.Grammar.{word_of}
+use Rattle.ldterms.specs.Grammar.{word_of}
 use Rattle.ldfields.specs.Fields.{field_of}
 use Rattle.ldmodel.specs.Assertions.{assertion_faults}
 use Rattle.ldmodel.specs.Assigning.{common_step}
@@ -39,7 +39,7 @@ use Rattle.ldmodel.specs.SymbolValues.{entry_point, name_value}
 use Rattle.ldmodel.specs.Tail.{symbol_name_table, symbol_table}
 use Rattle.ldmodel.specs.Targets.{referenced_value, target_number}
 use Rattle.ldmodel.specs.Value.{value}
-use Rattle.ldpattern.specs.Matching.{is_match}
+use Rattle.ldterms.specs.Matching.{is_match}
 use Rattle.ldlaws.proofs.links.link_by_example.Goals as goal
 
 pub returns-clause-empty_status : goal.returns-clause-empty_status

@@ -1,5 +1,5 @@
 use Rattle.std.proofs.Common.{List, subst, sym}
-use Rattle.ldgathering.specs.declared.matches.Matches.{Matches}
+use Rattle.gather.specs.declared.matches.Matches.{Matches}
 use Rattle.ldnames.specs.Decisions.{AreKept}
 use Rattle.ldproject.specs.Holding.{listing_of}
 use Rattle.ldtree.specs.declared.statement.Statement.{Statement}

@@ -1,6 +1,6 @@
 -- A kind's number is the only one that is read as it.
 use Rattle.std.proofs.Common.{◌≡◌, refl, sym, Some}
-use Rattle.elfdefs.specs.RelocationKinds.{relocation_kind}
+use Rattle.elffile.specs.RelocationKinds.{relocation_kind}
 use Rattle.elfobj.specs.declared.relocation.RelocationKind.{RelocationKind}
 use Rattle.elfobj.specs.declared.relocation.RelocationKind.TheVariants as kind
 use Rattle.ldmodel.specs.FaultText.{relocation_number}

@@ -1,5 +1,5 @@
 use Rattle.std.proofs.Common.{◌++◌, ◌≡◌, ap, inl, inr}
-use Rattle.ldexpr.specs.Expressions.{expr_of}
+use Rattle.ldterms.specs.Expressions.{expr_of}
 use Rattle.ldtree.specs.Mentions.{regions_of}
 use Rattle.ldtree.specs.Listed.{shown}
 use Rattle.ldtree.proofs.Listing.{listed_two, listed_three}

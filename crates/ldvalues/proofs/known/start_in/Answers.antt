@@ -3,7 +3,7 @@ use Rattle.std.specs.Option.{option_map}
 use Rattle.ldmodel.specs.Layout.{PlacedPiece}
 use Rattle.ldmodel.specs.NameFaults.{object_name}
 use Rattle.ldmodel.specs.SymbolValues.{placed_part}
-use Rattle.ldstarts.specs.Starts.{IsPartPlace}
+use Rattle.ldlayout.specs.Starts.{IsPartPlace}
 use Rattle.ldvalues.proofs.known.start_in.Goals as goal
 
 pub returns-in-None : goal.returns-in-None

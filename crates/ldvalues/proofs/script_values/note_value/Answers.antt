@@ -1,5 +1,5 @@
 use Rattle.std.proofs.Common.{◌≡◌, ◌<◌, arith, length, sym, get_or, None, Some}
-use Rattle.ldnumbers.proofs.Tabled.{values_more, values_same, at_place}
+use Rattle.ldscope.proofs.Tabled.{values_more, values_same, at_place}
 use Rattle.ldvalues.proofs.script_values.note_value.Goals as goal
 
 pub returns-in-None : goal.returns-in-None

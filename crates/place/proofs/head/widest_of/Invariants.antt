@@ -1,6 +1,6 @@
 use Rattle.std.proofs.Common.{◌≡◌, ◌<◌, drop}
 use Rattle.ldmodel.specs.SectionHead.{widest}
-use Rattle.ldnumbers.specs.Naming.{row_named}
+use Rattle.ldscope.specs.Naming.{row_named}
 use Rattle.place.proofs.head.widest_of.Given as goal
 
 abbrev pub invariant-loop-piece : goal.invariant-loop-piece

@@ -2,8 +2,8 @@ use Rattle.std.proofs.Common.{ℕ, List, map, sym, ap, ◌∙◌, inl, inr, subs
 use Rattle.ldtree.specs.declared.statement.Statement.{Statement}
 use Rattle.ldmodel.specs.Chain.{run}
 use Rattle.ldmodel.specs.Placement.{statement_step}
-use Rattle.ldnumbers.specs.Naming.{rows_named}
-use Rattle.ldnumbers.specs.ProvidedTable.{provided_names}
+use Rattle.ldscope.specs.Naming.{rows_named}
+use Rattle.ldscope.specs.ProvidedTable.{provided_names}
 use Rattle.place.proofs.Good.{begins, nothing_there, stops_at}
 use Rattle.place.proofs.Keeping.{kept_alongside, kept_earlier}
 use Rattle.place.proofs.Options.{by_option, for_some}

@@ -1,5 +1,5 @@
 use Rattle.std.proofs.Common.{subst}
-use Rattle.ldoverlap.specs.Meetings.{AreOverlaps}
+use Rattle.place.specs.Meetings.{AreOverlaps}
 use Rattle.place.proofs.Good.{is_good, are_meetings, empty_list, nonempty_list}
 use Rattle.place.proofs.place.place.Goals as goal
 

@@ -5,7 +5,7 @@ use Rattle.ldimage.specs.Stretches.{EndsBy, patch_bytes}
 use Rattle.ldmodel.specs.SectionHeaders.{image_length}
 use Rattle.ldmodel.specs.WorkBound.{retargeted_bytes}
 use Rattle.ldimage.specs.Kept.{ArePatchesOf}
-use Rattle.ldrelocating.specs.Beside.{new_link}
+use Rattle.ldoutput.specs.Beside.{new_link}
 use Rattle.ldtargets.specs.KnownLink.{AreNameValues}
 use Rattle.ldvalues.specs.LinkView.{known_link}
 use Rattle.relink.proofs.Beside.{are_stays, drawable_at, drawn_image, end_within, has_old}

@@ -3,7 +3,7 @@ use Rattle.ldkept.specs.FileStarts.{AreFileStarts}
 use Rattle.ldkept.specs.Marks.{AreMarks}
 use Rattle.ldkept.specs.SymbolTable.{AreSymbolValues}
 use Rattle.ldmodel.specs.Layout.{Layout}
-use Rattle.ldstarts.specs.Starts.{AreStarts}
+use Rattle.ldlayout.specs.Starts.{AreStarts}
 use Rattle.ldtargets.specs.KnownLink.{AreNameValues}
 use Rattle.ldvalues.specs.LinkView.{known_link}
 use Rattle.relink.proofs.Beside.{beside_at, has_old, one_placement}

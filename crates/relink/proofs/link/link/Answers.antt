@@ -1,5 +1,5 @@
 use Rattle.std.proofs.Common.{◌∙◌, ap, map, subst, sym}
-use Rattle.ldgathering.specs.Matches.{AreMatched}
+use Rattle.gather.specs.ProjectMatches.{AreMatched}
 use Rattle.relink.proofs.link.link.Goals as goal
 
 pub relink-requires-clause-naming : goal.relink-requires-clause-naming

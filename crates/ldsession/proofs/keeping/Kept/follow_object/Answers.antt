@@ -1,6 +1,6 @@
 use Rattle.std.proofs.Common.{◌∙◌, ℕ, List, Option, ap, arith, length, map, refl, subst, sym}
 use Rattle.std.specs.Vec.{vec_len}
-use Rattle.ldgathering.specs.declared.matches.Matches.{Matches}
+use Rattle.gather.specs.declared.matches.Matches.{Matches}
 use Rattle.ldkept.specs.Stays.{last_of}
 use Rattle.ldnames.specs.Change.{Table, changed_tables}
 use Rattle.ldnames.specs.Decisions.{AreKept}

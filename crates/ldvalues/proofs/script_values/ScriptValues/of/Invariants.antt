@@ -1,6 +1,6 @@
 use Rattle.std.proofs.Common.{map, take}
 use Rattle.ldmodel.specs.Lent.{symbol_of}
-use Rattle.ldnumbers.specs.SymbolTable.{AreValuesOf}
+use Rattle.ldscope.specs.SymbolTable.{AreValuesOf}
 use Rattle.ldvalues.proofs.script_values.ScriptValues.of.Given as goal
 
 -- the symbols before this one are noted

@@ -1,6 +1,6 @@
 use Rattle.std.proofs.Common.{ap, ◌∙◌}
 use Rattle.std.specs.Option.{option_map}
-use Rattle.ldnumbers.specs.SectionTable.{nameless}
+use Rattle.ldscope.specs.SectionTable.{nameless}
 use Rattle.place.proofs.Naming.{numbers_found, asked}
 use Rattle.place.proofs.ready.ReadyScope.section.Goals as goal
 

@@ -1,7 +1,7 @@
 use Rattle.std.proofs.Common.{◌≡◌, if◌then◌else◌, rules, Err, length, map, arith, ◌∙◌, ap, inl, inr, subst, sym}
 use Rattle.std.proofs.Common.{refl, Vec, Global, drop, ◌+◌}
 use Rattle.std.proofs.lemmas.List.{length-map}
-use Rattle.ldnumbers.specs.Keyed.{section_of}
+use Rattle.ldscope.specs.Keyed.{section_of}
 use Rattle.place.proofs.Alongside.{from_here}
 use Rattle.place.proofs.AlongsideItems.{items_go_on, next_alongside}
 use Rattle.place.proofs.Counting.{entries_fewer, left_at_first}

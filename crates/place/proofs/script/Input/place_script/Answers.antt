@@ -2,11 +2,11 @@ use Rattle.std.proofs.Common.{◌≡◌, rules, Err, List, sym, ap, ◌∙◌, s
 use Rattle.ldtree.specs.declared.statement.Item.{Item}
 use Rattle.ldmodel.specs.Chain.{run}
 use Rattle.ldmodel.specs.Placement.{item_step, statement_step}
-use Rattle.ldnumbers.specs.Keyed.{section_of}
+use Rattle.ldscope.specs.Keyed.{section_of}
 use Rattle.place.proofs.AlongsideItems.{items_alongside}
 use Rattle.place.proofs.Joining.{after_goes, before_stops, earlier_items, items_stop, stops_so}
 use Rattle.place.specs.Boundaries.{AreBoundaries}
-use Rattle.ldnumbers.specs.Outputs.{Outputs}
+use Rattle.ldscope.specs.Outputs.{Outputs}
 use Rattle.place.proofs.Following.{are_first}
 use Rattle.place.specs.Inputs.{rows_of}
 use Rattle.place.specs.Next.{AreFirst}

@@ -2,7 +2,7 @@ use Rattle.std.proofs.Common.{◌≡◌, ◌+◌, ◌<◌, length, map, get_or, 
 use Rattle.std.specs.Prelude.{slice_get}
 use Rattle.std.proofs.lemmas.Option.{slice_get-get_or}
 use Rattle.ldmodel.specs.Placement.{item_step}
-use Rattle.ldnumbers.specs.Keyed.{section_of}
+use Rattle.ldscope.specs.Keyed.{section_of}
 use Rattle.place.proofs.Resuming.{all_noted, goes_on, none_reached, reached_on, taken_next}
 use Rattle.place.proofs.Runs.{run_none}
 use Rattle.place.specs.Inputs.{rows_of}

@@ -1,6 +1,6 @@
 use Rattle.std.proofs.Common.{◌≡◌, ◌-◌, ◌≤◌, drop, length}
 use Rattle.ldmodel.specs.Body.{pieces_placed}
-use Rattle.ldnumbers.specs.Naming.{row_named}
+use Rattle.ldscope.specs.Naming.{row_named}
 use Rattle.place.specs.Alongside.{StartAt}
 use Rattle.place.specs.Counted.{Entered}
 use Rattle.place.specs.State.{body_of}

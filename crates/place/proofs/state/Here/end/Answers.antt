@@ -2,9 +2,9 @@ use Rattle.std.proofs.Common.{ℕ, Ok, inl, inr, sym, ap, subst, length, ◌∙�
 use Rattle.ldmodel.specs.Chain.{and_then}
 use Rattle.ldmodel.specs.Layout.{Layout, PlacedSection}
 use Rattle.ldmodel.specs.SectionEnd.{freed_from, with_section}
-use Rattle.ldnumbers.specs.Keyed.{section_of}
-use Rattle.ldnumbers.specs.Outputs.{IsOutput}
-use Rattle.ldnumbers.specs.SectionTable.{keyed}
+use Rattle.ldscope.specs.Keyed.{section_of}
+use Rattle.ldscope.specs.Outputs.{IsOutput}
+use Rattle.ldscope.specs.SectionTable.{keyed}
 use Rattle.place.proofs.Ending.{end_is, ends_there, joined, load_end_is}
 use Rattle.place.proofs.state.Here.end.Goals as goal
 use Rattle.place.specs.Ends.{ended_body}

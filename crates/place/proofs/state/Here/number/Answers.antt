@@ -1,7 +1,7 @@
 use Rattle.std.proofs.Common.{Ok, Err, sym, ap, ◌∙◌}
-use Rattle.ldexpr.specs.Expressions.{expr_of}
-use Rattle.ldvalue.specs.Outcomes.{outcome_of}
-use Rattle.ldvalue.specs.declared.value.ValueFault.TheVariants.{NotReady, NoValue}
+use Rattle.ldterms.specs.Expressions.{expr_of}
+use Rattle.ldscope.specs.Outcomes.{outcome_of}
+use Rattle.ldscope.specs.declared.value.ValueFault.TheVariants.{NotReady, NoValue}
 use Rattle.place.proofs.Valued.{number_is}
 use Rattle.place.proofs.state.Here.number.Goals as goal
 

@@ -1,4 +1,4 @@
-use Rattle.ldnumbers.specs.Naming.{row_named}
+use Rattle.ldscope.specs.Naming.{row_named}
 use Rattle.place.proofs.Alongside.{section_opened}
 use Rattle.place.proofs.Options.{for_some}
 use Rattle.place.proofs.state.Here.place_section.Goals as goal

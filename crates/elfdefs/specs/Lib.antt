@@ -1,5 +1,0 @@
-pub mod Numbers
-pub mod SectionKinds
-pub mod SymbolKinds
-pub mod RelocationKinds
-pub mod RefusalNumber

@@ -1,4 +1,0 @@
-//! Why the object reader refuses a file, for people. A crate of its own, so that the reader stays small.
-#![tactic(auto)]
-
-pub mod explain;

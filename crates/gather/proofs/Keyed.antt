@@ -1,0 +1,137 @@
+-- Input sections of a project under their keys.
+use Rattle.std.proofs.Common.{◌≡◌, ◌∙◌, ◌<◌, ℕ, zero, suc, true, eqb, List, [], ◌∷◌, length, get_or, map, ap, sym}
+use Rattle.std.proofs.Common.{subst, arith, refl, Option, Some, None}
+use Rattle.std.specs.Prelude.{slice_get, IsSome, option_and_then}
+use Rattle.std.specs.Option.{option_map}
+use Rattle.std.proofs.lemmas.Bool.{and_parts, and_from, eqb-true, eq-eqb}
+use Rattle.std.proofs.lemmas.List.{length-map, get_or-map}
+use Rattle.std.proofs.lemmas.Option.{slice_get_within, get_or_from_slice_get}
+use Rattle.gather.specs.Gathered.{AreGathered, Facts, facts, shown_facts}
+use Rattle.gather.specs.LiveMarks.{IsSectionAt}
+use Rattle.gather.specs.declared.gathered.Gathered.{Gathered}
+use Rattle.ldmodel.specs.HandedOver.{section_id}
+use Rattle.ldmodel.specs.InputSections.{input_sections}
+use Rattle.ldmodel.specs.Project.{Project}
+use Rattle.ldmodel.specs.Sections.{InputSection, SectionId, is_same, is_same_part}
+use Rattle.ldmodel.specs.declared.sections.SectionKey.{SectionKey}
+use Rattle.gather.specs.ProjectMembers.{by_place}
+use Rattle.gather.specs.Numbers.{AreNumbers, AreProjectNumbers, IsNumberOf, number_in}
+use Rattle.gather.specs.declared.numbers.Numbers.{Numbers}
+use Rattle.gather.proofs.Tables.{part_itself, same_part}
+
+abbrev pub id_in : SectionKey → SectionId
+id_in k = section_id (λ key. key) k
+
+pub there : {X : Type 0} (xs : List X) (i : ℕ) → i < length xs → (x : X) × (slice_get xs i ≡ Some x)
+there [] i h = absurd (omega (arith, h))
+there (x ∷ xs) zero h = (x, refl)
+there (x ∷ xs) (suc i) h = there xs i (omega (arith, h))
+
+same_id : (a b : SectionId) → is_same a b ≡ true → a ≡ b
+same_id a b h =
+    let both = and_parts (eqb a.object b.object) (is_same_part a.part b.part) h in
+    ap (λ n. record { object = n; part = a.part }) (eqb-true a.object b.object both.0)
+    ∙ ap (λ q. record { object = b.object; part = q }) (same_part a.part b.part both.1)
+
+id_itself : (a : SectionId) → is_same a a ≡ true
+id_itself a =
+    and_from (eqb a.object a.object) (is_same_part a.part a.part) (eq-eqb a.object a.object refl) (part_itself a.part)
+
+key_of : SectionId → SectionKey
+key_of i = record { object = record { 0 = i.object }; part = i.part }
+
+key_is : (a b : SectionKey) → id_in a ≡ id_in b → a ≡ b
+unfolding key_of
+key_is a b h = ap key_of h
+
+the_some : (o : Option ℕ) → IsSome o → (m : ℕ) × (o ≡ Some m)
+the_some None h = absurd (cc)
+the_some (Some m) h = (m, refl)
+
+module _ (p : Project) (xs : List Gathered) (are : AreGathered p (by_place p) xs) where
+  pub as_many : length xs ≡ length (input_sections p)
+  as_many =
+      sym (length-map xs (shown_facts (by_place p))) ∙ (ap length are.facts
+      ∙ length-map (input_sections p) (facts p))
+
+  -- the key of a section is that of its place
+  pub id_at : (b : ℕ) (s : InputSection) (x : Gathered) → IsSectionAt p b s → get_or xs b x ≡ x
+      → id_in x.section ≡ s.id
+  id_at b s x at is =
+      let within : b < length (input_sections p) = slice_get_within (input_sections p) b s at in
+      let low : b < length xs = omega (arith, within, as_many) in
+      let left : get_or (map (shown_facts (by_place p)) xs) b (facts p s) ≡ shown_facts (by_place p) x =
+      get_or-map (shown_facts (by_place p)) xs b x (facts p s) low ∙ ap (shown_facts (by_place p)) is in
+      let right : get_or (map (facts p) (input_sections p)) b (facts p s) ≡ facts p s =
+      get_or-map (facts p) (input_sections p) b s (facts p s) within
+      ∙ ap (facts p) (get_or_from_slice_get (input_sections p) b s s at) in
+      ap (λ (f : Facts). f.id) (sym left ∙ (ap (λ l. get_or l b (facts p s)) are.facts ∙ right))
+
+  pub within_gathered : (b : ℕ) (s : InputSection) → IsSectionAt p b s → b < length xs
+  within_gathered b s at =
+      let within : b < length (input_sections p) = slice_get_within (input_sections p) b s at in
+      omega (arith, within, as_many)
+
+  module _ (t : Numbers) (numbers : AreNumbers xs (length xs) t)
+      (apart : (a b : ℕ) (s u : InputSection) → IsSectionAt p a s → IsSectionAt p b u → s.id ≡ u.id → a ≡ b) where
+    -- the number m that the key has, at which x and section u of the project stand, is that of section s
+    one_place : (k : SectionKey) (b m : ℕ) (s u : InputSection) (x : Gathered) → IsSectionAt p b s → id_in k ≡ s.id
+        → number_in t k ≡ Some m → get_or xs m x ≡ x → IsSectionAt p m u → m ≡ b
+    one_place k b m s u x at same is here stands =
+        let its : x.section ≡ k = ap (λ (z : Gathered). z.section) (sym here) ∙ numbers.is k m x is in
+        let alike : u.id ≡ s.id = sym (id_at m u x stands here) ∙ (ap id_in its ∙ same) in
+        apart m b u s stands at alike
+
+    with_number : (k : SectionKey) (b m : ℕ) (s : InputSection) → IsSectionAt p b s → id_in k ≡ s.id
+        → number_in t k ≡ Some m → number_in t k ≡ Some b
+    with_number k b m s at same is =
+        let low : m < length xs = numbers.below k m is in
+        let x = there xs m low in
+        let u = there (input_sections p) m (omega (arith, low, as_many)) in
+        is ∙ ap (λ i. Some i)
+        (one_place k b m s u.0 x.0 at same is (get_or_from_slice_get xs m x.0 x.0 x.1) u.1)
+
+    has_number : (k : SectionKey) (b : ℕ) (s : InputSection) (x : Gathered) → IsSectionAt p b s → id_in k ≡ s.id
+        → get_or xs b x ≡ x → IsSome (number_in t k)
+    has_number k b s x at same here =
+        let key : x.section ≡ k = key_is x.section k (id_at b s x at here ∙ sym same) in
+        let own : (get_or xs b x).section ≡ k = ap (λ (y : Gathered). y.section) here ∙ key in
+        subst (λ (q : SectionKey). IsSome (number_in t q)) own (numbers.all b x (within_gathered b s at))
+
+    at_once : (k : SectionKey) (b : ℕ) (s : InputSection) → IsSectionAt p b s → id_in k ≡ s.id → number_in t k ≡ Some b
+    at_once k b s at same =
+        let x = there xs b (within_gathered b s at) in
+        let m = the_some (number_in t k)
+        (has_number k b s x.0 at same (get_or_from_slice_get xs b x.0 x.0 x.1)) in
+        with_number k b m.0 s at same m.1
+
+    at_number : (k : SectionKey) (b : ℕ) (s : InputSection) (x : Gathered) → IsSectionAt p b s
+        → number_in t k ≡ Some b → get_or xs b x ≡ x → s.id ≡ id_in k
+    at_number k b s x at h here =
+        let its : x.section ≡ k = ap (λ (z : Gathered). z.section) (sym here) ∙ numbers.is k b x h in
+        sym (id_at b s x at here) ∙ ap id_in its
+
+    from_number : (k : SectionKey) (b : ℕ) (s : InputSection) → IsSectionAt p b s → number_in t k ≡ Some b
+        → s.id ≡ id_in k
+    from_number k b s at h =
+        let x = there xs b (within_gathered b s at) in
+        at_number k b s x.0 at h (get_or_from_slice_get xs b x.0 x.0 x.1)
+
+    pub project_numbers : AreProjectNumbers p t
+    project_numbers k b s at = (
+      λ same. at_once k b s at (sym (same_id s.id (id_in k) same)),
+      λ h. subst (λ (i : SectionId). is_same s.id i ≡ true) (from_number k b s at h) (id_itself s.id),
+    )
+
+-- of a key, if there is one
+pub number_of_key : (p : Project) (t : Numbers) (key : Option SectionKey) (id : Option SectionId) (number : Option ℕ)
+    → AreProjectNumbers p t → option_map (section_id (λ key. key)) key ≡ id
+    → number ≡ option_and_then (number_in t) key → IsNumberOf p id number
+number_of_key p t key id number are same is =
+    subst (λ (i : Option SectionId). IsNumberOf p i number) same
+    (subst (λ (n : Option ℕ). IsNumberOf p (option_map (section_id (λ key. key)) key) n) (sym is) (go key))
+  where
+    go : (key : Option SectionKey) → IsNumberOf p (option_map (section_id (λ key. key)) key)
+        (option_and_then (number_in t) key)
+    go None b s at = (λ h. absurd (cc), λ h. absurd (cc))
+    go (Some k) b s at = are k b s at

@@ -1,0 +1,143 @@
+-- The sections that relocations refer to, by numbers.
+use Rattle.std.proofs.Common.{◌≡◌, ◌∙◌, ◌<◌, ◌+◌, ◌⊎◌, ℕ, zero, suc, Bool, true, false, ◌||◌, List, [], ◌∷◌, ◌++◌}
+use Rattle.std.proofs.Common.{length, get_or, map, take, ap, sym, arith, refl, Option, Some, None, inl, inr, ⊎_elim}
+use Rattle.std.proofs.Common.{append_assoc, append-nil, find, nat_eq}
+use Rattle.std.specs.Prelude.{slice_get, option_to_list, option_and_then}
+use Rattle.std.specs.List.{All, AllPairs, Contains, list_any}
+use Rattle.std.specs.Option.{option_map, option_map_or}
+use Rattle.std.proofs.lemmas.Bool.{ne_eqb}
+use Rattle.std.proofs.lemmas.List.{get_or_default, length-map}
+use Rattle.std.proofs.lemmas.List.Elements.{All-head, All-tail, Contains-append_cases, Contains-append_left}
+use Rattle.std.proofs.lemmas.List.Elements.{Contains-append_right}
+use Rattle.std.proofs.lemmas.List.Folds.{list_any_more}
+use Rattle.std.proofs.lemmas.Option.{same_Some, slice_get-map}
+use Rattle.elfobj.specs.Numbering.{IsNumberedAt}
+use Rattle.elfobj.specs.Sections.{LinkedSection, section_of}
+use Rattle.elfobj.specs.declared.relocation.Relocation.{Relocation}
+use Rattle.elfobj.specs.declared.section.Section.{Section}
+use Rattle.elfobj.specs.declared.section.SectionIndex.{SectionIndex}
+use Rattle.ldmodel.specs.Live.{is_section, section_of_symbol, symbol_at, target_section}
+use Rattle.ldmodel.specs.HandedOver.{section_id}
+use Rattle.ldmodel.specs.Project.{Project}
+use Rattle.ldmodel.specs.Sections.{InputSection}
+use Rattle.ldmodel.specs.declared.sections.SectionKey.{SectionKey}
+use Rattle.gather.specs.Numbers.{AddsTargets, AreProjectNumbers, IsNumberOf, number_in}
+use Rattle.gather.specs.declared.numbers.Numbers.{Numbers}
+use Rattle.gather.proofs.ByNumber.{found, at_place}
+use Rattle.gather.proofs.Keyed.{number_of_key, there}
+
+-- the relocations of the section of a header number
+pub relocations_there : (xs : List LinkedSection) (i : ℕ) (number : SectionIndex) (rs : List Relocation)
+    → IsNumberedAt (map section_of xs) number i
+    → AllPairs (λ (s t : Section). s.number.0 < t.number.0) (map section_of xs)
+    → slice_get (map (λ (s : LinkedSection). s.relocations) xs) i ≡ Some rs
+    → rs ≡ option_map_or (λ (x : LinkedSection). x.relocations)
+    (find (λ (x : LinkedSection). nat_eq x.number.0 number.0) xs) []
+relocations_there xs i number rs at up is =
+    let long : length (map section_of xs) ≡ length xs = length-map xs section_of in
+    let low : i < length (map section_of xs) = at.within in
+    let x = there xs i (omega (arith, low, long)) in
+    let same : x.0.number.0 ≡ number.0 =
+    ap (λ (s : Section). s.number.0) (sym (at_place xs i x.0 (section_of x.0) x.1)) ∙ at.number_is (section_of x.0) in
+    let one : find (λ (y : LinkedSection). nat_eq y.number.0 number.0) xs ≡ Some x.0 =
+    ap (λ (n : ℕ). find (λ (y : LinkedSection). nat_eq y.number.0 n) xs) (sym same) ∙ found xs i x.0 up x.1 in
+    let own : x.0.relocations ≡ rs = same_Some _ _ (ap (λ o. option_map (λ (s : LinkedSection). s.relocations) o)
+    (sym x.1) ∙ (sym (slice_get-map (λ (s : LinkedSection). s.relocations) xs i) ∙ is)) in
+    sym own ∙ ap (λ o. option_map_or (λ (x : LinkedSection). x.relocations) o []) (sym one)
+
+none_numbered : (xs : List LinkedSection) (number : SectionIndex)
+    → All (λ (s : Section). s.number.0 ≡ number.0 → ⊥) (map section_of xs)
+    → find (λ (x : LinkedSection). nat_eq x.number.0 number.0) xs ≡ None
+none_numbered [] number h = refl
+none_numbered (x ∷ xs) number h =
+    rw (ne_eqb x.number.0 number.0
+    (All-head (λ (s : Section). s.number.0 ≡ number.0 → ⊥) (section_of x) (map section_of xs) h))
+    (none_numbered xs number
+    (All-tail (λ (s : Section). s.number.0 ≡ number.0 → ⊥) (section_of x) (map section_of xs) h))
+
+pub relocations_nowhere : (xs : List LinkedSection) (number : SectionIndex)
+    → All (λ (s : Section). s.number.0 ≡ number.0 → ⊥) (map section_of xs)
+    → [] ≡ option_map_or (λ (x : LinkedSection). x.relocations)
+    (find (λ (x : LinkedSection). nat_eq x.number.0 number.0) xs) []
+relocations_nowhere xs number h =
+    ap (λ o. option_map_or (λ (x : LinkedSection). x.relocations) o []) (sym (none_numbered xs number h))
+
+-- nothing refers to nothing
+pub no_targets : (p : Project) (i : ℕ) (old : List ℕ) → AddsTargets p i [] old old
+no_targets p i old = record {
+  added = [];
+  is = sym (append-nil old);
+  are = λ b s at. (λ h. absurd (cc), λ c. absurd (omega (arith, c.1)));
+}
+
+pub or_cases : (a b : Bool) → (a || b) ≡ true → (a ≡ true) ⊎ (b ≡ true)
+or_cases true b h = inl refl
+or_cases false b h = inr h
+
+pub or_left : (a b : Bool) → a ≡ true → (a || b) ≡ true
+or_left true b h = refl
+or_left false b h = absurd (cc)
+
+pub or_right : (a b : Bool) → b ≡ true → (a || b) ≡ true
+or_right true b h = refl
+or_right false b h = h
+
+in_option : (o : Option ℕ) (b : ℕ) → Contains (option_to_list o) b → o ≡ Some b
+in_option None b c = absurd (omega (arith, c.1))
+in_option (Some n) b c = go c.0 c.1 c.2
+  where
+    go : (k : ℕ) → k < 1 → get_or (n ∷ []) k b ≡ b → Some n ≡ Some b
+    go zero l e = ap (λ x. Some x) e
+    go (suc k) l e = absurd (omega (arith, l))
+
+option_in : (o : Option ℕ) (b : ℕ) → o ≡ Some b → Contains (option_to_list o) b
+option_in None b h = absurd (cc)
+option_in (Some n) b h = (0, omega arith, same_Some n b h)
+
+-- one relocation more
+module _ (p : Project) (i : ℕ) (rs : List Relocation) (n : ℕ) (r : Relocation) (number : Option ℕ)
+    (old before new : List ℕ) (low : n < length rs) (here : get_or rs n r ≡ r)
+    (is : IsNumberOf p (target_section p i r) number) (pushed : new ≡ before ++ option_to_list number)
+    (had : AddsTargets p i (take n rs) old before) where
+  more : (s : InputSection) → list_any (λ r. is_section (target_section p i r) s) (take (n + 1) rs)
+      ≡ (list_any (λ r. is_section (target_section p i r) s) (take n rs) || is_section (target_section p i r) s)
+  more s = list_any_more (λ r. is_section (target_section p i r) s) rs n r low
+      ∙ ap (λ (q : Relocation). list_any (λ r. is_section (target_section p i r) s) (take n rs)
+      || is_section (target_section p i q) s) here
+
+  pub more_targets : AddsTargets p i (take (n + 1) rs) old new
+  more_targets = record {
+    added = had.added ++ option_to_list number;
+    is = pushed ∙ (ap (λ l. l ++ option_to_list number) had.is
+        ∙ append_assoc old had.added (option_to_list number));
+    are = λ b s at. (
+      λ h. ⊎_elim
+          (λ e. Contains-append_left had.added (option_to_list number) b ((had.are b s at).0 e))
+          (λ e. Contains-append_right had.added (option_to_list number) b (option_in number b ((is b s at).0 e)))
+          (or_cases _ _ (sym (more s) ∙ h)),
+      λ c. more s ∙ ⊎_elim
+          (λ e. or_left _ _ ((had.are b s at).1 e))
+          (λ e. or_right _ _ ((is b s at).1 (in_option number b e)))
+          (Contains-append_cases had.added (option_to_list number) b c),
+    );
+  }
+
+-- the number of the target of a relocation
+pub target_number : (p : Project) (t : Numbers) (i : ℕ) (r : Relocation) (key : Option SectionKey) (number : Option ℕ)
+    → AreProjectNumbers p t
+    → option_map (section_id (λ key. key)) key ≡ option_and_then (section_of_symbol p i) (symbol_at p i r.symbol.0)
+    → number ≡ option_and_then (number_in t) key → IsNumberOf p (target_section p i r) number
+unfolding target_section
+target_number p t i r key number are same is =
+    number_of_key p t key (option_and_then (section_of_symbol p i) (symbol_at p i r.symbol.0)) number are same is
+
+-- the same of the relocation at a place
+pub next_targets : (p : Project) (t : Numbers) (i : ℕ) (rs : List Relocation) (n : ℕ) (d : Relocation)
+    (key : Option SectionKey) (number : Option ℕ) (old before new : List ℕ) → AreProjectNumbers p t → n < length rs
+    → option_map (section_id (λ key. key)) key
+    ≡ option_and_then (section_of_symbol p i) (symbol_at p i (get_or rs n d).symbol.0)
+    → number ≡ option_and_then (number_in t) key → new ≡ before ++ option_to_list number
+    → AddsTargets p i (take n rs) old before → AddsTargets p i (take (n + 1) rs) old new
+next_targets p t i rs n d key number old before new are low same is pushed had =
+    more_targets p i rs n (get_or rs n d) number old before new low (get_or_default rs n (get_or rs n d) d low)
+    (target_number p t i (get_or rs n d) key number are same is) pushed had

@@ -1,0 +1,37 @@
+use Rattle.std.proofs.Common.{◌≡◌, ◌⊎◌, ◌↔◌, ◌∙◌, ℕ, List, Some, ap, length, sym, subst, Vec, Bool, Global}
+use Rattle.std.specs.Prelude.{Contains, IsTrue}
+use Rattle.std.proofs.lemmas.List.{length-map}
+use Rattle.std.proofs.lemmas.Result.{IfOk-weaker}
+use Rattle.gather.specs.LiveMarks.{IsSectionAt}
+use Rattle.ldmodel.specs.Gathering.{is_out, taken_by}
+use Rattle.ldmodel.specs.InputSections.{input_sections}
+use Rattle.ldmodel.specs.Live.{entry_section, is_kept}
+use Rattle.ldmodel.specs.Sections.{InputSection}
+use Rattle.gather.specs.ProjectMembers.{by_place}
+use Rattle.gather.specs.Numbers.{IsNumberOf}
+use Rattle.gather.proofs.Keyed.{number_of_key}
+use Rattle.gather.proofs.Starting.{graph_is}
+use Rattle.gather.proofs.live.mark_needed.Goals as goal
+
+pub mark_reached-requires-clause-count : goal.mark_reached-requires-clause-count
+mark_reached-requires-clause-count c =
+    let p = c.args.project.now in
+    sym (ap length c.requires.out ∙ length-map (input_sections p) (is_out p))
+
+pub returns : goal.returns
+returns c =
+    let p = c.args.project.now in
+    let number : IsNumberOf p (entry_section p) c.find-entry.result =
+    number_of_key p c.in_ok-numbers.numbers c.entry_section.result (entry_section p) c.find-entry.result
+    (c.in_ok-numbers.ensures p c.requires.ascending c.requires.sections) c.entry_section.ensures
+    c.find-entry.ensures in
+    let roots : (k : ℕ) (s : InputSection) → IsSectionAt p k s
+    → (IsTrue (is_kept (taken_by p s)) ⊎ (c.find-entry.result ≡ Some k)) ↔ Contains c.deref.result.now k =
+    subst (λ (l : List ℕ). (k : ℕ) (s : InputSection) → IsSectionAt p k s
+    → (IsTrue (is_kept (taken_by p s)) ⊎ (c.find-entry.result ≡ Some k)) ↔ Contains l k)
+    (sym c.deref.ensures.value)
+    (c.in_ok-roots.ensures p (by_place p) (sym c.script.ensures) c.requires.sections) in
+    IfOk-weaker c.mark_reached.result _ _
+    (λ (marks : Vec Bool Global) h. h p c.requires.collected
+    (graph_is p c.args.out.now c.deref.result.now c.find-entry.result c.requires.out number roots))
+    c.mark_reached.ensures.live

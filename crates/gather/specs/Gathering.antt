@@ -1,0 +1,14 @@
+-- What gathering finds of a project.
+use Rattle.std.specs.Prelude.{◌≡◌, map}
+use Rattle.ldmodel.specs.FaultCode.{fault_of}
+use Rattle.ldmodel.specs.Link.{gathering_faults}
+use Rattle.ldmodel.specs.Project.{Project}
+use Rattle.ldmodel.specs.Rows.{rows}
+use Rattle.ldmodel.specs.declared.fault.Fault.TheVariants.{Orphan}
+use Rattle.ldproject.specs.ByPlace.{rows_in}
+use Rattle.gather.specs.declared.gathering.Gathering.{Gathering}
+
+-- its rows are those of the project, and its orphans are the faults
+pub record IsGathering (p : Project) (g : Gathering) : Type 0 where
+  pub rows : rows_in p g.rows.items ≡ rows p
+  pub orphans : map (λ k. fault_of p (λ key. key) (Orphan k)) g.orphans.items ≡ gathering_faults p

@@ -1,0 +1,17 @@
+-- Which statements of a script take the input sections of objects.
+use Rattle.std.specs.Prelude.{◌≡◌, List, map, codes}
+use Rattle.std.specs.List.{AllZip}
+use Rattle.gather.specs.Matches.{matches_of, number_of}
+use Rattle.ldtree.specs.declared.statement.Statement.{Statement}
+use Rattle.ldmodel.specs.FirstMatch.{first_match}
+use Rattle.ldmodel.specs.Project.{NamedObject, Project}
+use Rattle.gather.specs.declared.matches.Matches.{Matches}
+
+-- the statements that take the linked sections of an object, and its common blocks
+pub record IsMatched (script : List Statement) (o : NamedObject) (x : Matches) : Type 0 where
+  pub linked : map number_of x.linked.items ≡ matches_of script o.name o.object.sections
+  pub common : number_of x.common ≡ first_match script o.name (codes "COMMON")
+
+-- all objects, in their order
+abbrev pub AreMatched : Project → List Matches → Type 0
+AreMatched p xs = AllZip (IsMatched p.script) p.objects xs

@@ -1,0 +1,52 @@
+-- What is found of each object of a project before its sections are listed.
+use Rattle.std.specs.Prelude.{◌≡◌, ◌<◌, ◌==◌, ℕ, List, [], map, Option, Some, None, Vec, if◌then◌else◌, slice_index_or}
+use Rattle.std.specs.Global.{Global}
+use Rattle.std.specs.List.{AllPairs, AllZip, enumerate_from}
+use Rattle.std.specs.List.Sorted.{IsNonDecreasingBy, IsPermutation}
+use Rattle.elfobj.specs.Sections.{section_of}
+use Rattle.elffile.specs.declared.section.Section.{Section}
+use Rattle.gather.specs.Gathered.{Keys}
+use Rattle.gather.specs.Members.{block_of}
+use Rattle.gather.specs.declared.member.CommonBlock.{CommonBlock}
+use Rattle.ldmodel.specs.InputSections as model
+use Rattle.ldmodel.specs.NameFaults.{object_name}
+use Rattle.ldmodel.specs.Project.{NamedObject, Project}
+use Rattle.ldmodel.specs.declared.names.Case.{Case}
+use Rattle.ldmodel.specs.declared.names.Case.TheVariants as case
+use Rattle.ldproject.specs.ByPlace.{name_of_section}
+
+-- the key of an object is its place
+abbrev pub by_place : Project → Keys
+by_place p = record {
+  number = λ key. key;
+  naming = record { object = object_name p; section = name_of_section p };
+}
+
+-- the common block that a name stands for, if object number i owns it
+abbrev pub block_here : ℕ → Option Case → Option CommonBlock
+block_here i (Some (case.Common owner size align)) =
+    if owner.key == i then Some (record { symbol = record { 0 = owner.symbol }; size = size; alignment = align })
+    else None
+block_here i _ = None
+
+-- the blocks of object number i
+abbrev pub blocks_at : List (Vec CommonBlock Global) → ℕ → List CommonBlock
+blocks_at all i = slice_index_or (map (λ (v : Vec CommonBlock Global). v.items) all) i []
+
+-- the same blocks in the order of their symbols
+pub record IsInOrder (old new : List CommonBlock) : Type 0 where
+  pub same : IsPermutation old new
+  pub order : IsNonDecreasingBy (λ (b : CommonBlock). b.symbol.0) new
+
+-- the common blocks of object number i
+abbrev pub AreBlocksOf : Project → ℕ → NamedObject → List CommonBlock → Type 0
+AreBlocksOf p i o blocks = map (block_of i o.name) blocks ≡ model.common_blocks p i o
+
+-- of all objects, in their order
+abbrev pub AreBlocks : Project → List (Vec CommonBlock Global) → Type 0
+AreBlocks p xs = AllZip (λ (o : ℕ × NamedObject) (x : Vec CommonBlock Global). AreBlocksOf p o.0 o.1 x.items)
+    (enumerate_from 0 p.objects) xs
+
+-- the header numbers of its linked sections ascend
+abbrev pub IsAscending : NamedObject → Type 0
+IsAscending o = AllPairs (λ (s t : Section). s.number.0 < t.number.0) (map section_of o.object.sections)

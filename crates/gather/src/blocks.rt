@@ -1,0 +1,111 @@
+//! The common blocks of objects.
+
+ghost use Rattle.std.specs.Prelude.{◌≡◌, ◌<◌, ◌++◌, ℕ, [], IfOk, OnOk, length, option_to_list};
+ghost use Rattle.std.specs.List.{filter_map};
+ghost use Rattle.gather.specs.ProjectMembers.{AreBlocks, IsInOrder, block_here, blocks_at};
+ghost use Rattle.ldnaming.specs.Naming.{IsNaming};
+
+use crate::member::CommonBlock;
+use elfobj::relocation::SymbolIndex;
+use ldmodel::memory::NoMemory;
+use ldmodel::names::{Case, NameKey};
+use ldnaming::naming::Naming;
+use ldproject::view::ProjectView;
+use std::alloc::Global;
+
+/// No common blocks, of this many objects.
+fn no_blocks(alloc: Global, count: usize) -> Result<Vec<Vec<CommonBlock>>, NoMemory>
+    ensures len { IfOk result (λ all. length all.items ≡ count) }
+    ensures none { IfOk result (λ all. (i : ℕ) → blocks_at all.items i ≡ []) }
+{
+    let mut all = Vec::with_capacity(alloc, count)?;
+    for _ in 0..count {
+        all.push(Vec::new(alloc))?;
+    }
+    Ok(all)
+}
+
+/// Adds the common block that a name stands for, if it stands for one, to those of the object that owns it.
+fn add_block(all: &mut Vec<Vec<CommonBlock>>, case: Case) -> Result<(), NoMemory>
+    ensures len { length all.new.items ≡ length all.old.items }
+    ensures added { OnOk result ((i : ℕ) → i < length all.old.items → blocks_at all.new.items i
+        ≡ blocks_at all.old.items i ++ option_to_list (block_here i (Some case))) }
+{
+    match case {
+        Case::Common { owner, size, align } => {
+            if owner.key >= all.len() {
+                return Ok(());
+            }
+            all[owner.key].push(CommonBlock {
+                symbol: SymbolIndex(owner.symbol),
+                size,
+                alignment: align,
+            })?;
+            Ok(())
+        }
+        _ => Ok(()),
+    }
+}
+
+/// The same where a key has a name.
+fn add_if_named(all: &mut Vec<Vec<CommonBlock>>, case: Option<Case>) -> Result<(), NoMemory>
+    ensures len { length all.new.items ≡ length all.old.items }
+    ensures added { OnOk result ((i : ℕ) → i < length all.old.items → blocks_at all.new.items i
+        ≡ blocks_at all.old.items i ++ option_to_list (block_here i case)) }
+{
+    match case {
+        Some(case) => add_block(all, case),
+        None => Ok(()),
+    }
+}
+
+/// The common blocks that names stand for, each with the object that owns it, of this many objects.
+fn collected(
+    alloc: Global,
+    naming: &Naming,
+    count: usize,
+) -> Result<Vec<Vec<CommonBlock>>, NoMemory>
+    ensures len { IfOk result (λ all. length all.items ≡ count) }
+    ensures blocks { IfOk result (λ all. (i : ℕ) → i < count → blocks_at all.items i
+        ≡ filter_map (block_here i) naming.now.cases) }
+{
+    let mut all = no_blocks(alloc, count)?;
+    for key in 0..naming.limit() {
+        add_if_named(&mut all, naming.case_of(NameKey(key)))?;
+    }
+    Ok(all)
+}
+
+/// Puts blocks of an object in the order of its symbol table.
+fn sort(blocks: &mut Vec<CommonBlock>)
+    ensures { IsInOrder blocks.old.items blocks.new.items }
+{
+    blocks.sort_unstable_by_key(|block| block.symbol.0);
+}
+
+/// The same for each object.
+fn sort_all(all: &mut Vec<Vec<CommonBlock>>)
+    ensures len { length all.new.items ≡ length all.old.items }
+    ensures sorted { (i : ℕ) → i < length all.old.items
+        → IsInOrder (blocks_at all.old.items i) (blocks_at all.new.items i) }
+{
+    for place in 0..all.len() {
+        sort(&mut all[place]);
+    }
+}
+
+/// The common blocks of each object of a project, by what its names stand for. The time grows with the number of names.
+/// An error says that memory ran out.
+pub(crate) fn common_blocks(
+    alloc: Global,
+    project: &ProjectView<'_>,
+    naming: &Naming,
+) -> Result<Vec<Vec<CommonBlock>>, NoMemory>
+    requires { IsNaming project.now naming.now }
+    ensures { IfOk result (λ all. AreBlocks project.now all.items) }
+{
+    let mut all = collected(alloc, naming, project.inputs().len())?;
+    sort_all(&mut all);
+    naming.all_keyed();
+    Ok(all)
+}

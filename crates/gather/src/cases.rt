@@ -1,0 +1,44 @@
+//! What the names of symbols stand for.
+
+ghost use Rattle.std.specs.Prelude.{◌≡◌, ◌<◌, length, not, slice_index_or};
+ghost use Rattle.elfobj.specs.Symbols.{NamedSymbol};
+ghost use Rattle.gather.specs.Symbols.{IsCaseOf, IsObjectAt};
+ghost use Rattle.ldmodel.specs.Names.{is_local};
+ghost use Rattle.ldnaming.specs.Naming.{IsNaming};
+
+use elfobj::object::Object;
+use elfobj::relocation::SymbolIndex;
+use elfobj::symbol::Binding;
+use ldmodel::names::Case;
+use ldnaming::naming::Naming;
+use ldproject::view::ProjectView;
+
+/// Whether a symbol declares its name to other objects.
+fn declares(binding: Binding) -> bool
+    ensures { result ≡ not (is_local binding) }
+{
+    match binding {
+        Binding::Local => false,
+        Binding::Global | Binding::Weak => true,
+    }
+}
+
+/// What the name of a symbol of the object at a place stands for; nothing for a local symbol, which has no name. The
+/// time is constant.
+pub(crate) fn case_of_symbol(
+    project: &ProjectView<'_>,
+    naming: &Naming,
+    place: usize,
+    object: &Object,
+    number: usize,
+) -> Option<Case>
+    requires naming { IsNaming project.now naming.now }
+    requires object { IsObjectAt project.now place object.now }
+    requires number { number < length object.now.symbols }
+    ensures { (d : NamedSymbol) → IsCaseOf project.now (slice_index_or object.now.symbols number d) result }
+{
+    if declares(object.symbols()[number].binding) {
+        return naming.case_of(naming.key_of(place, SymbolIndex(number as u32)));
+    }
+    None
+}

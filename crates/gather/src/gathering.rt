@@ -1,0 +1,80 @@
+//! What gathering finds.
+
+ghost use Rattle.std.specs.Prelude.{◌≡◌, IfOk, map};
+ghost use Rattle.gather.specs.Apart.{AscendingSections};
+ghost use Rattle.gather.specs.Gathered.{AreGathered};
+ghost use Rattle.gather.specs.LiveMarks.{marked};
+ghost use Rattle.gather.specs.Gathering.{IsGathering};
+ghost use Rattle.gather.specs.ProjectMatches.{AreMatched};
+ghost use Rattle.gather.specs.ProjectMembers.{by_place};
+ghost use Rattle.ldmodel.specs.InputSections.{input_sections};
+ghost use Rattle.ldmodel.specs.Live.{live};
+ghost use Rattle.ldnaming.specs.Naming.{IsNaming};
+
+use crate::blocks::common_blocks;
+use crate::gathered::Gathered;
+use crate::left_out::left_out;
+use crate::live::mark_live;
+use crate::live_sections::{orphans, taken};
+use crate::matches::Matches;
+use crate::member::input_sections;
+use crate::members::members;
+use crate::rows::rows;
+use ldlaws::gathering::live_by_path;
+use ldmodel::memory::NoMemory;
+use ldmodel::rows::Piece;
+use ldmodel::sections::SectionKey;
+use ldnaming::naming::Naming;
+use ldproject::view::ProjectView;
+use std::alloc::Global;
+
+/// What gathering finds: the row of each output section, and the orphans.
+#[derive(Drop)]
+pub struct Gathering {
+    /// One row for each output section, in the order of the script.
+    pub rows: Vec<Vec<Piece>>,
+    /// The live input sections that no statement takes, in object order and then section order. Each is a fault.
+    pub orphans: Vec<SectionKey>,
+}
+
+/// The rows and the orphans of live sections.
+fn sorted_out(
+    alloc: Global,
+    project: &ProjectView<'_>,
+    sections: &[Gathered<'_>],
+    marks: &[bool],
+) -> Result<Gathering, NoMemory>
+    requires ascending { AscendingSections project.now }
+    requires sections { AreGathered project.now (by_place project.now) sections.now }
+    requires marks { marked marks.now (input_sections project.now) ≡ live project.now }
+    ensures { IfOk result (λ g. IsGathering project.now g) }
+{
+    live_by_path();
+    let orphans = orphans(alloc, sections, marks)?;
+    let pieces = taken(alloc, sections, marks)?;
+    let rows = rows(alloc, project.script(), &pieces)?;
+    Ok(Gathering { rows, orphans })
+}
+
+impl Gathering {
+    /// Gathers the input sections of a project whose names are decided. `matches` has the statements that take the
+    /// sections of each object, in object order. An error says that memory ran out.
+    pub fn of(
+        alloc: Global,
+        project: &ProjectView<'_>,
+        naming: &Naming,
+        matches: &[&Matches],
+    ) -> Result<Gathering, NoMemory>
+        requires naming { IsNaming project.now naming.now }
+        requires matches { AreMatched project.now (map (λ x. x.now) matches.now) }
+        ensures { IfOk result (λ g. IsGathering project.now g) }
+    {
+        let blocks = common_blocks(alloc, project, naming)?;
+        let members = members(alloc, project, matches, &blocks)?;
+        let sections = input_sections(alloc, &members)?;
+        let options = project.options();
+        let out = left_out(alloc, project.script(), options.orphans(), &sections)?;
+        let marks = mark_live(alloc, project, naming, &sections, &out)?;
+        sorted_out(alloc, project, &sections, &marks)
+    }
+}

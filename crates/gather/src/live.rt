@@ -1,0 +1,73 @@
+//! Which input sections are live.
+
+ghost use Rattle.std.specs.Prelude.{◌≡◌, IfOk, map, true};
+ghost use Rattle.gather.specs.Apart.{AscendingSections};
+ghost use Rattle.gather.specs.Gathered.{AreGathered};
+ghost use Rattle.gather.specs.LiveMarks.{marked};
+ghost use Rattle.gather.specs.ProjectMembers.{by_place};
+ghost use Rattle.ldmodel.specs.Gathering.{is_out};
+ghost use Rattle.ldmodel.specs.InputSections.{input_sections};
+ghost use Rattle.ldmodel.specs.Live.{live};
+ghost use Rattle.ldnaming.specs.Naming.{IsNaming};
+
+use crate::gathered::Gathered;
+use crate::live_sections::not_out;
+use crate::marking::mark_reached;
+use crate::numbers::Numbers;
+use crate::referring::ProjectReferences;
+use crate::roots::roots;
+use crate::targets::entry_section;
+use ldmodel::memory::NoMemory;
+use ldnaming::naming::Naming;
+use ldproject::view::ProjectView;
+use std::alloc::Global;
+
+/// Marks the sections that the program needs. `out` says of each whether it is left out. The relocations of the other
+/// sections are not gone through.
+fn mark_needed(
+    alloc: Global,
+    project: &ProjectView<'_>,
+    naming: &Naming,
+    sections: &[Gathered<'_>],
+    out: &[bool],
+) -> Result<Vec<bool>, NoMemory>
+    requires naming { IsNaming project.now naming.now }
+    requires collected { project.now.options.gc ≡ true }
+    requires ascending { AscendingSections project.now }
+    requires sections { AreGathered project.now (by_place project.now) sections.now }
+    requires out { out.now ≡ map (is_out project.now) (input_sections project.now) }
+    ensures { IfOk result (λ marks. marked marks.items (input_sections project.now) ≡ live project.now) }
+{
+    let numbers = Numbers::of(alloc, sections)?;
+    let entry = numbers.find(entry_section(project, naming));
+    let roots = roots(alloc, project.script(), sections, entry)?;
+    let references = ProjectReferences {
+        project,
+        naming,
+        numbers: &numbers,
+        sections,
+    };
+    mark_reached(alloc, out, &roots, &references)
+}
+
+/// Marks the live sections. `out` says of each whether it is left out. An error says that memory ran out.
+pub(crate) fn mark_live(
+    alloc: Global,
+    project: &ProjectView<'_>,
+    naming: &Naming,
+    sections: &[Gathered<'_>],
+    out: &[bool],
+) -> Result<Vec<bool>, NoMemory>
+    requires naming { IsNaming project.now naming.now }
+    requires ascending { AscendingSections project.now }
+    requires sections { AreGathered project.now (by_place project.now) sections.now }
+    requires out { out.now ≡ map (is_out project.now) (input_sections project.now) }
+    ensures { IfOk result (λ marks. marked marks.items (input_sections project.now) ≡ live project.now) }
+{
+    let options = project.options();
+    if options.gc() {
+        mark_needed(alloc, project, naming, sections, out)
+    } else {
+        not_out(alloc, out)
+    }
+}

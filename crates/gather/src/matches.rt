@@ -1,0 +1,59 @@
+//! Which statements of a script take the input sections of an object.
+
+ghost use Rattle.std.specs.Prelude.{◌≡◌, IfOk, map};
+ghost use Rattle.gather.specs.ProjectMatches.{AreMatched, IsMatched};
+
+use crate::matcher::Matcher;
+use elfobj::object::Object;
+use ldmodel::memory::NoMemory;
+use ldmodel::rows::InputIndex;
+use ldproject::view::ProjectView;
+use std::alloc::Global;
+
+/// Which statements of a script take the input sections of an object. It speaks of the object, its name and the script
+/// alone, so that it may be kept while these stay.
+#[derive(Drop)]
+pub struct Matches {
+    /// Those that take its linked sections, in their order.
+    pub linked: Vec<Option<InputIndex>>,
+    /// That which takes its common blocks.
+    pub common: Option<InputIndex>,
+}
+
+/// Finds the statements that take the input sections of an object of this name. An error says that memory ran out.
+pub fn match_object(
+    alloc: Global,
+    matcher: &Matcher<'_>,
+    name: &[u8],
+    object: &Object,
+) -> Result<Matches, NoMemory>
+    ensures { IfOk result (λ x. IsMatched matcher.now (record { name = name.now; object = object.now }) x) }
+{
+    let linked = matcher.matches_of(alloc, name, object)?;
+    let common = matcher.first_match(name, b"COMMON");
+    Ok(Matches { linked, common })
+}
+
+/// The same for all objects of a project, in their order. An error says that memory ran out.
+pub fn match_all(alloc: Global, project: &ProjectView<'_>) -> Result<Vec<Matches>, NoMemory>
+    ensures { IfOk result (λ all. AreMatched project.now all.items) }
+{
+    let matcher = Matcher::new(alloc, project.script())?;
+    let inputs = project.inputs();
+    let mut all = Vec::with_capacity(alloc, inputs.len())?;
+    for input in inputs {
+        all.push(match_object(alloc, &matcher, input.name, input.object)?)?;
+    }
+    Ok(all)
+}
+
+/// Each of these, lent. An error says that memory ran out.
+pub fn lend_all(alloc: Global, all: &[Matches]) -> Result<Vec<&Matches>, NoMemory>
+    ensures { IfOk result (λ lent. map (λ x. x.now) lent.items ≡ all.now) }
+{
+    let mut lent = Vec::with_capacity(alloc, all.len())?;
+    for matches in all {
+        lent.push(matches)?;
+    }
+    Ok(lent)
+}

@@ -1,0 +1,130 @@
+//! The input sections that relocations refer to, by numbers.
+
+ghost use Rattle.std.specs.Prelude.{◌≡◌, ◌==◌, ◌++◌, OnOk, length, option_to_list, []};
+ghost use Rattle.std.specs.List.{find};
+ghost use Rattle.std.specs.Option.{option_map_or};
+ghost use Rattle.elfobj.specs.Sections.{LinkedSection};
+ghost use Rattle.gather.specs.Found.{relocations_of};
+ghost use Rattle.gather.specs.Numbers.{AddsTargets, AreProjectNumbers, AreProjectReferences, Refers};
+ghost use Rattle.gather.specs.Symbols.{IsObjectAt};
+ghost use Rattle.ldmodel.specs.InputSections.{input_sections};
+ghost use Rattle.ldnaming.specs.Naming.{IsNaming};
+
+use crate::gathered::Gathered;
+use crate::numbers::Numbers;
+use crate::references::References;
+use crate::targets::target_section;
+use elfobj::object::Object;
+use elfobj::relocation::Relocation;
+use elfobj::section::SectionIndex;
+use ldmodel::memory::NoMemory;
+use ldmodel::sections::Part;
+use ldnaming::naming::Naming;
+use ldproject::view::ProjectView;
+
+/// Adds the number of a section, if there is one.
+fn add_number(targets: &mut Vec<usize>, number: Option<usize>) -> Result<(), NoMemory>
+    ensures { OnOk result (targets.new.items ≡ targets.old.items ++ option_to_list number) }
+{
+    match number {
+        Some(number) => {
+            targets.push(number)?;
+            Ok(())
+        }
+        None => Ok(()),
+    }
+}
+
+/// The relocations of the section of this header number; none where it is no linked one.
+fn relocations_at(object: &Object, number: SectionIndex) -> &[Relocation]
+    ensures { result.now ≡ option_map_or (λ (x : LinkedSection). x.relocations)
+        (find (λ (x : LinkedSection). x.number.0 == number.0) object.now.sections) [] }
+{
+    let _sections = object.sections();
+    match object.section_at(number) {
+        Some(place) => object.relocations(place),
+        None => &[],
+    }
+}
+
+/// Adds the numbers of the sections that these relocations of the object at a place refer to.
+fn add_targets(
+    project: &ProjectView<'_>,
+    naming: &Naming,
+    numbers: &Numbers,
+    place: usize,
+    object: &Object,
+    relocations: &[Relocation],
+    targets: &mut Vec<usize>,
+) -> Result<(), NoMemory>
+    requires naming { IsNaming project.now naming.now }
+    requires object { IsObjectAt project.now place object.now }
+    requires numbers { AreProjectNumbers project.now numbers.now }
+    ensures { OnOk result (AddsTargets project.now place relocations.now targets.old.items targets.new.items) }
+{
+    for relocation in relocations {
+        let section = target_section(project, naming, place, object, relocation);
+        add_number(targets, numbers.find(section))?;
+    }
+    Ok(())
+}
+
+/// Adds the numbers of the sections that an input section refers to.
+fn add_row(
+    project: &ProjectView<'_>,
+    naming: &Naming,
+    numbers: &Numbers,
+    section: &Gathered<'_>,
+    targets: &mut Vec<usize>,
+) -> Result<(), NoMemory>
+    requires naming { IsNaming project.now naming.now }
+    requires numbers { AreProjectNumbers project.now numbers.now }
+    ensures { OnOk result (AddsTargets project.now section.now.section.object.0
+        (relocations_of project.now section.now.section.object.0 section.now.section.part)
+        targets.old.items targets.new.items) }
+{
+    let key = section.section;
+    match key.part {
+        Part::InTable(number) => match project.object(key.object) {
+            Some(object) => {
+                let relocations = relocations_at(object, number);
+                let place = key.object.0;
+                add_targets(
+                    project,
+                    naming,
+                    numbers,
+                    place,
+                    object,
+                    relocations,
+                    targets,
+                )
+            }
+            None => Ok(()),
+        },
+        Part::InCommon(_) => Ok(()),
+    }
+}
+
+/// The references between the input sections of a project, by the relocations of these. They are found anew for each
+/// section that is asked for, and nothing is kept of them. The time for a section grows with its relocations.
+#[derive(Drop)]
+pub(crate) struct ProjectReferences<'a, 'p, 's> {
+    pub(crate) project: &'a ProjectView<'p>,
+    pub(crate) naming: &'a Naming,
+    pub(crate) numbers: &'a Numbers,
+    pub(crate) sections: &'a [Gathered<'s>],
+}
+
+impl<'a, 'p, 's> References for ProjectReferences<'a, 'p, 's> {
+    ghost can_find = { λ r. AreProjectReferences r.project.now r.naming.now r.numbers.now r.sections.now };
+
+    ghost count = { λ r. length (input_sections r.project.now) };
+
+    ghost refers = { λ r. Refers r.project.now };
+
+    fn find_targets(&self, section: usize, targets: &mut Vec<usize>) -> Result<(), NoMemory> {
+        targets.clear();
+        let section = &self.sections[section];
+        add_row(self.project, self.naming, self.numbers, section, targets)
+    }
+}

@@ -1,0 +1,108 @@
+//! The sections that relocations and the entry symbol refer to.
+
+ghost use Rattle.std.specs.Prelude.{◌≡◌, ◌+◌, option_and_then};
+ghost use Rattle.std.specs.Option.{option_map};
+ghost use Rattle.elfobj.specs.Symbols.{NamedSymbol};
+ghost use Rattle.gather.specs.Symbols.{IsObjectAt};
+ghost use Rattle.ldmodel.specs.HandedOver.{decision_of, entry_of, section_id};
+ghost use Rattle.ldmodel.specs.Live.{entry_section, section_at, section_of_decision, section_of_entry};
+ghost use Rattle.ldmodel.specs.Live.{section_of_symbol, symbol_at};
+ghost use Rattle.ldnaming.specs.Naming.{IsNaming};
+
+use crate::cases::case_of_symbol;
+use elfobj::object::Object;
+use elfobj::relocation::{Relocation, SymbolIndex};
+use elfobj::symbol::SymbolPlace;
+use ldmodel::names::{Case, Entry, ObjectKey};
+use ldmodel::sections::{Part, SectionKey};
+use ldnaming::naming::Naming;
+use ldproject::view::ProjectView;
+
+/// The section that a symbol of the object at a place is defined in, if it is in one.
+fn section_at(place: usize, at: SymbolPlace) -> Option<SectionKey>
+    ensures { option_map (section_id (λ key. key)) result ≡ section_at place at }
+{
+    match at {
+        SymbolPlace::Section(number) => Some(SectionKey {
+            object: ObjectKey(place),
+            part: Part::InTable(number),
+        }),
+        SymbolPlace::Undefined | SymbolPlace::Absolute | SymbolPlace::Common => None,
+    }
+}
+
+/// Where a symbol is defined, if there is such a symbol.
+fn place_of(project: &ProjectView<'_>, entry: Entry) -> Option<SymbolPlace>
+    ensures { result ≡ option_map (λ (s : NamedSymbol). s.symbol.place)
+        (symbol_at project.now entry.key entry.symbol) }
+{
+    match project.object(ObjectKey(entry.key)) {
+        Some(object) => match object.symbols().get(entry.symbol as usize) {
+            Some(symbol) => Some(symbol.place),
+            None => None,
+        },
+        None => None,
+    }
+}
+
+/// The section that an entry is defined in, if it is in one.
+fn section_of_entry(project: &ProjectView<'_>, entry: Entry) -> Option<SectionKey>
+    ensures { option_map (section_id (λ key. key)) result
+        ≡ section_of_entry project.now (entry_of (λ key. key) entry) }
+{
+    match place_of(project, entry) {
+        Some(at) => section_at(entry.key, at),
+        None => None,
+    }
+}
+
+/// The section that a name is defined in, by what it stands for; none for a number.
+fn section_of_case(project: &ProjectView<'_>, case: Case) -> Option<SectionKey>
+    ensures { option_map (section_id (λ key. key)) result
+        ≡ section_of_decision project.now (decision_of (λ key. key) case) }
+{
+    match case {
+        Case::Strong(entry) | Case::Weak(entry) => section_of_entry(project, entry),
+        Case::Common { owner, .. } => Some(SectionKey {
+            object: ObjectKey(owner.key),
+            part: Part::InCommon(SymbolIndex(owner.symbol)),
+        }),
+        Case::Script | Case::Provided | Case::Undefined | Case::Duplicate => None,
+    }
+}
+
+/// The section that a relocation of the object at a place refers to, if its target is in one. The time is constant.
+pub(crate) fn target_section(
+    project: &ProjectView<'_>,
+    naming: &Naming,
+    place: usize,
+    object: &Object,
+    relocation: &Relocation,
+) -> Option<SectionKey>
+    requires naming { IsNaming project.now naming.now }
+    requires object { IsObjectAt project.now place object.now }
+    ensures { option_map (section_id (λ key. key)) result
+        ≡ option_and_then (section_of_symbol project.now place) (symbol_at project.now place relocation.now.symbol.0) }
+{
+    let number = relocation.symbol.0 as usize;
+    let symbols = object.symbols();
+    if number >= symbols.len() {
+        return None;
+    }
+    match case_of_symbol(project, naming, place, object, number) {
+        Some(case) => section_of_case(project, case),
+        None => section_at(place, symbols[number].place),
+    }
+}
+
+/// The section of the entry symbol, if it is in one. The symbol's name is hashed and looked up.
+#[tactic(auto, unfolding(ldmodel::specs::Live::entry_section))]
+pub(crate) fn entry_section(project: &ProjectView<'_>, naming: &Naming) -> Option<SectionKey>
+    requires { IsNaming project.now naming.now }
+    ensures { option_map (section_id (λ key. key)) result ≡ entry_section project.now }
+{
+    match project.entry_symbol() {
+        Some(name) => section_of_case(project, naming.case_named(project.script(), name)),
+        None => None,
+    }
+}

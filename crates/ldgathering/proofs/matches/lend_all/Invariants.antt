@@ -1,6 +1,0 @@
--- Those so far.
-use Rattle.std.proofs.Common.{◌≡◌, map, take}
-use Rattle.ldgathering.proofs.matches.lend_all.Given as goal
-
-abbrev pub invariant-loop-matches : goal.invariant-loop-matches
-invariant-loop-matches l = map (λ x. x.now) l.lent.items ≡ take l.matches-index l.all

@@ -1,8 +1,0 @@
--- The targets of the relocations so far are added.
-use Rattle.std.proofs.Common.{take}
-use Rattle.ldgathering.specs.Numbers.{AddsTargets}
-use Rattle.ldgathering.proofs.references.add_targets.Given as goal
-
-abbrev pub invariant-loop-relocation : goal.invariant-loop-relocation
-invariant-loop-relocation l =
-    AddsTargets l.project l.place (take l.relocation-index l.relocations) l.initial.targets.items l.targets.items

@@ -1,4 +1,0 @@
-//! Layout, a phase of a link: where everything stands in memory and in the file.
-#![tactic(auto)]
-
-pub mod laying;

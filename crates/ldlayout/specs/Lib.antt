@@ -1,0 +1,9 @@
+pub mod Grouping
+pub mod Placing
+pub mod Length
+pub mod Laying
+pub mod Entries
+pub mod Headers
+pub mod Numbering
+pub mod Sections
+pub mod Starts

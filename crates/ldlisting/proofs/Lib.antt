@@ -1,3 +1,0 @@
--- Lemmas of the crate.
-pub mod ByteOrder
-pub mod Mapped

@@ -1,0 +1,27 @@
+mod RelocatedLists
+mod Ending
+mod Sizes
+mod Ordering
+mod Faulting
+mod Reading
+mod Patching
+mod Beside
+mod AllRows
+mod Fills
+mod Joining
+mod Faultless
+mod Lists
+mod Named
+mod Numbering
+mod Walking
+mod Whole
+mod OfRows
+mod OfSections
+mod Running
+mod Sizing
+mod Staying
+mod OfSizes
+mod OfSymbols
+-- Lemmas of the crate.
+pub mod ByteOrder
+pub mod Mapped

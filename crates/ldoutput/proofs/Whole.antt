@@ -1,0 +1,62 @@
+-- The drawing of a link.
+use Rattle.std.proofs.Common.{◌≡◌, ◌∙◌, subst, sym, Bool, ℕ, ◌<◌, ◌≤◌, ◌^◌, List, [], ◌∷◌, arith}
+use Rattle.std.proofs.Common.{length}
+use Rattle.std.specs.Borrow.{Bor}
+use Rattle.std.specs.List.{All, AllZip}
+use Rattle.ldfields.specs.declared.patch.Patch.{Patch}
+use Rattle.ldimage.specs.Drawing.{drawing_end, end_of_parts, end_of_sections}
+use Rattle.ldimage.specs.OfLink.{IsDrawingOf, IsImagePart, IsImageSection, loaded}
+use Rattle.ldimage.specs.Stretches.{EndsBy}
+use Rattle.ldimage.specs.declared.section.Drawing.{Drawing}
+use Rattle.ldimage.specs.declared.section.ImagePart.{ImagePart}
+use Rattle.ldimage.specs.declared.section.ImageSection.{ImageSection}
+use Rattle.ldmodel.specs.Layout.{Layout}
+use Rattle.ldmodel.specs.Project.{Project}
+use Rattle.ldmodel.specs.SectionHeaders.{FilePart, header_part, image_length, tail}
+use Rattle.ldmodel.specs.declared.sections.SectionKey.{SectionKey}
+use Rattle.ldoutput.specs.Parts.{ArePartsOf}
+use Rattle.ldoutput.specs.declared.parts.Parts.{Parts}
+
+-- the last part of the tail are the section headers
+pub last_part : (p : Project) (s : Layout) (a b c e : FilePart) → a ∷ b ∷ c ∷ e ∷ [] ≡ tail p s → e ≡ header_part p s
+last_part p s a b c e h = cc
+
+-- a drawing of these parts
+pub record IsMade (x : Parts) (d : Drawing) : Type 0 where
+  pub headers : d.headers.now ≡ x.headers.items
+  pub sections : d.sections.now ≡ x.sections.items
+  pub tail : AllZip IsImagePart (x.tail.symbols ∷ x.tail.symbol_names ∷ x.tail.header_names ∷ x.tail.headers ∷ [])
+      d.tail.now
+
+module _ (p : Project) (s : Layout) (stays : SectionKey → Bool) (x : Parts) (d : Drawing) (made : IsMade x d)
+    (are : ArePartsOf p s stays x) where
+  pub drawing_of : IsDrawingOf p s d
+  drawing_of = record {
+    headers = made.headers ∙ are.headers;
+    sections = subst (AllZip (IsImageSection p s) (loaded s)) (sym made.sections) are.drawn.sections;
+    tail = subst (λ l. AllZip IsImagePart l d.tail.now) are.tail made.tail;
+  }
+
+-- what ends by the image ends by the drawing of these parts
+pub ends_in : (p : Project) (s : Layout) (stays : SectionKey → Bool) (x : Parts) (headers : Bor (List ℕ))
+    (sections : Bor (List ImageSection)) (parts : List ImagePart) (patches : List Patch)
+    → ((d : Drawing) → IsDrawingOf p s d → drawing_end d ≡ image_length p s) → headers.now ≡ x.headers.items
+    → sections.now ≡ x.sections.items
+    → AllZip IsImagePart (x.tail.symbols ∷ x.tail.symbol_names ∷ x.tail.header_names ∷ x.tail.headers ∷ []) parts
+    → ArePartsOf p s stays x → All (EndsBy (image_length p s)) patches
+    → All (EndsBy (end_of_parts (end_of_sections (length headers.now) sections.now) parts)) patches
+ends_in p s stays x headers sections parts patches law same_headers same_sections same_tail are h =
+    let d : Drawing = record {
+      headers = headers;
+      sections = sections;
+      tail = record { ref_ptr = headers.ref_ptr; now = parts };
+    } in
+    let end = law d (drawing_of p s stays x d (record {
+      headers = same_headers;
+      sections = same_sections;
+      tail = same_tail;
+    }) are) in
+    subst (λ n. All (EndsBy n) patches) (sym end) h
+
+pub below_64 : (n : ℕ) → n ≤ 2 ^ 28 → n < 2 ^ 64
+below_64 n h = omega (arith, h)

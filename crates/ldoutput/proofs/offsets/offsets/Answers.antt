@@ -1,0 +1,8 @@
+-- In the end nothing is left.
+use Rattle.ldoutput.proofs.Walking.{walked_all}
+use Rattle.ldoutput.proofs.offsets.offsets.Goals as goal
+
+pub returns-clause-offsets : goal.returns-clause-offsets
+returns-clause-offsets c s named same are =
+    walked_all s c.args.sections.now c.args.segments.now _ c.loop-section.offsets.items c.loop-section.section-index
+    named same are (c.segments_by_neighbours.ensures.is s.sections) c.loop-section-test.false c.loop-section.invariant

@@ -1,0 +1,16 @@
+pub mod Relocated
+pub mod Numbered
+pub mod Runs
+pub mod Beside
+pub mod DataRuns
+pub mod Drawable
+pub mod Joined
+pub mod Kept
+pub mod Numbers
+pub mod Offsets
+pub mod Output
+pub mod Parts
+pub mod Pieces
+pub mod Sizes
+pub mod Symbols
+pub mod Listed

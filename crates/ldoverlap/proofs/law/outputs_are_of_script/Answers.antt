@@ -1,6 +1,0 @@
--- The law is `outputs_are`.
-use Rattle.ldoverlap.proofs.Outputs.{outputs_are}
-use Rattle.ldoverlap.proofs.law.outputs_are_of_script.Goals as goal
-
-pub returns : goal.returns
-returns c = outputs_are

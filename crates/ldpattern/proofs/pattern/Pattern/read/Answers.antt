@@ -1,5 +1,0 @@
-use Rattle.ldpattern.proofs.Reading.{only_pattern}
-use Rattle.ldpattern.proofs.pattern.Pattern.read.Goals as goal
-
-pub returns : goal.returns
-returns c = only_pattern _ _ c.in_ok-form.ensures.spelled

@@ -1,8 +1,0 @@
-mod Lists
-mod Ending
-mod Sizes
-mod Ordering
-mod Faulting
-mod Reading
-mod Patching
-mod Beside

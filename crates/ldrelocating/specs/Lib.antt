@@ -1,4 +1,0 @@
-pub mod Relocated
-pub mod Numbered
-pub mod Runs
-pub mod Beside

@@ -1,0 +1,13 @@
+pub mod Shown
+pub mod Once
+pub mod Lists
+pub mod Ordered
+pub mod Numbers
+pub mod Tabled
+pub mod InTurn
+pub mod Counting
+pub mod Found
+pub mod FoundSections
+pub mod TakenOver
+pub mod Marking
+pub mod Starts

@@ -1,0 +1,12 @@
+use Rattle.ldscope.proofs.FoundSections.{no_sections}
+use Rattle.ldscope.proofs.TakenOver.{none_taken}
+use Rattle.ldscope.specs.Earlier.{earlier_of}
+use Rattle.ldscope.proofs.sections.Sections.new.Goals as goal
+
+pub invariant_of-result : goal.invariant_of-result
+invariant_of-result c = (
+  no_sections c.args.script.now c.in_ok-taken.taken.items c.in_ok-list.list.items c.in_ok-differences.differences.items
+      c.len.result c.in_ok-taken.ensures.items c.in_ok-list.ensures.items
+      (c.in_ok-differences.ensures.items_if_clones_equal (λ _ e. e)),
+  none_taken (earlier_of c.args.earlier) c.in_ok-taken.taken.items c.in_ok-taken.ensures.items,
+)

@@ -1,4 +1,0 @@
-pub mod Grouped
-pub mod Steps
-pub mod Offsets
-pub mod Tail

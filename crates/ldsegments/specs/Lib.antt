@@ -1,3 +1,0 @@
-pub mod Grouping
-pub mod Placing
-pub mod Length

@@ -1,3 +1,0 @@
-pub mod HeaderRecord
-pub mod SegmentBytes
-pub mod Tables

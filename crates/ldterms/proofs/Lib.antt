@@ -1,0 +1,9 @@
+pub mod Readings
+pub mod Uniqueness
+pub mod Refusals
+pub mod Stars
+pub mod Fronts
+pub mod Reading
+pub mod Exact
+pub mod Testing
+pub mod Patterns

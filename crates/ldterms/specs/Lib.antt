@@ -1,0 +1,11 @@
+pub mod Operators
+pub mod Expressions
+pub mod DotForms
+pub mod Grammar
+pub mod Heads
+pub mod Parts
+pub mod Spelling
+pub mod Front
+pub mod Matching
+pub mod Trying
+pub mod Forms

@@ -1,3 +1,0 @@
-pub mod Scopes
-pub mod Outcomes
-pub mod Mentions

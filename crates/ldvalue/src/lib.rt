@@ -1,7 +1,0 @@
-//! The values of a script's expressions, and the names that they mention.
-#![tactic(auto)]
-
-pub mod mentioned;
-mod operator;
-pub mod scope;
-pub mod value;

@@ -1,0 +1,45 @@
+use Rattle.std.proofs.Common.{◌∙◌, ap, arith, map, sym}
+use Rattle.ldtree.specs.Numbered.{shown_commons}
+use Rattle.ldtree.specs.Numbering.{asserted_in, common_commands}
+use Rattle.ldmodel.specs.Names.{provided}
+use Rattle.ldmodel.specs.Rows.{rows}
+use Rattle.ldtext.specs.Naming.{shown_assertions}
+use Rattle.ldvalues.specs.Values.{shown_symbol}
+use Rattle.ldvalues.specs.FinalScope.{meaning_of}
+use Rattle.ldvalues.specs.declared.final_scope.FinalScope.{FinalScope}
+use Rattle.ldvalues.proofs.Failing.{all_done, one_more}
+use Rattle.ldvalues.proofs.Looking.{scope_is}
+use Rattle.ldvalues.proofs.Regions.{regions_are}
+use Rattle.ldvalues.proofs.asserting.assertion_faults.Goals as goal
+
+pub loop-number-preserved : goal.loop-number-preserved
+loop-number-preserved c =
+    let scope : FinalScope =
+    record { script = c.script-script.result; laid = c.laid.result; symbols = c.of.result } in
+    one_more c.args.project.now (meaning_of scope) c.deref-at-items.result.now c.loop-number.number c.at-item.result
+    c.loop-number.faults.items c.add_unless_holds.new.faults.items
+    (ap shown_assertions c.deref-at-items.ensures.value
+    ∙ (c.in_ok-assertions.ensures
+    ∙ ap asserted_in (ap shown_commons c.deref.ensures.value
+    ∙ (c.in_ok-commands.ensures ∙ ap common_commands c.script-script.ensures))))
+    (omega (arith, c.loop-number-test.true)) (sym c.at-item.is) c.in_ok-add_unless_holds.ensures c.loop-number.invariant
+
+pub returns : goal.returns
+returns c =
+    λ s a laying values.
+    let scope : FinalScope =
+    record { script = c.script-script.result; laid = c.laid.result; symbols = c.of.result } in
+    all_done c.args.project.now s (meaning_of scope) c.deref-at-items.result.now c.loop-number.number
+    c.loop-number.faults.items
+    (ap shown_assertions c.deref-at-items.ensures.value
+    ∙ (c.in_ok-assertions.ensures
+    ∙ ap asserted_in (ap shown_commons c.deref.ensures.value
+    ∙ (c.in_ok-commands.ensures ∙ ap common_commands c.script-script.ensures))))
+    (omega (arith, c.loop-number-test.false))
+    (scope_is c.args.project.now s scope c.script-script.ensures
+    (c.laid.ensures.laid c.args.project.now.script s laying.places)
+    (ap (map shown_symbol) (c.of.ensures ∙ c.deref-2.ensures.value) ∙ values.symbols)
+    (c.outputs_are_of_script.ensures c.args.project.now (rows c.args.project.now) (provided c.args.project.now) s
+    laying.placed)
+    (regions_are c.args.project.now.script (rows c.args.project.now) (provided c.args.project.now) s laying.placed))
+    c.loop-number.invariant

@@ -1,0 +1,6 @@
+-- The law is `outputs_are`.
+use Rattle.place.proofs.MeetingOutputs.{outputs_are}
+use Rattle.place.proofs.law.outputs_are_of_script.Goals as goal
+
+pub returns : goal.returns
+returns c = outputs_are

@@ -1,0 +1,124 @@
+//! Output sections.
+
+use crate::why::reason::Stop;
+use crate::why::walk::{Use, Walk};
+use ldtokens::token::{Mark, Mode, TokenKind};
+
+/// Whether a number is spelled as a fill: `0x` and an even number of 2 to 16 hexadecimal digits.
+fn is_fill(spelled: &[u8]) -> bool {
+    match spelled.strip_prefix(b"0x") {
+        Some(digits) => {
+            let count = digits.len();
+            (2..=16).contains(&count)
+                && count % 2 == 0
+                && digits.iter().all(|b| b.is_ascii_hexdigit())
+        }
+        None => false,
+    }
+}
+
+impl<'a> Walk<'a> {
+    /// Whether `/DISCARD/` comes next.
+    pub fn is_discard(&self) -> bool {
+        match self.tokens.copy().next() {
+            Some((kind, _, _, _)) => kind == TokenKind::Discard,
+            None => false,
+        }
+    }
+
+    /// `/DISCARD/ : {` {input} `}`
+    pub fn pass_discard(&mut self) -> Result<(), Stop> {
+        self.pass_token();
+        self.pass(Mark::Colon, "`:` is expected after /DISCARD/")?;
+        self.pass(Mark::OpenBrace, "`{` is expected after /DISCARD/ :")?;
+        for _ in 0..=self.tokens.len() {
+            if self.passes(Mark::Semicolon) {
+                continue;
+            }
+            if self.passes(Mark::CloseBrace) {
+                break;
+            }
+            self.pass_input()?;
+        }
+        Ok(())
+    }
+
+    /// NAME [e] `:` [`AT (e)`] [`ALIGN (e)`] `{`, and whether `AT` was there
+    fn pass_head(&mut self) -> Result<bool, Stop> {
+        let line = self.tokens.line();
+        let name = self.pass_name(Mode::Expression)?;
+        self.note(Use::Section, name, line)?;
+        if !self.passes(Mark::Colon) {
+            self.pass_ended(
+                Mark::Colon,
+                "`:` is expected here, after the address of an output section",
+            )?;
+        }
+        let has_load = self.passes_key(Mode::Expression, b"AT");
+        if has_load {
+            self.pass_in_parentheses()?;
+        }
+        if self.passes_key(Mode::Expression, b"ALIGN") {
+            self.pass_in_parentheses()?;
+        }
+        self.pass(
+            Mark::OpenBrace,
+            "`{` is expected here; before it may stand AT (e) and then ALIGN (e), and nothing else",
+        )?;
+        Ok(has_load)
+    }
+
+    /// A region after `>`
+    fn pass_region_name(&mut self) -> Result<(), Stop> {
+        let line = self.tokens.line();
+        let name = self.pass_name(Mode::Expression)?;
+        self.note(Use::Used, name, line)
+    }
+
+    /// [`>` NAME] [`AT >` NAME] [`=` fill], of a section whose head had an `AT` or not
+    fn pass_tail(&mut self, has_load: bool) -> Result<(), Stop> {
+        if self.passes(Mark::Greater) {
+            self.pass_region_name()?;
+        }
+        if has_load && self.front_word(Mode::Expression) == Some(b"AT".as_slice()) {
+            return Err(self.wrong("the section has AT (e) in its head already"));
+        }
+        if self.passes_key(Mode::Expression, b"AT") {
+            self.pass(
+                Mark::Greater,
+                "`>` is expected after AT, at the end of an output section",
+            )?;
+            self.pass_region_name()?;
+        }
+        if self.passes(Mark::Assign) {
+            return self.pass_fill();
+        }
+        Ok(())
+    }
+
+    /// The fill after `=`
+    fn pass_fill(&mut self) -> Result<(), Stop> {
+        match self.tokens.copy().number() {
+            Some((spelled, rest)) if is_fill(spelled) => {
+                self.tokens = rest;
+                Ok(())
+            }
+            _ => Err(self.wrong("a fill is `0x` and an even number of 2 to 16 hexadecimal digits")),
+        }
+    }
+
+    /// An output section
+    pub fn pass_section(&mut self) -> Result<(), Stop> {
+        let has_load = self.pass_head()?;
+        for _ in 0..=self.tokens.len() {
+            if self.passes(Mark::Semicolon) {
+                continue;
+            }
+            if self.passes(Mark::CloseBrace) {
+                break;
+            }
+            self.pass_body_statement()?;
+        }
+        self.pass_tail(has_load)
+    }
+}

@@ -1,0 +1,220 @@
+//! The statements of a script.
+
+use crate::why::reason::Stop;
+use crate::why::walk::{Use, Walk};
+use ldscript::tree::Expr;
+use ldtokens::token::{Mark, Mode};
+
+/// What is noted under `ENTRY`, `MEMORY` and `SECTIONS`, which a script has once at most.
+const COMMANDS: [&[u8]; 3] = [b"ENTRY", b"MEMORY", b"SECTIONS"];
+
+/// Whether an expression has `.`, or an `ALIGN` of one argument, which stands for one with `.`.
+pub fn uses_dot(value: &Expr) -> bool {
+    value.has_dot() || value.has_align_dot()
+}
+
+impl<'a> Walk<'a> {
+    /// `ENTRY (NAME)`, after the first word
+    fn pass_entry(&mut self) -> Result<(), Stop> {
+        self.pass(Mark::OpenParenthesis, "`(` is expected after ENTRY")?;
+        self.pass_name(Mode::Expression)?;
+        self.pass(
+            Mark::CloseParenthesis,
+            "`)` is expected after the name of ENTRY",
+        )
+    }
+
+    /// NAME `: ORIGIN =` e `, LENGTH =` e
+    fn pass_region(&mut self) -> Result<(), Stop> {
+        let line = self.tokens.line();
+        let name = self.pass_name(Mode::Expression)?;
+        self.pass(
+            Mark::Colon,
+            "`:` is expected after the name of a memory region (attributes are not taken)",
+        )?;
+        if !self.passes_key(Mode::Expression, b"ORIGIN") {
+            return Err(self.wrong("ORIGIN is expected here (`org` and `o` are not taken)"));
+        }
+        self.pass(Mark::Assign, "`=` is expected after ORIGIN")?;
+        let origin = self.pass_ended(Mark::Comma, "`,` is expected before LENGTH")?;
+        if !self.passes_key(Mode::Expression, b"LENGTH") {
+            return Err(self.wrong("LENGTH is expected here (`len` and `l` are not taken)"));
+        }
+        self.pass(Mark::Assign, "`=` is expected after LENGTH")?;
+        let extent = self.pass_expression()?;
+        if uses_dot(&origin) || uses_dot(&extent) {
+            self.note_dot(
+                line,
+                "`.`, or ALIGN with one argument, may not stand in MEMORY",
+            );
+        }
+        self.note(Use::Declared, name, line)
+    }
+
+    /// `MEMORY {` {region} `}`, after the first word
+    fn pass_memory(&mut self) -> Result<(), Stop> {
+        self.pass(Mark::OpenBrace, "`{` is expected after MEMORY")?;
+        for _ in 0..=self.tokens.len() {
+            if self.passes(Mark::CloseBrace) {
+                break;
+            }
+            self.pass_region()?;
+        }
+        Ok(())
+    }
+
+    /// `=` e `;`, and in `PROVIDE` `=` e `)`
+    fn pass_value(&mut self, end: Mark, reason: &'static str) -> Result<Expr, Stop> {
+        self.pass(
+            Mark::Assign,
+            "`=` is expected here (of operators only `. +=` has a form of its own)",
+        )?;
+        self.pass_ended(end, reason)
+    }
+
+    /// `PROVIDE (NAME = e)`, after the first word
+    fn pass_provide(&mut self) -> Result<Expr, Stop> {
+        let line = self.tokens.line();
+        self.pass(Mark::OpenParenthesis, "`(` is expected after PROVIDE")?;
+        let name = self.pass_name(Mode::Expression)?;
+        self.note(Use::Symbol, name, line)?;
+        self.pass_value(
+            Mark::CloseParenthesis,
+            "`)` is expected after the expression of PROVIDE",
+        )
+    }
+
+    /// `ASSERT (e, STRING)`, after the first word
+    fn pass_assert(&mut self) -> Result<(), Stop> {
+        let line = self.tokens.line();
+        self.pass(Mark::OpenParenthesis, "`(` is expected after ASSERT")?;
+        let condition = self.pass_ended(
+            Mark::Comma,
+            "`,` is expected after the condition of ASSERT",
+        )?;
+        if uses_dot(&condition) {
+            self.note_dot(
+                line,
+                "`.`, or ALIGN with one argument, may not stand in ASSERT",
+            );
+        }
+        match self.tokens.copy().text_in_quotes() {
+            Some((_, rest)) => self.tokens = rest,
+            None => return Err(self.wrong("a message in double quotes is expected here")),
+        }
+        self.pass(
+            Mark::CloseParenthesis,
+            "`)` is expected after the message of ASSERT",
+        )
+    }
+
+    /// `NAME = e ;`, `PROVIDE` or `ASSERT`: what stands in all places. At the top `.` is misplaced in each of them.
+    pub fn pass_common(&mut self, mode: Mode, is_top: bool) -> Result<(), Stop> {
+        let line = self.tokens.line();
+        if self.passes_key(mode, b"ASSERT") {
+            return self.pass_assert();
+        }
+        let value = if self.passes_key(mode, b"PROVIDE") {
+            self.pass_provide()?
+        } else {
+            let name = self.pass_name(mode)?;
+            self.note(Use::Symbol, name, line)?;
+            self.pass_value(Mark::Semicolon, "`;` is expected after the expression")?
+        };
+        if is_top && uses_dot(&value) {
+            self.note_dot(
+                line,
+                "`.`, or ALIGN with one argument, may not stand outside of SECTIONS",
+            );
+        }
+        Ok(())
+    }
+
+    /// `. = e ;` and `. += e ;`, after the `.`: the number that it is set to, or `None` where it is added.
+    pub fn pass_dot(&mut self) -> Result<Option<Expr>, Stop> {
+        let reason = "`;` is expected after the expression";
+        if self.passes(Mark::AddAssign) {
+            self.pass_ended(Mark::Semicolon, reason)?;
+            return Ok(None);
+        }
+        self.pass(Mark::Assign, "`=` or `+=` is expected after `.`")?;
+        Ok(Some(self.pass_ended(Mark::Semicolon, reason)?))
+    }
+
+    /// A statement of `SECTIONS`
+    fn pass_item(&mut self) -> Result<(), Stop> {
+        if self.passes_key(Mode::Expression, b".") {
+            self.pass_dot()?;
+            return Ok(());
+        }
+        if self.is_discard() {
+            return self.pass_discard();
+        }
+        if self.begins_common() {
+            return self.pass_common(Mode::Expression, false);
+        }
+        self.pass_section()
+    }
+
+    /// Whether an assignment, `PROVIDE` or `ASSERT` comes next.
+    fn begins_common(&self) -> bool {
+        match self.tokens.copy().name() {
+            Some((word, rest)) => {
+                word == b"PROVIDE".as_slice()
+                    || word == b"ASSERT".as_slice()
+                    || rest.mark(Mark::Assign).is_some()
+            }
+            None => false,
+        }
+    }
+
+    /// `SECTIONS {` {item} `}`, after the first word
+    fn pass_sections(&mut self) -> Result<(), Stop> {
+        self.pass(Mark::OpenBrace, "`{` is expected after SECTIONS")?;
+        for _ in 0..=self.tokens.len() {
+            if self.passes(Mark::Semicolon) {
+                continue;
+            }
+            if self.passes(Mark::CloseBrace) {
+                break;
+            }
+            self.pass_item()?;
+        }
+        Ok(())
+    }
+
+    /// A statement of the script
+    fn pass_statement(&mut self) -> Result<(), Stop> {
+        let line = self.tokens.line();
+        for command in COMMANDS {
+            if self.passes_key(Mode::Expression, command) {
+                self.note(Use::Command, command, line)?;
+                return match command {
+                    b"ENTRY" => self.pass_entry(),
+                    b"MEMORY" => self.pass_memory(),
+                    _ => self.pass_sections(),
+                };
+            }
+        }
+        if self.front_word(Mode::Expression).is_none() {
+            return Err(self.wrong(
+                "no statement begins so; there are ENTRY, MEMORY, SECTIONS, NAME = e, PROVIDE and ASSERT",
+            ));
+        }
+        self.pass_common(Mode::Expression, true)
+    }
+
+    /// All statements.
+    pub fn pass_script(&mut self) -> Result<(), Stop> {
+        for _ in 0..=self.tokens.len() {
+            if self.passes(Mark::Semicolon) {
+                continue;
+            }
+            if self.tokens.is_empty() {
+                break;
+            }
+            self.pass_statement()?;
+        }
+        Ok(())
+    }
+}

@@ -1,9 +1,0 @@
-use Rattle.std.proofs.Common.{List, sym, subst}
-use Rattle.ldnames.specs.declared.keyed.Keyed.{Keyed}
-use Rattle.ldproject.specs.Listing.{AreKeysDistinct}
-use Rattle.trytables.specs.Lists.{keys_in}
-use Rattle.trytables.proofs.lists.trial.Choices.add.Goals as goal
-
-pub added-requires : goal.added-requires
-added-requires c =
-    subst (λ (l : List Keyed). AreKeysDistinct (keys_in l)) (sym c.objects-objects.ensures) c.requires.apart
