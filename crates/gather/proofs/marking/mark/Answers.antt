@@ -5,7 +5,7 @@ use Rattle.ldmodel.specs.Project.{Project}
 use Rattle.gather.specs.Graphs.{Graph, IsLive, IsMarked, graph_of}
 use Rattle.gather.specs.LiveMarks.{IsGraphOf, marked}
 use Rattle.gather.proofs.LivePaths.{if_ok_two, marked_live}
-use Rattle.gather.proofs.marking.mark_reached.Goals as goal
+use Rattle.gather.proofs.marking.mark.Goals as goal
 
 pub returns-clause-live : goal.returns-clause-live
 returns-clause-live g c =
