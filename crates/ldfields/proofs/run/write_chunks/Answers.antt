@@ -6,7 +6,7 @@ use Rattle.ldbase.specs.Counts.{Counts}
 use Rattle.ldbase.specs.Raised.{raised}
 use Rattle.ldbase.specs.declared.meter.Count.TheVariants.{Bytes}
 use Rattle.ldfields.proofs.Runs.{raised_more, run_byte}
-use Rattle.ldfields.proofs.run.write_run.Goals as goal
+use Rattle.ldfields.proofs.run.write_chunks.Goals as goal
 
 pub loop-k-preserved : goal.loop-k-preserved
 loop-k-preserved c =
