@@ -14,3 +14,4 @@ pub mod EntryTests
 pub mod FieldMarks
 pub mod FieldsBelow
 pub mod Placed
+pub mod OrderedTables

@@ -6,6 +6,7 @@ pub mod field;
 mod field_marks;
 mod linked;
 pub mod object;
+mod ordered_table;
 mod place;
 pub mod refusal;
 pub mod relocation;
