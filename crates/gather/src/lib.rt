@@ -5,8 +5,7 @@
 //! - `member`, `members`, `gathered`, `blocks`, `cases`: the input sections, common blocks among them; `left_out`;
 //! - `roots`, `marking`, `references`, and of a project `live`, `referring`, `targets`, `numbers`: which sections are
 //!   live;
-//! - `rows`, `sorting`, `live_sections`: rows and orphans; `gathering`: all of it, for a project; `law`: paths and
-//!   marks.
+//! - `rows`, `sorting`, `live_sections`: rows and orphans; `gathering`: all of it, for a project; `law`.
 #![tactic(auto)]
 
 mod blocks;
