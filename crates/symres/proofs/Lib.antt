@@ -10,6 +10,7 @@ pub mod Placing
 pub mod Pairs
 pub mod Forgetting
 pub mod Cutting
+pub mod Filed
 pub mod Parked
 pub mod Spelling
 pub mod Repeating
