@@ -14,6 +14,7 @@ pub mod Filed
 pub mod Parked
 pub mod Spelling
 pub mod Repeating
+pub mod Seen
 pub mod Ready
 pub mod Joined
 pub mod Ordered
