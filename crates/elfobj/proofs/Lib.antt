@@ -15,3 +15,4 @@ pub mod FieldMarks
 pub mod FieldsBelow
 pub mod Placed
 pub mod OrderedTables
+pub mod PassingSymbols

@@ -18,3 +18,4 @@ mod section_table;
 pub mod span;
 pub mod symbol;
 mod symbol_table;
+mod symbols;
