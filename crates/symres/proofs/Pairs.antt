@@ -1,10 +1,11 @@
 use Rattle.std.proofs.Common.{◌≡◌, ◌≢◌, ℕ, Bool, true, false, cond, get_or, Vec, Global, List, [], ◌∷◌, ◌++◌, map, refl}
 use Rattle.std.proofs.Common.{ap, sym, ◌∙◌, subst, ⊎_elim, Option, Some, None}
-use Rattle.std.specs.Prelude.{bytes_eq, MatchOption}
+use Rattle.std.specs.Prelude.{bytes_eq, MatchOption, slice_get}
 use Rattle.std.specs.List.{All}
 use Rattle.std.specs.Map.{lookup}
 use Rattle.std.proofs.Math.ListN.{get_or-map}
 use Rattle.std.proofs.lemmas.Bool.{cases_eq}
+use Rattle.std.proofs.lemmas.Option.{get_or_from_slice_get, slice_get_within}
 use Rattle.std.proofs.lemmas.Slice.Eq.{bytes_eq-Decides}
 use Rattle.std.proofs.lemmas.List.Elements.{All-append, All-cons, All-nil, All-head, All-tail}
 use Rattle.symres.specs.Known.{KnownNames, spelled, entry_spelled, IsSpelled, number_in, IsPaired, IsConsistent}
@@ -122,6 +123,15 @@ distinct_law es slots p = λ m n name h k.
     let a = p.complete m name (sym (slot_spelled slots m) ∙ h) in
     let b = p.complete n name (sym (slot_spelled slots n) ∙ k) in
     cc
+
+-- an entry's number has its name
+pub entry_named : (es : List (Vec ℕ Global × ℕ)) (slots : List (Option (Vec ℕ Global))) (p : ℕ) (k : Vec ℕ Global)
+    (n : ℕ) → IsPaired es slots → slice_get es p ≡ Some (k, n) → slot (map spelled slots) n ≡ Some k.items
+entry_named es slots p k n paired e =
+    let at : get_or es p (k, n) ≡ (k, n) = get_or_from_slice_get es p (k, n) (k, n) e in
+    slot_spelled slots n
+    ∙ subst (λ (x : Vec ℕ Global × ℕ). spelled (get_or slots x.1 None) ≡ Some x.0.items) at
+    (paired.sound p (k, n) (slice_get_within es p (k, n) e))
 
 number_mapped : (name : List ℕ) (es : List (Vec ℕ Global × ℕ))
     → lookup (λ (x : List ℕ). bytes_eq name x) (map entry_spelled es) ≡ number_in name es

@@ -1,6 +1,6 @@
 //! Numbers of names. A name keeps its number until it is forgotten.
 
-ghost use Rattle.std.specs.Prelude.{◌≡◌, ◌≢◌, ◌==◌, ℕ, List, [], IfOk, Some, None, MatchOption, OnOk, length, take};
+ghost use Rattle.std.specs.Prelude.{◌≡◌, ◌≢◌, ◌==◌, ℕ, List, [], IfOk, IfSome, Some, None, MatchOption, OnOk, length, take};
 ghost use Rattle.std.specs.Prelude.{map, filter, is_some, if◌then◌else◌, nat_lt, OnErr, ◌<◌, slice_index_or};
 ghost use Rattle.slab.specs.Slab.{ContainsKey, get, Updates};
 ghost use Rattle.symres.specs.Known.{AddsNames, AreApart, entry_spelled, Files, HaveSlots, IsConsistent, IsKeptWhere};
@@ -143,6 +143,37 @@ impl Known {
             Some(number) => Ok(number),
             None => self.insert(name),
         }
+    }
+
+    /// The number of a name, if it is the one that stands at a place in the list of names.
+    fn number_if(&self, place: usize, name: &[u8]) -> Option<usize>
+        ensures { IfSome result (λ n. IsNamed self.now.slots n name.now) }
+    {
+        match self.numbers.get_index(place) {
+            Some((key, number)) => {
+                if key.as_slice() == name {
+                    Some(*number)
+                } else {
+                    None
+                }
+            }
+            None => None,
+        }
+    }
+
+    /// The number of a name, which is new where the name was not known. It is not hashed where it stands at this place in
+    /// the list of names.
+    pub fn add_at(&mut self, place: Option<usize>, name: &[u8]) -> Result<usize, AllocError>
+        ensures ok { IfOk result (λ n. IsNamed self.new.slots n name.now) }
+        ensures kept { KeepsNames self.old.slots self.new.slots }
+        ensures added { AddsNames self.old self.new }
+    {
+        if let Some(place) = place {
+            if let Some(number) = self.number_if(place, name) {
+                return Ok(number);
+            }
+        }
+        self.add(name)
     }
 
     /// The number of the name that stands at a place in the list of names.

@@ -8,6 +8,7 @@
 #![tactic(auto)]
 
 mod hashing;
+mod hints;
 mod known;
 pub mod law;
 mod lists;

@@ -13,6 +13,7 @@ ghost use Rattle.symres.specs.Spelled.{AreOf, HasName, is_seen, spell_symbol, Sp
 ghost use Rattle.symres.specs.State.{slot, AreDistinct, HasList, IsNamed, KeepsNames};
 ghost use Rattle.symres.specs.declared.symbol.Numbered.{Numbered};
 
+use crate::hints::Hints;
 use crate::known::Known;
 use crate::repeats::Repeats;
 use crate::symbol::{Numbered, is_visible};
@@ -295,6 +296,13 @@ pub fn number_seen(object: &Object, seen: &[Numbered], list: &mut Vec<Numbered>)
     }
 }
 
+/// Notes the place of the name of a symbol, if it became known after this number of names.
+fn note_new(known: &Known, count: usize, hints: &mut Hints, symbol: usize) {
+    if known.len() > count {
+        hints.note(symbol, count);
+    }
+}
+
 /// The number of the name of a symbol. It becomes known if it isn't.
 fn add_name(
     known: &mut Known,
@@ -302,6 +310,7 @@ fn add_name(
     number: u32,
     list: &[Numbered],
     repeats: &mut Repeats,
+    hints: &mut Hints,
 ) -> Result<usize, AllocError>
     requires within { number < length object.now.symbols }
     requires list { AreOf known.old.slots object.now.symbols list.now }
@@ -313,7 +322,9 @@ fn add_name(
     if let Some(name) = number_noted(object, number, list, repeats) {
         return Ok(name);
     }
-    let name = known.add(object.name_of(SymbolIndex(number)))?;
+    let count = known.len();
+    let name = known.add_at(hints.place(list.len()), object.name_of(SymbolIndex(number)))?;
+    note_new(known, count, hints, list.len());
     repeats.note(object.name_place(SymbolIndex(number)), list.len())?;
     Ok(name)
 }
@@ -325,6 +336,7 @@ fn add_seen(
     number: u32,
     list: &mut Vec<Numbered>,
     repeats: &mut Repeats,
+    hints: &mut Hints,
 ) -> Result<(), AllocError>
     requires within { number < length object.now.symbols }
     requires list { AreOf known.old.slots object.now.symbols list.old.items }
@@ -338,7 +350,7 @@ fn add_seen(
     if !is_visible(&symbol) {
         return Ok(());
     }
-    let name = add_name(known, object, number, list, repeats)?;
+    let name = add_name(known, object, number, list, repeats, hints)?;
     list.push(Numbered {
         name,
         number,
@@ -354,6 +366,7 @@ pub fn number_new(
     object: &Object,
     list: &mut Vec<Numbered>,
     repeats: &mut Repeats,
+    hints: &mut Hints,
 ) -> Result<(), AllocError>
     requires { list.old.items ≡ [] }
     ensures spelled { OnOk result (SpellsSeen known.new.slots list.new.items object.now.symbols) }
@@ -361,8 +374,9 @@ pub fn number_new(
     ensures added { AddsNames known.old known.new }
 {
     repeats.start(object.symbols().len());
+    hints.look_up(object)?;
     for number in 0..object.symbols().len() {
-        add_seen(known, object, number as u32, list, repeats)?;
+        add_seen(known, object, number as u32, list, repeats, hints)?;
     }
     Ok(())
 }

@@ -23,6 +23,7 @@ ghost use Rattle.symres.specs.State.{without};
 ghost use Rattle.symres.specs.declared.symbol.Numbered.{Numbered};
 ghost use Rattle.symres.specs.Tally.{declaration_of};
 
+use crate::hints::Hints;
 use crate::known::Known;
 use crate::lists::{number_all, number_new, number_seen, park, take_list};
 use crate::objects::Objects;
@@ -74,6 +75,7 @@ pub struct Names {
     guesses: Vec<Numbered>,
     // the places in `guesses` of symbols with long names
     repeats: Repeats,
+    hints: Hints,
 }
 
 impl Model for Names {
@@ -119,6 +121,7 @@ fn make_ready(
     object: &Object,
     list: &mut Vec<Numbered>,
     repeats: &mut Repeats,
+    hints: &mut Hints,
 ) -> Result<(), NoMemory>
     ensures kept { KeepsNames known.old.slots known.new.slots }
     ensures added { AddsNames known.old known.new }
@@ -128,7 +131,7 @@ fn make_ready(
 {
     list.clear();
     list.reserve(object.symbols().len())?;
-    number_new(known, object, list, repeats)?;
+    number_new(known, object, list, repeats, hints)?;
     grow_rows(objects, list)?;
     objects.reserve(list)
 }
@@ -141,6 +144,7 @@ fn make_ready_or_not(
     object: &Object,
     list: &mut Vec<Numbered>,
     repeats: &mut Repeats,
+    hints: &mut Hints,
 ) -> Result<(), NoMemory>
     ensures kept { KeepsNames known.old.slots known.new.slots }
     ensures refused { OnErr result (SameNames known.old.slots known.new.slots) }
@@ -151,7 +155,7 @@ fn make_ready_or_not(
     ensures seen { OnOk result (SpellsSeen known.new.slots list.new.items object.now.symbols) }
 {
     let count = known.len();
-    match make_ready(known, objects, object, list, repeats) {
+    match make_ready(known, objects, object, list, repeats, hints) {
         Ok(()) => Ok(()),
         Err(refused) => {
             known.drop_newer(count);
@@ -169,6 +173,7 @@ fn reserve_fields(
     object: &Object,
     list: &mut Vec<Numbered>,
     repeats: &mut Repeats,
+    hints: &mut Hints,
 ) -> Result<(), NoMemory>
     requires { vec_len spare.old + length objects.old.objects ≤ vec_capacity spare.old }
     ensures kept { KeepsNames known.old.slots known.new.slots }
@@ -183,7 +188,7 @@ fn reserve_fields(
     ensures list { OnOk result (HasList (rooms spare.new.items) (length object.now.symbols)) }
 {
     park(spare, object.symbols().len(), objects.len())?;
-    make_ready_or_not(known, objects, object, list, repeats)
+    make_ready_or_not(known, objects, object, list, repeats, hints)
 }
 
 impl Names {
@@ -198,6 +203,7 @@ impl Names {
             spare: Vec::new(alloc),
             guesses: Vec::new(alloc),
             repeats: Repeats::new(alloc),
+            hints: Hints::new(alloc),
         }
     }
 
@@ -304,6 +310,7 @@ impl Names {
         ensures same { self.new ≡ record self.old { order = self.new.order } }
         ensures refused { OnErr result (self.new ≡ self.old) }
     {
+        self.hints.clear();
         self.known.sort()
     }
 
@@ -374,6 +381,7 @@ impl Names {
             object,
             &mut self.guesses,
             &mut self.repeats,
+            &mut self.hints,
         );
         let _known = self.known.len();
         reserved
@@ -414,6 +422,7 @@ impl Names {
             object,
             &mut self.guesses,
             &mut self.repeats,
+            &mut self.hints,
         )?;
         let _known = self.known.len();
         let mut list = take_list(&mut self.spare, object.symbols().len());
@@ -444,6 +453,7 @@ impl Names {
         ensures { Forgets self.old self.new }
     {
         let _known = self.known.len();
+        self.hints.clear();
         self.known.forget_unused(&self.objects);
     }
 }

@@ -1,0 +1,207 @@
+//! Where names are likely to stand in the list of names. Whoever asks compares the name: nothing here is relied on.
+
+ghost use Rattle.std.specs.Prelude.{◌+◌, ◌≤◌, length};
+
+use crate::symbol::is_visible;
+use elfobj::object::Object;
+use elfobj::relocation::SymbolIndex;
+use std::alloc::{AllocError, Global};
+
+/// The hash of a name, and one more than its place in the list of names; 0 where no place is known.
+#[derive(Clone, Copy)]
+struct Hint {
+    hash: u32,
+    place: u32,
+}
+
+const NO_HINT: Hint = Hint { hash: 0, place: 0 };
+
+/// As many hints as lie in what a processor fetches from memory at once.
+type Line = [Hint; 8];
+
+/// How many lines there are at first.
+const FIRST_LINES: usize = 16;
+
+/// From how many bytes on a name is hashed by its first and its last bytes alone, and by how many of each.
+const LONG: usize = 64;
+
+const END: usize = 32;
+
+/// The places of names by their hashes. All names of an object are looked up together, so that a processor waits for
+/// the memory of many at once. The hash is quick and anyone can find names that share one: such names are found
+/// elsewhere.
+#[derive(Drop)]
+pub struct Hints {
+    // a power of two, or none
+    lines: Vec<Line>,
+    count: usize,
+    // the hints for the symbols that others see of the object that was looked up last
+    found: Vec<Hint>,
+}
+
+fn word_at(name: &[u8], at: usize) -> u64
+    requires { at + 8 ≤ length name.now }
+{
+    u64::from_le_bytes([
+        name[at],
+        name[at + 1],
+        name[at + 2],
+        name[at + 3],
+        name[at + 4],
+        name[at + 5],
+        name[at + 6],
+        name[at + 7],
+    ])
+}
+
+fn mixed(hash: u64, word: u64) -> u64 {
+    (hash.rotate_left(26) ^ word).wrapping_mul(0x9E37_79B9_7F4A_7C15)
+}
+
+fn add_bytes(hash: u64, bytes: &[u8]) -> u64 {
+    let count = bytes.len() / 8;
+    let mut sum = hash;
+    for word in 0..count {
+        sum = mixed(sum, word_at(bytes, word * 8));
+    }
+    let mut last = 0;
+    for byte in &bytes[count * 8..] {
+        last = last << 8 | *byte as u64;
+    }
+    mixed(sum, last)
+}
+
+fn hash_of(name: &[u8]) -> u32 {
+    let length = name.len();
+    let sum = if length < LONG {
+        add_bytes(length as u64, name)
+    } else {
+        add_bytes(
+            add_bytes(length as u64, &name[..END]),
+            &name[length - END..],
+        )
+    };
+    (sum >> 32) as u32
+}
+
+/// The place for a hash, from 1, or 0 if there is none.
+fn place_in(lines: &[Line], hash: u32) -> u32 {
+    match lines.get(line_of(lines.len(), hash)) {
+        Some(line) => place_on(line, hash),
+        None => 0,
+    }
+}
+
+fn line_of(count: usize, hash: u32) -> usize {
+    hash as usize & count.saturating_sub(1)
+}
+
+fn place_on(line: &Line, hash: u32) -> u32 {
+    for hint in line.iter() {
+        if hint.hash == hash {
+            return hint.place;
+        }
+    }
+    0
+}
+
+/// Puts a hint onto a line. It is lost if the line is full.
+fn put_on(line: &mut Line, hint: Hint) {
+    for slot in line.iter_mut() {
+        if slot.place == 0 {
+            *slot = hint;
+            return;
+        }
+    }
+}
+
+fn put_in(lines: &mut [Line], hint: Hint) {
+    let at = line_of(lines.len(), hint.hash);
+    if at < lines.len() {
+        put_on(&mut lines[at], hint);
+    }
+}
+
+/// Twice as many lines with the same hints.
+fn doubled(alloc: Global, lines: &[Line]) -> Result<Vec<Line>, AllocError> {
+    let count = lines.len().saturating_mul(2).max(FIRST_LINES);
+    let mut more = Vec::with_capacity(alloc, count)?;
+    more.resize(count, [NO_HINT; 8])?;
+    for line in lines {
+        for hint in line.iter() {
+            put_in(&mut more, *hint);
+        }
+    }
+    Ok(more)
+}
+
+impl Hints {
+    pub fn new(alloc: Global) -> Hints {
+        Hints {
+            lines: Vec::new(alloc),
+            count: 0,
+            found: Vec::new(alloc),
+        }
+    }
+
+    /// Looks up the names of all symbols of an object that others see.
+    pub fn look_up(&mut self, object: &Object) -> Result<(), AllocError> {
+        self.found.clear();
+        self.found.reserve(object.symbols().len())?;
+        for number in 0..object.symbols().len() {
+            if is_visible(&object.symbols()[number]) {
+                let hash = hash_of(object.name_of(SymbolIndex(number as u32)));
+                self.found.push(Hint { hash, place: 0 })?;
+            }
+        }
+        for hint in self.found.iter_mut() {
+            hint.place = place_in(&self.lines, hint.hash);
+        }
+        Ok(())
+    }
+
+    /// The likely place of the name of a symbol, by how many symbols of its object that others see stand before it.
+    pub fn place(&self, symbol: usize) -> Option<usize> {
+        match self.found.get(symbol) {
+            Some(hint) if hint.place > 0 => Some(hint.place as usize - 1),
+            _ => None,
+        }
+    }
+
+    /// Notes the place of the name of a symbol. If there is no memory for it, or no room near its hash, it is lost.
+    pub fn note(&mut self, symbol: usize, place: usize) {
+        let hash = match self.found.get(symbol) {
+            Some(hint) => hint.hash,
+            None => return,
+        };
+        if place >= u32::MAX as usize {
+            return;
+        }
+        self.make_room();
+        put_in(
+            &mut self.lines,
+            Hint {
+                hash,
+                place: place as u32 + 1,
+            },
+        );
+        self.count = self.count.saturating_add(1);
+    }
+
+    /// Forgets all places.
+    pub fn clear(&mut self) {
+        self.lines.clear();
+        self.count = 0;
+    }
+
+    /// Keeps half of the room free, if there is memory for it.
+    fn make_room(&mut self) {
+        if self.count < self.lines.len().saturating_mul(4) {
+            return;
+        }
+        match doubled(*self.lines.allocator(), &self.lines) {
+            Ok(more) => self.lines = more,
+            Err(_refused) => {}
+        }
+    }
+}
