@@ -109,8 +109,8 @@ impl SymbolEntry {
             || self.is_wrong_common()
     }
 
-    /// Where the name lies in the file, if the entry is within the profile in an object of this number of section headers,
-    /// with the string table of this header. A local entry has an empty name. Each call looks through the name.
+    /// Where the name lies in the file, if the entry is within the profile in an object of this number of section
+    /// headers, with the string table of this header. A local entry has an empty name. Each call looks through the name.
     pub fn looked_name(&self, sections: u16, file: &[u8], strings: &SectionHeader) -> Option<Span>
         requires { strings.now.sh_offset + strings.now.sh_size ≤ length file.now }
         ensures right { IfSome result (λ s. is_wrong_symbol sections (file_bytes file.now strings.now) self.now ≡ false) }

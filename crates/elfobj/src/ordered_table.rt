@@ -27,6 +27,7 @@ fn entry_count(tables: &[SectionTable]) -> usize {
 
 /// Appends the relocations of a table. It stops, and answers no, at an entry that is outside the profile or whose field
 /// begins before the end of the one before it.
+#[inline(never)]
 fn push_ordered(
     bytes: &[u8],
     table: &SectionTable,

@@ -223,8 +223,10 @@ fn is_any_overlap(alloc: Global, relocations: &Relocations, size: usize) -> Resu
     is_any_shared(alloc, &relocations.all, &spans, size)
 }
 
-/// Reads the relocations of these tables, whatever order their fields have, or tells why they are refused. All entries are
-/// tested before any is kept.
+/// Reads the relocations of these tables, whatever order their fields have, or tells why they are refused. All entries
+/// are tested before any is kept.
+#[cold]
+#[inline(never)]
 fn read_tested(
     alloc: Global,
     bytes: &[u8],

@@ -178,6 +178,8 @@ fn symbol_names<'a>(
 
 /// Reads the symbols of a table whose header has passed its tests, or tells why they are refused. The table of the
 /// sections' names serves for the symbols too, if it is theirs.
+#[cold]
+#[inline(never)]
 fn read_tested<'a>(
     alloc: Global,
     bytes: &'a [u8],

@@ -59,6 +59,7 @@ impl Symbols {
 
 /// The symbols of a table with names in this string table, if all entries are within the profile, and their names are
 /// together no longer than the file.
+#[inline(never)]
 pub fn read_passing(
     alloc: Global,
     bytes: &[u8],

@@ -4,7 +4,7 @@ use ldmodel::edit::MAX_PAYLOAD;
 use relink::file::ObjectFile;
 use std::fs::{File, OpenOptions};
 use std::io;
-use std::io::{Read, Write};
+use std::io::{ErrorKind, Read, Write};
 use std::os::unix::fs::OpenOptionsExt;
 
 /// The permission bits of an image that is made: all may read and run it. The system takes away the bits of the umask,
@@ -17,20 +17,39 @@ pub const MAP_MODE: u32 = 0o644;
 /// long is seen to be, and one without an end is not read for ever.
 const MOST: usize = MAX_PAYLOAD + 1;
 
-/// The bytes of a file, in a buffer that is one byte longer, so that the read which finds the end needs no larger one.
+/// The first bytes of a file, as many as one read gives into this buffer; none where a signal interrupts it.
+fn read_once(file: &mut File, buffer: &mut Vec<u8>) -> io::Result<()> {
+    match file.read(buffer) {
+        Ok(count) => {
+            buffer.truncate(count);
+            Ok(())
+        }
+        Err(error) if error.kind() == ErrorKind::Interrupted => {
+            buffer.clear();
+            Ok(())
+        }
+        Err(error) => Err(error),
+    }
+}
+
+/// The bytes of a file. A read that has room for more than the size that the system tells and gives just that many has
+/// met the end, so that most files take one.
 ///
 /// # Errors
 ///
 /// Where the file can't be read; of kind `OutOfMemory` where memory runs out.
 pub fn read_file(rt: &HostRuntime, name: &str) -> io::Result<Vec<u8>> {
-    let file = File::open(rt, name)?;
-    let size = file.metadata()?.len();
-    let room = usize::try_from(size)
-        .unwrap_or(MOST)
-        .min(MOST)
-        .saturating_add(1);
-    let mut bytes = Vec::with_capacity(rt.alloc(), room)?;
-    file.take(MOST as u64).read_to_end(&mut bytes)?;
+    let mut file = File::open(rt, name)?;
+    let size = usize::try_from(file.metadata()?.len()).unwrap_or(MOST);
+    let room = size.saturating_add(1).min(MOST);
+    let mut bytes = vec![in rt.alloc(); 0; room]?;
+    read_once(&mut file, &mut bytes)?;
+    let count = bytes.len();
+    if count == size && count < room {
+        return Ok(bytes);
+    }
+    file.take(MOST.saturating_sub(count) as u64)
+        .read_to_end(&mut bytes)?;
     Ok(bytes)
 }
 
