@@ -37,7 +37,7 @@ fmt: ## lays out the files of every crate, and prints those that changed, and wh
 examples: ## builds the examples with gcc and ldi, checks them by readelf, runs linux, boots kernel if QEMU is there
 	@tools/examples
 
-bench: ## measures links, sessions and the layers whose programs are built
+bench: ## measures links, sessions, the readers, and how the time grows with the shape of a project
 	@tools/bench
 
 check-real: ## compares the object reader with readelf on objects of gcc

@@ -3,12 +3,13 @@
     tools/model-rows             runs them and prints how many cases agree
     tools/model-rows FOLDER      also stores each stream with its answers there
 """
+import itertools
 import os
 import subprocess
 import sys
 import tempfile
 
-from . import choices, elf, image_rows, objects, patterns, relocation, rows
+from . import choices, edge_rows, elf, image_rows, objects, patterns, relocation, rows
 from .build import DATA, Rel, Sec, Sym, build, changed, object_a, object_b
 from .edits import Options
 from .rows import (FAULTS, IMAGE, MAP, Result, Row, add, at, has_lines, lacks, length, linked, move, refused, remove,
@@ -477,12 +478,12 @@ def program_cases(result):
 
 
 def main(folders):
-    """Runs all rows and cases; stores the streams where folders are given."""
+    """Runs all rows, also those for edges, and all cases; stores the streams where folders are given."""
     sys.setrecursionlimit(10_000)
     result, count = Result(), 0
     for folder in folders:
         os.makedirs(folder, exist_ok=True)
-    for row in rows_with_images():
+    for row in itertools.chain(rows_with_images(), edge_rows.all_rows()):
         rows.run(row, result)
         for folder in folders:
             if len(rows.stream(row)) < 2 ** 21:

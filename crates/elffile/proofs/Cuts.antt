@@ -17,7 +17,7 @@ cut_cut bytes off size at n h =
     ∙ ap (λ k. take k (drop (off + at) bytes)) f
 
 -- the name in a table that is part of a file, as part of the file
-name_cut : (bytes : List ℕ) (off size at n : ℕ) → at + n ≤ length (slice_range bytes off (off + size))
+pub name_cut : (bytes : List ℕ) (off size at n : ℕ) → at + n ≤ length (slice_range bytes off (off + size))
     → string_at (slice_range bytes off (off + size)) at ≡ Some (take n (drop at (slice_range bytes off (off + size))))
     → slice_range bytes (off + at) (off + at + n) ≡ unwrap_or (string_at (slice_range bytes off (off + size)) at) []
 name_cut bytes off size at n h e =

@@ -1,3 +1,4 @@
 pub mod Headers
 pub mod Cuts
 pub mod StringTables
+pub mod Stops

@@ -1,7 +1,11 @@
-//! The words of the object reader: the standards' numbers under their names, and sections, symbols, relocations and
-//! refusals as callers see them.
-//! An object as a file: its ELF header, section headers, names and entries as they stand there, and the tests of one of
-//! them by itself. What the bytes of an object mean is defined here, and when they are refused.
+//! An object as a file: what its bytes mean, when they are refused, and the tests of one record by itself. Takes slices
+//! of the file; gives records of numbers, stretches of the file, and refusals. `elfobj` reads whole objects with it.
+//!
+//! - `constants`, `numbers`: the standards' numbers under their names (once more in `law`), and numbers in bytes;
+//! - `section`, `symbol`, `relocation`, `refusal`: types of sections, symbols and relocations, and refusals, for
+//!   callers;
+//! - `elf_header`, `section_header`, `symbol_entry`, `relocation_entry`: each record and its tests;
+//! - `names`, `span`: names in string tables, and stretches of the file.
 #![tactic(auto)]
 
 pub mod constants;

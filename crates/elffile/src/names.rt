@@ -1,10 +1,12 @@
 //! Names in a string table (gABI, "String Table": a string runs to the next zero byte).
 
-ghost use Rattle.std.specs.Prelude.{◌≡◌, ◌≤◌, ◌+◌, IfOk, IfSome, Some, [], drop, false, is_some, length, take, true, unwrap_or};
+ghost use Rattle.std.specs.Prelude.{◌≡◌, ◌≤◌, ◌+◌, IfOk, IfSome, Some, [], drop, false, is_some, length, not, take, true, unwrap_or};
 ghost use Rattle.std.specs.Option.{option_map_or};
 ghost use Rattle.std.proofs.Props.{props};
 ghost use Rattle.elffile.specs.NameLengths.{first_length, length_before, name_lengths};
-ghost use Rattle.elffile.specs.Names.{is_graphic};
+ghost use Rattle.elffile.specs.Names.{is_graphic, is_name, string_at};
+ghost use Rattle.elffile.specs.Spans.{IsInside, bytes_at};
+ghost use Rattle.std.specs.List.{position};
 ghost use Rattle.elffile.specs.SectionHeaders.{file_bytes};
 
 use crate::constants::MAX_NAME_LENGTH;
@@ -62,10 +64,54 @@ fn name_lengths(alloc: Global, table: &[u8]) -> Result<Vec<u16>, AllocError>
     Ok(lengths)
 }
 
+/// The place of the first byte that may not stand in a name.
+fn first_stop(bytes: &[u8]) -> Option<usize>
+    ensures { result ≡ position (λ b. not (is_graphic b)) bytes.now }
+{
+    bytes.iter().position(|b| !is_graphic(*b))
+}
+
+/// The length of the name that begins at this offset of a table, where it ends inside the table and is within the
+/// limits.
+fn looked_length(table: &[u8], at: usize) -> Option<usize>
+    ensures within { IfSome result (λ n. at + n ≤ length table.now) }
+    ensures name { IfSome result (λ n. string_at table.now at ≡ Some (take n (drop at table.now))) }
+    ensures limits { IfSome result (λ n. option_map_or is_name (string_at table.now at) false ≡ true) }
+{
+    if at >= table.len() {
+        return None;
+    }
+    let rest = &table[at..];
+    let Some(length) = first_stop(rest) else {
+        return None;
+    };
+    if rest[length] != 0 || length == 0 || length > usize::from(MAX_NAME_LENGTH) {
+        return None;
+    }
+    Some(length)
+}
+
+/// Where in the file the name lies that begins at this offset of the string table of a header, where it ends inside the
+/// table and is within the limits. Each call looks through the name: where many names may share their bytes, a
+/// `StringTable` is to be made.
+pub fn looked_name(file: &[u8], header: &SectionHeader, at: u32) -> Option<Span>
+    requires { header.now.sh_offset + header.now.sh_size ≤ length file.now }
+    ensures within { IfSome result (IsInside (length file.now)) }
+    ensures name { IfSome result (λ s. bytes_at file.now s ≡ unwrap_or (string_at (file_bytes file.now header.now) at) []) }
+    ensures limits { IfSome result (λ s. option_map_or is_name (string_at (file_bytes file.now header.now) at) false ≡ true) }
+{
+    let Some(length) = looked_length(header.file_bytes(file), at as usize) else {
+        return None;
+    };
+    let start = header.sh_offset as usize + at as usize;
+    Some(Span {
+        start,
+        end: start + length,
+    })
+}
+
 impl<'a> StringTable<'a> {
-    ghost use Rattle.elffile.specs.Names.{is_name, string_at};
     ghost use Rattle.elffile.specs.TableOf.{table_of};
-    ghost use Rattle.elffile.specs.Spans.{IsInside, bytes_at};
 
     /// Looks once through the string table of this header.
     pub fn of_header(

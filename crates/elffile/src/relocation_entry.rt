@@ -1,6 +1,6 @@
 //! Entries of a relocation section as they stand in the file (gABI, `Elf64_Rela`: 24 bytes each).
 
-ghost use Rattle.std.specs.Prelude.{◌≡◌, ◌≤◌, ◌+◌, length};
+ghost use Rattle.std.specs.Prelude.{◌≡◌, ◌≤◌, ◌+◌, IfSome, false, length};
 ghost use Rattle.elffile.specs.RelocationEntries.{relocation_entry_at};
 
 use crate::numbers::{read_i64, read_u64};
@@ -46,6 +46,26 @@ impl RelocationEntry {
         ensures { result ≡ is_strange_type self.now }
     {
         RelocationKind::of_type(self.type_number()).is_none()
+    }
+
+    /// The relocation as callers see it, if its symbol is one of this number of symbols and its type is of the profile.
+    #[tactic(auto, unfolding(crate::specs::Relocations::relocation_of))]
+    pub fn relocation_among(&self, symbols: usize) -> Option<Relocation>
+        ensures value { IfSome result (λ r. r ≡ relocation_of self.now) }
+        ensures symbol { IfSome result (λ r. names_no_symbol symbols self.now ≡ false) }
+        ensures kind { IfSome result (λ r. is_strange_type self.now ≡ false) }
+    {
+        if self.names_no_symbol(symbols) {
+            return None;
+        }
+        let kind = RelocationKind::of_type(self.type_number())?;
+        let addend = self.r_addend;
+        Some(Relocation {
+            offset: self.r_offset,
+            symbol: SymbolIndex(self.symbol()),
+            kind,
+            addend,
+        })
     }
 
     /// The relocation as callers see it; of a type outside the profile it is `None`.

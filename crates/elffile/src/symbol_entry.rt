@@ -1,16 +1,19 @@
 //! Entries of the symbol table as they stand in the file (gABI, `Elf64_Sym`: 24 bytes each), and the tests of one of
 //! them.
 
-ghost use Rattle.std.specs.Prelude.{◌≡◌, ◌≤◌, ◌+◌, length};
+ghost use Rattle.std.specs.Prelude.{◌≡◌, ◌≤◌, ◌+◌, ◌||◌, IfSome, false, length, nat_lt};
+ghost use Rattle.elffile.specs.declared.constants.TheConstants.{STB_WEAK, STT_COMMON};
 ghost use Rattle.elffile.specs.SymbolEntries.{symbol_entry_at};
 
 use crate::constants::{
     MAX_SECTION_SIZE, SHN_ABS, SHN_COMMON, SHN_UNDEF, STB_GLOBAL, STB_LOCAL, STB_WEAK, STT_COMMON,
     STT_FILE, STT_FUNC, STT_NOTYPE, STT_OBJECT, STT_SECTION,
 };
-use crate::names::StringTable;
+use crate::names::{StringTable, looked_name};
 use crate::numbers::{read_u16, read_u32, read_u64};
 use crate::section::SectionIndex;
+use crate::section_header::SectionHeader;
+use crate::span::{EMPTY_SPAN, Span};
 use crate::symbol::{Binding, Symbol, SymbolKind, SymbolPlace};
 
 /// The fields of an entry that the reader looks at.
@@ -31,7 +34,9 @@ pub struct SymbolEntry {
 impl SymbolEntry {
     ghost use Rattle.elffile.specs.SymbolEntries.{st_bind, st_type};
     ghost use Rattle.elffile.specs.SymbolKinds.{binding_of, symbol_kind_of};
-    ghost use Rattle.elffile.specs.Symbols.{symbol_place_of, symbol_of};
+    ghost use Rattle.elffile.specs.Symbols.{symbol_name, symbol_place_of, symbol_of};
+    ghost use Rattle.elffile.specs.SectionHeaders.{file_bytes};
+    ghost use Rattle.elffile.specs.Spans.{IsInside, bytes_at};
     ghost use Rattle.elffile.specs.TableOf.{table_of};
     ghost use Rattle.elffile.specs.Tables.{is_local, is_nowhere, is_wrong_local, is_wrong_non_local, is_wrong_common, is_wrong_symbol};
 
@@ -86,16 +91,46 @@ impl SymbolEntry {
                 || self.st_size > MAX_SECTION_SIZE)
     }
 
+    /// Whether its binding or its type is outside the profile.
+    fn has_strange_info(&self) -> bool
+        ensures { result ≡ (nat_lt STB_WEAK (st_bind self.now) || nat_lt STT_COMMON (st_type self.now)) }
+    {
+        self.bind() > STB_WEAK || self.kind_number() > STT_COMMON
+    }
+
     /// Whether the entry is outside the profile, in an object of this number of section headers with this string table.
     pub fn is_wrong(&self, sections: u16, strings: &StringTable) -> bool
         ensures { result ≡ is_wrong_symbol sections (table_of strings.now) self.now }
     {
-        self.bind() > STB_WEAK
-            || self.kind_number() > STT_COMMON
+        self.has_strange_info()
             || self.is_nowhere(sections)
             || self.is_wrong_local()
             || self.is_wrong_non_local(strings)
             || self.is_wrong_common()
+    }
+
+    /// Where the name lies in the file, if the entry is within the profile in an object of this number of section headers,
+    /// with the string table of this header. A local entry has an empty name. Each call looks through the name.
+    pub fn looked_name(&self, sections: u16, file: &[u8], strings: &SectionHeader) -> Option<Span>
+        requires { strings.now.sh_offset + strings.now.sh_size ≤ length file.now }
+        ensures right { IfSome result (λ s. is_wrong_symbol sections (file_bytes file.now strings.now) self.now ≡ false) }
+        ensures within { IfSome result (IsInside (length file.now)) }
+        ensures name { IfSome result (λ s. bytes_at file.now s ≡ symbol_name (file_bytes file.now strings.now) self.now) }
+    {
+        if self.has_strange_info()
+            || self.is_nowhere(sections)
+            || self.is_wrong_local()
+            || self.is_wrong_common()
+        {
+            return None;
+        }
+        if self.is_local() {
+            return Some(EMPTY_SPAN);
+        }
+        if self.kind_number() == STT_SECTION || self.kind_number() == STT_FILE {
+            return None;
+        }
+        looked_name(file, strings, self.st_name)
     }
 
     fn binding(&self) -> Binding

@@ -14,3 +14,5 @@ pub mod EntryTests
 pub mod FieldMarks
 pub mod FieldsBelow
 pub mod Placed
+pub mod OrderedTables
+pub mod PassingSymbols

@@ -45,7 +45,7 @@ decoded_length bytes start n = length-map (relocation_entries_below bytes start 
 decoded_split : (bytes : List ℕ) (start j n : ℕ) → decoded bytes start (j + n) ≡ decoded bytes start j ++ decoded bytes (start + 24 * j) n
 decoded_split bytes start j n = ap (map relocation_of) (entries_split bytes start j n) ∙ map-append relocation_of (relocation_entries_below bytes start j) (relocation_entries_below bytes (start + 24 * j) n)
 
-drop_front : (xs ys : List Relocation) (n : ℕ) → length xs ≡ n → drop n (xs ++ ys) ≡ ys
+pub drop_front : (xs ys : List Relocation) (n : ℕ) → length xs ≡ n → drop n (xs ++ ys) ≡ ys
 drop_front xs ys n e = let f : n ≡ length xs + 0 = omega arith in ap (λ k. drop k (xs ++ ys)) f ∙ drop-append-add xs ys 0
 
 take_front : (xs ys : List Relocation) (n : ℕ) → length xs ≡ n → take n (xs ++ ys) ≡ xs
@@ -114,7 +114,7 @@ spans_more bytes all tables i d spans spans' s l is e a = rw e (record {
 })
 
 -- the runs, after those of one more class are added
-front_kept : (all rs : List Relocation) (first count : ℕ) → first + count ≤ length all → slice_range (all ++ rs) first (first + count) ≡ slice_range all first (first + count)
+pub front_kept : (all rs : List Relocation) (first count : ℕ) → first + count ≤ length all → slice_range (all ++ rs) first (first + count) ≡ slice_range all first (first + count)
 front_kept all rs first count h =
     let l = length-drop first all in
     ap (λ xs. take (first + count - first) xs) (drop-append-le first all rs (omega arith))

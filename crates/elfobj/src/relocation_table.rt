@@ -20,6 +20,7 @@ ghost use Rattle.elffile.specs.Tables.{is_linked, is_wrong_below, is_wrong_table
 ghost use Rattle.elffile.specs.declared.refusal.ObjectRefusal.TheVariants.{NoMemory, RelocationSection};
 
 use crate::field_marks::is_any_shared;
+use crate::ordered_table::read_ordered;
 use crate::refusal::ObjectRefusal;
 use crate::relocation_fault::{EntryFault, is_any_refused, smallest_first};
 use crate::relocation_run::{Relocations, SectionTable, read_tables};
@@ -222,8 +223,40 @@ fn is_any_overlap(alloc: Global, relocations: &Relocations, size: usize) -> Resu
     is_any_shared(alloc, &relocations.all, &spans, size)
 }
 
+/// Reads the relocations of these tables, whatever order their fields have, or tells why they are refused. All entries are
+/// tested before any is kept.
+fn read_tested(
+    alloc: Global,
+    bytes: &[u8],
+    tables: &[SectionTable],
+    symbols: usize,
+) -> Result<Relocations, ObjectRefusal>
+    requires long { 24 ≤ length bytes.now }
+    requires right { is_wrong_below bytes.now (e_shnum bytes.now) ≡ false }
+    requires tables { AreTablesOf bytes.now (linked_sections bytes.now) tables.now }
+    requires symbols { symbols ≡ length (symbols_of bytes.now) }
+    ensures ok { IfOk result (λ r. find (holds bytes.now) relocation_refusals ≡ None) }
+    ensures relocations { IfOk result (λ r. AreRelocated (map (λ s. s.relocations) (sections_of bytes.now)) r.all.items r.spans.items) }
+    ensures refused { IfErr result (λ e. (e ≡ NoMemory) ⊎ (find (holds bytes.now) relocation_refusals ≡ Some e)) }
+{
+    let Ok(refusal) = entry_refusal(alloc, bytes, tables, symbols) else {
+        return Err(ObjectRefusal::NoMemory);
+    };
+    if let Some(refusal) = refusal {
+        return Err(refusal);
+    }
+    let Ok(relocations) = read_tables(alloc, bytes, tables) else {
+        return Err(ObjectRefusal::NoMemory);
+    };
+    match is_any_overlap(alloc, &relocations, largest_size(tables) as usize) {
+        Ok(false) => Ok(relocations),
+        Ok(true) => Err(ObjectRefusal::FieldOverlap),
+        Err(_) => Err(ObjectRefusal::NoMemory),
+    }
+}
+
 /// Reads the relocations of the linked sections of a file whose section headers and symbols have passed their tests, or
-/// tells why it is no object. All entries are tested before any is kept.
+/// tells why it is no object.
 pub fn read_relocations(
     alloc: Global,
     bytes: &[u8],
@@ -244,20 +277,11 @@ pub fn read_relocations(
     let Ok(tables) = section_tables(alloc, bytes, sections, &changing) else {
         return Err(ObjectRefusal::NoMemory);
     };
-    // The tests take memory of their own.
+    // What follows takes memory of its own.
     drop(changing);
-    let Ok(refusal) = entry_refusal(alloc, bytes, &tables, symbols) else {
-        return Err(ObjectRefusal::NoMemory);
-    };
-    if let Some(refusal) = refusal {
-        return Err(refusal);
-    }
-    let Ok(relocations) = read_tables(alloc, bytes, &tables) else {
-        return Err(ObjectRefusal::NoMemory);
-    };
-    match is_any_overlap(alloc, &relocations, largest_size(&tables) as usize) {
-        Ok(false) => Ok(relocations),
-        Ok(true) => Err(ObjectRefusal::FieldOverlap),
+    match read_ordered(alloc, bytes, &tables, symbols) {
+        Ok(Some(relocations)) => Ok(relocations),
+        Ok(None) => read_tested(alloc, bytes, &tables, symbols),
         Err(_) => Err(ObjectRefusal::NoMemory),
     }
 }

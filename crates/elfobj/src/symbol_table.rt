@@ -9,13 +9,13 @@ ghost use Rattle.elffile.specs.SectionHeaders.{headers as headers_of};
 ghost use Rattle.elffile.specs.SectionTable.{HasSectionTable};
 ghost use Rattle.elffile.specs.ElfHeader.{e_shstrndx};
 ghost use Rattle.elfobj.specs.Linkable.{IsNameTable, PassesTests};
-ghost use Rattle.elffile.specs.Symbols.{entries_of, is_symbol_table, symbol_name, symbols_from, symbols_of};
+ghost use Rattle.elffile.specs.Symbols.{entries_of, is_symbol_table, symbol_name, symbol_table, symbols_from, symbols_of};
 ghost use Rattle.elffile.specs.TableOf.{table_of};
 ghost use Rattle.elffile.specs.Tables.{has_misplaced_entry, has_wrong_header, is_local, is_string_table, is_wrong_non_local, is_wrong_symbol};
 ghost use Rattle.elffile.specs.declared.refusal.ObjectRefusal.TheVariants.{NoMemory};
 
 use crate::refusal::ObjectRefusal;
-use crate::symbol::{Binding, Symbol, SymbolKind, SymbolPlace};
+use crate::symbols::{Symbols, read_passing};
 use elffile::constants::{SHT_STRTAB, SYM_SIZE};
 use elffile::elf_header::name_table_number;
 use elffile::names::StringTable;
@@ -23,24 +23,6 @@ use elffile::section_header::SectionHeader;
 use elffile::span::{EMPTY_SPAN, Span};
 use elffile::symbol_entry::{SymbolEntry, read_symbol_entry};
 use std::alloc::{AllocError, Global};
-
-/// The symbols in table order, and where the name of each lies in the file.
-#[derive(Drop)]
-pub struct Symbols {
-    /// The symbols.
-    pub symbols: Vec<Symbol>,
-    /// The places of their names; local ones have empty names.
-    pub names: Vec<Span>,
-}
-
-/// Entry number 0, which is a null entry whatever it says.
-const NULL_SYMBOL: Symbol = Symbol {
-    binding: Binding::Local,
-    kind: SymbolKind::NoType,
-    place: SymbolPlace::Undefined,
-    value: 0,
-    size: 0,
-};
 
 /// The number of the first header of a symbol table.
 pub fn symbol_table_number(headers: &[SectionHeader]) -> Option<usize>
@@ -153,17 +135,6 @@ fn name_span(strings: &StringTable, entry: &SymbolEntry) -> Span
     strings.file_range(entry.st_name)
 }
 
-impl Symbols {
-    fn push(&mut self, symbol: Symbol, name: Span) -> Result<(), AllocError>
-        ensures symbols { OnOk result (self.new.symbols.items ≡ self.old.symbols.items ++ symbol ∷ []) }
-        ensures names { OnOk result (self.new.names.items ≡ self.old.names.items ++ name ∷ []) }
-    {
-        self.symbols.push(symbol)?;
-        self.names.push(name)?;
-        Ok(())
-    }
-}
-
 /// The symbols of these entries, the first of which is a null entry.
 fn named_symbols(
     alloc: Global,
@@ -174,11 +145,7 @@ fn named_symbols(
     requires names { list_any (is_wrong_non_local (table_of strings.now)) (drop 1 entries.now) ≡ false }
     ensures { IfOk result (λ s. AreNamed strings.now.file.now (symbols_from (table_of strings.now) entries.now) s.symbols.items s.names.items) }
 {
-    let mut symbols = Symbols {
-        symbols: Vec::with_capacity(alloc, entries.len())?,
-        names: Vec::with_capacity(alloc, entries.len())?,
-    };
-    symbols.push(NULL_SYMBOL, EMPTY_SPAN)?;
+    let mut symbols = Symbols::of_null(alloc, entries.len())?;
     let rest = &entries[1..];
     for entry in rest {
         symbols.push(entry.symbol(), name_span(strings, entry))?;
@@ -209,8 +176,48 @@ fn symbol_names<'a>(
     StringTable::of_header(alloc, bytes, strings)
 }
 
-/// Reads the symbols of a file whose section headers have passed their tests, or tells why it is no object. The table of
-/// the sections' names serves for the symbols too, if it is theirs.
+/// Reads the symbols of a table whose header has passed its tests, or tells why they are refused. The table of the
+/// sections' names serves for the symbols too, if it is theirs.
+fn read_tested<'a>(
+    alloc: Global,
+    bytes: &'a [u8],
+    headers: &[SectionHeader],
+    table: &SectionHeader,
+    section_names: StringTable<'a>,
+) -> Result<Symbols, ObjectRefusal>
+    requires table { HasSectionTable bytes.now }
+    requires headers { headers.now ≡ headers_of bytes.now }
+    requires names { IsNameTable bytes.now section_names.header }
+    requires file { section_names.file.now ≡ bytes.now }
+    requires tests { PassesTests bytes.now }
+    requires one { nat_lt 1 (count_by is_symbol_table headers.now) ≡ false }
+    requires found { symbol_table bytes.now ≡ Some table.now }
+    requires right { has_wrong_header headers.now table.now ≡ false }
+    ensures ok { IfOk result (λ s. find (holds bytes.now) symbol_refusals ≡ None) }
+    ensures symbols { IfOk result (λ s. AreNamed bytes.now (symbols_of bytes.now) s.symbols.items s.names.items) }
+    ensures refused { IfErr result (λ e. (e ≡ NoMemory) ⊎ (find (holds bytes.now) symbol_refusals ≡ Some e)) }
+{
+    let Ok(entries) = read_entries(alloc, bytes, table) else {
+        return Err(ObjectRefusal::NoMemory);
+    };
+    if has_misplaced_entry(table, &entries) {
+        return Err(ObjectRefusal::SymbolTable);
+    }
+    let strings = headers[table.sh_link as usize];
+    let Ok(names) = symbol_names(alloc, bytes, table.sh_link, &strings, section_names) else {
+        return Err(ObjectRefusal::NoMemory);
+    };
+    let count = headers.len() as u16;
+    if is_any_wrong(&entries, count, &names) {
+        return Err(ObjectRefusal::Symbol);
+    }
+    match named_symbols(alloc, &names, &entries) {
+        Ok(symbols) => Ok(symbols),
+        Err(_) => Err(ObjectRefusal::NoMemory),
+    }
+}
+
+/// Reads the symbols of a file whose section headers have passed their tests, or tells why it is no object.
 pub fn read_symbols<'a>(
     alloc: Global,
     bytes: &'a [u8],
@@ -238,22 +245,11 @@ pub fn read_symbols<'a>(
     if has_wrong_header(headers, &table) {
         return Err(ObjectRefusal::SymbolTable);
     }
-    let Ok(entries) = read_entries(alloc, bytes, &table) else {
-        return Err(ObjectRefusal::NoMemory);
-    };
-    if has_misplaced_entry(&table, &entries) {
-        return Err(ObjectRefusal::SymbolTable);
-    }
     let strings = headers[table.sh_link as usize];
-    let Ok(names) = symbol_names(alloc, bytes, table.sh_link, &strings, section_names) else {
-        return Err(ObjectRefusal::NoMemory);
-    };
     let count = headers.len() as u16;
-    if is_any_wrong(&entries, count, &names) {
-        return Err(ObjectRefusal::Symbol);
-    }
-    match named_symbols(alloc, &names, &entries) {
-        Ok(symbols) => Ok(symbols),
+    match read_passing(alloc, bytes, &table, &strings, count) {
+        Ok(Some(symbols)) => Ok(symbols),
+        Ok(None) => read_tested(alloc, bytes, headers, &table, section_names),
         Err(_) => Err(ObjectRefusal::NoMemory),
     }
 }

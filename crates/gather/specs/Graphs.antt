@@ -1,6 +1,6 @@
 -- Graphs of sections by their numbers, and what can be reached in one.
-use Rattle.std.specs.Prelude.{ℕ, ◌≡◌, ◌<◌, ◌+◌, Bool, true, false, cond, ◌||◌, List, ◌∷◌, [], ◌++◌, length, slice_index}
-use Rattle.std.specs.Prelude.{slice_index_or, slice_range, slice_set, Contains}
+use Rattle.std.specs.Prelude.{ℕ, ◌≡◌, ◌<◌, Bool, true, false, cond, ◌||◌, List, ◌∷◌, [], ◌++◌, length}
+use Rattle.std.specs.Prelude.{slice_index_or, slice_set, Contains}
 
 -- sections by their numbers: of each whether it is left out, the numbers of the roots, and which section refers to
 -- which. A number past the end of `out` is that of no section
@@ -11,13 +11,6 @@ pub record Graph : Type 1 where
 
 abbrev pub graph_of : List Bool → List ℕ → (ℕ → ℕ → Type 0) → Graph
 graph_of out roots refers = record { out = out; roots = roots; refers = refers }
-
--- b is one of the numbers of the sections that section a refers to: the targets from starts a up to starts (a + 1)
-abbrev pub IsListed : (starts targets : List ℕ) → ℕ → ℕ → Type 0
-IsListed starts targets a b = Contains (slice_range targets (slice_index starts a) (slice_index starts (a + 1))) b
-
-abbrev pub graph : List Bool → (roots starts targets : List ℕ) → Graph
-graph out roots starts targets = graph_of out roots (IsListed starts targets)
 
 -- a section that is not left out
 abbrev pub IsIn : Graph → ℕ → Type 0

@@ -1,7 +1,11 @@
-//! Which input sections are in a link, and in which order they stand: the statement that takes a section, the sections
-//! that the program needs, and the rows of the output sections.
-//! Gathering, a phase of a link from scratch: which input sections are in the link, and in which output section each
-//! stands.
+//! Which input sections are in a link, and in which order they stand. Takes objects, the script and what names stand
+//! for; gives for each object the statements that take its sections, and of a project its rows and orphans.
+//!
+//! - `matcher` over `word_table`, `word`, `name_places`: first match; `matches`: of one object, and of all;
+//! - `member`, `members`, `gathered`, `blocks`, `cases`: the input sections, common blocks among them; `left_out`;
+//! - `roots`, `marking`, `references`, and of a project `live`, `referring`, `targets`, `numbers`: which sections are
+//!   live;
+//! - `rows`, `sorting`, `live_sections`: rows and orphans; `gathering`: all of it, for a project; `law`.
 #![tactic(auto)]
 
 mod blocks;

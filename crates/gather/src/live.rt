@@ -12,7 +12,7 @@ ghost use Rattle.ldnaming.specs.Naming.{IsNaming};
 
 use crate::gathered::Gathered;
 use crate::live_sections::not_out;
-use crate::marking::mark_reached;
+use crate::marking::mark;
 use crate::numbers::Numbers;
 use crate::referring::ProjectReferences;
 use crate::roots::roots;
@@ -47,7 +47,7 @@ fn mark_needed(
         numbers: &numbers,
         sections,
     };
-    mark_reached(alloc, out, &roots, &references)
+    mark(alloc, out, &roots, &references)
 }
 
 /// Marks the live sections. `out` says of each whether it is left out. An error says that memory ran out.

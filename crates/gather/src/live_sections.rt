@@ -87,7 +87,7 @@ pub fn taken<'a>(
     ensures { IfOk result (λ pieces. (p : Project) (keys : Keys) → AreGathered p keys sections.now
         → marked marks.now (input_sections p) ≡ live p → AreTaken p keys.naming pieces.items) }
 {
-    let mut pieces = Vec::new(alloc);
+    let mut pieces = Vec::with_capacity(alloc, sections.len())?;
     for (place, section) in sections.iter().enumerate() {
         add_taken(&mut pieces, section, is_marked(marks, place))?;
     }

@@ -5,9 +5,9 @@ ghost use Rattle.ldmodel.specs.InputSections.{input_sections};
 ghost use Rattle.ldmodel.specs.Live.{live};
 ghost use Rattle.ldmodel.specs.Project.{Project};
 ghost use Rattle.gather.specs.LiveMarks.{IsGraphOf, marked};
-ghost use Rattle.gather.specs.Graphs.{IsLive, IsMarked, IsVisit, graph, graph_of};
+ghost use Rattle.gather.specs.Graphs.{IsLive, IsMarked, IsVisit, graph_of};
 
-use crate::references::{Listed, References};
+use crate::references::References;
 use ldlaws::gathering::live_by_path;
 use ldmodel::memory::NoMemory;
 use std::alloc::Global;
@@ -62,7 +62,7 @@ fn reach<R: References>(
 /// `out` says of each whether it is left out. Only the live sections are asked for what they refer to, each once, so
 /// that the time grows with the number of sections and of the references of live ones, and nothing is recursive. An
 /// error says that memory ran out.
-pub fn mark_reached<R: References>(
+pub fn mark<R: References>(
     alloc: Global,
     out: &[bool],
     roots: &[usize],
@@ -79,30 +79,4 @@ pub fn mark_reached<R: References>(
 {
     live_by_path();
     reach(alloc, out, roots, references)
-}
-
-/// The live sections under garbage collection, of sections that are known by their numbers, from 0 in object order.
-/// `out` says of each whether it is left out; the sections that number `a` refers to are `targets[starts[a]..starts[a
-/// + 1]]`. The time grows with the number of sections and references, each section is expanded at most once, and
-/// nothing is recursive. An error says that memory ran out.
-pub fn mark(
-    alloc: Global,
-    out: &[bool],
-    roots: &[usize],
-    starts: &[usize],
-    targets: &[usize],
-) -> Result<Vec<bool>, NoMemory>
-    ensures long { IfOk result (λ marks. length marks.items ≡ length out.now) }
-    ensures reached { IfOk result (λ marks. (s : ℕ)
-        → IsMarked marks.items s ↔ IsLive (graph out.now roots.now starts.now targets.now) s) }
-    ensures live { IfOk result (λ marks. (p : Project) → p.options.gc ≡ true
-        → IsGraphOf p (graph out.now roots.now starts.now targets.now) → marked marks.items (input_sections p)
-        ≡ live p) }
-{
-    let listed = Listed {
-        count: out.len(),
-        starts,
-        targets,
-    };
-    mark_reached(alloc, out, roots, &listed)
 }

@@ -14,7 +14,7 @@ use ldmodel::memory::NoMemory;
 use ldmodel::names::ObjectKey;
 use ldmodel::rows::InputIndex;
 use ldmodel::sections::{Part, SectionKey};
-use std::alloc::Global;
+use std::alloc::{AllocError, Global};
 
 /// A common block.
 #[derive(Clone, Copy, Debug, PartialEq, Eq)]
@@ -106,6 +106,18 @@ impl<'a> Member<'a> {
     }
 }
 
+/// How many input sections these objects have. Fails where they are too many for any memory.
+fn count_sections(members: &[Member<'_>]) -> Result<usize, NoMemory> {
+    let mut count: usize = 0;
+    for member in members {
+        count = count
+            .checked_add(member.object.sections().len())
+            .and_then(|count| count.checked_add(member.blocks.len()))
+            .ok_or(AllocError)?;
+    }
+    Ok(count)
+}
+
 /// The input sections of a project, of which these are the objects in their order: of each object its linked sections
 /// and then the common blocks that it owns. An error says that memory ran out.
 pub fn input_sections<'a>(
@@ -115,7 +127,7 @@ pub fn input_sections<'a>(
     ensures { IfOk result (λ sections. (p : Project) (keys : Keys) → AreMembers p keys members.now
         → NamesSections p keys → AreGathered p keys sections.items) }
 {
-    let mut sections = Vec::new(alloc);
+    let mut sections = Vec::with_capacity(alloc, count_sections(members)?)?;
     for member in members {
         member.add_linked(&mut sections)?;
         member.add_blocks(&mut sections)?;

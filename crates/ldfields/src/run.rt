@@ -10,6 +10,9 @@ use ldbase::meter::Meter;
 /// How many bytes are written at a time: a multiple of each length that a pattern may have.
 const CHUNK: usize = 840;
 
+/// How long a run is at most that is written at once, without a chunk.
+const SHORT: usize = 32;
+
 /// The first `count` bytes of a run of a pattern, and zeros after them.
 fn chunk_of(pattern: &[u8], count: usize) -> [u8; CHUNK]
     requires some { 0 < length pattern.now }
@@ -22,6 +25,59 @@ fn chunk_of(pattern: &[u8], count: usize) -> [u8; CHUNK]
         chunk[i] = pattern[i % pattern.len()];
     }
     chunk
+}
+
+/// The first `count` bytes of a run of a pattern, and zeros after them.
+fn short_run_of(pattern: &[u8], count: usize) -> [u8; SHORT]
+    requires some { 0 < length pattern.now }
+    requires count { count ≤ 32 }
+    ensures len { length result ≡ 32 }
+    ensures filled { (i : ℕ) → i < count → slice_index result i ≡ slice_index pattern.now (i % length pattern.now) }
+{
+    let period = pattern.len();
+    let mut short = [0; SHORT];
+    for i in 0..count {
+        short[i] = pattern[i % period];
+    }
+    short
+}
+
+/// The same as `write_run`, for a run that is written at once.
+fn write_short_run(canvas: &mut Canvas, at: usize, n: usize, pattern: &[u8], meter: &mut Meter)
+    requires within { at + n ≤ length canvas.old.bytes }
+    requires some { 0 < length pattern.now }
+    requires short { n ≤ 32 }
+    ensures written { (i : ℕ) → i < n → slice_index canvas.new.bytes (at + i) ≡ slice_index pattern.now (i % length pattern.now) }
+    ensures before { (o : ℕ) → o < at → slice_index canvas.new.bytes o ≡ slice_index canvas.old.bytes o }
+    ensures after { (o : ℕ) → at + n ≤ o → slice_index canvas.new.bytes o ≡ slice_index canvas.old.bytes o }
+    ensures len { length canvas.new.bytes ≡ length canvas.old.bytes }
+    ensures room { canvas.new.room ≡ canvas.old.room }
+    ensures counted { meter.new ≡ raised meter.old Bytes n }
+{
+    let _len = canvas.len();
+    let short = short_run_of(pattern, n);
+    canvas.write(at, &short[..n], meter);
+}
+
+/// The same as `write_run`, by whole chunks and a rest.
+fn write_chunks(canvas: &mut Canvas, at: usize, n: usize, pattern: &[u8], meter: &mut Meter)
+    requires within { at + n ≤ length canvas.old.bytes }
+    requires some { 0 < length pattern.now }
+    requires most { length pattern.now ≤ 8 }
+    ensures written { (i : ℕ) → i < n → slice_index canvas.new.bytes (at + i) ≡ slice_index pattern.now (i % length pattern.now) }
+    ensures before { (o : ℕ) → o < at → slice_index canvas.new.bytes o ≡ slice_index canvas.old.bytes o }
+    ensures after { (o : ℕ) → at + n ≤ o → slice_index canvas.new.bytes o ≡ slice_index canvas.old.bytes o }
+    ensures len { length canvas.new.bytes ≡ length canvas.old.bytes }
+    ensures room { canvas.new.room ≡ canvas.old.room }
+    ensures counted { meter.new ≡ raised meter.old Bytes n }
+{
+    let _len = canvas.len();
+    let chunk = chunk_of(pattern, n.min(CHUNK));
+    for k in 0..n / CHUNK {
+        canvas.write(at + CHUNK * k, &chunk, meter);
+    }
+    let rest = n % CHUNK;
+    canvas.write(at + (n - rest), &chunk[..rest], meter);
 }
 
 /// Writes `n` bytes from `at` on, within the length, which repeat a pattern of 1 to 8 bytes, and changes no others. It
@@ -37,12 +93,10 @@ pub fn write_run(canvas: &mut Canvas, at: usize, n: usize, pattern: &[u8], meter
     ensures room { canvas.new.room ≡ canvas.old.room }
     ensures counted { meter.new ≡ raised meter.old Bytes n }
 {
-    let _len = canvas.len();
-    // most runs are short, so no more of a chunk is made than the run needs
-    let chunk = chunk_of(pattern, n.min(CHUNK));
-    for k in 0..n / CHUNK {
-        canvas.write(at + CHUNK * k, &chunk, meter);
+    // most runs are short: gaps before input sections
+    if n <= SHORT {
+        write_short_run(canvas, at, n, pattern, meter);
+    } else {
+        write_chunks(canvas, at, n, pattern, meter);
     }
-    let rest = n % CHUNK;
-    canvas.write(at + (n - rest), &chunk[..rest], meter);
 }

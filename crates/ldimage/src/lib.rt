@@ -1,6 +1,10 @@
-//! The parts of the image that say what the others are: the headers at its beginning, and its tail: the symbol table,
-//! the names, and the section headers.
-//! The image: a plan that makes every growth, and a commit that takes no memory and has no refusal.
+//! The image: its headers, its tail (symbol table, names, section headers), and drawing it. Takes layout, symbols and
+//! fields; a plan makes every growth, and a commit takes no memory and has no refusal.
+//!
+//! - `headers`: ELF header and program headers; `tail` over `symbols`, `strings`, `sections`, `number`: the tail;
+//! - `section`: what is drawn; `stretch`, `add`, `add_section`: a drawing as stretches, gaps and their fill among them;
+//! - `plan`, `commit`, `redraw`, `draw`: over the image of an earlier link, of which what stayed is kept, or anew;
+//!   `law`.
 #![tactic(auto)]
 
 mod add;

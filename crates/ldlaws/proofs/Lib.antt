@@ -27,6 +27,7 @@ pub mod Dotted
 pub mod Spreading
 pub mod FileOrder
 pub mod Apart
+pub mod Traced
 pub mod Total
 pub mod Courses
 pub mod Finding

@@ -10,6 +10,7 @@ pub mod FileOrder
 pub mod Outcomes
 pub mod LayoutExamples
 pub mod ImageBytes
+pub mod Traces
 pub mod Untouched
 pub mod PlacedOnce
 pub mod StayedSites

@@ -2,7 +2,7 @@
 
 ghost use Rattle.std.specs.Prelude.{◌≡◌, ◌↔◌, ◌≤◌, ℕ, List, [], ◌∷◌, ◌++◌, length, Ok, Err, map};
 ghost use Rattle.ldscript.specs.Script.{IsSound};
-ghost use Rattle.ldtree.specs.Numbering.{common_commands};
+ghost use Rattle.ldtree.specs.Numbering.{common_commands, output_sections, regions};
 ghost use Rattle.ldtree.specs.declared.section.BodyStatement.{BodyStatement};
 ghost use Rattle.ldtree.specs.declared.statement.Item.{Item};
 ghost use Rattle.ldtree.specs.declared.statement.Statement.{Statement};
@@ -17,6 +17,7 @@ ghost use Rattle.ldlaws.specs.Alike.{AreAlike, AreSameBefore, BodiesStayAlike, H
 ghost use Rattle.ldlaws.specs.Alike.{ItemsStayAlike, LeadTo, StatementsStayAlike, names_given};
 ghost use Rattle.ldlaws.specs.Placed.{IsFirstFault, IsPlacement};
 ghost use Rattle.ldlaws.specs.Spread.{IsSpread, Notes, dots_in, dots_of, entries_in};
+ghost use Rattle.ldlaws.specs.Traces.{Trace};
 
 /// A layout is that of a script exactly where the statements lead to it, each from where the one before it ended: the
 /// statements of the script, those of SECTIONS, those of the body of each output section, the regions of MEMORY, and
@@ -28,6 +29,15 @@ pub fn placement_by_steps()
         → (placement script rows provided ≡ Ok s) ↔ IsPlacement script rows provided s }
     ensures faulty { (script : List Statement) (rows : List (List Piece)) (provided : List (List ℕ)) (f : Fault)
         → (placement script rows provided ≡ Err f) ↔ IsFirstFault script rows provided f }
+{}
+
+/// A layout comes of the regions and output sections of its script, each added once and in the order of the text;
+/// nothing else adds to them. An output section is added when its body is filled, effect by effect: `.` goes on to an
+/// address, an entry of the row or a data command takes its place, a symbol is given a value.
+pub fn layout_by_effects()
+    ensures { (script : List Statement) (rows : List (List Piece)) (provided : List (List ℕ)) (s : Layout)
+        → placement script rows provided ≡ Ok s
+        → Trace nothing_placed (regions script) (output_sections script) s }
 {}
 
 /// Each entry of every row is placed once and in the order of the row, whichever PROVIDEs are in force: what stands in

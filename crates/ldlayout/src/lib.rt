@@ -1,6 +1,9 @@
-//! What of the output is loaded as one, where it stands in the file, and how long the image is.
-//! Layout, a phase of a link: where everything stands in memory and in the file.
-//! Where the parts of objects stand in the output, by their keys.
+//! Layout, a phase of a link: where everything stands in memory and in the file. Takes a project, its rows and names,
+//! and perhaps an earlier layout; gives the layout or its faults, and where an input section stands, by its key.
+//!
+//! - `laying`: the phase, over `place`;
+//! - `segments` over `group`: what is loaded as one, and its offset in the file; `length`: how long the image is;
+//! - `starts` over `collected`, `entry`, `numbering`, and `sections` with `headers`: where each input section stands.
 #![tactic(auto)]
 
 mod collected;

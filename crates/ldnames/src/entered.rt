@@ -18,8 +18,7 @@ pub fn enter_all(alloc: Global, seed: RandomState, objects: &[Keyed<'_>]) -> Res
 {
     let mut names = Names::new(alloc, seed);
     for (place, keyed) in objects.iter().enumerate() {
-        names.reserve(keyed.object)?;
-        names.enter(keyed.key, place, keyed.object);
+        names.add(keyed.key, place, keyed.object)?;
     }
     names.sort_names()?;
     Ok(names)

@@ -25,7 +25,7 @@ fn listed(alloc: Global, decisions: &Decisions) -> Result<Vec<NamedKey<'_>>, NoM
     ensures list { IfOk result (λ list. map named_number list.items ≡ decisions.now.names.order) }
     ensures listing { IsListing decisions.now.names.names decisions.now.names.order }
 {
-    let mut list = Vec::new(alloc);
+    let mut list = Vec::with_capacity(alloc, decisions.known())?;
     for (name, key) in decisions.listed() {
         list.push(NamedKey {
             name: name.as_slice(),

@@ -1,6 +1,11 @@
-//! Relocation, a phase of a link: the fields of all relocations, or their faults.
-//! The image of a link, and its length.
-//! The texts of a link: its map and its fault lines.
+//! What a link puts out: the fields of its relocations, its image, and its texts. Takes the layout and values of a
+//! project, and perhaps an earlier link; gives fields or their faults, the bytes drawn, the map and the fault lines.
+//!
+//! - `relocated` over `keys`: the fields of all relocations, or their faults; `law`;
+//! - `image` over `output`, `parts`, `pieces`, `data_runs`, `offsets`, `section_numbers`, `symbols`: the image;
+//!   `length`;
+//! - `good`: a link without faults is one that the laws on two links speak of;
+//! - `map`, `fault_lines` over `by_place`: the texts.
 #![tactic(auto)]
 
 mod by_place;

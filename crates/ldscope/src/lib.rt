@@ -1,7 +1,10 @@
-//! The values of a script's expressions, and the names that they mention.
-//! What a layout keeps under the numbers that a script gives its names: the commands of symbols and the symbols'
-//! values, the PROVIDEs in force, the output sections and the memory regions. Names are looked up by guesses that are
-//! compared, or in the script's own tables.
+//! The values of a script's expressions, and what a layout keeps under the numbers that a script gives its names. Takes
+//! trees and what is in scope; gives numbers or faults, and tables that find what was put into them.
+//!
+//! - `value` over `scope` and `operator`: the value of an expression; `mentioned`: the names in it;
+//! - `commands` over `guesses` and `named`: the numbers of names;
+//! - `symbols`, `provided`, `sections` over `earlier`, `regions`: symbols' values, PROVIDEs in force, output sections,
+//!   memory regions; `pieces`, `wholes`: what input sections bring, and the parts of a whole layout.
 #![tactic(auto)]
 
 pub mod commands;

@@ -1,5 +1,11 @@
-//! The expressions of a linker script: their trees, and the reader that makes one of tokens.
-//! Name patterns of a linker script: how a word spells one, and which names it matches.
+//! Expressions and name patterns of a linker script. Takes tokens and words; gives trees of expressions, and patterns
+//! that say which names they match.
+//!
+//! - `expression`, `operator`: the trees, operators and their levels; `display`: their text;
+//! - `reader` over `head`: the grammar of expressions; `dot_forms`: what an assignment to `.` may be;
+//! - `pattern`, `matching` over `word`, `front`, `part`, `set`, `bytes`: how a word spells a pattern, and what it
+//!   matches;
+//! - `expr_law`, `pattern_law`: no tokens have two trees, no word spells two patterns.
 #![tactic(auto)]
 
 mod bytes;

@@ -1,5 +1,10 @@
-//! Values, a phase of a link from scratch: what names and the entry symbol are worth, and the symbols of the output.
-//! ASSERT, the last phase of a link that may have faults.
+//! Values and ASSERT, two phases of a link: what names and the entry symbol are worth, which symbols the output has,
+//! and which assertions fail. Takes the names of a project, its layout and its script; gives values, symbols and
+//! faults.
+//!
+//! - `link_view` over `known`, `given` and `given_table`: what the evaluation of relocations asks of a link;
+//! - `values` over `candidate`, `symbols` and `script_values`: the values of all names, and the symbols of the output;
+//! - `asserting` over `final_scope` and `symbols_by_name`: the faults of ASSERTs.
 #![tactic(auto)]
 
 pub mod asserting;

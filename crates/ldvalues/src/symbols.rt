@@ -179,7 +179,7 @@ pub(crate) fn symbols_of<'a>(
     ensures { IfOk result (λ list. (p : Project) (s : Layout) → AreSources p s sources.now → shown list.items
         ≡ output_symbols p s) }
 {
-    let mut list = Vec::new(alloc);
+    let mut list = Vec::with_capacity(alloc, candidates.len())?;
     for place in 0..candidates.len() {
         add_unless_repeat(sources, candidates, place, &mut list)?;
     }

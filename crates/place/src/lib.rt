@@ -1,5 +1,11 @@
-//! Output sections that would share addresses, in memory or where they are loaded.
-//! The layout of a script: where its output sections, their input sections and its symbols stand.
+//! Layout: where the output sections of a script, their input sections and its symbols stand. Takes the script, the
+//! rows, the PROVIDEs in force and perhaps an earlier placement; gives a `Placement`, or its first fault, or all that
+//! meet.
+//!
+//! - `place`, `placement`; `script` over `parts`: the statements before SECTIONS, in it and after it;
+//! - `items`, `assign`, `memory`, `section`, `head` (address, load address), `body` (`.`), `end` (size, regions);
+//! - `boundary`, `kept`, `taken`: what an earlier placement gives; `ready`, `state`, `stop`, `fault`, `whole`;
+//! - `overlaps` over `firsts`, `hull`, `extent`: output sections that meet, in memory or where they are loaded; `law`.
 #![tactic(auto)]
 
 mod assign;

@@ -1,3 +1,3 @@
-//! Why the object reader refuses a file, for people. A crate of its own, so that the reader stays small.
+//! Why the object reader refuses a file, for people: the reader's own answer is a number alone.
 
 pub mod explain;

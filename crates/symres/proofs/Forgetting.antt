@@ -26,10 +26,10 @@ cond_same true x = refl
 cond_same false x = refl
 
 -- what a slab's `retain` leaves, where the closure keeps no state, leaves each value as it was and tests the key alone
-pub retained : {F : Type 0} (step : F → ℕ → MutBor Name → Bool → MutBor Name → F → Type 0) (test : ℕ → Bool) (f : F)
-    → ((key : ℕ) (old : Name) (keep : Bool) (new : Name) (next : F) → CalledAt step f key old keep new next
+pub retained : {F : Type 0} (step : F → ℕ → MutBor ℕ → Bool → MutBor ℕ → F → Type 0) (test : ℕ → Bool) (f : F)
+    → ((key old : ℕ) (keep : Bool) (new : ℕ) (next : F) → CalledAt step f key old keep new next
     → (keep ≡ test key) × (new ≡ old) × (next ≡ f))
-    → (key : ℕ) (slots kept : List (Option Name)) → RetainsFrom step f key slots kept → (n : ℕ) → get_or kept n None
+    → (key : ℕ) (slots kept : List (Option ℕ)) → RetainsFrom step f key slots kept → (n : ℕ) → get_or kept n None
     ≡ cond (test (key + n)) (get_or slots n None) None
 retained step test f says key [] kept h n = ap (λ l. get_or l n None) h ∙ sym (cond_same (test (key + n)) None)
 retained step test f says key (None ∷ rest) kept h zero = ap (λ l. get_or l 0 None) h.1

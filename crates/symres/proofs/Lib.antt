@@ -10,9 +10,11 @@ pub mod Placing
 pub mod Pairs
 pub mod Forgetting
 pub mod Cutting
+pub mod Filed
 pub mod Parked
 pub mod Spelling
 pub mod Repeating
+pub mod Seen
 pub mod Ready
 pub mod Joined
 pub mod Ordered

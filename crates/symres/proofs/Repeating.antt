@@ -9,7 +9,7 @@ use Rattle.symres.specs.State.{IsNamed}
 use Rattle.symres.proofs.Spelling.{seen_name}
 
 -- a symbol that isn't local has the name that its number stands for
-named_of : (names : List (Option (List ℕ))) (s : Numbered) (x : NamedSymbol) → spell_symbol names s ≡ x
+pub named_of : (names : List (Option (List ℕ))) (s : Numbered) (x : NamedSymbol) → spell_symbol names s ≡ x
     → HasName names s → is_local s.symbol.binding ≡ false → IsNamed names s.name x.name
 named_of names s x e h v =
     let t = h v in

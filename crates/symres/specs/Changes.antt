@@ -1,8 +1,8 @@
 -- What a call that takes an object out, or enters one, makes of a table of names.
-use Rattle.std.specs.Prelude.{ℕ, ◌≡◌, ◌+◌, ◌==◌, ◌≤◌, List, insert, length, true}
+use Rattle.std.specs.Prelude.{ℕ, ◌≡◌, ◌+◌, ◌==◌, ◌≤◌, List, [], drop, insert, length, true}
 use Rattle.std.specs.List.{All}
 use Rattle.elfobj.specs.Symbols.{NamedSymbol}
-use Rattle.symres.specs.State.{IsSameBut, MayEnter, ParksList, State, TakesList, without}
+use Rattle.symres.specs.State.{entries_of, IsMore, IsSameBut, MayEnter, ParksList, SameNames, State, TakesList, without}
 
 -- the object of the key was taken out: `Names::withdraw`
 pub record Withdraws (old new : State) (key : ℕ) : Type 0 where
@@ -22,3 +22,23 @@ pub record Enters (old new : State) (key at : ℕ) (symbols : List NamedSymbol) 
   pub order : new.order_room + 1 ≡ old.order_room
   pub places : new.place_room + 1 ≡ old.place_room
   pub list : TakesList old new at (length symbols)
+
+-- room was made for an object with this symbol table: `Names::reserve`
+pub record Reserves (old new : State) (symbols : List NamedSymbol) : Type 0 where
+  pub objects : new.objects ≡ old.objects
+  pub more : IsMore old new
+  pub may : MayEnter new symbols
+  pub unused : All (λ (e : List ℕ × ℕ). entries_of e.0 old.objects ≡ []) (drop (length old.order) new.order)
+
+-- room was made for an object, which was then entered under the key: `Names::add`
+pub record Joins (old new : State) (key at : ℕ) (symbols : List NamedSymbol) : Type 0 where
+  pub mid : State
+  pub reserves : Reserves old mid symbols
+  pub enters : Enters mid new key at symbols
+
+-- memory was refused: the objects and the names are as before, and there may be more room
+pub record IsRefused (old new : State) : Type 0 where
+  pub objects : new.objects ≡ old.objects
+  pub more : IsMore old new
+  pub names : SameNames old.names new.names
+  pub order : new.order ≡ old.order

@@ -1,11 +1,11 @@
 //! Numbers of names. A name keeps its number until it is forgotten.
 
 ghost use Rattle.std.specs.Prelude.{◌≡◌, ◌≢◌, ◌==◌, ℕ, List, [], IfOk, Some, None, MatchOption, OnOk, length, take};
-ghost use Rattle.std.specs.Prelude.{map, filter, is_some, if◌then◌else◌, OnErr, ◌<◌, slice_index_or};
+ghost use Rattle.std.specs.Prelude.{map, filter, is_some, if◌then◌else◌, nat_lt, OnErr, ◌<◌, slice_index_or};
+ghost use Rattle.slab.specs.Slab.{ContainsKey, get, Updates};
+ghost use Rattle.symres.specs.Known.{AddsNames, AreApart, entry_spelled, Files, HaveSlots, IsConsistent, IsKeptWhere};
+ghost use Rattle.symres.specs.Known.{kept_if};
 ghost use Rattle.std.proofs.Common.{Vec, Global};
-ghost use Rattle.slab.specs.Slab.{get};
-ghost use Rattle.symres.specs.Known.{AddsNames, entry_spelled, is_number, IsConsistent, IsKeptWhere, kept_if};
-ghost use Rattle.symres.specs.Known.{number_in};
 ghost use Rattle.symres.specs.Numbers.{is_used};
 ghost use Rattle.symres.specs.State.{slot, AreDistinct, IsInByteOrder, IsListing, IsNamed, KeepsNames};
 
@@ -18,50 +18,75 @@ use std::alloc::{AllocError, Global};
 use std::hash::RandomState;
 use std::marker::Model;
 
-/// Two tables that tell each other's contents: the number of a name, and the name of a number.
+/// Two tables that tell each other's contents: the number of a name, and under each number the place of its name in the
+/// first table.
 #[derive(Drop)]
 pub struct Known {
     numbers: IndexMap<Vec<u8>, usize, WordState>,
-    names: Slab<Vec<u8>>,
+    places: Slab<usize>,
 }
 
 impl Model for Known {
     ghost use Rattle.std.specs.Prelude.{map};
-    ghost use Rattle.symres.specs.Known.{entry_spelled, spelled, IsPaired, KnownNames};
+    ghost use Rattle.symres.specs.Known.{entry_spelled, spelled, stored, IsFiled, KnownNames};
 
     ghost Value = { KnownNames };
 
-    ghost view = { λ a. record { slots = map spelled a.names.slots; order = map entry_spelled a.numbers.entries } };
+    ghost view = { λ a. record {
+      slots = map spelled (stored a.numbers.entries a.places.slots);
+      order = map entry_spelled a.numbers.entries;
+    } };
 
-    ghost invariant = { λ a. IsPaired a.numbers.entries a.names.slots };
+    ghost invariant = { λ a. IsFiled a.numbers.entries a.places.slots };
 }
 
-fn has_name(names: &Slab<Vec<u8>>, number: usize) -> bool
-    ensures { result ≡ is_some (get names.now number) }
+fn has_place(places: &Slab<usize>, number: usize) -> bool
+    ensures { result ≡ is_some (get places.now number) }
 {
-    names.get(number).is_some()
+    places.get(number).is_some()
 }
 
-fn drop_unused(names: &mut Slab<Vec<u8>>, objects: &Objects)
-    ensures { (n : ℕ) → get names.new n ≡ (if is_used n objects.now.objects then get names.old n else None) }
+fn drop_unused(places: &mut Slab<usize>, objects: &Objects)
+    ensures { (n : ℕ) → get places.new n ≡ (if is_used n objects.now.objects then get places.old n else None) }
 {
-    names.retain(|number, _name| objects.is_used(number));
+    places.retain(|number, _place| objects.is_used(number));
 }
 
-fn is_numbered(numbers: &IndexMap<Vec<u8>, usize, WordState>, number: usize, name: &[u8]) -> bool
-    ensures { result ≡ is_number number (number_in name.now numbers.now.entries) }
+/// Drops the numbers of the names that stand at a place or after it.
+fn drop_from(places: &mut Slab<usize>, count: usize)
+    ensures { (n : ℕ) → get places.new n ≡ kept_if (λ p. nat_lt p count) (get places.old n) }
 {
-    match numbers.get(name) {
-        Some(found) => *found == number,
-        None => false,
+    places.retain(|_number, place| *place < count);
+}
+
+/// Writes the place of the name of a number.
+fn file(places: &mut Slab<usize>, number: usize, place: usize)
+    requires { ContainsKey places.old number }
+    ensures updates { Updates places.old places.new number (Some place) }
+    ensures long { length places.new.slots ≡ length places.old.slots }
+{
+    places[number] = place;
+}
+
+fn number_at(numbers: &IndexMap<Vec<u8>, usize, WordState>, place: usize) -> usize
+    requires { place < length numbers.now.entries }
+    ensures { (e : Vec ℕ Global × ℕ) → (slice_index_or numbers.now.entries place e).1 ≡ result }
+{
+    match numbers.get_index(place) {
+        Some((_name, number)) => *number,
+        None => unreachable!(),
     }
 }
 
-fn drop_unnumbered(names: &mut Slab<Vec<u8>>, numbers: &IndexMap<Vec<u8>, usize, WordState>)
-    ensures { (n : ℕ) → get names.new n
-        ≡ kept_if (λ (v : Vec ℕ Global). is_number n (number_in v.items numbers.now.entries)) (get names.old n) }
+/// Writes the places of all names, which have moved.
+fn file_all(places: &mut Slab<usize>, numbers: &IndexMap<Vec<u8>, usize, WordState>)
+    requires apart { AreApart numbers.now.entries }
+    requires slots { HaveSlots numbers.now.entries places.old.slots }
+    ensures { Files numbers.now.entries (length numbers.now.entries) places.old.slots places.new.slots }
 {
-    names.retain(|number, name| is_numbered(numbers, number, name.as_slice()));
+    for place in 0..numbers.len() {
+        file(places, number_at(numbers, place), place);
+    }
 }
 
 impl Known {
@@ -71,7 +96,7 @@ impl Known {
     {
         Known {
             numbers: IndexMap::with_hasher(alloc, WordState::new(seed)),
-            names: Slab::new(alloc),
+            places: Slab::new(alloc),
         }
     }
 
@@ -99,8 +124,11 @@ impl Known {
         ensures { MatchOption result ((name : List ℕ) → slot self.now.slots number ≢ Some name) (λ name.
             IsNamed self.now.slots number name.now) }
     {
-        match self.names.get(number) {
-            Some(name) => Some(name.as_slice()),
+        match self.places.get(number) {
+            Some(place) => match self.numbers.get_index(*place) {
+                Some((name, _number)) => Some(name.as_slice()),
+                None => None,
+            },
             None => None,
         }
     }
@@ -122,10 +150,7 @@ impl Known {
         requires { place < length self.now.order }
         ensures { (e : List ℕ × ℕ) → (slice_index_or self.now.order place e).1 ≡ result }
     {
-        match self.numbers.get_index(place) {
-            Some((_name, number)) => *number,
-            None => unreachable!(),
-        }
+        number_at(&self.numbers, place)
     }
 
     /// Puts the names into byte order. Those that become known later stand after them.
@@ -134,7 +159,9 @@ impl Known {
         ensures refused { OnErr result (self.new ≡ self.old) }
         ensures slots { self.new.slots ≡ self.old.slots }
     {
-        self.numbers.sort_keys()
+        self.numbers.sort_keys()?;
+        file_all(&mut self.places, &self.numbers);
+        Ok(())
     }
 
     /// The names with their numbers.
@@ -150,10 +177,12 @@ impl Known {
         ensures kept { IsKeptWhere (λ n. is_used n objects.now.objects) self.old.slots self.new.slots }
         ensures order { self.new.order ≡ filter (λ (e : List ℕ × ℕ). is_used e.1 objects.now.objects) self.old.order }
     {
-        drop_unused(&mut self.names, objects);
-        let names = &self.names;
+        drop_unused(&mut self.places, objects);
+        let places = &self.places;
         self.numbers
-            .retain(|_name, number| has_name(names, *number));
+            .retain(|_name, number| has_place(places, *number));
+        let _count = self.numbers.len();
+        file_all(&mut self.places, &self.numbers);
     }
 
     /// Forgets the names that are not among the first `count` to become known. The others keep their numbers.
@@ -161,7 +190,7 @@ impl Known {
         ensures { self.new.order ≡ take count self.old.order }
     {
         self.numbers.truncate(count);
-        drop_unnumbered(&mut self.names, &self.numbers);
+        drop_from(&mut self.places, count);
     }
 
     fn insert(&mut self, name: &[u8]) -> Result<usize, AllocError>
@@ -171,9 +200,9 @@ impl Known {
         ensures added { AddsNames self.old self.new }
     {
         let key = Vec::from_slice(*self.numbers.allocator(), name)?;
-        let copy = Vec::from_slice(*self.numbers.allocator(), name)?;
-        self.names.reserve(1)?;
-        self.numbers.insert(key, self.names.vacant_key())?;
-        Ok(self.names.insert_reserved(copy))
+        self.places.reserve(1)?;
+        let place = self.numbers.len();
+        self.numbers.insert(key, self.places.vacant_key())?;
+        Ok(self.places.insert_reserved(place))
     }
 }

@@ -2,14 +2,14 @@
 
 ghost use Rattle.std.specs.Prelude.{◌≡◌, ◌≤◌, ◌<◌, ◌+◌, ◌++◌, ℕ, List, [], length, map, remove, take, vec_len};
 ghost use Rattle.std.specs.Prelude.{vec_capacity, IfOk, IfSome, OnOk, slice_index_or, true, false, ◌≢◌, MatchOption};
-ghost use Rattle.std.specs.Prelude.{Option, Some};
+ghost use Rattle.std.specs.Prelude.{filter, if◌then◌else◌, not, Option, Some, ◌^◌};
 ghost use Rattle.std.specs.List.{All};
 ghost use Rattle.std.proofs.Common.{Vec, Global};
 ghost use Rattle.elfobj.specs.Symbols.{NamedSymbol};
 ghost use Rattle.ldmodel.specs.Names.{is_local};
 ghost use Rattle.symres.specs.Known.{AddsNames};
 ghost use Rattle.symres.specs.Lists.{rooms, Takes, Adds};
-ghost use Rattle.symres.specs.Spelled.{AreOf, HasName, spell_symbol, Spells, SpellsSeen};
+ghost use Rattle.symres.specs.Spelled.{AreOf, HasName, is_seen, spell_symbol, Spells, SpellsSeen};
 ghost use Rattle.symres.specs.State.{slot, AreDistinct, HasList, IsNamed, KeepsNames};
 ghost use Rattle.symres.specs.declared.symbol.Numbered.{Numbered};
 
@@ -19,6 +19,7 @@ use crate::symbol::{Numbered, is_visible};
 use elfobj::object::Object;
 use elfobj::relocation::SymbolIndex;
 use elfobj::span::Span;
+use elfobj::symbol::Symbol;
 use std::alloc::AllocError;
 
 fn find(spare: &[Vec<Numbered>], count: usize) -> usize
@@ -230,6 +231,67 @@ pub fn number_all(
         at = place_after(at, guess);
         let told = number_guessed(object, number, list, guesses, repeats);
         list.push_reserved(numbered(known, object, number, told, guess));
+    }
+}
+
+fn name_in(seen: &[Numbered], at: usize) -> usize
+    requires { at < length seen.now }
+    ensures { (s : Numbered) → result ≡ (slice_index_or seen.now at s).name }
+{
+    seen[at].name
+}
+
+/// A symbol of an object by the number of its name. If other objects see it, it is the one at a place in `seen`.
+fn numbered_seen(object: &Object, number: u32, seen: &[Numbered], at: usize) -> Numbered
+    requires within { number < length object.now.symbols }
+    requires seen { length seen.now ≡ length (filter is_seen object.now.symbols) }
+    requires at { at ≡ length (filter is_seen (take number object.now.symbols)) }
+    ensures spelled { (names : List (Option (List ℕ))) (d : NamedSymbol) → SpellsSeen names seen.now object.now.symbols
+        → spell_symbol names result ≡ slice_index_or object.now.symbols number d }
+    ensures named { (names : List (Option (List ℕ))) → SpellsSeen names seen.now object.now.symbols
+        → HasName names result }
+    ensures symbol { (d : NamedSymbol) → result.symbol ≡ (slice_index_or object.now.symbols number d).symbol }
+    ensures number { result.number ≡ number }
+{
+    let symbol = object.symbols()[number as usize];
+    if !is_visible(&symbol) {
+        return Numbered {
+            name: 0,
+            number,
+            symbol,
+        };
+    }
+    Numbered {
+        name: name_in(seen, at),
+        number,
+        symbol,
+    }
+}
+
+/// Where the next symbol that other objects see stands among those, after this symbol, which stands at a place if they see
+/// it.
+fn place_past(symbol: &Symbol, at: usize) -> usize
+    requires { at < 2 ^ 32 }
+    ensures { result ≡ at + (if not (is_local symbol.now.binding) then 1 else 0) }
+{
+    if is_visible(symbol) { at + 1 } else { at }
+}
+
+/// Writes the symbols of an object by the numbers of their names. `seen` are those that other objects see, with their
+/// numbers, in the order of the table. No name is looked at.
+pub fn number_seen(object: &Object, seen: &[Numbered], list: &mut Vec<Numbered>)
+    requires seen { length seen.now ≡ length (filter is_seen object.now.symbols) }
+    requires empty { list.old.items ≡ [] }
+    requires room { length object.now.symbols ≤ vec_capacity list.old }
+    ensures spelled { (names : List (Option (List ℕ))) → SpellsSeen names seen.now object.now.symbols
+        → Spells names list.new.items object.now.symbols }
+    ensures capacity { vec_capacity list.new ≡ vec_capacity list.old }
+{
+    let mut at: usize = 0;
+    for index in 0..object.symbols().len() {
+        let symbol = numbered_seen(object, index as u32, seen, at);
+        at = place_past(&symbol.symbol, at);
+        list.push_reserved(symbol);
     }
 }
 

@@ -11,10 +11,11 @@ ghost use Rattle.elfobj.specs.Symbols.{NamedSymbol};
 ghost use Rattle.ldmodel.specs.HandedOver.{decision_of};
 ghost use Rattle.ldmodel.specs.Names.{decided, is_local};
 ghost use Rattle.ldmodel.specs.ScriptNames.{is_assigned, is_provided};
+ghost use Rattle.symres.specs.Changes.{IsRefused, Joins};
 ghost use Rattle.symres.specs.Known.{AddsNames, entry_spelled};
 ghost use Rattle.symres.specs.Lists.{rooms, Adds};
 ghost use Rattle.symres.specs.Objects.{GrowsRoom};
-ghost use Rattle.symres.specs.Spelled.{IsReady};
+ghost use Rattle.symres.specs.Spelled.{IsReady, SpellsSeen};
 ghost use Rattle.symres.specs.State.{entries_of, Forgets, HasList, HasName, HasObject, HasSymbol, IsFresh};
 ghost use Rattle.symres.specs.State.{IsInByteOrder, IsListing, IsMore, IsNamed, IsNameOfSymbol, IsSameBut, KeepsNames};
 ghost use Rattle.symres.specs.State.{IsNameAt, IsSeenAt, MayEnter, object_key, ParksList, SameNames, TakesList};
@@ -23,7 +24,7 @@ ghost use Rattle.symres.specs.declared.symbol.Numbered.{Numbered};
 ghost use Rattle.symres.specs.Tally.{declaration_of};
 
 use crate::known::Known;
-use crate::lists::{number_all, number_new, park, take_list};
+use crate::lists::{number_all, number_new, number_seen, park, take_list};
 use crate::objects::Objects;
 use crate::repeats::Repeats;
 use crate::symbol::{Declared, Numbered};
@@ -123,6 +124,7 @@ fn make_ready(
     ensures added { AddsNames known.old known.new }
     ensures same { GrowsRoom objects.old objects.new }
     ensures ok { OnOk result (IsReady known.new.slots objects.new object.now.symbols) }
+    ensures seen { OnOk result (SpellsSeen known.new.slots list.new.items object.now.symbols) }
 {
     list.clear();
     list.reserve(object.symbols().len())?;
@@ -146,6 +148,7 @@ fn make_ready_or_not(
     ensures added { AddsNames known.old known.new }
     ensures same { GrowsRoom objects.old objects.new }
     ensures ok { OnOk result (IsReady known.new.slots objects.new object.now.symbols) }
+    ensures seen { OnOk result (SpellsSeen known.new.slots list.new.items object.now.symbols) }
 {
     let count = known.len();
     match make_ready(known, objects, object, list, repeats) {
@@ -174,6 +177,7 @@ fn reserve_fields(
     ensures added { AddsNames known.old known.new }
     ensures same { GrowsRoom objects.old objects.new }
     ensures ok { OnOk result (IsReady known.new.slots objects.new object.now.symbols) }
+    ensures seen { OnOk result (SpellsSeen known.new.slots list.new.items object.now.symbols) }
     ensures room { vec_len spare.new + length objects.old.objects ≤ vec_capacity spare.new }
     ensures lists { Adds (rooms spare.old.items) (rooms spare.new.items) }
     ensures list { OnOk result (HasList (rooms spare.new.items) (length object.now.symbols)) }
@@ -390,6 +394,32 @@ impl Names {
         let mut list = take_list(&mut self.spare, object.symbols().len());
         number_all(&self.known, object, &self.guesses, &self.repeats, &mut list);
         self.objects.enter(key.0, at, list);
+    }
+
+    /// Enters an object at a place among the entered ones, from 0. It does what `reserve` and `enter` do one after the
+    /// other, in about half the time: each name is looked at once. An error says that memory ran out. Then the objects
+    /// are as before, and names that it made known are dropped again.
+    pub fn add(&mut self, key: ObjectKey, at: usize, object: &Object) -> Result<(), NoMemory>
+        requires at { at ≤ length self.old.objects }
+        requires fresh { IsFresh key.0 self.old.objects }
+        ensures objects { OnOk result (self.new.objects ≡ insert self.old.objects at (key.0, object.now.symbols)) }
+        ensures joins { OnOk result (Joins self.old self.new key.0 at object.now.symbols) }
+        ensures refused { OnErr result (IsRefused self.old self.new) }
+    {
+        let _before = self.known.len();
+        reserve_fields(
+            &mut self.known,
+            &mut self.objects,
+            &mut self.spare,
+            object,
+            &mut self.guesses,
+            &mut self.repeats,
+        )?;
+        let _known = self.known.len();
+        let mut list = take_list(&mut self.spare, object.symbols().len());
+        number_seen(object, &self.guesses, &mut list);
+        self.objects.enter(key.0, at, list);
+        Ok(())
     }
 
     /// Takes an object out. Its names stay known and its room reserved. It takes no memory.

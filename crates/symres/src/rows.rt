@@ -286,7 +286,8 @@ pub fn remove_all(table: &mut Vec<Vec<Declared>>, key: usize, symbols: &[Numbere
     clear_all(table, key, symbols);
 }
 
-/// Makes room for one more entry of a name. A row that has to grow does so by a quarter, as there are many rows.
+/// Makes room for one more entry of a name. The first has room for itself alone, as many names have no other; from then
+/// on a row that is full has room for four entries, and then for twice as many each time.
 fn reserve_row(row: &mut Vec<Declared>) -> Result<(), AllocError>
     ensures items { row.new.items ≡ row.old.items }
     ensures capacity { vec_capacity row.old ≤ vec_capacity row.new }
@@ -295,7 +296,10 @@ fn reserve_row(row: &mut Vec<Declared>) -> Result<(), AllocError>
     if row.len() < row.capacity() {
         return Ok(());
     }
-    row.reserve_exact(row.len() / 4 + 1)
+    if row.capacity() == 0 {
+        return row.reserve_exact(1);
+    }
+    row.reserve(1)
 }
 
 /// Puts an entry at the end of a row, to hold room for a symbol that comes.

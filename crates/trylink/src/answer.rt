@@ -1,6 +1,6 @@
 //! Answers to commands: as a session spells them, and as they are printed here.
 
-use crate::stream::printing::print_bytes;
+use crate::printing::print_bytes;
 use ldmodel::edit::{EditRefusal, Linked};
 use std::io;
 use std::io::Write;

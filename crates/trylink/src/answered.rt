@@ -1,6 +1,6 @@
 //! What a whole stream is answered, and whether the ways agree.
 
-use crate::stream::printing::print_bytes;
+use crate::printing::print_bytes;
 use std::io;
 use std::io::Write;
 

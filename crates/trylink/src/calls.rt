@@ -3,6 +3,7 @@
 use crate::answer::Answer;
 use crate::answered::{Answered, MALFORMED};
 use crate::command::{Command, split_command};
+use crate::printing::print_command;
 use ldmodel::edit::Edit;
 use ldmodel::memory::NoMemory;
 use ldmodel::meter::Meter;
@@ -72,7 +73,7 @@ impl Calls {
     }
 }
 
-/// The answers to a stream by calls, each printed as it comes.
+/// The answers to a stream by calls, each printed as it comes, after its command.
 pub fn answer_by_calls<W: Write>(
     alloc: Global,
     seed: RandomState,
@@ -89,11 +90,13 @@ pub fn answer_by_calls<W: Write>(
             break;
         }
         let Some((command, others)) = split_command(alloc, rest)? else {
+            print_command(out, rest)?;
             Answer::Malformed.spell(&mut answers)?;
             Answer::Malformed.print(out)?;
             let status = MALFORMED;
             return Ok(Answered { answers, status });
         };
+        print_command(out, &rest[..rest.len().saturating_sub(others.len())])?;
         rest = others;
         let answer = calls.answer(command)?;
         answer.spell(&mut answers)?;

@@ -2,6 +2,7 @@
 
 use crate::answer::Answer;
 use crate::command::{Command, split_command};
+use crate::printing::print_command;
 use ldmodel::edit::Edit;
 use ldmodel::linker::Linker;
 use ldmodel::meter::Meter;
@@ -55,8 +56,10 @@ pub fn print_counts<W: Write>(
         let Some((command, others)) = split_command(alloc, rest)? else {
             return Answer::Malformed.print(out);
         };
+        let bytes = &rest[..rest.len().saturating_sub(others.len())];
         rest = others;
         if let Command::Make(edit) = command {
+            print_command(out, bytes)?;
             print_edit(&mut session, edit, out)?;
         }
     }

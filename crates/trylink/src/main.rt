@@ -12,11 +12,12 @@
 //! `list` in place of `stream` asks for a checksum in place of the answers, `counts` for what each edit counts in a
 //! session, and `devices` for what comes where a reader or a writer fails.
 //!
-//! For each frame it prints `stream NAME`, and then for each command the line of its answer. Under that of a map or of
-//! fault lines stands the text; that of an image goes on with a checksum (`answer::checksum`). Then it prints
-//! `status S`, and `same` where all ways give one status and the same bytes, or else where they differ.
+//! For each frame it prints `stream NAME WORDS..`, and then each command (`printing::print_command`) and under it its
+//! answer. That of a map or of fault lines has the text; that of an image goes on with a checksum
+//! (`answer::checksum`). Then it prints `status S`, and `same` where all ways give one status and the same bytes, or
+//! else where they differ.
 //!
-//! For a frame of `counts` it prints under the answer to each edit how many objects it read, names it decided, input
+//! For a frame of `counts` it prints each edit, its answer, and how many objects it read, names it decided, input
 //! sections it placed, relocations it evaluated and bytes of the image it wrote.
 //!
 //! For a frame of `devices` a session answers the stream through a reader that gives one byte a call and a writer that
@@ -34,8 +35,8 @@ mod counts;
 mod devices;
 mod failing;
 mod frame;
+mod printing;
 mod session;
-mod stream;
 
 use crate::answer::checksum;
 use crate::answered::print_agreement;
@@ -43,14 +44,20 @@ use crate::calls::answer_by_calls;
 use crate::counts::print_counts;
 use crate::failing::print_failing;
 use crate::frame::{Frame, Kind, split_frame};
+use crate::printing::print_bytes;
 use crate::session::{answer_by_plain, answer_by_session};
-use crate::stream::layer::{CUT, DONE, FAILED};
-use crate::stream::printing::print_bytes;
 use std::alloc::Global;
 use std::hash::RandomState;
 use std::io;
 use std::io::{BufWriter, Read, Write};
 use std::process::ExitCode;
+
+/// All frames were answered.
+const DONE: u8 = 0;
+/// The input ends within a frame.
+const CUT: u8 = 1;
+/// A device failed, or memory was refused.
+const FAILED: u8 = 3;
 
 /// The word that begins a frame's line and what is printed of it.
 fn word_of(kind: Kind) -> &'static str {
@@ -117,6 +124,10 @@ fn try_frame<W: Write>(
 ) -> io::Result<()> {
     out.write_all(word_of(frame.kind).as_bytes())?;
     print_bytes(out, frame.name.as_bytes())?;
+    if let Some(words) = frame.words {
+        out.write_all(b" ")?;
+        print_bytes(out, words.as_bytes())?;
+    }
     out.write_all(b"\n")?;
     match frame.kind {
         Kind::Counts | Kind::Devices => observe(alloc, seed, frame, out),

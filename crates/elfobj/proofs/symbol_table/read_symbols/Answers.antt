@@ -1,8 +1,9 @@
-use Rattle.std.proofs.Common.{◌<◌, ap, sym, ◌∙◌, arith, rules, inr, true, false, Some, None, get_or, length, refl}
-use Rattle.elffile.specs.SectionHeaders.{header, null_header}
-use Rattle.elffile.specs.TableOf.{table_of}
+use Rattle.std.proofs.Common.{◌<◌, sym, ◌∙◌, arith, rules, inr, true, false, Some, None, get_or, length, refl}
+use Rattle.elffile.specs.SectionHeaders.{null_header}
 use Rattle.elffile.proofs.Headers.{count_of, header_of}
-use Rattle.elfobj.proofs.SymbolTables.{count_told, entry_told, named_all, named_none, named_same, names_told, no_table, right_header, right_table, several_told, string_table_below, string_table_type, strings_in_file, symbol_refused, symbols_pass, table_in_file, table_refused, table_same, table_told, wrong_by_entries, wrong_by_header, wrong_several, wrong_symbol, wrong_table}
+use Rattle.elfobj.proofs.OrderedTables.{told}
+use Rattle.elfobj.proofs.PassingSymbols.{passing_none}
+use Rattle.elfobj.proofs.SymbolTables.{named_all, named_none, no_table, right_header, several_told, string_table_below, string_table_type, strings_in_file, table_in_file, table_refused, table_told, wrong_by_header, wrong_several, wrong_table}
 use Rattle.elfobj.proofs.symbol_table.read_symbols.Goals as goal
 
 pub returns-then-are_several-clause-refused : goal.returns-then-are_several-clause-refused
@@ -22,20 +23,6 @@ returns-then-has_wrong_header-clause-refused c =
     inr (table_refused c.args.bytes.now (wrong_table c.args.bytes.now c.in-Some.table true (several_told c.args.bytes.now c.args.headers.now c.are_several.result false c.requires.headers c.are_several.ensures c.if-are_several.false) (table_told c.args.bytes.now c.args.headers.now c.symbol_table_header.result (Some c.in-Some.table) c.requires.headers c.symbol_table_header.ensures c.in-Some.is)
     (wrong_by_header c.args.bytes.now c.args.headers.now c.in-Some.table c.requires.headers (sym c.has_wrong_header.ensures ∙ c.if-has_wrong_header.true))))
 
-pub read_entries-requires : goal.read_entries-requires
-read_entries-requires c = (table_in_file c.args.bytes.now c.in-Some.table c.requires.tests (table_told c.args.bytes.now c.args.headers.now c.symbol_table_header.result (Some c.in-Some.table) c.requires.headers c.symbol_table_header.ensures c.in-Some.is)).end
-
-pub has_misplaced_entry-requires-clause-within : goal.has_misplaced_entry-requires-clause-within
-has_misplaced_entry-requires-clause-within c =
-    let right = (right_header c.args.headers.now c.in-Some.table (sym c.has_wrong_header.ensures ∙ c.if-has_wrong_header.false)) in
-    let count = count_told c.args.bytes.now c.in-Some.table c.deref.result.now (c.deref.ensures.value ∙ c.in-Ok.ensures) in
-    omega (arith, right.high)
-
-pub returns-then-has_misplaced_entry-clause-refused : goal.returns-then-has_misplaced_entry-clause-refused
-returns-then-has_misplaced_entry-clause-refused c =
-    inr (table_refused c.args.bytes.now (wrong_table c.args.bytes.now c.in-Some.table true (several_told c.args.bytes.now c.args.headers.now c.are_several.result false c.requires.headers c.are_several.ensures c.if-are_several.false) (table_told c.args.bytes.now c.args.headers.now c.symbol_table_header.result (Some c.in-Some.table) c.requires.headers c.symbol_table_header.ensures c.in-Some.is)
-    (wrong_by_entries c.args.bytes.now c.in-Some.table c.deref.result.now (c.deref.ensures.value ∙ c.in-Ok.ensures) (sym c.has_misplaced_entry.ensures ∙ c.if-has_misplaced_entry.true))))
-
 pub bounds-headers-table : goal.bounds-headers-table
 bounds-headers-table c = string_table_below c.args.headers.now c.in-Some.table.sh_link (right_header c.args.headers.now c.in-Some.table (sym c.has_wrong_header.ensures ∙ c.if-has_wrong_header.false)).strings
 
@@ -46,59 +33,32 @@ overflow_cast-count c =
     let below : length c.args.headers.now < 65536 = omega arith in
     search rules
 
-pub symbol_names-requires-clause-within : goal.symbol_names-requires-clause-within
-symbol_names-requires-clause-within c =
+pub read_passing-requires-clause-within : goal.read_passing-requires-clause-within
+read_passing-requires-clause-within c = (table_in_file c.args.bytes.now c.in-Some.table c.requires.tests (table_told c.args.bytes.now c.args.headers.now c.symbol_table_header.result (Some c.in-Some.table) c.requires.headers c.symbol_table_header.ensures c.in-Some.is)).end
+
+pub read_passing-requires-clause-strings : goal.read_passing-requires-clause-strings
+read_passing-requires-clause-strings c =
     let strings = (right_header c.args.headers.now c.in-Some.table (sym c.has_wrong_header.ensures ∙ c.if-has_wrong_header.false)).strings in
     let below = string_table_below c.args.headers.now c.in-Some.table.sh_link strings in
     (strings_in_file c.args.bytes.now c.in-Some.table.sh_link (get_or c.args.headers.now c.in-Some.table.sh_link null_header) c.requires.tests (omega (arith, count_of c.args.bytes.now c.args.headers.now c.requires.headers))
     (header_of c.args.bytes.now c.args.headers.now c.in-Some.table.sh_link null_header c.requires.headers below) (string_table_type c.args.headers.now c.in-Some.table.sh_link null_header strings)).end
 
-pub symbol_names-requires-clause-same : goal.symbol_names-requires-clause-same
-symbol_names-requires-clause-same c = λ e.
-    let below = string_table_below c.args.headers.now c.in-Some.table.sh_link (right_header c.args.headers.now c.in-Some.table (sym c.has_wrong_header.ensures ∙ c.if-has_wrong_header.false)).strings in
-    c.requires.names.header ∙ ap (header c.args.bytes.now) (sym e) ∙ sym (header_of c.args.bytes.now c.args.headers.now c.in-Some.table.sh_link null_header c.requires.headers below)
+pub read_tested-requires-clause-found : goal.read_tested-requires-clause-found
+read_tested-requires-clause-found c = table_told c.args.bytes.now c.args.headers.now c.symbol_table_header.result (Some c.in-Some.table) c.requires.headers c.symbol_table_header.ensures c.in-Some.is
 
-pub is_any_wrong-requires : goal.is_any_wrong-requires
-is_any_wrong-requires c =
-    let right = (right_header c.args.headers.now c.in-Some.table (sym c.has_wrong_header.ensures ∙ c.if-has_wrong_header.false)) in
-    let count = count_told c.args.bytes.now c.in-Some.table c.deref-2.result.now (c.deref-2.ensures.value ∙ c.in-Ok.ensures) in
-    omega (arith, right.some)
+pub returns-in-Ok-Some-clause-ok : goal.returns-in-Ok-Some-clause-ok
+returns-in-Ok-Some-clause-ok c =
+    let right = sym c.has_wrong_header.ensures ∙ c.if-has_wrong_header.false in
+    let below = string_table_below c.args.headers.now c.in-Some.table.sh_link (right_header c.args.headers.now c.in-Some.table right).strings in
+    passing_none c.args.bytes.now c.args.headers.now c.in-Some.table (get_or c.args.headers.now c.in-Some.table.sh_link null_header) (length c.args.headers.now) c.requires.headers
+    (several_told c.args.bytes.now c.args.headers.now c.are_several.result false c.requires.headers c.are_several.ensures c.if-are_several.false)
+    (table_told c.args.bytes.now c.args.headers.now c.symbol_table_header.result (Some c.in-Some.table) c.requires.headers c.symbol_table_header.ensures c.in-Some.is) right
+    (count_of c.args.bytes.now c.args.headers.now c.requires.headers) (header_of c.args.bytes.now c.args.headers.now c.in-Some.table.sh_link null_header c.requires.headers below)
+    (told _ _ c.in-Ok-Some.symbols c.in-Ok-Some.field-0-is c.in-Ok-Some.ensures.placed) (told _ _ c.in-Ok-Some.symbols c.in-Ok-Some.field-0-is c.in-Ok-Some.ensures.right)
 
-pub returns-then-is_any_wrong-clause-refused : goal.returns-then-is_any_wrong-clause-refused
-returns-then-is_any_wrong-clause-refused c =
-    let below = string_table_below c.args.headers.now c.in-Some.table.sh_link (right_header c.args.headers.now c.in-Some.table (sym c.has_wrong_header.ensures ∙ c.if-has_wrong_header.false)).strings in
-    inr (symbol_refused c.args.bytes.now
-    (wrong_table c.args.bytes.now c.in-Some.table false (several_told c.args.bytes.now c.args.headers.now c.are_several.result false c.requires.headers c.are_several.ensures c.if-are_several.false) (table_told c.args.bytes.now c.args.headers.now c.symbol_table_header.result (Some c.in-Some.table) c.requires.headers c.symbol_table_header.ensures c.in-Some.is)
-    (right_table c.args.bytes.now c.args.headers.now c.in-Some.table c.deref.result.now c.requires.headers (c.deref.ensures.value ∙ c.in-Ok.ensures) (sym c.has_wrong_header.ensures ∙ c.if-has_wrong_header.false) (sym c.has_misplaced_entry.ensures ∙ c.if-has_misplaced_entry.false)))
-    (wrong_symbol c.args.bytes.now c.in-Some.table true (table_told c.args.bytes.now c.args.headers.now c.symbol_table_header.result (Some c.in-Some.table) c.requires.headers c.symbol_table_header.ensures c.in-Some.is)
-    (entry_told c.args.bytes.now c.in-Some.table (get_or c.args.headers.now c.in-Some.table.sh_link null_header) (length c.args.headers.now) (table_of c.in-Ok-symbol_names.names) c.deref-2.result.now true
-    (count_of c.args.bytes.now c.args.headers.now c.requires.headers) (header_of c.args.bytes.now c.args.headers.now c.in-Some.table.sh_link null_header c.requires.headers below) (table_same c.args.bytes.now c.in-Ok-symbol_names.names.file.now c.in-Ok-symbol_names.names.header (get_or c.args.headers.now c.in-Some.table.sh_link null_header) c.in-Ok-symbol_names.ensures.file c.in-Ok-symbol_names.ensures.header)
-    (c.deref-2.ensures.value ∙ c.in-Ok.ensures) (sym c.is_any_wrong.ensures ∙ c.if-is_any_wrong.true))))
-
-pub named_symbols-requires-clause-some : goal.named_symbols-requires-clause-some
-named_symbols-requires-clause-some c =
-    let right = (right_header c.args.headers.now c.in-Some.table (sym c.has_wrong_header.ensures ∙ c.if-has_wrong_header.false)) in
-    let count = count_told c.args.bytes.now c.in-Some.table c.deref-3.result.now (c.deref-3.ensures.value ∙ c.in-Ok.ensures) in
-    omega (arith, right.some)
-
-pub named_symbols-requires-clause-names : goal.named_symbols-requires-clause-names
-named_symbols-requires-clause-names c =
-    names_told (length c.args.headers.now) (table_of c.in-Ok-symbol_names.names) (table_of c.in-Ok-symbol_names.names) c.deref-2.result.now c.deref-3.result.now refl (c.deref-2.ensures.value ∙ sym c.deref-3.ensures.value)
-    (sym c.is_any_wrong.ensures ∙ c.if-is_any_wrong.false)
-
-pub returns-in-Ok-named_symbols-clause-ok : goal.returns-in-Ok-named_symbols-clause-ok
-returns-in-Ok-named_symbols-clause-ok c =
-    let below = string_table_below c.args.headers.now c.in-Some.table.sh_link (right_header c.args.headers.now c.in-Some.table (sym c.has_wrong_header.ensures ∙ c.if-has_wrong_header.false)).strings in
-    symbols_pass c.args.bytes.now
-    (wrong_table c.args.bytes.now c.in-Some.table false (several_told c.args.bytes.now c.args.headers.now c.are_several.result false c.requires.headers c.are_several.ensures c.if-are_several.false) (table_told c.args.bytes.now c.args.headers.now c.symbol_table_header.result (Some c.in-Some.table) c.requires.headers c.symbol_table_header.ensures c.in-Some.is)
-    (right_table c.args.bytes.now c.args.headers.now c.in-Some.table c.deref.result.now c.requires.headers (c.deref.ensures.value ∙ c.in-Ok.ensures) (sym c.has_wrong_header.ensures ∙ c.if-has_wrong_header.false) (sym c.has_misplaced_entry.ensures ∙ c.if-has_misplaced_entry.false)))
-    (wrong_symbol c.args.bytes.now c.in-Some.table false (table_told c.args.bytes.now c.args.headers.now c.symbol_table_header.result (Some c.in-Some.table) c.requires.headers c.symbol_table_header.ensures c.in-Some.is)
-    (entry_told c.args.bytes.now c.in-Some.table (get_or c.args.headers.now c.in-Some.table.sh_link null_header) (length c.args.headers.now) (table_of c.in-Ok-symbol_names.names) c.deref-2.result.now false
-    (count_of c.args.bytes.now c.args.headers.now c.requires.headers) (header_of c.args.bytes.now c.args.headers.now c.in-Some.table.sh_link null_header c.requires.headers below) (table_same c.args.bytes.now c.in-Ok-symbol_names.names.file.now c.in-Ok-symbol_names.names.header (get_or c.args.headers.now c.in-Some.table.sh_link null_header) c.in-Ok-symbol_names.ensures.file c.in-Ok-symbol_names.ensures.header)
-    (c.deref-2.ensures.value ∙ c.in-Ok.ensures) (sym c.is_any_wrong.ensures ∙ c.if-is_any_wrong.false)))
-
-pub returns-in-Ok-named_symbols-clause-symbols : goal.returns-in-Ok-named_symbols-clause-symbols
-returns-in-Ok-named_symbols-clause-symbols c =
-    let below = string_table_below c.args.headers.now c.in-Some.table.sh_link (right_header c.args.headers.now c.in-Some.table (sym c.has_wrong_header.ensures ∙ c.if-has_wrong_header.false)).strings in
-    named_all c.args.bytes.now c.in-Some.table (get_or c.args.headers.now c.in-Some.table.sh_link null_header) c.deref-3.result.now _ _ (table_told c.args.bytes.now c.args.headers.now c.symbol_table_header.result (Some c.in-Some.table) c.requires.headers c.symbol_table_header.ensures c.in-Some.is)
-    (header_of c.args.bytes.now c.args.headers.now c.in-Some.table.sh_link null_header c.requires.headers below) (c.deref-3.ensures.value ∙ c.in-Ok.ensures) (named_same c.args.bytes.now c.in-Ok-symbol_names.names.file.now c.in-Ok-symbol_names.names.header (get_or c.args.headers.now c.in-Some.table.sh_link null_header) c.deref-3.result.now _ _ c.in-Ok-symbol_names.ensures.file c.in-Ok-symbol_names.ensures.header c.in-Ok-named_symbols.ensures)
+pub returns-in-Ok-Some-clause-symbols : goal.returns-in-Ok-Some-clause-symbols
+returns-in-Ok-Some-clause-symbols c =
+    let right = sym c.has_wrong_header.ensures ∙ c.if-has_wrong_header.false in
+    let below = string_table_below c.args.headers.now c.in-Some.table.sh_link (right_header c.args.headers.now c.in-Some.table right).strings in
+    named_all c.args.bytes.now c.in-Some.table (get_or c.args.headers.now c.in-Some.table.sh_link null_header) _ _ _ (table_told c.args.bytes.now c.args.headers.now c.symbol_table_header.result (Some c.in-Some.table) c.requires.headers c.symbol_table_header.ensures c.in-Some.is)
+    (header_of c.args.bytes.now c.args.headers.now c.in-Some.table.sh_link null_header c.requires.headers below) refl (told _ _ c.in-Ok-Some.symbols c.in-Ok-Some.field-0-is c.in-Ok-Some.ensures.symbols)

@@ -13,8 +13,8 @@ use Rattle.gather.proofs.Keyed.{number_of_key}
 use Rattle.gather.proofs.Starting.{graph_is}
 use Rattle.gather.proofs.live.mark_needed.Goals as goal
 
-pub mark_reached-requires-clause-count : goal.mark_reached-requires-clause-count
-mark_reached-requires-clause-count c =
+pub mark-requires-clause-count : goal.mark-requires-clause-count
+mark-requires-clause-count c =
     let p = c.args.project.now in
     sym (ap length c.requires.out ∙ length-map (input_sections p) (is_out p))
 
@@ -31,7 +31,7 @@ returns c =
     → (IsTrue (is_kept (taken_by p s)) ⊎ (c.find-entry.result ≡ Some k)) ↔ Contains l k)
     (sym c.deref.ensures.value)
     (c.in_ok-roots.ensures p (by_place p) (sym c.script.ensures) c.requires.sections) in
-    IfOk-weaker c.mark_reached.result _ _
+    IfOk-weaker c.mark.result _ _
     (λ (marks : Vec Bool Global) h. h p c.requires.collected
     (graph_is p c.args.out.now c.deref.result.now c.find-entry.result c.requires.out number roots))
-    c.mark_reached.ensures.live
+    c.mark.ensures.live

@@ -7,30 +7,25 @@ use Rattle.ldnames.specs.Keyed.{table_of, tables_of}
 use Rattle.ldnames.proofs.Entering.{Table, fresh_at, length-first, one_entered}
 use Rattle.ldnames.proofs.entered.enter_all.Goals as goal
 
-pub enter-requires-clause-at : goal.enter-requires-clause-at
-enter-requires-clause-at c =
-    let entered : c.reserve.new.self.objects ≡ take c.loop-place.place (tables_of c.args.objects.now) =
-    c.reserve.ensures.objects ∙ c.loop-place.invariant in
+pub add-requires-clause-at : goal.add-requires-clause-at
+add-requires-clause-at c =
     let many : length (take c.loop-place.place (tables_of c.args.objects.now)) ≡ c.loop-place.place =
     length-first c.args.objects.now c.loop-place.place (omega (arith, c.loop-place-test.true)) in
-    subst (λ (ts : List Table). c.loop-place.place ≤ length ts) (sym entered) (omega (arith, many))
+    subst (λ (ts : List Table). c.loop-place.place ≤ length ts) (sym c.loop-place.invariant) (omega (arith, many))
 
-pub enter-requires-clause-fresh : goal.enter-requires-clause-fresh
-enter-requires-clause-fresh c =
-    let entered : c.reserve.new.self.objects ≡ take c.loop-place.place (tables_of c.args.objects.now) =
-    c.reserve.ensures.objects ∙ c.loop-place.invariant in
+pub add-requires-clause-fresh : goal.add-requires-clause-fresh
+add-requires-clause-fresh c =
     subst (λ (ts : List Table). (k : ℕ) (d : Table) → k < length ts
-    → ((get_or ts k d).0 == c.index-objects-place.result.key.0) ≡ false) (sym entered)
+    → ((get_or ts k d).0 == c.index-objects-place.result.key.0) ≡ false) (sym c.loop-place.invariant)
     (λ k d h.
     fresh_at c.args.objects.now c.loop-place.place k c.index-objects-place.result d c.requires
     (omega (arith, c.loop-place-test.true)) (sym c.index-objects-place.is) h)
 
 pub loop-place-preserved : goal.loop-place-preserved
 loop-place-preserved c =
-    let entered : c.reserve.new.self.objects ≡ take c.loop-place.place (tables_of c.args.objects.now) =
-    c.reserve.ensures.objects ∙ c.loop-place.invariant in
-    c.enter.ensures.objects
-    ∙ (ap (λ (ts : List Table). insert ts c.loop-place.place (table_of c.index-objects-place.result)) entered
+    c.in_ok-add.ensures.objects
+    ∙ (ap (λ (ts : List Table). insert ts c.loop-place.place (table_of c.index-objects-place.result))
+    c.loop-place.invariant
     ∙ one_entered c.args.objects.now c.loop-place.place c.index-objects-place.result
     (omega (arith, c.loop-place-test.true)) (sym c.index-objects-place.is))
 

@@ -1,12 +1,13 @@
 use Rattle.std.proofs.Common.{◌∙◌, ap, take, map}
 use Rattle.symres.specs.Known.{KnownNames, entry_spelled}
-use Rattle.symres.proofs.Cutting.{paired_cut, map_take}
+use Rattle.symres.proofs.Cutting.{map_take}
+use Rattle.symres.proofs.Filed.{filed_cut}
 use Rattle.symres.proofs.known.Known.drop_newer.Goals as goal
 
 pub invariant_of-self : goal.invariant_of-self
 invariant_of-self c =
-    paired_cut c.args.count c.self.inside.numbers.entries c.truncate.new.self.entries c.self.inside.names.slots
-    c.drop_unnumbered.new.names.slots c.self.invariant c.truncate.ensures.entries c.drop_unnumbered.ensures
+    filed_cut c.args.count c.self.inside.numbers.entries c.truncate.new.self.entries c.self.inside.places.slots
+    c.drop_from.new.places.slots c.self.invariant c.truncate.ensures.entries c.drop_from.ensures
 
 pub returns : goal.returns
 returns c = ap (map entry_spelled) c.truncate.ensures.entries ∙ map_take c.args.count c.self.inside.numbers.entries

@@ -1,5 +1,5 @@
 use Rattle.std.proofs.Common.{◌∙◌, ap, map, subst}
-use Rattle.symres.specs.Known.{KnownNames, entry_spelled}
+use Rattle.symres.specs.Known.{KnownNames, entry_spelled, stored}
 use Rattle.symres.specs.State.{IsListing}
 use Rattle.symres.proofs.Ordered.{once_mapped, listing}
 use Rattle.symres.proofs.Pairs.{consistent}
@@ -12,5 +12,5 @@ pub returns-clause-listing : goal.returns-clause-listing
 returns-clause-listing c =
     let a = c.self.inside in
     subst (λ (k : KnownNames). IsListing k.slots k.order) c.self.view_is
-    (listing _ (consistent a.numbers.entries a.names.slots c.self.invariant)
+    (listing _ (consistent a.numbers.entries (stored a.numbers.entries a.places.slots) c.self.invariant.paired)
     (once_mapped a.numbers.entries c.iter.ensures.unique))

@@ -1,24 +1,46 @@
-use Rattle.std.proofs.Common.{◌≡◌, ◌∙◌, ℕ, Vec, Global, List, ap, map}
-use Rattle.symres.specs.Known.{KnownNames, entry_spelled, spelled}
-use Rattle.symres.proofs.Ordered.{paired_sorted, refused_so, sorted_spelled, sorted_ok}
+use Rattle.std.proofs.Common.{◌∙◌, ap}
+use Rattle.symres.specs.Known.{IsPaired, KnownNames, stored}
+use Rattle.symres.proofs.Filed.{apart, have_slots, refiled, refiled_names}
+use Rattle.symres.proofs.Ordered.{paired_sorted, sorted_spelled}
 use Rattle.symres.proofs.known.Known.sort.Goals as goal
 
-pub invariant_of-self : goal.invariant_of-self
-invariant_of-self c =
-    paired_sorted c.self.inside.numbers.entries c.sort_keys.new.self.entries c.self.inside.names.slots
-    c.self.invariant c.sort_keys.ensures.reordered.0 c.sort_keys.ensures.reordered.2
+pub file_all-requires-clause-apart : goal.file_all-requires-clause-apart
+file_all-requires-clause-apart c =
+    let a = c.self.inside in
+    let es' = c.sort_keys.new.self.entries in
+    let p : IsPaired es' (stored a.numbers.entries a.places.slots) =
+    paired_sorted a.numbers.entries es' (stored a.numbers.entries a.places.slots) c.self.invariant.paired
+    c.sort_keys.ensures.reordered.0 c.sort_keys.ensures.reordered.2 in
+    apart es' (stored a.numbers.entries a.places.slots) p c.sort_keys.ensures.unique
+
+pub file_all-requires-clause-slots : goal.file_all-requires-clause-slots
+file_all-requires-clause-slots c =
+    let a = c.self.inside in
+    let es' = c.sort_keys.new.self.entries in
+    let p : IsPaired es' (stored a.numbers.entries a.places.slots) =
+    paired_sorted a.numbers.entries es' (stored a.numbers.entries a.places.slots) c.self.invariant.paired
+    c.sort_keys.ensures.reordered.0 c.sort_keys.ensures.reordered.2 in
+    have_slots a.numbers.entries es' a.places.slots p
+
+pub invariant_of-self-2 : goal.invariant_of-self-2
+invariant_of-self-2 c =
+    let a = c.self.inside in
+    let es' = c.sort_keys.new.self.entries in
+    let p : IsPaired es' (stored a.numbers.entries a.places.slots) =
+    paired_sorted a.numbers.entries es' (stored a.numbers.entries a.places.slots) c.self.invariant.paired
+    c.sort_keys.ensures.reordered.0 c.sort_keys.ensures.reordered.2 in
+    refiled a.numbers.entries es' a.places.slots c.file_all.new.places.slots p c.self.invariant.within
+    c.file_all.ensures
 
 pub returns-clause-sorted : goal.returns-clause-sorted
-returns-clause-sorted c =
-    sorted_ok c.sort_keys.result (sorted_spelled c.sort_keys.new.self.entries)
-    c.sort_keys.ensures.sorted
+returns-clause-sorted c = sorted_spelled c.sort_keys.new.self.entries c.in_ok-sort_keys.ensures.sorted
 
-pub returns-clause-refused : goal.returns-clause-refused
-returns-clause-refused c =
-    refused_so c.sort_keys.result
-    (λ (same : c.sort_keys.new.self.entries ≡ c.self.inside.numbers.entries).
-    ap (λ (es : List (Vec ℕ Global × ℕ)). shown es) same ∙ c.self.view_is)
-    c.sort_keys.ensures.err
-  where
-    shown : List (Vec ℕ Global × ℕ) → KnownNames
-    shown es = record { slots = map spelled c.self.inside.names.slots; order = map entry_spelled es }
+pub returns-clause-slots : goal.returns-clause-slots
+returns-clause-slots c =
+    let a = c.self.inside in
+    let es' = c.sort_keys.new.self.entries in
+    let p : IsPaired es' (stored a.numbers.entries a.places.slots) =
+    paired_sorted a.numbers.entries es' (stored a.numbers.entries a.places.slots) c.self.invariant.paired
+    c.sort_keys.ensures.reordered.0 c.sort_keys.ensures.reordered.2 in
+    refiled_names a.numbers.entries es' a.places.slots c.file_all.new.places.slots p c.self.invariant.within
+    c.file_all.ensures ∙ ap (λ (k : KnownNames). k.slots) c.self.view_is

@@ -1,0 +1,15 @@
+use Rattle.std.proofs.Common.{◌≡◌, false, map, take}
+use Rattle.std.specs.List.{All, list_any}
+use Rattle.elffile.specs.Relocations.{relocation_of, share_bytes}
+use Rattle.elfobj.specs.Places.{AreRelocated}
+use Rattle.elfobj.specs.Runs.{is_refused_for, table_entries}
+use Rattle.elfobj.specs.declared.relocation_fault.EntryFault.TheVariants.{Any}
+use Rattle.elfobj.specs.declared.relocation_run.SectionTable.{SectionTable}
+use Rattle.elfobj.proofs.ordered_table.read_ordered.Given as goal
+
+abbrev pub invariant-loop-table : goal.invariant-loop-table
+invariant-loop-table l = record {
+  read : AreRelocated (map (λ (t : SectionTable). map relocation_of (table_entries l.bytes t)) (take l.table-index l.tables)) l.all.items l.spans.items;
+  passes : All (λ (t : SectionTable). list_any (is_refused_for Any l.symbols t.section) (table_entries l.bytes t) ≡ false) (take l.table-index l.tables);
+  apart : All (λ (t : SectionTable). share_bytes (map relocation_of (table_entries l.bytes t)) ≡ false) (take l.table-index l.tables);
+}

@@ -1,0 +1,15 @@
+use Rattle.std.proofs.Common.{◌≡◌, ℕ, ◌+◌, ◌*◌, ◌<◌, ◌≤◌, false, nat_lt}
+use Rattle.elffile.specs.SectionHeaders.{file_bytes}
+use Rattle.elffile.specs.SymbolEntries.{symbol_entries_below, symbol_entry_at}
+use Rattle.elffile.specs.Symbols.{symbols_from}
+use Rattle.elffile.specs.Tables.{is_local, is_wrong_symbol}
+use Rattle.elfobj.specs.Places.{AreNamed}
+use Rattle.elfobj.proofs.symbols.read_passing.Given as goal
+
+abbrev pub invariant-loop-number : goal.invariant-loop-number
+invariant-loop-number l = record {
+  low : 1 ≤ l.number;
+  named : AreNamed l.bytes (symbols_from (file_bytes l.bytes l.strings) (symbol_entries_below l.bytes l.start l.number)) l.symbols.symbols.items l.symbols.names.items;
+  sides : (j : ℕ) → 1 ≤ j → j < l.number → is_local (symbol_entry_at l.bytes (l.start + 24 * j)) ≡ nat_lt j l.first;
+  right : (j : ℕ) → 1 ≤ j → j < l.number → is_wrong_symbol l.sections (file_bytes l.bytes l.strings) (symbol_entry_at l.bytes (l.start + 24 * j)) ≡ false;
+}

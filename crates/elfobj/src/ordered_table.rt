@@ -1,0 +1,86 @@
+//! Tables as compilers write them: their entries are all within the profile, and their fields come one after another.
+//! One pass tests such tables and decodes them. Of others it finds only that they are not such.
+
+ghost use Rattle.std.specs.Prelude.{◌≡◌, ◌≤◌, ◌+◌, ◌*◌, ◌++◌, IfOk, IfSome, false, length, map, true};
+ghost use Rattle.std.specs.List.{All, list_any};
+ghost use Rattle.elffile.specs.Relocations.{relocation_of, relocations_at, share_bytes};
+ghost use Rattle.elfobj.specs.Places.{AreRelocated, relocations_in};
+ghost use Rattle.elfobj.specs.Runs.{IsTableOf, has_refused_entry, is_refused_for, table_entries};
+ghost use Rattle.elfobj.specs.declared.relocation_fault.EntryFault.TheVariants.{Any};
+
+use crate::field::is_outside;
+use crate::relocation::Relocation;
+use crate::relocation_run::{Relocations, SectionTable};
+use elffile::constants::RELA_SIZE;
+use elffile::relocation_entry::read_relocation_entry;
+use elffile::span::Span;
+use std::alloc::{AllocError, Global};
+
+/// How many entries these tables have.
+fn entry_count(tables: &[SectionTable]) -> usize {
+    let mut count = 0usize;
+    for table in tables {
+        count = count.saturating_add(table.count);
+    }
+    count
+}
+
+/// Appends the relocations of a table. It stops, and answers no, at an entry that is outside the profile or whose field
+/// begins before the end of the one before it.
+fn push_ordered(
+    bytes: &[u8],
+    table: &SectionTable,
+    symbols: usize,
+    all: &mut Vec<Relocation>,
+) -> Result<bool, AllocError>
+    requires { table.now.start + 24 * table.now.count ≤ length bytes.now }
+    ensures read { IfOk result (λ b. b ≡ true → all.new.items ≡ all.old.items ++ map relocation_of (table_entries bytes.now table.now)) }
+    ensures passes { IfOk result (λ b. b ≡ true → list_any (is_refused_for Any symbols table.now.section) (table_entries bytes.now table.now) ≡ false) }
+    ensures apart { IfOk result (λ b. b ≡ true → share_bytes (map relocation_of (table_entries bytes.now table.now)) ≡ false) }
+{
+    let mut end = 0;
+    for k in 0..table.count {
+        let entry = read_relocation_entry(bytes, table.start + RELA_SIZE * k);
+        let Some(relocation) = entry.relocation_among(symbols) else {
+            return Ok(false);
+        };
+        if relocation.offset < end
+            || is_outside(&relocation, table.section.kind, table.section.size)
+        {
+            return Ok(false);
+        }
+        end = relocation.offset + relocation.kind.width();
+        all.push(relocation)?;
+    }
+    Ok(true)
+}
+
+/// The relocations of these tables, if all entries are within the profile, the fields of each table come one after
+/// another, and there are no more entries than the file has room for.
+pub fn read_ordered(
+    alloc: Global,
+    bytes: &[u8],
+    tables: &[SectionTable],
+    symbols: usize,
+) -> Result<Option<Relocations>, AllocError>
+    requires { All (IsTableOf bytes.now) tables.now }
+    ensures read { IfOk result (λ o. IfSome o (λ r. AreRelocated (map (λ s. relocations_at bytes.now s.number.0) (map (λ t. t.section) tables.now)) r.all.items r.spans.items)) }
+    ensures passes { IfOk result (λ o. IfSome o (λ r. list_any (has_refused_entry Any bytes.now symbols) (map (λ t. t.section) tables.now) ≡ false)) }
+    ensures apart { IfOk result (λ o. IfSome o (λ r. list_any share_bytes (map (relocations_in r.all.items) r.spans.items) ≡ false)) }
+{
+    let count = entry_count(tables);
+    if bytes.len() / RELA_SIZE < count {
+        return Ok(None);
+    }
+    let mut all = Vec::with_capacity(alloc, count)?;
+    let mut spans = Vec::with_capacity(alloc, tables.len())?;
+    for table in tables {
+        let start = all.len();
+        if !push_ordered(bytes, table, symbols, &mut all)? {
+            return Ok(None);
+        }
+        let end = all.len();
+        spans.push(Span { start, end })?;
+    }
+    Ok(Some(Relocations { all, spans }))
+}
