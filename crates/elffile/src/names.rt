@@ -1,12 +1,11 @@
 //! Names in a string table (gABI, "String Table": a string runs to the next zero byte).
 
-ghost use Rattle.std.specs.Prelude.{◌≡◌, ◌≤◌, ◌+◌, IfOk, IfSome, Some, [], drop, false, is_some, length, not, take, true, unwrap_or};
+ghost use Rattle.std.specs.Prelude.{◌≡◌, ℕ, ◌≤◌, ◌<◌, ◌+◌, IfOk, IfSome, Some, [], drop, false, get_or, is_some, length, take, true, unwrap_or};
 ghost use Rattle.std.specs.Option.{option_map_or};
 ghost use Rattle.std.proofs.Props.{props};
 ghost use Rattle.elffile.specs.NameLengths.{first_length, length_before, name_lengths};
 ghost use Rattle.elffile.specs.Names.{is_graphic, is_name, string_at};
 ghost use Rattle.elffile.specs.Spans.{IsInside, bytes_at};
-ghost use Rattle.std.specs.List.{position};
 ghost use Rattle.elffile.specs.SectionHeaders.{file_bytes};
 
 use crate::constants::MAX_NAME_LENGTH;
@@ -64,11 +63,16 @@ fn name_lengths(alloc: Global, table: &[u8]) -> Result<Vec<u16>, AllocError>
     Ok(lengths)
 }
 
-/// The place of the first byte that may not stand in a name.
-fn first_stop(bytes: &[u8]) -> Option<usize>
-    ensures { result ≡ position (λ b. not (is_graphic b)) bytes.now }
+/// How many bytes that may stand in a name a table begins with.
+fn graphic_count(bytes: &[u8]) -> usize
+    ensures within { result ≤ length bytes.now }
+    ensures graphic { (k : ℕ) → k < result → is_graphic (get_or bytes.now k 0) ≡ true }
 {
-    bytes.iter().position(|b| !is_graphic(*b))
+    let mut count = 0;
+    while count < bytes.len() && is_graphic(bytes[count]) {
+        count += 1;
+    }
+    count
 }
 
 /// The length of the name that begins at this offset of a table, where it ends inside the table and is within the
@@ -82,10 +86,11 @@ fn looked_length(table: &[u8], at: usize) -> Option<usize>
         return None;
     }
     let rest = &table[at..];
-    let Some(length) = first_stop(rest) else {
+    let length = graphic_count(rest);
+    if length == rest.len() || rest[length] != 0 {
         return None;
-    };
-    if rest[length] != 0 || length == 0 || length > usize::from(MAX_NAME_LENGTH) {
+    }
+    if length == 0 || length > usize::from(MAX_NAME_LENGTH) {
         return None;
     }
     Some(length)

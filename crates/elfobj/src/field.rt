@@ -1,7 +1,8 @@
 //! The fields that relocations change: whether they lie in their section, and their order.
 
-ghost use Rattle.std.specs.Prelude.{◌≡◌, OnOk, true};
+ghost use Rattle.std.specs.Prelude.{◌≡◌, IfNone, IfSome, OnOk, false, true};
 ghost use Rattle.std.specs.List.Sorted.{IsNonDecreasingBy, IsPermutation};
+ghost use Rattle.elffile.specs.Relocations.{field_end};
 ghost use Rattle.elffile.specs.Tables.{is_outside};
 
 use crate::relocation::Relocation;
@@ -16,6 +17,25 @@ pub fn is_outside(relocation: &Relocation, kind: SectionKind, size: u64) -> bool
     match kind {
         SectionKind::Nobits => true,
         _ => size < relocation.offset || size - relocation.offset < relocation.kind.width(),
+    }
+}
+
+/// Where the field of a relocation ends, if it lies in a section of this kind and size.
+pub fn end_inside(relocation: &Relocation, kind: SectionKind, size: u64) -> Option<u64>
+    ensures end { IfSome result (λ e. e ≡ field_end relocation.now) }
+    ensures inside { IfSome result (λ e. is_outside kind size relocation.now ≡ false) }
+    ensures outside { IfNone result (is_outside kind size relocation.now ≡ true) }
+{
+    let end = u128::from(relocation.offset) + u128::from(relocation.kind.width());
+    match kind {
+        SectionKind::Nobits => None,
+        _ => {
+            if end <= u128::from(size) {
+                Some(end as u64)
+            } else {
+                None
+            }
+        }
     }
 }
 

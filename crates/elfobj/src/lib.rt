@@ -1,4 +1,11 @@
-//! The object reader: relocatable ELF-64 objects for x86-64.
+//! The object reader: relocatable ELF-64 objects for x86-64. Takes the bytes of a file; gives an `Object`, which lends
+//! slices of them, or gives them back with the lowest refusal that holds.
+//!
+//! - `object`: reading, and what a caller gets; `section`, `symbol`, `relocation`, `refusal`: its types;
+//! - `section_table`, `symbol_table`, `relocation_table`: the tests of all headers and entries, in their order;
+//! - `relocation_fault` over `entry_test` and `field_marks`: entries tested before any is kept; whether fields share a
+//!   byte;
+//! - `field`, `relocation_run`, `linked`, `place`, `span`: what an object keeps of its sections and relocations.
 #![tactic(auto)]
 
 mod entry_test;

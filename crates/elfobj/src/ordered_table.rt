@@ -8,7 +8,7 @@ ghost use Rattle.elfobj.specs.Places.{AreRelocated, relocations_in};
 ghost use Rattle.elfobj.specs.Runs.{IsTableOf, has_refused_entry, is_refused_for, table_entries};
 ghost use Rattle.elfobj.specs.declared.relocation_fault.EntryFault.TheVariants.{Any};
 
-use crate::field::is_outside;
+use crate::field::end_inside;
 use crate::relocation::Relocation;
 use crate::relocation_run::{Relocations, SectionTable};
 use elffile::constants::RELA_SIZE;
@@ -44,12 +44,13 @@ fn push_ordered(
         let Some(relocation) = entry.relocation_among(symbols) else {
             return Ok(false);
         };
-        if relocation.offset < end
-            || is_outside(&relocation, table.section.kind, table.section.size)
-        {
+        if relocation.offset < end {
             return Ok(false);
         }
-        end = relocation.offset + relocation.kind.width();
+        let Some(own) = end_inside(&relocation, table.section.kind, table.section.size) else {
+            return Ok(false);
+        };
+        end = own;
         all.push(relocation)?;
     }
     Ok(true)

@@ -31,8 +31,8 @@ fn is_ascending(patches: &[Patch]) -> bool
     true
 }
 
-/// Puts the fields of one piece, no two of which share a byte, into the order of their offsets. One pass, and no memory,
-/// where they are in that order already, as assemblers write them; else they are sorted.
+/// Puts the fields of one piece, no two of which share a byte, into the order of their offsets. One pass, and no
+/// memory, where they are in that order already, as assemblers write them; else they are sorted.
 ///
 /// An error says that there was no memory for the sort.
 pub fn in_order(mut patches: Vec<Patch>) -> Result<Vec<Patch>, AllocError>

@@ -1,4 +1,9 @@
-//! What is kept of a link without faults, and which input sections of a next link stayed where it has them.
+//! What is kept of a link without faults, and which input sections of a next link stayed where it has them. Takes that
+//! link and the next project; gives what stayed, what symbols were worth, and the first row that differs.
+//!
+//! - `stays`: what stayed, as `ldtargets` asks it of an earlier link; `good`: what is kept of a link;
+//! - `first` over `same` and `names`: the first row that differs; `marks`: objects with a symbol of another value;
+//! - `file_starts`, `symbol_table`, `standing`: where sections stood, and what symbols were worth.
 #![tactic(auto)]
 
 pub mod file_starts;

@@ -1,4 +1,8 @@
 //! Laws of the definitions of a link: each function does nothing, and its contract is the law.
+//!
+//! - `edits`, `streams`, `names`, `gathering`, `values`, `layout`, `segments`, `image`, `targets`, `link_command`: a
+//!   law or a few each; `stayed`: of two links;
+//! - `examples`, `layouts`, `links`: small projects, computed by the definitions.
 #![tactic(auto)]
 
 pub mod edits;

@@ -1,5 +1,8 @@
-//! What a link is given and what it is: options, edits and their answers, the trait of linkers, the types that the
-//! layers of a link hand one another, and the definitions of a project, of an edit and of a link.
+//! What a link is given and what it is: the definitions of a project, of an edit and of a link (`specs`), and the types
+//! that the layers of a link hand one another.
+//!
+//! - `edit`, `options`, `linker`: edits, their answers and limits; options; the trait of linkers;
+//! - `names`, `sections`, `rows`, `laid`, `segment`, `target`, `fault`, `script_symbol`: what layers hand one another.
 #![tactic(auto)]
 
 pub mod edit;

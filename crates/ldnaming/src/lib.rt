@@ -1,4 +1,10 @@
-//! The names of a link: what each stands for over all objects and the script, and the faults of names.
+//! The names of a link: what each stands for over all objects and the script, and the faults of names. Takes what is
+//! kept under keys; gives cases by place, PROVIDEs in force, names in byte order, and faults.
+//!
+//! - `naming` with `changing`: what is kept, and how it follows a change; `entered`: all objects, for a link from
+//!   scratch;
+//! - `placed`, `keyed`, `sorted`, `provided`: cases by place, symbols' keys, names in order, PROVIDEs;
+//! - `faults` over `duplicates`: names defined twice, and the entry symbol.
 #![tactic(auto)]
 
 mod changing;

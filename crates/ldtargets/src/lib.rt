@@ -1,4 +1,10 @@
-//! Values of symbols in the output, and the fields of relocations against them.
+//! Values of symbols in the output, and the fields of relocations against them. Takes what a linker knows of a link,
+//! and perhaps of an earlier one; gives fields, or their faults.
+//!
+//! - `known`, `earlier`: what a linker says of its link and of an earlier one; `symbol`, `value`, `target`: values;
+//! - `site`, `fields`, `moved`, `changed_fields`: fields, all of them or those that an earlier link did not have;
+//!   `law`;
+//! - `index`, `bucket`, `walk`: from targets to relocations.
 #![tactic(auto)]
 
 mod bucket;

@@ -1,4 +1,8 @@
-//! The tokens of a linker script, with their lines.
+//! The tokens of a linker script, with their lines. Takes a text; gives its tokens, or a refusal.
+//!
+//! - `lexer` over `front`, `modes` and `limits`: cutting a text; `cursor`: a walk over tokens; `refusal`;
+//! - `token`, `marks`, `words`, `name`, `number`, `bytes`: kinds of tokens, and how they are spelled;
+//! - `laws`: no text has two cuts.
 #![tactic(auto)]
 
 pub mod bytes;

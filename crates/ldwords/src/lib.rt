@@ -1,4 +1,7 @@
-//! The command lines of `ldi`, read with `clap`.
+//! The command lines of `ldi`, read with `clap`. Takes words; gives a `Call`, or what is wrong with them.
+//!
+//! - the root has `words`; `call`, `fault`: what comes of reading; `values`: what clap's matches hold;
+//! - `command`: the command in clap's words.
 #![tactic(auto)]
 
 ghost use Rattle.std.specs.Prelude.{MatchResult, map, string_bytes};

@@ -20,10 +20,10 @@
 //!     symbol NUMBER BINDING KIND PLACE VALUE SIZE [NAME]
 //!     relocation SECTION OFFSET KIND SYMBOL ADDEND
 //!
-//! All numbers are decimal. FLAGS are letters, as `readelf` has them: W for write, A for alloc, X for code, M for merge,
-//! S for strings. Kinds and bindings are the standards' names, without `SHT_`, `STB_` and `STT_`. PLACE is `UND`, `ABS`,
-//! `COM` or the number of a section. SECTION is the number of the section that a relocation changes, SYMBOL the number
-//! of the entry that it names. A local symbol has no NAME.
+//! All numbers are decimal. FLAGS are letters, as `readelf` has them: W for write, A for alloc, X for code, M for
+//! merge, S for strings. Kinds and bindings are the standards' names, without `SHT_`, `STB_` and `STT_`. PLACE is
+//! `UND`, `ABS`, `COM` or the number of a section. SECTION is the number of the section that a relocation changes,
+//! SYMBOL the number of the entry that it names. A local symbol has no NAME.
 //!
 //! Of bytes that are no object it prints `refused N` with the reader's number instead, and a line with two spaces and
 //! the place and the reason, for people.

@@ -1,4 +1,10 @@
-//! Names: which definition each name stands for, over all entered objects and the script.
+//! Names: which definition each name stands for, over all entered objects and the script. Takes objects under keys;
+//! gives decisions, each counted.
+//!
+//! - `names`: the table, and what it is asked; `tally`: a decision, in one pass over the entries of a name;
+//! - `known` with `hashing`: names and their numbers; `objects`, `rows`, `places`: entries by object, by name and by
+//!   place;
+//! - `lists` with `repeats`, `symbol`: the symbols of an object that is entered; `law`: what can be entered again.
 #![tactic(auto)]
 
 mod hashing;

@@ -15,7 +15,7 @@ loop-k-preserved c =
     record {
       read = c.in_ok-push.ensures.items ∙ ap (λ xs. xs ++ r ∷ []) c.loop-k.invariant.read ∙ append_assoc c.args.all.now.items _ (r ∷ []) ∙ ap (λ xs. c.args.all.now.items ++ xs) (sym more);
       passes = passes_more c.args.bytes.now c.args.symbols t.section t.start c.loop-k.k e r c.read_relocation_entry-entry.ensures c.in-Some.ensures.value c.in-Some.ensures.symbol c.in-Some.ensures.kind
-          (sym c.is_outside.ensures ∙ c.if-is_outside.false) c.loop-k.invariant.passes;
-      ends = ends_more _ _ r c.loop-k.end _ more (omega (arith, c.if-relocation-end.false)) (omega (arith, c.width.ensures)) c.loop-k.invariant.ends;
+          c.in-Some-end_inside.ensures.inside c.loop-k.invariant.passes;
+      ends = ends_more _ _ r c.loop-k.end _ more (omega (arith, c.if-relocation-end.false)) c.in-Some-end_inside.ensures.end c.loop-k.invariant.ends;
       apart = apart_more _ _ r c.loop-k.end more (omega (arith, c.if-relocation-end.false)) c.loop-k.invariant.ends c.loop-k.invariant.apart;
     }
