@@ -92,7 +92,7 @@ module _ (old : GoodLink) (l : KnownLink) (range : SectionKey → Option FileRan
             named = named;
             outcome = subst (λ a. IsEvaluatedAt old l (section_key key own) a own c) (e ∙ ap range key_is)
                 (record {
-                  stayed = subst (λ k. HasStayedAt old l k r) key_is stays;
+                  stayed = λ t d. subst (λ k. HasStayedAt old l k r) key_is stays;
                   run = refl;
                   patches = refl;
                   sites = refl;

@@ -18,6 +18,7 @@ use Rattle.ldmodel.specs.Project.{NamedObject}
 use Rattle.ldmodel.specs.declared.names.ObjectKey.{ObjectKey}
 use Rattle.ldtargets.specs.KnownLink.{KnownLink, named_object}
 use Rattle.ldtargets.specs.Sites.{IsPlaced, IsSectionOf}
+use Rattle.ldtargets.specs.SymbolTable.{IsRow}
 use Rattle.ldtargets.specs.declared.site.PlacedSection.{PlacedSection}
 
 abbrev Ascend : List LinkedSection → Type 0
@@ -96,11 +97,13 @@ module _ (xs : List LinkedSection) (i : ℕ) (d : Section) (ss : List Section) (
 
 -- a section of an object of the link
 pub placed_of : (l : KnownLink) (key : ObjectKey) (read : ObjectData) (m : PlacedSection) (o : NamedObject)
-    (x : LinkedSection) → named_object l key ≡ Some o → o.object ≡ read → IsSectionOf read x key m → IsPlaced l m o x
-placed_of l key read m o x named same h = record {
+    (x : LinkedSection) → named_object l key ≡ Some o → o.object ≡ read → IsSectionOf read x key m
+    → IsRow l o m.values.now → IsPlaced l m o x
+placed_of l key read m o x named same h row = record {
   object_is = rw h.key_is named;
   section_is = rw same h.number_is;
   symbols_are = rw same h.symbols_are;
+  values_are = row;
   relocations_are = h.relocations_are;
 }
 

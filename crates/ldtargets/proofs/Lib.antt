@@ -5,11 +5,13 @@ mod Added
 mod Places
 mod Kept
 mod Found
+mod Rowed
 mod Filling
 mod Lists
 mod Moving
 mod Changing
 mod Settling
+mod Bare
 mod Renewing
 mod Fewer
 mod Patching

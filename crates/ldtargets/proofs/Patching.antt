@@ -111,7 +111,7 @@ module _ (old : GoodLink) (l : KnownLink) (range : SectionKey → Option FileRan
       let t : Site = given.giver in
       let kept = in_filter (has_moved old l) (own_sites l s) t (subst (λ ts. Contains ts t) k.sites given.among) in
       let at : Home old l t = home old l by_piece t (inside s t among kept.0) in
-      let stays = k.stayed at.piece (keyed old l s h.key h.named t kept.0 at) in
+      let stays = k.stayed t kept.0 at.piece (keyed old l s h.key h.named t kept.0 at) in
       let p = patched l r t q given.gives in
       let offset : at.piece.range.offset ≡ r.offset = ap (λ a. a.offset) stays.1 in
       let long : at.piece.range.length ≡ r.length = ap (λ a. a.length) stays.1 in
@@ -219,7 +219,7 @@ module _ (old : GoodLink) (l : KnownLink) (range : SectionKey → Option FileRan
           complete (section_key h.key s) x e (keyed old l s h.key h.named t d home_is) in
           absurd (let no : ⊥ = (let y : true ≡ false = sym ((of_stayed x stays).1) ∙ out in cc) in no)
       all_at s c (Some r) h e k among d =
-          let at = k.stayed x (keyed old l s h.key h.named t d home_is) in
+          let at = k.stayed t d x (keyed old l s h.key h.named t d home_is) in
           let of_own = own old l s t d in
           let rows = own_profile l old profile s among t d in
           let one = All-contains (IsRelocationOfProfile (length s.object.object.symbols) t.section.size)
@@ -281,7 +281,7 @@ module _ (old : GoodLink) (l : KnownLink) (range : SectionKey → Option FileRan
         ∙ filter_where (has_moved old l) both (own_sites l s) (λ t d.
         let at : Home old l t = home old l by_piece t (inside t d) in
         let here : lies old l t ≡ true = lies_as old l range complete by_piece by_part t at
-        ∙ (k.stayed at.piece (keyed old l s h.key h.named t d at)).0 in
+        ∙ (k.stayed t d at.piece (keyed old l s h.key h.named t d at)).0 in
         sym (ap (λ b. b && has_moved old l t) here)) in
         subst (λ ts. Some_of HasWidth ts c.patches) same
         (subst (Some_of HasWidth c.sites) (sym k.patches)

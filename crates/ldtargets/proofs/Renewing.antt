@@ -1,7 +1,6 @@
 -- What was evaluated of all input sections, where none is known to have stayed: all.
-use Rattle.std.proofs.Common.{◌≡◌, List, [], ◌∷◌, ◌++◌, length, map, flat_map, Option, None, refl, ap, sym, ◌∙◌, subst}
+use Rattle.std.proofs.Common.{◌≡◌, List, [], ◌∷◌, ◌++◌, map, flat_map, Option, None, refl, ap, sym, ◌∙◌, subst}
 use Rattle.std.specs.List.{AllZip}
-use Rattle.ldfields.specs.declared.patch.Patch.{Patch}
 use Rattle.ldmodel.specs.Stayed.{GoodLink}
 use Rattle.ldmodel.specs.declared.sections.SectionKey.{SectionKey}
 use Rattle.ldtargets.specs.Changes.{AreChanged, AreFilled, Evaluated, IsEvaluatedAt, IsEvaluatedOf, IsRenewed, Results}

@@ -209,7 +209,7 @@ module _ (old : GoodLink) (l : KnownLink) where
         ap (filter_map (fault_at l)) h.sites
         ∙ filter_map_kept (has_moved old l) (fault_at l) (own_sites l s) (λ t d e.
         let at : Home t = home by_piece t (inside t d) in
-        no_fault l t (settled at.piece t at.among ((h.stayed at.piece (keyed s key named t d at)).0) at.within
+        no_fault l t (settled at.piece t at.among ((h.stayed t d at.piece (keyed s key named t d at)).0) at.within
         ((same_where t).0 e)))
 
     faults_of_some : (ss : List ObjectSection) (cs : List Evaluated) → AllZip (IsEvaluatedOf old l range) ss cs
@@ -268,7 +268,7 @@ module _ (old : GoodLink) (l : KnownLink) where
         h.sites
         ∙ filter_where (has_moved old l) is_due (own_sites l s) (λ t d.
         let at : Home t = home by_piece t (inside t d) in
-        let here : lies t ≡ true = lies_as t at ∙ (h.stayed at.piece (keyed s key named t d at)).0 in
+        let here : lies t ≡ true = lies_as t at ∙ (h.stayed t d at.piece (keyed s key named t d at)).0 in
         sym (ap (λ b. not b || has_moved old l t) here))
 
     due_of_some : (ss : List ObjectSection) (cs : List Evaluated) → AllZip (IsEvaluatedOf old l range) ss cs

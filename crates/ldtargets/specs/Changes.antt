@@ -1,7 +1,7 @@
 -- What comes of input sections beside an earlier link: the fields of those that did not stay; and, of those that did,
 -- the fields of the sites whose symbol has another value, in their places in the file.
 use Rattle.std.specs.Prelude.{◌≡◌, ℕ, ◌+◌, List, [], ◌++◌, map, flat_map, filter, nat_le, if◌then◌else◌, Option, Some}
-use Rattle.std.specs.Prelude.{None, length}
+use Rattle.std.specs.Prelude.{Contains, None, length}
 use Rattle.std.specs.List.{AllZip, filter_map}
 use Rattle.std.specs.Option.{option_and_then}
 use Rattle.ldfields.specs.Patches.{patch_end}
@@ -51,10 +51,11 @@ pub record IsRenewed (l : KnownLink) (s : ObjectSection) (c : Evaluated) : Type 
   pub patches : c.patches ≡ []
   pub sites : c.sites ≡ own_sites l s
 
--- it stayed, with its bytes in a range of the file: no fields, and patches of the sites whose symbol has another value
+-- it stayed, with its bytes in a range of the file, if it has sites: no fields, and patches of the sites whose symbol
+-- has another value
 pub record IsRetained (old : GoodLink) (l : KnownLink) (key : SectionKey) (r : FileRange) (s : ObjectSection)
     (c : Evaluated) : Type 0 where
-  pub stayed : HasStayedAt old l key r
+  pub stayed : (t : Site) → Contains (own_sites l s) t → HasStayedAt old l key r
   pub run : c.run ≡ []
   pub patches : c.patches ≡ filter_map (file_patch_at l r) c.sites
   pub sites : c.sites ≡ filter (has_moved old l) (own_sites l s)

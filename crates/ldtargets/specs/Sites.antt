@@ -14,6 +14,7 @@ use Rattle.ldmodel.specs.SymbolValues.{SymbolValue}
 use Rattle.ldmodel.specs.declared.fault.Fault as code
 use Rattle.ldmodel.specs.declared.names.ObjectKey.{ObjectKey}
 use Rattle.ldtargets.specs.KnownLink.{KnownLink, named_object}
+use Rattle.ldtargets.specs.SymbolTable.{IsRow}
 use Rattle.ldtargets.specs.declared.site.PlacedSection.{PlacedSection}
 
 -- a section of an object, as the code has it at hand
@@ -21,6 +22,7 @@ pub record IsPlaced (l : KnownLink) (m : PlacedSection) (o : NamedObject) (x : L
   pub object_is : named_object l m.object ≡ Some o
   pub section_is : section_numbered o m.section ≡ Some x
   pub symbols_are : m.symbols.now ≡ map (λ (y : NamedSymbol). y.symbol) o.object.symbols
+  pub values_are : IsRow l o m.values.now
   pub relocations_are : m.relocations.now ≡ x.relocations
 
 -- the same by what was read of the object

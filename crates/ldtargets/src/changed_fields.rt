@@ -13,13 +13,15 @@ ghost use Rattle.ldtargets.specs.Changes.{AreChanged, IsMoved, IsSectionAdded, n
 ghost use Rattle.ldtargets.specs.Earlier.{IsKept};
 ghost use Rattle.ldtargets.specs.Fields.{IsAdded};
 ghost use Rattle.ldtargets.specs.Filled.{EndBelow, IsOrder, IsRunAdded, sections_in, sections_of};
-ghost use Rattle.ldtargets.specs.KnownLink.{AreNameValues, KnownLink, named_object};
+ghost use Rattle.ldtargets.specs.KnownLink.{KnownLink, named_object};
+ghost use Rattle.ldtargets.specs.SymbolTable.{HasSymbolValues, IsRow};
 
 use crate::earlier::{Earlier, FileRange};
 use crate::fields::add_fields;
 use crate::known::Known;
 use crate::moved::add_moved;
 use crate::site::{PlacedSection, is_evaluated};
+use crate::symbol_table::SymbolTable;
 use crate::value::SymbolValue;
 use elfobj::object::Object;
 use elfobj::relocation::Relocation;
@@ -47,9 +49,8 @@ pub struct ChangedFields {
 }
 
 /// Adds the fields of a section of an object that starts at an address.
-fn add_placed<L: Known>(
+fn add_placed(
     alloc: Global,
-    link: &L,
     values: &[SymbolValue],
     key: ObjectKey,
     object: &Object,
@@ -60,10 +61,9 @@ fn add_placed<L: Known>(
     meter: &mut Meter,
 ) -> Result<(), NoMemory>
     requires { index.0 < length object.now.sections }
-    ensures { OnOk result ((l : KnownLink) (o : NamedObject) (x : LinkedSection) → L.knows link.now l
-        → AreNameValues l values.now → EndBelow l → named_object l key ≡ Some o → o.object ≡ object.now
-        → slice_get o.object.sections index.0 ≡ Some x → (y : PlacedPiece)
-        → placed_part l.layout o.name (InTable x.number) ≡ Some y → y.start ≡ start
+    ensures { OnOk result ((l : KnownLink) (o : NamedObject) (x : LinkedSection) → IsRow l o values.now → EndBelow l
+        → named_object l key ≡ Some o → o.object ≡ object.now → slice_get o.object.sections index.0 ≡ Some x
+        → (y : PlacedPiece) → placed_part l.layout o.name (InTable x.number) ≡ Some y → y.start ≡ start
         → IsAdded l o x start patches.old.items patches.new.items faults.old.items faults.new.items meter.old
         meter.new) }
 {
@@ -72,8 +72,8 @@ fn add_placed<L: Known>(
         // no layout has a section past the end of the address space
         return Ok(());
     }
-    let section = PlacedSection::new(key, object, index, start);
-    add_fields(alloc, link, values, &section, patches, faults, meter)?;
+    let section = PlacedSection::new(key, object, index, start, values);
+    add_fields(alloc, &section, patches, faults, meter)?;
     Ok(())
 }
 
@@ -91,7 +91,7 @@ fn add_run<L: Known>(
 ) -> Result<(), NoMemory>
     requires { index.0 < length object.now.sections }
     ensures { OnOk result ((l : KnownLink) (o : NamedObject) (x : LinkedSection) → L.knows link.now l
-        → AreNameValues l values.now → EndBelow l → named_object l key ≡ Some o → o.object ≡ object.now
+        → IsRow l o values.now → EndBelow l → named_object l key ≡ Some o → o.object ≡ object.now
         → slice_get o.object.sections index.0 ≡ Some x
         → IsRunAdded l (record { object = o; section = x }) patches.old.items patches.new.items faults.old.items
         faults.new.items meter.old meter.new) }
@@ -103,7 +103,7 @@ fn add_run<L: Known>(
         None => Ok(()),
         Some(start) => {
             add_placed(
-                alloc, link, values, key, object, index, start, patches, faults, meter,
+                alloc, values, key, object, index, start, patches, faults, meter,
             )?;
             Ok(())
         }
@@ -112,8 +112,7 @@ fn add_run<L: Known>(
 
 /// Evaluates the relocations of a section of an object that stayed and starts at an address whose symbol has another
 /// value.
-fn add_moved_at<L: Known, E: Earlier>(
-    link: &L,
+fn add_moved_at<E: Earlier>(
     earlier: &E,
     values: &[SymbolValue],
     key: ObjectKey,
@@ -126,8 +125,8 @@ fn add_moved_at<L: Known, E: Earlier>(
     meter: &mut Meter,
 ) -> Result<(), NoMemory>
     requires { index.0 < length object.now.sections }
-    ensures { OnOk result ((old : GoodLink) (l : KnownLink) (o : NamedObject) (x : LinkedSection) → L.knows link.now l
-        → E.knows earlier.now old l → AreNameValues l values.now → EndBelow l → IsKept (E.range earlier.now) key
+    ensures { OnOk result ((old : GoodLink) (l : KnownLink) (o : NamedObject) (x : LinkedSection)
+        → E.knows earlier.now old l → IsRow l o values.now → EndBelow l → IsKept (E.range earlier.now) key
         → named_object l key ≡ Some o → o.object ≡ object.now → slice_get o.object.sections index.0 ≡ Some x
         → (y : PlacedPiece) → placed_part l.layout o.name (InTable x.number) ≡ Some y → y.start ≡ start
         → IsMoved old l range (sites_at o x start) patches.old.items patches.new.items faults.old.items faults.new.items
@@ -138,10 +137,8 @@ fn add_moved_at<L: Known, E: Earlier>(
         // no layout has a section past the end of the address space
         return Ok(());
     }
-    let section = PlacedSection::new(key, object, index, start);
-    add_moved(
-        link, earlier, values, &section, range, patches, faults, meter,
-    )?;
+    let section = PlacedSection::new(key, object, index, start, values);
+    add_moved(earlier, &section, range, patches, faults, meter)?;
     Ok(())
 }
 
@@ -161,7 +158,7 @@ fn add_retained<L: Known, E: Earlier>(
 ) -> Result<(), NoMemory>
     requires { index.0 < length object.now.sections }
     ensures { OnOk result ((old : GoodLink) (l : KnownLink) (o : NamedObject) (x : LinkedSection) → L.knows link.now l
-        → E.knows earlier.now old l → AreNameValues l values.now → EndBelow l → IsKept (E.range earlier.now) key
+        → E.knows earlier.now old l → IsRow l o values.now → EndBelow l → IsKept (E.range earlier.now) key
         → named_object l key ≡ Some o → o.object ≡ object.now → slice_get o.object.sections index.0 ≡ Some x
         → IsMoved old l range (own_sites l (record { object = o; section = x })) patches.old.items patches.new.items
         faults.old.items faults.new.items meter.old meter.new) }
@@ -176,14 +173,14 @@ fn add_retained<L: Known, E: Earlier>(
         None => Ok(()),
         Some(start) => {
             add_moved_at(
-                link, earlier, values, key, object, index, start, range, patches, faults, meter,
+                earlier, values, key, object, index, start, range, patches, faults, meter,
             )?;
             Ok(())
         }
     }
 }
 
-/// Evaluates what there is to evaluate of a section of an object.
+/// Evaluates what there is to evaluate of a section of an object: nothing, where it has no relocations.
 fn add_evaluated<L: Known, E: Earlier>(
     alloc: Global,
     link: &L,
@@ -199,12 +196,17 @@ fn add_evaluated<L: Known, E: Earlier>(
 ) -> Result<(), NoMemory>
     requires { index.0 < length object.now.sections }
     ensures { OnOk result ((old : GoodLink) (l : KnownLink) (o : NamedObject) (x : LinkedSection) → L.knows link.now l
-        → E.knows earlier.now old l → AreNameValues l values.now → EndBelow l → named_object l key ≡ Some o
+        → E.knows earlier.now old l → IsRow l o values.now → EndBelow l → named_object l key ≡ Some o
         → o.object ≡ object.now → slice_get o.object.sections index.0 ≡ Some x
         → IsSectionAdded old l (E.range earlier.now) (record { object = o; section = x }) patches.old.items
         patches.new.items retargeted.old.items retargeted.new.items faults.old.items faults.new.items meter.old
         meter.new) }
 {
+    // so that the range of the count is known
+    let _fields = meter.fields();
+    if object.relocations(index).is_empty() {
+        return Ok(());
+    }
     let part = Part::InTable(object.sections()[index.0].number);
     match earlier.stayed(SectionKey { object: key, part }) {
         None => {
@@ -236,7 +238,7 @@ fn add_section<L: Known, E: Earlier>(
 ) -> Result<(), NoMemory>
     requires { index.0 < length object.now.sections }
     ensures { OnOk result ((old : GoodLink) (l : KnownLink) (o : NamedObject) (x : LinkedSection) → L.knows link.now l
-        → E.knows earlier.now old l → AreNameValues l values.now → EndBelow l → named_object l key ≡ Some o
+        → E.knows earlier.now old l → IsRow l o values.now → EndBelow l → named_object l key ≡ Some o
         → o.object ≡ object.now → slice_get o.object.sections index.0 ≡ Some x
         → AreChanged old l (E.range earlier.now) (record { object = o; section = x } ∷ [])
         (results_of fields.old meter.old) (results_of fields.new meter.new)) }
@@ -259,20 +261,21 @@ fn add_object<L: Known, E: Earlier>(
     alloc: Global,
     link: &L,
     earlier: &E,
-    values: &[SymbolValue],
+    symbols: &SymbolTable,
     key: ObjectKey,
     object: &Object,
     fields: &mut ChangedFields,
     meter: &mut Meter,
 ) -> Result<(), NoMemory>
     ensures { OnOk result ((old : GoodLink) (l : KnownLink) (o : NamedObject) → L.knows link.now l
-        → E.knows earlier.now old l → AreNameValues l values.now → EndBelow l → named_object l key ≡ Some o
+        → E.knows earlier.now old l → HasSymbolValues l symbols.now → EndBelow l → named_object l key ≡ Some o
         → o.object ≡ object.now
         → AreChanged old l (E.range earlier.now) (sections_of o object.now.sections) (results_of fields.old meter.old)
         (results_of fields.new meter.new)) }
 {
     // so that the range of the count is known
     let _fields = meter.fields();
+    let values = symbols.row(key, object.symbols().len());
     for index in 0..object.sections().len() {
         let index = LinkedIndex(index);
         add_section(
@@ -287,20 +290,20 @@ fn add_of_key<L: Known, E: Earlier>(
     alloc: Global,
     link: &L,
     earlier: &E,
-    values: &[SymbolValue],
+    symbols: &SymbolTable,
     key: ObjectKey,
     fields: &mut ChangedFields,
     meter: &mut Meter,
 ) -> Result<(), NoMemory>
     ensures { OnOk result ((old : GoodLink) (l : KnownLink) (o : NamedObject) → L.knows link.now l
-        → E.knows earlier.now old l → AreNameValues l values.now → EndBelow l → named_object l key ≡ Some o
+        → E.knows earlier.now old l → HasSymbolValues l symbols.now → EndBelow l → named_object l key ≡ Some o
         → AreChanged old l (E.range earlier.now) (sections_of o o.object.sections) (results_of fields.old meter.old)
         (results_of fields.new meter.new)) }
 {
     match link.object(key) {
         None => Ok(()),
         Some(object) => {
-            add_object(alloc, link, earlier, values, key, object, fields, meter)?;
+            add_object(alloc, link, earlier, symbols, key, object, fields, meter)?;
             Ok(())
         }
     }
@@ -325,9 +328,11 @@ fn count_of_object<L: Known, E: Earlier>(
 ) -> usize {
     let mut count: usize = 0;
     for index in 0..object.sections().len() {
+        let relocations = object.relocations(LinkedIndex(index));
         let part = Part::InTable(object.sections()[index].number);
-        if is_renewed(link, earlier, SectionKey { object: key, part }) {
-            count = count.saturating_add(count_of_table(object.relocations(LinkedIndex(index))));
+        let section = SectionKey { object: key, part };
+        if !relocations.is_empty() && is_renewed(link, earlier, section) {
+            count = count.saturating_add(count_of_table(relocations));
         }
     }
     count
@@ -344,9 +349,20 @@ fn count_fields<L: Known, E: Earlier>(link: &L, earlier: &E, objects: &[ObjectKe
     count
 }
 
+/// How many sections these objects have.
+fn count_sections<L: Known>(link: &L, objects: &[ObjectKey]) -> usize {
+    let mut count: usize = 0;
+    for key in objects {
+        if let Some(object) = link.object(*key) {
+            count = count.saturating_add(object.sections().len());
+        }
+    }
+    count
+}
+
 /// Evaluates the relocations of input sections in the output that did not stay, and those of sections that stayed whose
 /// symbol has another value than in the earlier link. Each of these relocations counts as one; the other fields are as
-/// they were. `objects` are the keys of the objects, in their order, and `values` the values of all names.
+/// they were. `objects` are the keys of the objects, in their order, and `symbols` has the values of their symbols.
 ///
 /// # Errors
 ///
@@ -356,12 +372,12 @@ pub fn changed_fields<L: Known, E: Earlier>(
     alloc: Global,
     link: &L,
     earlier: &E,
-    values: &[SymbolValue],
+    symbols: &SymbolTable,
     objects: &[ObjectKey],
     meter: &mut Meter,
 ) -> Result<ChangedFields, NoMemory>
     ensures { IfOk result (λ f. (old : GoodLink) (l : KnownLink) → L.knows link.now l → E.knows earlier.now old l
-        → AreNameValues l values.now → EndBelow l → IsOrder l objects.now
+        → HasSymbolValues l symbols.now → EndBelow l → IsOrder l objects.now
         → AreChanged old l (E.range earlier.now) (sections_in l.project.objects) (no_results meter.old)
         (results_of f meter.new)) }
 {
@@ -369,12 +385,12 @@ pub fn changed_fields<L: Known, E: Earlier>(
     let _fields = meter.fields();
     let mut fields = ChangedFields {
         patches: Vec::with_capacity(alloc, count_fields(link, earlier, objects))?,
-        ends: Vec::new(alloc),
+        ends: Vec::with_capacity(alloc, count_sections(link, objects))?,
         retargeted: Vec::new(alloc),
         faults: Vec::new(alloc),
     };
     for key in objects {
-        add_of_key(alloc, link, earlier, values, *key, &mut fields, meter)?;
+        add_of_key(alloc, link, earlier, symbols, *key, &mut fields, meter)?;
     }
     Ok(fields)
 }

@@ -6,12 +6,10 @@ ghost use Rattle.elfobj.specs.Relocations.{field_end};
 ghost use Rattle.elfobj.specs.Sections.{LinkedSection};
 ghost use Rattle.ldmodel.specs.Project.{NamedObject};
 ghost use Rattle.ldtargets.specs.Fields.{AreFieldsOf, IsAdded, IsNext, IsTried, sites_among};
-ghost use Rattle.ldtargets.specs.KnownLink.{AreNameValues, KnownLink};
+ghost use Rattle.ldtargets.specs.KnownLink.{KnownLink};
 ghost use Rattle.ldtargets.specs.Sites.{IsPlaced};
 
-use crate::known::Known;
 use crate::site::{PlacedSection, evaluate, is_evaluated};
-use crate::value::SymbolValue;
 use elfobj::relocation::Relocation;
 use ldfields::patch::{Patch, in_order};
 use ldmodel::fault::Fault;
@@ -20,9 +18,7 @@ use ldmodel::meter::Meter;
 use std::alloc::{AllocError, Global};
 
 /// Evaluates the relocation of number `entry`: adds its field, or its fault.
-fn add_site<L: Known>(
-    link: &L,
-    values: &[SymbolValue],
+fn add_site(
     section: &PlacedSection<'_>,
     entry: usize,
     relocation: &Relocation,
@@ -33,8 +29,7 @@ fn add_site<L: Known>(
     requires entry_is { slice_get section.now.relocations.now entry ≡ Some relocation.now }
     requires below { section.now.start + relocation.now.offset < 2 ^ 64 }
     ensures next { OnOk result (IsNext relocation.now fields.old.items fields.new.items) }
-    ensures tried { OnOk result ((l : KnownLink) → L.knows link.now l → AreNameValues l values.now
-        → (o : NamedObject) (x : LinkedSection) → IsPlaced l section.now o x
+    ensures tried { OnOk result ((l : KnownLink) (o : NamedObject) (x : LinkedSection) → IsPlaced l section.now o x
         → IsTried l (sites_among o x section.now.start (relocation.now ∷ [])) fields.old.items fields.new.items
         faults.old.items faults.new.items meter.old meter.new) }
 {
@@ -46,7 +41,7 @@ fn add_site<L: Known>(
     let Ok(entry) = u32::try_from(entry) else {
         return Err(AllocError);
     };
-    match evaluate(link, values, section, entry, relocation, meter) {
+    match evaluate(section, entry, relocation, meter) {
         Ok(field) => {
             fields.push(field)?;
             Ok(())
@@ -59,9 +54,7 @@ fn add_site<L: Known>(
 }
 
 /// Evaluates all relocations of a section, in the order of their table.
-fn add_sites<L: Known>(
-    link: &L,
-    values: &[SymbolValue],
+fn add_sites(
     section: &PlacedSection<'_>,
     fields: &mut Vec<Patch>,
     faults: &mut Vec<Fault>,
@@ -71,8 +64,7 @@ fn add_sites<L: Known>(
     requires below { All (λ r. section.now.start + r.offset < 2 ^ 64) section.now.relocations.now }
     ensures fields { OnOk result
         (AreFieldsOf section.now.relocations.now (length section.now.relocations.now) fields.new.items) }
-    ensures tried { OnOk result ((l : KnownLink) → L.knows link.now l → AreNameValues l values.now
-        → (o : NamedObject) (x : LinkedSection) → IsPlaced l section.now o x
+    ensures tried { OnOk result ((l : KnownLink) (o : NamedObject) (x : LinkedSection) → IsPlaced l section.now o x
         → IsTried l (sites_among o x section.now.start section.now.relocations.now) fields.old.items fields.new.items
         faults.old.items faults.new.items meter.old meter.new) }
 {
@@ -80,25 +72,20 @@ fn add_sites<L: Known>(
     let _fields = meter.fields();
     for entry in 0..section.relocations.len() {
         let relocation = &section.relocations[entry];
-        add_site(
-            link, values, section, entry, relocation, fields, faults, meter,
-        )?;
+        add_site(section, entry, relocation, fields, faults, meter)?;
     }
     Ok(())
 }
 
 /// Evaluates the relocations of an input section in the output, each of which counts as one. Adds the fields to
-/// `fields`, in the order of their offsets, and the faults to `faults`, in the order of their table. `values` are the
-/// values of all names.
+/// `fields`, in the order of their offsets, and the faults to `faults`, in the order of their table.
 ///
 /// # Errors
 ///
 /// Where memory runs out; a table of 2^32 relocations or more, which no object has whose length is within the limit,
 /// counts as that.
-pub fn add_fields<L: Known>(
+pub fn add_fields(
     alloc: Global,
-    link: &L,
-    values: &[SymbolValue],
     section: &PlacedSection<'_>,
     fields: &mut Vec<Patch>,
     faults: &mut Vec<Fault>,
@@ -106,13 +93,12 @@ pub fn add_fields<L: Known>(
 ) -> Result<(), NoMemory>
     requires apart { AreApart section.now.relocations.now }
     requires below { All (λ r. section.now.start + r.offset < 2 ^ 64) section.now.relocations.now }
-    ensures { OnOk result ((l : KnownLink) → L.knows link.now l → AreNameValues l values.now
-        → (o : NamedObject) (x : LinkedSection) → IsPlaced l section.now o x
+    ensures { OnOk result ((l : KnownLink) (o : NamedObject) (x : LinkedSection) → IsPlaced l section.now o x
         → IsAdded l o x section.now.start fields.old.items fields.new.items faults.old.items faults.new.items meter.old
         meter.new) }
 {
     let mut own = Vec::with_capacity(alloc, section.relocations.len())?;
-    add_sites(link, values, section, &mut own, faults, meter)?;
+    add_sites(section, &mut own, faults, meter)?;
     let mut own = in_order(own)?;
     fields.append(&mut own)?;
     Ok(())

@@ -17,6 +17,7 @@ pub mod law;
 mod moved;
 pub mod site;
 pub mod symbol;
+pub mod symbol_table;
 pub mod target;
 pub mod value;
 pub mod walk;

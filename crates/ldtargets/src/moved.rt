@@ -11,14 +11,12 @@ ghost use Rattle.ldmodel.specs.Stayed.{GoodLink};
 ghost use Rattle.ldtargets.specs.Changes.{IsMoved, in_file};
 ghost use Rattle.ldtargets.specs.Earlier.{IsKept, has_moved, is_same_value};
 ghost use Rattle.ldtargets.specs.Fields.{sites_among};
-ghost use Rattle.ldtargets.specs.KnownLink.{AreNameValues, KnownLink};
+ghost use Rattle.ldtargets.specs.KnownLink.{KnownLink};
 ghost use Rattle.ldtargets.specs.Sites.{IsPlaced, IsSite};
 ghost use Rattle.ldtargets.specs.Values.{value_of};
 
 use crate::earlier::{Earlier, FileRange};
-use crate::known::Known;
-use crate::site::{PlacedSection, evaluate, is_evaluated};
-use crate::target::referenced_value;
+use crate::site::{PlacedSection, evaluate, is_evaluated, site_value};
 use crate::value::SymbolValue;
 use elfobj::relocation::{Relocation, SymbolIndex};
 use ldfields::patch::Patch;
@@ -40,23 +38,16 @@ fn is_same_value(one: SymbolValue, other: SymbolValue) -> bool
 }
 
 /// Whether the symbol that a relocation of a section names has another value than it had.
-fn has_moved<L: Known, E: Earlier>(
-    link: &L,
-    earlier: &E,
-    values: &[SymbolValue],
-    section: &PlacedSection<'_>,
-    symbol: SymbolIndex,
-) -> bool
-    ensures { (old : GoodLink) (l : KnownLink) → L.knows link.now l → E.knows earlier.now old l
-        → AreNameValues l values.now → IsKept (E.range earlier.now) section.now.object → (t : Site)
-        → IsSite l section.now t → t.relocation.symbol ≡ symbol → result ≡ has_moved old l t }
+fn has_moved<E: Earlier>(earlier: &E, section: &PlacedSection<'_>, symbol: SymbolIndex) -> bool
+    ensures { (old : GoodLink) (l : KnownLink) → E.knows earlier.now old l
+        → IsKept (E.range earlier.now) section.now.object → (t : Site) → IsSite l section.now t
+        → t.relocation.symbol ≡ symbol → result ≡ has_moved old l t }
 {
     match section.symbols.get(symbol.0 as usize) {
         None => false,
         Some(entry) => {
             let before = earlier.value(section.object, symbol, entry);
-            let now = referenced_value(link, values, section.object, symbol, entry);
-            !is_same_value(before, now)
+            !is_same_value(before, site_value(section, symbol))
         }
     }
 }
@@ -90,10 +81,8 @@ fn add_in_file(range: FileRange, field: Patch, patches: &mut Vec<Patch>) -> Resu
 
 /// Evaluates the relocation of number `entry` of a section that stayed, if its symbol has another value: adds its field
 /// in its place in the file, or its fault.
-fn add_moved_site<L: Known, E: Earlier>(
-    link: &L,
+fn add_moved_site<E: Earlier>(
     earlier: &E,
-    values: &[SymbolValue],
     section: &PlacedSection<'_>,
     range: FileRange,
     entry: usize,
@@ -104,9 +93,8 @@ fn add_moved_site<L: Known, E: Earlier>(
 ) -> Result<(), NoMemory>
     requires entry_is { slice_get section.now.relocations.now entry ≡ Some relocation.now }
     requires below { section.now.start + relocation.now.offset < 2 ^ 64 }
-    ensures { OnOk result ((old : GoodLink) (l : KnownLink) → L.knows link.now l → E.knows earlier.now old l
-        → AreNameValues l values.now → IsKept (E.range earlier.now) section.now.object
-        → (o : NamedObject) (x : LinkedSection) → IsPlaced l section.now o x
+    ensures { OnOk result ((old : GoodLink) (l : KnownLink) → E.knows earlier.now old l
+        → IsKept (E.range earlier.now) section.now.object → (o : NamedObject) (x : LinkedSection) → IsPlaced l section.now o x
         → IsMoved old l range (sites_among o x section.now.start (relocation.now ∷ [])) patches.old.items
         patches.new.items faults.old.items faults.new.items meter.old meter.new) }
 {
@@ -115,13 +103,13 @@ fn add_moved_site<L: Known, E: Earlier>(
     if !is_evaluated(relocation.kind) {
         return Ok(());
     }
-    if !has_moved(link, earlier, values, section, relocation.symbol) {
+    if !has_moved(earlier, section, relocation.symbol) {
         return Ok(());
     }
     let Ok(entry) = u32::try_from(entry) else {
         return Err(AllocError);
     };
-    match evaluate(link, values, section, entry, relocation, meter) {
+    match evaluate(section, entry, relocation, meter) {
         Ok(field) => {
             add_in_file(range, field, patches)?;
             Ok(())
@@ -135,16 +123,14 @@ fn add_moved_site<L: Known, E: Earlier>(
 
 /// Evaluates the relocations of a section that stayed whose symbol has another value, each of which counts as one, in
 /// the order of their table. Adds their fields, in their places in the file, to `patches`, and their faults to
-/// `faults`. `range` says where the section's bytes stand in the file, and `values` are the values of all names.
+/// `faults`. `range` says where the section's bytes stand in the file.
 ///
 /// # Errors
 ///
 /// Where memory runs out; a table of 2^32 relocations or more, which no object has whose length is within the limit,
 /// counts as that.
-pub fn add_moved<L: Known, E: Earlier>(
-    link: &L,
+pub fn add_moved<E: Earlier>(
     earlier: &E,
-    values: &[SymbolValue],
     section: &PlacedSection<'_>,
     range: FileRange,
     patches: &mut Vec<Patch>,
@@ -152,9 +138,8 @@ pub fn add_moved<L: Known, E: Earlier>(
     meter: &mut Meter,
 ) -> Result<(), NoMemory>
     requires { All (λ r. section.now.start + r.offset < 2 ^ 64) section.now.relocations.now }
-    ensures { OnOk result ((old : GoodLink) (l : KnownLink) → L.knows link.now l → E.knows earlier.now old l
-        → AreNameValues l values.now → IsKept (E.range earlier.now) section.now.object
-        → (o : NamedObject) (x : LinkedSection) → IsPlaced l section.now o x
+    ensures { OnOk result ((old : GoodLink) (l : KnownLink) → E.knows earlier.now old l
+        → IsKept (E.range earlier.now) section.now.object → (o : NamedObject) (x : LinkedSection) → IsPlaced l section.now o x
         → IsMoved old l range (sites_among o x section.now.start section.now.relocations.now) patches.old.items
         patches.new.items faults.old.items faults.new.items meter.old meter.new) }
 {
@@ -163,7 +148,7 @@ pub fn add_moved<L: Known, E: Earlier>(
     for entry in 0..section.relocations.len() {
         let relocation = &section.relocations[entry];
         add_moved_site(
-            link, earlier, values, section, range, entry, relocation, patches, faults, meter,
+            earlier, section, range, entry, relocation, patches, faults, meter,
         )?;
     }
     Ok(())

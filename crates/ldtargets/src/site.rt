@@ -6,12 +6,10 @@ ghost use Rattle.elfobj.specs.Profile.{AreApart};
 ghost use Rattle.elfobj.specs.Relocations.{field_end};
 ghost use Rattle.elfobj.specs.Sections.{LinkedSection};
 ghost use Rattle.ldmodel.specs.Relocations.{Site, is_evaluated, site_value};
-ghost use Rattle.ldtargets.specs.KnownLink.{AreNameValues, KnownLink};
+ghost use Rattle.ldtargets.specs.KnownLink.{KnownLink};
 ghost use Rattle.ldtargets.specs.Sites.{IsEvaluated, IsFieldOf, IsSectionOf, IsOutcome, IsSite, IsSiteAt};
 ghost use Rattle.ldtargets.specs.Values.{value_of};
 
-use crate::known::Known;
-use crate::target::referenced_value;
 use crate::value::SymbolValue;
 use elfobj::object::Object;
 use elfobj::relocation::{Relocation, RelocationKind, SymbolIndex};
@@ -34,20 +32,24 @@ pub struct PlacedSection<'a> {
     pub start: u64,
     /// The symbols of the object.
     pub symbols: &'a [Symbol],
+    /// What they are worth, by their numbers.
+    pub values: &'a [SymbolValue],
     /// The relocations of the section, in the order of their table.
     pub relocations: &'a [Relocation],
 }
 
 impl<'a> PlacedSection<'a> {
-    /// A section of an object that starts at an address.
+    /// A section of an object that starts at an address. `values` are the values of the object's symbols.
     pub fn new(
         key: ObjectKey,
         object: &'a Object,
         index: LinkedIndex,
         start: u64,
+        values: &'a [SymbolValue],
     ) -> PlacedSection<'a>
         requires { index.0 < length object.now.sections }
         ensures start { result.start ≡ start }
+        ensures values { result.values.now ≡ values.now }
         ensures section { (x : LinkedSection) → slice_get object.now.sections index.0 ≡ Some x
             → IsSectionOf object.now x key result }
         ensures apart { AreApart result.relocations.now }
@@ -60,6 +62,7 @@ impl<'a> PlacedSection<'a> {
             section: section.number,
             start,
             symbols: object.symbols(),
+            values,
             relocations: object.relocations(index),
         }
     }
@@ -73,19 +76,15 @@ pub fn is_evaluated(kind: RelocationKind) -> bool
 }
 
 /// The value of the symbol that a relocation of a section names.
-fn site_value<L: Known>(
-    link: &L,
-    values: &[SymbolValue],
-    section: &PlacedSection<'_>,
-    symbol: SymbolIndex,
-) -> SymbolValue
-    ensures { (l : KnownLink) → L.knows link.now l → AreNameValues l values.now → (t : Site) → IsSite l section.now t
-        → t.relocation.symbol ≡ symbol → value_of result ≡ site_value l.project l.layout t }
+pub fn site_value(section: &PlacedSection<'_>, symbol: SymbolIndex) -> SymbolValue
+    ensures { (l : KnownLink) (t : Site) → IsSite l section.now t → t.relocation.symbol ≡ symbol
+        → value_of result ≡ site_value l.project l.layout t }
 {
-    match section.symbols.get(symbol.0 as usize) {
-        None => SymbolValue::NotDefined,
-        Some(entry) => referenced_value(link, values, section.object, symbol, entry),
-    }
+    section
+        .values
+        .get(symbol.0 as usize)
+        .copied()
+        .unwrap_or(SymbolValue::NotDefined)
 }
 
 /// The field of a relocation of number `entry` against a symbol of a value; or its fault.
@@ -134,9 +133,7 @@ fn field_with(
 }
 
 /// The field of a relocation of number `entry`, in its place; or its fault. The call counts one relocation.
-pub fn evaluate<L: Known>(
-    link: &L,
-    values: &[SymbolValue],
+pub fn evaluate(
     section: &PlacedSection<'_>,
     entry: u32,
     relocation: &Relocation,
@@ -145,10 +142,10 @@ pub fn evaluate<L: Known>(
     requires evaluated { is_evaluated relocation.now.kind ≡ true }
     requires below { section.now.start + relocation.now.offset < 2 ^ 64 }
     ensures field { IfOk result (IsFieldOf relocation.now) }
-    ensures evaluated { (l : KnownLink) → L.knows link.now l → AreNameValues l values.now → (t : Site)
-        → IsSiteAt l section.now entry t → t.relocation ≡ relocation.now → IsEvaluated l t result }
+    ensures evaluated { (l : KnownLink) (t : Site) → IsSiteAt l section.now entry t → t.relocation ≡ relocation.now
+        → IsEvaluated l t result }
     ensures counted { meter.new ≡ raised meter.old Count.Fields 1 }
 {
-    let value = site_value(link, values, section, relocation.symbol);
+    let value = site_value(section, relocation.symbol);
     field_with(section, entry, relocation, value, meter)
 }

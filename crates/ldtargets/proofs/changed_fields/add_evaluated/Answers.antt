@@ -1,11 +1,21 @@
-use Rattle.std.proofs.Common.{ap, get_or, sym, ◌∙◌}
+use Rattle.std.proofs.Common.{ap, arith, get_or, sym, ◌∙◌}
 use Rattle.std.specs.Prelude.{slice_get}
 use Rattle.elfobj.specs.Object.{ObjectData}
 use Rattle.elfobj.specs.declared.section.Section.{Section}
 use Rattle.elfobj.specs.declared.section.SectionKind.TheVariants.{Progbits}
+use Rattle.ldtargets.proofs.Bare.{bare_added, bare_at_place}
 use Rattle.ldtargets.proofs.Changing.{kept_by, renewed, retained}
 use Rattle.ldtargets.proofs.Found.{at_index}
 use Rattle.ldtargets.proofs.changed_fields.add_evaluated.Goals as goal
+
+pub returns-then-is_empty : goal.returns-then-is_empty
+returns-then-is_empty g c =
+    λ old l o x k e all low named same is.
+    bare_added old l o x
+    (bare_at_place o c.args.object.now c.args.index.0 x c.relocations.result.now same is c.relocations.ensures.value
+    (grind (arith, c.if-is_empty.true, c.is_empty.ensures)))
+    (g.E.Earlier.range c.args.earlier.now) c.args.key named c.args.patches.now.items c.args.retargeted.now.items
+    c.args.faults.now.items c.args.meter.now (omega (arith, c.fields-fields.type_inv, c.fields-fields.ensures))
 
 pub returns-in_ok-add_run-in-None : goal.returns-in_ok-add_run-in-None
 returns-in_ok-add_run-in-None g c =

@@ -7,13 +7,14 @@ use Rattle.ldmodel.specs.Relocations.{sites_at}
 use Rattle.ldtargets.specs.Changes.{IsMoved}
 use Rattle.ldtargets.specs.Earlier.{IsKept}
 use Rattle.ldtargets.specs.Fields.{sites_among}
+use Rattle.ldtargets.specs.SymbolTable.{IsRow}
 use Rattle.ldtargets.proofs.Filling.{not_past}
 use Rattle.ldtargets.proofs.Found.{at_index, below, numbered_as, placed_of}
 use Rattle.ldtargets.proofs.changed_fields.add_moved_at.Goals as goal
 
 pub returns-then-start-section : goal.returns-then-start-section
 returns-then-start-section g c =
-    λ old l o x k e all low kept named same is y placed at.
+    λ old l o x e all low kept named same is y placed at.
     let there = ap (λ (r : ObjectData). slice_get r.sections c.args.index.0) (sym same) ∙ is in
     absurd {A = IsMoved old l c.args.range (sites_at o x c.args.start) c.args.patches.now.items
     c.args.patches.now.items c.args.faults.now.items c.args.faults.now.items c.args.meter.now c.args.meter.now}
@@ -36,10 +37,11 @@ add_moved-requires g c =
 
 pub returns : goal.returns
 returns g c =
-    λ old l o x k e all low kept named same is y placed at.
+    λ old l o x e all low kept named same is y placed at.
     let there = ap (λ (r : ObjectData). slice_get r.sections c.args.index.0) (sym same) ∙ is in
     let section = c.new-section.ensures.section x there in
-    let found = placed_of l c.args.key c.args.object.now c.new-section.result o x named same section in
+    let found = placed_of l c.args.key c.args.object.now c.new-section.result o x named same section
+    (subst (IsRow l o) (sym c.new-section.ensures.values) all) in
     subst (λ n. IsMoved old l c.args.range (sites_at o x n) c.args.patches.now.items c.add_moved.new.patches.items
     c.args.faults.now.items c.add_moved.new.faults.items c.args.meter.now c.add_moved.new.meter)
     c.new-section.ensures.start
@@ -47,5 +49,5 @@ returns g c =
     c.add_moved.new.patches.items c.args.faults.now.items c.add_moved.new.faults.items c.args.meter.now
     c.add_moved.new.meter)
     section.relocations_are
-    (c.in_ok-add_moved.ensures old l k e all
+    (c.in_ok-add_moved.ensures old l e
     (subst (λ key. IsKept (g.E.Earlier.range c.args.earlier.now) key) (sym section.key_is) kept) o x found))

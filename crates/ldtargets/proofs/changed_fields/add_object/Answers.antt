@@ -3,7 +3,9 @@ use Rattle.std.specs.Prelude.{slice_get}
 use Rattle.std.proofs.lemmas.List.{length-map}
 use Rattle.elfobj.specs.Object.{ObjectData}
 use Rattle.elfobj.specs.Sections.{section_of}
+use Rattle.ldtargets.specs.SymbolTable.{IsRow}
 use Rattle.ldtargets.proofs.Changing.{changed_none, next_section, whole_object}
+use Rattle.ldtargets.proofs.Rowed.{row_is}
 use Rattle.ldtargets.proofs.changed_fields.add_object.Goals as goal
 
 pub loop-index-init : goal.loop-index-init
@@ -16,10 +18,13 @@ pub loop-index-preserved : goal.loop-index-preserved
 loop-index-preserved g c =
     λ old l o k e all low named same.
     let many = ap length c.sections-index-end.ensures.value ∙ length-map c.args.object.now.sections section_of in
+    let row : IsRow l o c.row-values.result.now =
+    row_is l c.args.symbols.now c.args.key o c.args.object.now c.symbols.result.now c.row-values.result.now all named
+    same c.symbols.ensures.value c.row-values.ensures in
     next_section old l (g.E.Earlier.range c.args.earlier.now) _ _ _ o c.args.object.now.sections c.loop-index.index
     (omega (arith, many, c.loop-index-test.true))
     (c.loop-index.invariant old l o k e all low named same)
-    (λ x is. c.in_ok-add_section.ensures old l o x k e all low named same
+    (λ x is. c.in_ok-add_section.ensures old l o x k e row low named same
     (ap (λ (r : ObjectData). slice_get r.sections c.loop-index.index) same ∙ is))
 
 pub returns : goal.returns

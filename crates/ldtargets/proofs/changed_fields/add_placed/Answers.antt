@@ -4,13 +4,14 @@ use Rattle.elfobj.specs.Object.{ObjectData}
 use Rattle.elfobj.specs.declared.section.Section.{Section}
 use Rattle.elfobj.specs.declared.section.SectionKind.TheVariants.{Progbits}
 use Rattle.ldtargets.specs.Fields.{IsAdded}
+use Rattle.ldtargets.specs.SymbolTable.{IsRow}
 use Rattle.ldtargets.proofs.Filling.{not_past}
 use Rattle.ldtargets.proofs.Found.{at_index, below, numbered_as, placed_of}
 use Rattle.ldtargets.proofs.changed_fields.add_placed.Goals as goal
 
 pub returns-then-start-section : goal.returns-then-start-section
-returns-then-start-section g c =
-    λ l o x k all low named same is y placed at.
+returns-then-start-section c =
+    λ l o x all low named same is y placed at.
     let there = ap (λ (r : ObjectData). slice_get r.sections c.args.index.0) (sym same) ∙ is in
     absurd {A = IsAdded l o x c.args.start c.args.patches.now.items c.args.patches.now.items c.args.faults.now.items
     c.args.faults.now.items c.args.meter.now c.args.meter.now}
@@ -23,7 +24,7 @@ returns-then-start-section g c =
     c.if-start-section.true)
 
 pub add_fields-requires-clause-below : goal.add_fields-requires-clause-below
-add_fields-requires-clause-below g c =
+add_fields-requires-clause-below c =
     let start = c.new-section.ensures.start in
     below c.args.object.now.sections c.args.index.0
     (record { number = record { 0 = 0 }; kind = Progbits; flags = 0; size = 0; alignment = 0 })
@@ -32,12 +33,12 @@ add_fields-requires-clause-below g c =
     (omega (arith, start, c.if-start-section.false)) c.requires
 
 pub returns : goal.returns
-returns g c =
-    λ l o x k all low named same is y placed at.
+returns c =
+    λ l o x all low named same is y placed at.
     let there = ap (λ (r : ObjectData). slice_get r.sections c.args.index.0) (sym same) ∙ is in
     subst (λ n. IsAdded l o x n c.args.patches.now.items c.add_fields.new.fields.items c.args.faults.now.items
     c.add_fields.new.faults.items c.args.meter.now c.add_fields.new.meter)
     c.new-section.ensures.start
-    (c.in_ok-add_fields.ensures l k all o x
+    (c.in_ok-add_fields.ensures l o x
     (placed_of l c.args.key c.args.object.now c.new-section.result o x named same
-    (c.new-section.ensures.section x there)))
+    (c.new-section.ensures.section x there) (subst (IsRow l o) (sym c.new-section.ensures.values) all)))

@@ -36,4 +36,4 @@ returns-in_ok-add_moved_at-in-Some g c =
     s.number) (at_index c.args.object.now.sections c.args.index.0 d c.sections.result.now c.sections.ensures.value
     x there))
     c.in-Some.start _ _ _ _ _ _ (c.in-Some.ensures l k)
-    (c.in_ok-add_moved_at-in-Some.ensures old l o x k e all low kept named same is)
+    (c.in_ok-add_moved_at-in-Some.ensures old l o x e all low kept named same is)

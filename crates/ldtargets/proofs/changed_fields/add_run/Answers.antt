@@ -29,4 +29,4 @@ returns-in_ok-add_placed-in-Some g c =
     s.number) (at_index c.args.object.now.sections c.args.index.0 d c.sections.result.now c.sections.ensures.value
     x there))
     c.in-Some.start _ _ _ _ _ _ (c.in-Some.ensures l k)
-    (c.in_ok-add_placed-in-Some.ensures l o x k all low named same is)
+    (c.in_ok-add_placed-in-Some.ensures l o x all low named same is)

@@ -2,12 +2,13 @@ use Rattle.std.proofs.Common.{take}
 use Rattle.ldmodel.specs.Stayed.{GoodLink}
 use Rattle.ldtargets.specs.Changes.{AreChanged, no_results, results_of}
 use Rattle.ldtargets.specs.Filled.{EndBelow, IsOrder, sections_in}
-use Rattle.ldtargets.specs.KnownLink.{AreNameValues, KnownLink}
+use Rattle.ldtargets.specs.KnownLink.{KnownLink}
+use Rattle.ldtargets.specs.SymbolTable.{HasSymbolValues}
 use Rattle.ldtargets.proofs.changed_fields.changed_fields.Given as goal
 
 abbrev pub invariant-loop-key : goal.invariant-loop-key
 invariant-loop-key g l =
     (old : GoodLink) (k : KnownLink) → g.L.Known.knows l.link k → g.E.Earlier.knows l.earlier old k
-    → AreNameValues k l.values → EndBelow k → IsOrder k l.objects
+    → HasSymbolValues k l.symbols → EndBelow k → IsOrder k l.objects
     → AreChanged old k (g.E.Earlier.range l.earlier) (sections_in (take l.key-index k.project.objects))
     (no_results l.initial.meter) (results_of l.fields l.meter)

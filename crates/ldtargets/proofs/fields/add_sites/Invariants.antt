@@ -2,15 +2,14 @@ use Rattle.std.proofs.Common.{take}
 use Rattle.elfobj.specs.Sections.{LinkedSection}
 use Rattle.ldmodel.specs.Project.{NamedObject}
 use Rattle.ldtargets.specs.Fields.{AreFieldsOf, IsTried, sites_among}
-use Rattle.ldtargets.specs.KnownLink.{AreNameValues, KnownLink}
+use Rattle.ldtargets.specs.KnownLink.{KnownLink}
 use Rattle.ldtargets.specs.Sites.{IsPlaced}
 use Rattle.ldtargets.proofs.fields.add_sites.Given as goal
 
 abbrev pub invariant-loop-entry : goal.invariant-loop-entry
-invariant-loop-entry g l = record {
+invariant-loop-entry l = record {
   of : AreFieldsOf l.section.relocations.now l.entry l.fields.items;
-  tried : (k : KnownLink) → g.L.Known.knows l.link k → AreNameValues k l.values → (o : NamedObject) (x : LinkedSection)
-      → IsPlaced k l.section o x
+  tried : (k : KnownLink) (o : NamedObject) (x : LinkedSection) → IsPlaced k l.section o x
       → IsTried k (sites_among o x l.section.start (take l.entry l.section.relocations.now)) l.initial.fields.items
       l.fields.items
       l.initial.faults.items l.faults.items l.initial.meter l.meter;

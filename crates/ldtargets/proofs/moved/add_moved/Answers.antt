@@ -6,7 +6,7 @@ use Rattle.ldtargets.proofs.moved.add_moved.Goals as goal
 
 pub loop-entry-init : goal.loop-entry-init
 loop-entry-init g c =
-    λ old l k e all kept o x h. moved_nothing old l c.args.range c.args.patches.now.items c.args.faults.now.items
+    λ old l e kept o x h. moved_nothing old l c.args.range c.args.patches.now.items c.args.faults.now.items
     c.args.meter.now (omega (arith, c.fields-fields.type_inv, c.fields-fields.ensures))
 
 pub add_moved_site-requires-clause-entry_is : goal.add_moved_site-requires-clause-entry_is
@@ -14,14 +14,14 @@ add_moved_site-requires-clause-entry_is g c = slice_get-get_or _ _ _ c.loop-entr
 
 pub loop-entry-preserved : goal.loop-entry-preserved
 loop-entry-preserved g c =
-    λ old l k e all kept o x h.
+    λ old l e kept o x h.
     moved_next old l c.args.range o x c.args.section.now.start c.args.section.now.relocations.now c.loop-entry.entry
     (record { offset = 0; symbol = record { 0 = 0 }; kind = None; addend = pos 0 }) c.loop-entry-test.true
     _ _ _ _ _ _ _ _ _
-    (c.loop-entry.invariant old l k e all kept o x h) (c.in_ok-add_moved_site.ensures old l k e all kept o x h)
+    (c.loop-entry.invariant old l e kept o x h) (c.in_ok-add_moved_site.ensures old l e kept o x h)
 
 pub returns : goal.returns
 returns g c =
-    λ old l k e all kept o x h. moved_all old l c.args.range o x c.args.section.now.start
+    λ old l e kept o x h. moved_all old l c.args.range o x c.args.section.now.start
     c.args.section.now.relocations.now c.loop-entry.entry c.loop-entry-test.false c.loop-entry.auto.entry-end
-    _ _ _ _ _ _ (c.loop-entry.invariant old l k e all kept o x h)
+    _ _ _ _ _ _ (c.loop-entry.invariant old l e kept o x h)

@@ -5,14 +5,14 @@ use Rattle.ldmodel.specs.Stayed.{GoodLink}
 use Rattle.ldtargets.specs.Changes.{IsMoved}
 use Rattle.ldtargets.specs.Earlier.{IsKept}
 use Rattle.ldtargets.specs.Fields.{sites_among}
-use Rattle.ldtargets.specs.KnownLink.{AreNameValues, KnownLink}
+use Rattle.ldtargets.specs.KnownLink.{KnownLink}
 use Rattle.ldtargets.specs.Sites.{IsPlaced}
 use Rattle.ldtargets.proofs.moved.add_moved.Given as goal
 
 abbrev pub invariant-loop-entry : goal.invariant-loop-entry
 invariant-loop-entry g l =
-    (old : GoodLink) (k : KnownLink) → g.L.Known.knows l.link k → g.E.Earlier.knows l.earlier old k
-    → AreNameValues k l.values → IsKept (g.E.Earlier.range l.earlier) l.section.object
+    (old : GoodLink) (k : KnownLink) → g.E.Earlier.knows l.earlier old k
+    → IsKept (g.E.Earlier.range l.earlier) l.section.object
     → (o : NamedObject) (x : LinkedSection) → IsPlaced k l.section o x
     → IsMoved old k l.range (sites_among o x l.section.start (take l.entry l.section.relocations.now))
     l.initial.patches.items l.patches.items l.initial.faults.items l.faults.items l.initial.meter l.meter

@@ -4,7 +4,7 @@ use Rattle.ldtargets.proofs.Sites.{evaluated}
 use Rattle.ldtargets.proofs.site.evaluate.Goals as goal
 
 pub returns-clause-evaluated : goal.returns-clause-evaluated
-returns-clause-evaluated g c =
-    λ l k all t h is. evaluated l t _ _
-    (c.site_value-value.ensures l k all t h.site (ap (λ (r : Relocation). r.symbol) is))
+returns-clause-evaluated c =
+    λ l t h is. evaluated l t _ _
+    (c.site_value-value.ensures l t h.site (ap (λ (r : Relocation). r.symbol) is))
     (c.field_with.ensures.outcome l t h is)
