@@ -24,7 +24,7 @@ use Rattle.ldtargets.specs.declared.value.SymbolValue.TheVariants.{NotDefined}
 use Rattle.ldvalues.specs.LinkView.{IsLinkView, known_link}
 use Rattle.ldvalues.specs.declared.link_view.LinkView.{LinkView}
 use Rattle.ldkept.specs.SymbolTable.{AreSymbolValues}
-use Rattle.ldkept.specs.declared.symbol_table.SymbolTable.{SymbolTable}
+use Rattle.ldtargets.specs.declared.symbol_table.SymbolTable.{SymbolTable}
 
 -- ---- lists
 

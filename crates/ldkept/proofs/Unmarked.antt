@@ -18,7 +18,7 @@ use Rattle.ldkept.specs.Marks.{AreMarks}
 use Rattle.ldkept.specs.Stays.{IsLastOf, LastState, last_place}
 use Rattle.ldkept.specs.SymbolTable.{AreSymbolValues, value_at}
 use Rattle.ldkept.specs.Unmarked.{IsUnmarked}
-use Rattle.ldkept.specs.declared.symbol_table.SymbolTable.{SymbolTable}
+use Rattle.ldtargets.specs.declared.symbol_table.SymbolTable.{SymbolTable}
 
 -- the marks of the first objects
 pub record MarksSoFar (last : Option LastState) (symbols : SymbolTable) (objects : List NamedObject) (n : ℕ)

@@ -1,7 +1,7 @@
 pub mod Origins
 pub mod FileStarts
 pub mod Standing
-pub mod SymbolTable
+pub use Rattle.ldtargets.specs.SymbolTable
 pub mod Table
 pub mod Marks
 pub mod Stays

@@ -2,7 +2,7 @@
 use Rattle.std.specs.Prelude.{◌≡◌, ◌<◌, ℕ, Option, Some, None}
 use Rattle.ldkept.specs.Stays.{LastState, last_place}
 use Rattle.ldkept.specs.SymbolTable.{value_at}
-use Rattle.ldkept.specs.declared.symbol_table.SymbolTable.{SymbolTable}
+use Rattle.ldtargets.specs.declared.symbol_table.SymbolTable.{SymbolTable}
 
 -- it stood in the earlier link, and its first symbols, so many, had the same values there
 abbrev pub IsUnmarked : Option LastState → SymbolTable → (place count : ℕ) → Type 0

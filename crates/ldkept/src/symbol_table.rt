@@ -1,5 +1,7 @@
 //! What each symbol of each object is worth in a link.
 
+pub use ldtargets::symbol_table::SymbolTable;
+
 ghost use Rattle.std.specs.Prelude.{◌≡◌, ◌+◌, ◌++◌, IfOk, OnOk, Some, length, map};
 ghost use Rattle.ldmodel.specs.Layout.{Layout};
 ghost use Rattle.ldmodel.specs.Project.{NamedObject};
@@ -8,7 +10,7 @@ ghost use Rattle.ldnaming.specs.Naming.{NamingState};
 ghost use Rattle.ldtargets.specs.KnownLink.{AreNameValues, KnownLink, named_object};
 ghost use Rattle.ldtargets.specs.Values.{value_of};
 ghost use Rattle.ldvalues.specs.LinkView.{IsLinkView, known_link};
-ghost use Rattle.ldkept.specs.SymbolTable.{AreSymbolValues, value_at};
+ghost use Rattle.ldkept.specs.SymbolTable.{AreSymbolValues};
 
 use elfobj::object::Object;
 use elfobj::relocation::SymbolIndex;
@@ -20,16 +22,6 @@ use ldtargets::target::referenced_value;
 use ldtargets::value::SymbolValue;
 use ldvalues::link_view::LinkView;
 use std::alloc::{AllocError, Global};
-
-/// What each symbol of each object is worth to the relocations of its object, under the object's place and the symbol's
-/// number.
-#[derive(Drop)]
-pub struct SymbolTable {
-    /// Where the values of each object begin.
-    pub(crate) starts: Vec<usize>,
-    /// The values, one object after another.
-    pub(crate) values: Vec<SymbolValue>,
-}
 
 /// How many symbols these objects have. Fails where they are too many for any memory.
 fn count_symbols(inputs: &[Input<'_>]) -> Result<usize, NoMemory> {
@@ -64,51 +56,27 @@ fn add_object(
     Ok(())
 }
 
-impl SymbolTable {
-    /// The values of the symbols of a link, where those of names are these.
-    ///
-    /// # Errors
-    ///
-    /// Where memory runs out.
-    pub fn of(
-        alloc: Global,
-        project: &ProjectView<'_>,
-        link: &LinkView<'_, '_>,
-        names: &[SymbolValue],
-    ) -> Result<SymbolTable, NoMemory>
-        ensures { IfOk result (λ t. (s : Layout) (a : NamingState) → IsLinkView (known_link project.now s a) link.now
-            → AreNameValues (known_link project.now s a) names.now → AreSymbolValues project.now s t) }
-    {
-        let inputs = project.inputs();
-        let count = count_symbols(inputs)?;
-        let mut starts = Vec::with_capacity(alloc, inputs.len())?;
-        let mut values = Vec::with_capacity(alloc, count)?;
-        for (place, input) in inputs.iter().enumerate() {
-            starts.push(values.len())?;
-            add_object(link, names, ObjectKey(place), input.object, &mut values)?;
-        }
-        Ok(SymbolTable { starts, values })
+/// The values of the symbols of a link, where those of names are these.
+///
+/// # Errors
+///
+/// Where memory runs out.
+pub fn symbol_values(
+    alloc: Global,
+    project: &ProjectView<'_>,
+    link: &LinkView<'_, '_>,
+    names: &[SymbolValue],
+) -> Result<SymbolTable, NoMemory>
+    ensures { IfOk result (λ t. (s : Layout) (a : NamingState) → IsLinkView (known_link project.now s a) link.now
+        → AreNameValues (known_link project.now s a) names.now → AreSymbolValues project.now s t) }
+{
+    let inputs = project.inputs();
+    let count = count_symbols(inputs)?;
+    let mut starts = Vec::with_capacity(alloc, inputs.len())?;
+    let mut values = Vec::with_capacity(alloc, count)?;
+    for (place, input) in inputs.iter().enumerate() {
+        starts.push(values.len())?;
+        add_object(link, names, ObjectKey(place), input.object, &mut values)?;
     }
-
-    /// The value of a symbol of the object of a place.
-    pub(crate) fn value(&self, place: usize, symbol: SymbolIndex) -> SymbolValue
-        ensures { result ≡ value_at self.now place symbol.0 }
-    {
-        self.numbered(place, symbol.0 as usize)
-    }
-
-    /// The value of the symbol of a number of the object of a place.
-    pub(crate) fn numbered(&self, place: usize, number: usize) -> SymbolValue
-        ensures { result ≡ value_at self.now place number }
-    {
-        let start = self.starts.get(place).copied().unwrap_or(0);
-        match start.checked_add(number) {
-            None => SymbolValue::NotDefined,
-            Some(at) => self
-                .values
-                .get(at)
-                .copied()
-                .unwrap_or(SymbolValue::NotDefined),
-        }
-    }
+    Ok(SymbolTable { starts, values })
 }

@@ -11,6 +11,7 @@ ghost use Rattle.ldmodel.specs.Stayed.{GoodLink};
 ghost use Rattle.ldnaming.specs.Naming.{NamingState};
 ghost use Rattle.ldproject.specs.ByPlace.{faults_in};
 ghost use Rattle.ldoutput.specs.Beside.{IsRelocatedBeside};
+ghost use Rattle.ldtargets.specs.SymbolTable.{AreSymbolValues};
 ghost use Rattle.ldtargets.specs.Values.{value_of};
 ghost use Rattle.ldvalues.specs.LinkView.{IsLinkView, known_link};
 ghost use Rattle.ldvalues.specs.Values.{AreValues};
@@ -31,6 +32,7 @@ use ldtargets::law::{
     patches_are_those_retargeted,
 };
 use ldtargets::symbol::entry_fault;
+use ldtargets::symbol_table::SymbolTable;
 use ldtargets::value::SymbolValue;
 use ldvalues::link_view::LinkView;
 use ldvalues::values::Values;
@@ -66,7 +68,7 @@ fn with_entry_fault(value: SymbolValue, mut faults: Vec<Fault>) -> Result<Vec<Fa
 
 impl Relocated {
     /// Evaluates the relocations of input sections that did not stay, and those of sections that stayed whose symbol
-    /// has another value than in the earlier link. Each of them is counted.
+    /// has another value than in the earlier link. Each of them is counted. `symbols` has the values of the symbols.
     ///
     /// # Errors
     ///
@@ -77,12 +79,13 @@ impl Relocated {
         link: &LinkView<'_, '_>,
         earlier: &E,
         values: &Values<'_>,
+        symbols: &SymbolTable,
         meter: &mut Meter,
     ) -> Result<Relocated, NoMemory>
         ensures { IfOk result (λ r. (s : Layout) (a : NamingState) (old : GoodLink)
             → placement project.now.script (rows project.now) (provided project.now) ≡ Ok s
             → IsLinkView (known_link project.now s a) link.now → AreValues project.now s a values.now
-            → E.knows earlier.now old (known_link project.now s a)
+            → AreSymbolValues project.now s symbols.now → E.knows earlier.now old (known_link project.now s a)
             → IsRelocatedBeside old (E.range earlier.now) project.now s a r meter.old meter.new) }
     {
         sections_end_below();
@@ -97,7 +100,7 @@ impl Relocated {
         fields_in_image();
         stayed_in_both();
         let keys = keys_of(alloc, project)?;
-        let fields = changed_fields(alloc, link, earlier, &values.names, &keys, meter)?;
+        let fields = changed_fields(alloc, link, earlier, symbols, &keys, meter)?;
         let ChangedFields {
             patches,
             ends,

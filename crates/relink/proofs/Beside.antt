@@ -32,6 +32,8 @@ use Rattle.ldoutput.specs.Runs.{AreRunsUnless}
 use Rattle.ldoutput.specs.declared.relocated.Relocated.{Relocated}
 use Rattle.ldtargets.specs.Earlier.{IsComplete}
 use Rattle.ldtargets.specs.KnownLink.{KnownLink}
+use Rattle.ldtargets.specs.SymbolTable.{AreSymbolValues}
+use Rattle.ldtargets.specs.declared.symbol_table.SymbolTable.{SymbolTable}
 use Rattle.ldvalues.specs.LinkView.{IsLinkView, known_link}
 use Rattle.ldvalues.specs.Values.{AreValues}
 use Rattle.ldvalues.specs.declared.link_view.LinkView.{LinkView}
@@ -89,21 +91,22 @@ AreComplete y =
 abbrev pub NoneStays : Stays → Type 0
 NoneStays y = y.last ≡ None → (k : SectionKey) → range_of y k ≡ None
 
-pub known_beside : (p : Project) (l : Laying) (y : Stays) (w : LinkView) (v : Values) (r : Relocated)
-    (before after : Counts) (is : IsShort p l w v) → AreBeside p is.placed.known.layout y
-    → AreNamesDistinct p.objects
+pub known_beside : (p : Project) (l : Laying) (y : Stays) (w : LinkView) (v : Values) (t : SymbolTable)
+    (r : Relocated) (before after : Counts) (is : IsShort p l w v) → AreBeside p is.placed.known.layout y
+    → AreSymbolValues p is.placed.known.layout t → AreNamesDistinct p.objects
     → ((s : Layout) (a : NamingState) (old : GoodLink) → placement p.script (rows p) (provided p) ≡ Ok s
-    → IsLinkView (known_link p s a) w → AreValues p s a v → AreStays y old (known_link p s a)
+    → IsLinkView (known_link p s a) w → AreValues p s a v → AreSymbolValues p s t → AreStays y old (known_link p s a)
     → IsRelocatedBeside old (range_of y) p s a r before after)
     → AreComplete y → NoneStays y
     → IsKnownBeside p is.placed.known.layout is.placed.naming y r before after
-known_beside p l y w v r before after is tables names relocated complete none =
+known_beside p l y w v t r before after is tables worth names relocated complete none =
     let k = is.placed.known in
     let s = k.layout in
     let a = is.placed.naming in
     let beside : (old : GoodLink) → IfSome (last_of y.last) (IsLastOf old p)
     → IsRelocatedBeside old (range_of y) p s a r before after =
-    λ old last. relocated s a old k.laying.placed k.view is.placed.values (are_stays p l y w v is tables names old last) in
+    λ old last.
+    relocated s a old k.laying.placed k.view is.placed.values worth (are_stays p l y w v is tables names old last) in
     let one = candidate p (new_link p s) y.last tables.last in
     let b = beside one.old one.is in
     record {

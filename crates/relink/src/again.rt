@@ -3,6 +3,9 @@
 ghost use Rattle.std.specs.Prelude.{◌≡◌, IfErr, IfOk, IfSome, OnErr, OnOk, map};
 ghost use Rattle.gather.specs.ProjectMatches.{AreMatched};
 ghost use Rattle.ldkept.specs.Stays.{last_of};
+ghost use Rattle.ldkept.specs.SymbolTable.{AreSymbolValues};
+ghost use Rattle.ldlayout.specs.Laying.{IsLaying};
+ghost use Rattle.ldmodel.specs.Layout.{Layout};
 ghost use Rattle.ldmodel.specs.Link.{link};
 ghost use Rattle.ldmodel.specs.Rows as model;
 ghost use Rattle.ldnaming.specs.Naming.{IsNaming};
@@ -21,7 +24,7 @@ use ldfields::canvas::Canvas;
 use ldkept::good::Good;
 use ldkept::marks::marks_of;
 use ldkept::stays::{Last, Stays};
-use ldkept::symbol_table::SymbolTable;
+use ldkept::symbol_table::{SymbolTable, symbol_values};
 use ldmodel::memory::NoMemory;
 use ldmodel::meter::Meter;
 use ldnaming::naming::Naming;
@@ -60,12 +63,15 @@ fn drawn_over(
     stays: &Stays<'_>,
     view: &LinkView<'_, '_>,
     values: &Values<'_>,
+    symbols: &SymbolTable,
     canvas: &mut Canvas,
     meter: &mut Meter,
 ) -> Result<Vec<u8>, Stop>
     requires rows { rows_in project.now arranged.now.rows.items ≡ model.rows project.now }
     requires short { IsShort project.now arranged.now.laying view.now values.now }
     requires beside { IsBeside project.now arranged.now.laying stays.now }
+    requires symbols { (s : Layout) → IsLaying project.now s arranged.now.laying
+        → AreSymbolValues project.now s symbols.now }
     requires last { IfSome (last_of stays.now.last) (HasLast project.now canvas.old.bytes) }
     ensures good { IfOk result (λ map. IsGoodImage project.now arranged.now.laying canvas.new.bytes map.items) }
     ensures stop { IfErr result (λ stop. IsStop (link project.now) stop) }
@@ -78,7 +84,7 @@ fn drawn_over(
     stays.is_complete();
     let _inputs = project.inputs();
     let _bytes = meter.bytes();
-    let fields = evaluated(alloc, &*project, laying, stays, view, values, meter)?;
+    let fields = evaluated(alloc, &*project, laying, stays, view, values, symbols, meter)?;
     let map = map_text(alloc, project, rows, laying, values)?;
     // the last call that may fail, since it changes the canvas
     draw_image(
@@ -121,7 +127,7 @@ fn linked_over(
     let given = Given::of(alloc, &*project, &*naming, laying)?;
     let view = LinkView::new(alloc, &*project, &*naming, &arranged.starts, &given)?;
     let values = valued(alloc, &*project, &*naming, laying, &view, &given)?;
-    let symbols = SymbolTable::of(alloc, project, &view, &values.names)?;
+    let symbols = symbol_values(alloc, project, &view, &values.names)?;
     let marks = marks_of(alloc, project, last, &symbols)?;
     let stays = Stays {
         last,
@@ -130,7 +136,7 @@ fn linked_over(
         marks: &marks,
     };
     let map = drawn_over(
-        alloc, &*project, arranged, &stays, &view, &values, canvas, meter,
+        alloc, &*project, arranged, &stays, &view, &values, &symbols, canvas, meter,
     )?;
     Ok(Drawn { symbols, map })
 }

@@ -3,7 +3,9 @@
 ghost use Rattle.std.specs.Prelude.{◌≡◌, IfErr, IfOk, IfSome, OnOk, map};
 ghost use Rattle.gather.specs.ProjectMatches.{AreMatched};
 ghost use Rattle.ldkept.specs.Stays.{last_of};
-ghost use Rattle.ldlayout.specs.Laying.{HasLayout};
+ghost use Rattle.ldkept.specs.SymbolTable.{AreSymbolValues};
+ghost use Rattle.ldlayout.specs.Laying.{HasLayout, IsLaying};
+ghost use Rattle.ldmodel.specs.Layout.{Layout};
 ghost use Rattle.ldmodel.specs.Link.{gathering_faults, layout, link, placed, unless};
 ghost use Rattle.ldmodel.specs.Rows as model;
 ghost use Rattle.ldmodel.specs.declared.fault.Fault.TheVariants.{Orphan};
@@ -21,6 +23,7 @@ use gather::matches::Matches;
 use ldkept::file_starts::FileStarts;
 use ldkept::first::resumed;
 use ldkept::stays::{Last, Stays};
+use ldkept::symbol_table::SymbolTable;
 use ldlayout::laying::{LayFault, Laying};
 use ldlayout::length::length_fault;
 use ldlayout::starts::Starts;
@@ -211,10 +214,12 @@ fn relocated(
     stays: &Stays<'_>,
     view: &LinkView<'_, '_>,
     values: &Values<'_>,
+    symbols: &SymbolTable,
     meter: &mut Meter,
 ) -> Result<Relocated, Stop>
     requires short { IsShort project.now laying.now view.now values.now }
     requires beside { IsBeside project.now laying.now stays.now }
+    requires symbols { (s : Layout) → IsLaying project.now s laying.now → AreSymbolValues project.now s symbols.now }
     ensures good { IfOk result (λ r. IsFilled project.now laying.now stays.now view.now values.now r) }
     ensures stop { IfErr result (λ stop. IsStop (link project.now) stop) }
     ensures reads { OnOk result (ReadsNothing meter.old meter.new) }
@@ -224,7 +229,7 @@ fn relocated(
     stays.is_complete();
     is_good(project, laying);
     let _inputs = project.inputs();
-    let relocated = Relocated::of(alloc, project, view, stays, values, meter)?;
+    let relocated = Relocated::of(alloc, project, view, stays, values, symbols, meter)?;
     match end_if_faulty(alloc, project, &relocated.faults) {
         Ok(()) => Ok(relocated),
         Err(stop) => Err(stop),
@@ -261,17 +266,19 @@ pub(crate) fn evaluated(
     stays: &Stays<'_>,
     view: &LinkView<'_, '_>,
     values: &Values<'_>,
+    symbols: &SymbolTable,
     meter: &mut Meter,
 ) -> Result<Relocated, Stop>
     requires short { IsShort project.now laying.now view.now values.now }
     requires beside { IsBeside project.now laying.now stays.now }
+    requires symbols { (s : Layout) → IsLaying project.now s laying.now → AreSymbolValues project.now s symbols.now }
     ensures good { IfOk result (λ r. IsFaultless project.now laying.now stays.now view.now values.now r) }
     ensures stop { IfErr result (λ stop. IsStop (link project.now) stop) }
     ensures reads { OnOk result (ReadsNothing meter.old meter.new) }
     ensures counted { IfOk result (λ r. HasEvaluated project.now laying.now stays.now r meter.old meter.new) }
     ensures early { IfErr result (λ stop. EndsReadingNothing meter.old meter.new stop) }
 {
-    let fields = relocated(alloc, project, laying, stays, view, values, meter)?;
+    let fields = relocated(alloc, project, laying, stays, view, values, symbols, meter)?;
     asserted(alloc, project, laying, stays, view, values, &fields)?;
     Ok(fields)
 }

@@ -2,7 +2,7 @@ use Rattle.std.proofs.Common.{rules, ◌≡◌, length, ℕ, List, [], ◌∷◌
 use Rattle.ldproject.specs.Inputs.{shown_inputs}
 use Rattle.ldtargets.specs.declared.value.SymbolValue.{SymbolValue}
 use Rattle.ldkept.proofs.Symbols.{TableSoFar, empty_table, one_object_more, whole_table}
-use Rattle.ldkept.proofs.symbol_table.SymbolTable.of.Goals as goal
+use Rattle.ldkept.proofs.symbol_table.symbol_values.Goals as goal
 
 pub loop-place-init : goal.loop-place-init
 loop-place-init c =

@@ -1,6 +1,6 @@
 use Rattle.ldproject.specs.Inputs.{shown_inputs}
 use Rattle.ldkept.proofs.Symbols.{TableSoFar}
-use Rattle.ldkept.proofs.symbol_table.SymbolTable.of.Given as goal
+use Rattle.ldkept.proofs.symbol_table.symbol_values.Given as goal
 
 abbrev pub invariant-loop-place : goal.invariant-loop-place
 invariant-loop-place l =

@@ -37,6 +37,17 @@ drawn_over-requires-clause-beside c =
           (subst (λ (z : Layout). AreSymbolValues p z c.in_ok-symbols.symbols) same symbols));
     })
 
+pub drawn_over-requires-clause-symbols : goal.drawn_over-requires-clause-symbols
+drawn_over-requires-clause-symbols c =
+    λ s laying.
+    let p = c.args.project.now in
+    let h = c.in_ok-values.ensures.good.placed in
+    let k = h.known in
+    subst (λ (z : Layout). AreSymbolValues p z c.in_ok-symbols.symbols)
+    (one_placement p k.layout s k.laying.placed laying.placed)
+    (c.in_ok-symbols.ensures k.layout h.naming k.view
+    (subst (AreNameValues (known_link p k.layout h.naming)) (sym c.deref.ensures.value) h.values.names))
+
 pub returns-clause-good : goal.returns-clause-good
 returns-clause-good c =
     let p = c.args.project.now in

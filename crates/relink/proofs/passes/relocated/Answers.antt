@@ -14,7 +14,8 @@ returns-in-Ok-clause-good c =
     let p = c.args.project.now in
     let h = c.requires.short.placed.known in
     let s = h.layout in
-    let b = known_beside p _ _ _ _ _ _ _ c.requires.short (c.requires.beside s h.laying) c.inputs-inputs.ensures.distinct c.in_ok-relocated.ensures
+    let b = known_beside p _ _ _ _ _ _ _ _ c.requires.short (c.requires.beside s h.laying)
+    (c.requires.symbols s h.laying) c.inputs-inputs.ensures.distinct c.in_ok-relocated.ensures
     c.is_complete.ensures.complete c.is_complete.ensures.none in
     let same = ap (faults_in p) c.deref.ensures.value ∙ b.faults in
     let new = c.is_good.ensures.good s h.laying c.requires.short.length
@@ -34,7 +35,8 @@ returns-in-Err-clause-stop c =
     let p = c.args.project.now in
     let h = c.requires.short.placed.known in
     let s = h.layout in
-    let b = known_beside p _ _ _ _ _ _ _ c.requires.short (c.requires.beside s h.laying) c.inputs-inputs.ensures.distinct c.in_ok-relocated.ensures
+    let b = known_beside p _ _ _ _ _ _ _ _ c.requires.short (c.requires.beside s h.laying)
+    (c.requires.symbols s h.laying) c.inputs-inputs.ensures.distinct c.in_ok-relocated.ensures
     c.is_complete.ensures.complete c.is_complete.ensures.none in
     subst (λ (l : Link). IsStop l c.in-Err.stop) (sym c.requires.short.rest)
     (c.in-Err.ensures.stop (relocation_faults p s) (unless (assertion_faults p s) (good p s))
@@ -43,20 +45,23 @@ returns-in-Err-clause-stop c =
 pub returns-in-Ok-clause-reads : goal.returns-in-Ok-clause-reads
 returns-in-Ok-clause-reads c =
     let h = c.requires.short.placed.known in
-    let b = known_beside _ _ _ _ _ _ _ _ c.requires.short (c.requires.beside h.layout h.laying) c.inputs-inputs.ensures.distinct c.in_ok-relocated.ensures
+    let b = known_beside _ _ _ _ _ _ _ _ _ c.requires.short (c.requires.beside h.layout h.laying)
+    (c.requires.symbols h.layout h.laying) c.inputs-inputs.ensures.distinct c.in_ok-relocated.ensures
     c.is_complete.ensures.complete c.is_complete.ensures.none in
     b.reads
 
 pub returns-in-Ok-clause-counted : goal.returns-in-Ok-clause-counted
 returns-in-Ok-clause-counted c =
     let k = c.requires.short.placed.known in
-    let b = known_beside _ _ _ _ _ _ _ _ c.requires.short (c.requires.beside k.layout k.laying) c.inputs-inputs.ensures.distinct c.in_ok-relocated.ensures
+    let b = known_beside _ _ _ _ _ _ _ _ _ c.requires.short (c.requires.beside k.layout k.laying)
+    (c.requires.symbols k.layout k.laying) c.inputs-inputs.ensures.distinct c.in_ok-relocated.ensures
     c.is_complete.ensures.complete c.is_complete.ensures.none in
     evaluated_at _ _ _ _ _ _ k.layout k.laying b.counted
 
 pub returns-in-Err-clause-early : goal.returns-in-Err-clause-early
 returns-in-Err-clause-early c =
     let h = c.requires.short.placed.known in
-    let b = known_beside _ _ _ _ _ _ _ _ c.requires.short (c.requires.beside h.layout h.laying) c.inputs-inputs.ensures.distinct c.in_ok-relocated.ensures
+    let b = known_beside _ _ _ _ _ _ _ _ _ c.requires.short (c.requires.beside h.layout h.laying)
+    (c.requires.symbols h.layout h.laying) c.inputs-inputs.ensures.distinct c.in_ok-relocated.ensures
     c.is_complete.ensures.complete c.is_complete.ensures.none in
     ends_reading _ _ c.in-Err.stop b.reads

@@ -4,7 +4,8 @@ use Rattle.ldmodel.specs.Edits.{has_name}
 use Rattle.ldmodel.specs.Stayed.{GoodLink}
 use Rattle.ldproject.specs.ByPlace.{faults_in}
 use Rattle.ldtargets.specs.Filled.{EndBelow, IsOrder}
-use Rattle.ldtargets.specs.KnownLink.{AreNameValues, KnownLink}
+use Rattle.ldtargets.specs.KnownLink.{KnownLink}
+use Rattle.ldtargets.specs.SymbolTable.{HasSymbolValues}
 use Rattle.ldtargets.specs.Values.{value_of}
 use Rattle.ldvalues.specs.LinkView.{known_link}
 use Rattle.ldoutput.proofs.Beside.{are_runs}
@@ -16,17 +17,17 @@ use Rattle.ldoutput.proofs.relocated.Relocated.of.Goals as goal
 
 pub returns : goal.returns
 returns g c =
-    λ s a old e v w k.
+    λ s a old e v w worth k.
     let p = c.args.project.now in
     let l : KnownLink = known_link p s a in
     let new : GoodLink = record { project = p; layout = s } in
     let read = c.in_ok-keys.ensures.read in
     let distinct = c.in_ok-keys.ensures.distinct in
     let below : EndBelow l = c.sections_end_below.ensures p s a distinct (ascending p read) e in
-    let names : AreNameValues l c.deref.result.now = subst (AreNameValues l) (sym c.deref.ensures.value) w.names in
-    let order : IsOrder l c.deref-2.result.now =
-    subst (IsOrder l) (sym c.deref-2.ensures.value) c.in_ok-keys.ensures.keys in
-    let changed = c.in_ok-fields.ensures old l v k names below order in
+    let symbols : HasSymbolValues l c.args.symbols.now = λ key j o x. worth key.0 j o x in
+    let order : IsOrder l c.deref.result.now =
+    subst (IsOrder l) (sym c.deref.ensures.value) c.in_ok-keys.ensures.keys in
+    let changed = c.in_ok-fields.ensures old l v k symbols below order in
     let range = g.E.Earlier.range c.args.earlier.now in
     let once = placed_once p read s distinct e in
     let profile = of_profile p read in
