@@ -1,9 +1,9 @@
 //! What is kept of a link without faults, and which input sections of a next link stayed where it has them.
 #![tactic(auto)]
 
-pub mod file_starts;
 pub mod first;
 pub mod good;
+pub mod in_place;
 pub mod marks;
 mod names;
 mod same;

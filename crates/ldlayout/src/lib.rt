@@ -10,6 +10,7 @@ mod headers;
 pub mod laying;
 pub mod length;
 mod numbering;
+mod offsets;
 mod sections;
 pub mod segments;
 pub mod starts;
