@@ -5,7 +5,6 @@ mod Inside
 mod Kept
 mod Standings
 mod Ranges
-mod Sections
 mod Symbols
 mod Unmarked
 mod FoundSections

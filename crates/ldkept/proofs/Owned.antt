@@ -1,7 +1,8 @@
 -- Each input section in the output is of an object of the project.
-use Rattle.std.proofs.Common.{◌≡◌, ℕ, Bool, true, false, cond, not, sym, subst, ◌+◌}
+use Rattle.std.proofs.Common.{◌≡◌, ◌∙◌, ◌<◌, ℕ, Bool, true, false, cond, not, sym, subst, ap, refl, arith, ◌+◌}
 use Rattle.std.proofs.Common.{List, [], ◌∷◌, length, map, filter, flat_map, Option, Some, None}
-use Rattle.std.specs.List.{Contains, cons_option, enumerate_from, filter_map, range_with_len}
+use Rattle.std.specs.List.{Contains, cons_option, enumerate_from, filter_map, list_any, range_with_len}
+use Rattle.std.proofs.lemmas.Bool.{eqb-false, true≢false}
 use Rattle.elfobj.specs.Sections.{LinkedSection}
 use Rattle.elfobj.specs.Symbols.{NamedSymbol}
 use Rattle.ldtree.specs.Numbering.{InputStatementAt, input_statements, output_sections}
@@ -16,22 +17,15 @@ use Rattle.ldmodel.specs.Rows.{Piece, below, is_in_section, is_taken_by, piece_o
 use Rattle.ldmodel.specs.Rows.{taken}
 use Rattle.ldmodel.specs.Sections.{InputSection}
 use Rattle.ldmodel.specs.Sorting.{insert_by, sort_by}
-use Rattle.ldkept.proofs.Members.{each_join, here, later}
+use Rattle.ldlaws.specs.Spread.{entries_in}
+use Rattle.ldlayout.proofs.Lists.{each_filter, each_into_map}
+use Rattle.ldmodel.specs.Layout.{Layout}
+use Rattle.ldproject.specs.Inputs.{shown_input, shown_inputs}
+use Rattle.ldproject.specs.declared.input.Input.{Input}
+use Rattle.ldkept.specs.InPlace.{IsObjectName, IsOwned, entries_of, has_no_name}
+use Rattle.ldkept.proofs.Members.{Comes, any_in, each_join, here, in_map, later}
 
 -- ---- lists
-
-each_filter : {X : Type 0} (P : X → Type 0) (test : X → Bool) (xs : List X) → Each P xs → Each P (filter test xs)
-each_filter P test [] h = tt
-each_filter P test (x ∷ xs) h = go (test x) (each_filter P test xs h.1)
-  where
-    go : (b : Bool) → Each P (filter test xs) → Each P (cond b (x ∷ filter test xs) (filter test xs))
-    go true k = (h.0, k)
-    go false k = k
-
-each_into_map : {X Y : Type 0} (P : Y → Type 0) (f : X → Y) (xs : List X) → Each (λ x. P (f x)) xs
-    → Each P (map f xs)
-each_into_map P f [] h = tt
-each_into_map P f (x ∷ xs) h = (h.0, each_into_map P f xs h.1)
 
 each_always : {X : Type 0} (P : X → Type 0) → ((x : X) → P x) → (xs : List X) → Each P xs
 each_always P h [] = tt
@@ -144,3 +138,28 @@ module _ (p : Project) (Holds : List ℕ → Type 0) (named : (o : NamedObject) 
         each_flat OfPiece (λ (x : List Piece). x) (rows p)
         (each_into_map (Each OfPiece) (row p) (range_with_len 0 (length (output_sections p.script)))
         (each_always (λ k. Each OfPiece (row p k)) of_row (range_with_len 0 (length (output_sections p.script)))))
+
+-- ---- objects with names
+
+pub all_named : (p : Project) (inputs : List Input) → shown_inputs inputs ≡ p.objects
+    → list_any has_no_name inputs ≡ false → (o : NamedObject) → Contains p.objects o → IsObjectName p o.name
+all_named p inputs same none o c = record {
+  object = o;
+  among = c;
+  is = refl;
+  some = some (in_map shown_input inputs o (subst (λ l. Contains l o) (sym same) c));
+}
+  where
+    some : Comes shown_input inputs o → 0 < length o.name
+    some k = subst (λ (x : NamedObject). 0 < length x.name) k.gives (go (has_no_name k.origin) refl)
+      where
+        go : (b : Bool) → has_no_name k.origin ≡ b → 0 < length k.origin.name.now
+        go true e = absurd (true≢false (sym (any_in has_no_name inputs k.origin k.among e) ∙ none))
+        go false e = let other = eqb-false (length k.origin.name.now) 0 e in omega (arith, other)
+
+pub all_owned : (p : Project) (s : Layout) (inputs : List Input) → shown_inputs inputs ≡ p.objects
+    → list_any has_no_name inputs ≡ false → (test : InputSection → Bool) × (live p ≡ filter test (candidates p))
+    → map entries_in s.sections ≡ rows p → Each (IsOwned p) (entries_of s)
+all_owned p s inputs same none in_order placed =
+    subst (Each (IsOwned p)) (ap (flat_map (λ (row : List Piece). row)) (sym placed))
+    (of_rows p (IsObjectName p) (all_named p inputs same none) in_order)

@@ -22,18 +22,19 @@ use Rattle.ldmodel.specs.declared.names.ObjectKey.{ObjectKey}
 use Rattle.ldmodel.specs.declared.sections.Part.{Part}
 use Rattle.ldmodel.specs.declared.sections.SectionKey.{SectionKey}
 use Rattle.ldlaws.specs.FileOrder.{AreInFileOrder}
+use Rattle.ldlayout.specs.Laying.{IsLaying}
 use Rattle.ldlayout.specs.Starts.{AreStarts}
+use Rattle.ldlayout.specs.declared.laying.Laying.{Laying}
 use Rattle.ldlayout.specs.declared.starts.Starts.{Starts}
 use Rattle.ldtargets.specs.Earlier as earlier
 use Rattle.ldtargets.specs.Earlier.{HasStayedAt, IsComplete, IsKept, IsPieceOf}
 use Rattle.ldtargets.specs.KnownLink.{IsSymbolOf, KnownLink, name_of_object}
 use Rattle.ldtargets.specs.Values.{value_of}
 use Rattle.ldtargets.specs.declared.earlier.FileRange.{FileRange}
-use Rattle.ldkept.specs.FileStarts.{AreFileStarts}
+use Rattle.ldkept.specs.InPlace.{AreInPlace}
 use Rattle.ldkept.specs.Standing.{same_standing, standing_in}
 use Rattle.ldkept.specs.Stays.{IsLastOf, LastState, kept_at, kept_range, last_of, last_place, last_standing, last_state}
 use Rattle.ldkept.specs.Stays.{last_value, standing_from, value_from}
-use Rattle.ldkept.specs.declared.file_starts.FileStarts.{FileStarts}
 use Rattle.ldkept.specs.declared.standing.Standing.{Standing}
 use Rattle.ldkept.specs.declared.stays.Last.{Last}
 use Rattle.ldkept.proofs.Inside.{below_64}
@@ -67,8 +68,9 @@ then_some f None y e = absurd (let none : ⊥ = cc in none)
 then_some f (Some x) y e = (x, refl, e)
 
 module _ (old : GoodLink) (l : KnownLink) (keys : (k : ℕ) → l.number k ≡ k)
-    (names : AreNamesDistinct l.project.objects) (t : Starts) (f : FileStarts)
-    (starts : AreStarts l.project l.layout t) (files : AreFileStarts l.project l.layout f) where
+    (names : AreNamesDistinct l.project.objects) (t : Starts) (f : Laying)
+    (starts : AreStarts l.project l.layout t) (laying : IsLaying l.project l.layout f)
+    (places : AreInPlace l.project l.layout) where
   named : (key : SectionKey) → name_of_object l key.object ≡ object_name l.project key.object.0
   named key = ap (object_name l.project) (keys key.object.0)
 
@@ -83,7 +85,7 @@ module _ (old : GoodLink) (l : KnownLink) (keys : (k : ℕ) → l.number k ≡ k
       x = of_link l.project l.layout q z
 
       some : 0 < length z.piece.object
-      some = (owned l.project l.layout t f starts files k q z at among).some
+      some = (owned l.project l.layout t f starts laying places k q z at among).some
 
       -- ---- what is known to have stayed did
 
@@ -92,9 +94,9 @@ module _ (old : GoodLink) (l : KnownLink) (keys : (k : ℕ) → l.number k ≡ k
       unfolding last_standing
       sound_one r h =
           let w = then_some (standing_from y key.part) (last_place y key.object) h.old h.was in
-          let before = stood old.project old.layout y.good.starts y.good.files last.table.starts last.table.files
-          (at_place w.0) h.old w.2 in
-          let now = (shows l.project l.layout t f starts files key k q z at among (sym object) (sym part)).is h.new h.is
+          let before = stood old.project old.layout y.good.starts y.good.laying last.table.starts last.table.laying
+          last.table.places (at_place w.0) h.old w.2 in
+          let now = (shows l.project l.layout t f starts laying places key k q z at among (sym object) (sym part)).is h.new h.is
           in (
             same.sound old l.project y.from last.origins last.table.names names key.object.0 x object refl some
                 (of_link old.project old.layout before.section before.piece) refl w.0 w.1
@@ -112,7 +114,7 @@ module _ (old : GoodLink) (l : KnownLink) (keys : (k : ℕ) → l.number k ≡ k
           (offset_is : (v : SectionInFile) → Contains (in_file (segments l.layout.sections)) v
           → file_offset (segments l.layout.sections) v.section ≡ v.offset) where
         low : x.range.offset < 2 ^ 64
-        low = below_64 l.project l.layout files.spread files.named order all offset_is k q z at among short
+        low = below_64 l.project l.layout places.spread laying.named order all offset_is k q z at among short
 
         module _ (w : LinkedPiece) (there : Linked (of_link old.project old.layout) old.layout.sections w)
             (is_same : Same x w) where
@@ -126,17 +128,17 @@ module _ (old : GoodLink) (l : KnownLink) (keys : (k : ℕ) → l.number k ≡ k
               → option_and_then (standing_from y key.part) m ≡ last_standing y key
               → kept_at (last_standing y key) (standing_in t f key) ≡ None → ⊥
           stands None e g h =
-              let o = owned old.project old.layout y.good.starts y.good.files last.table.starts last.table.files
-              there.number there.section there.piece there.at there.among in
+              let o = owned old.project old.layout y.good.starts y.good.laying last.table.starts last.table.laying
+              last.table.places there.number there.section there.piece there.at there.among in
               same.not_fresh old l.project y.from last.origins last.table.names names key.object.0 x object refl some v
               refl same_v o.object o.among o.is e
           stands (Some j) e g h =
               let name =
               same.old_name old l.project y.from last.origins last.table.names names key.object.0 x object refl some v
               refl same_v j e in
-              let was = shows old.project old.layout y.good.starts y.good.files last.table.starts last.table.files
-              (at_place j) there.number there.section there.piece there.at there.among name (sym part ∙ same_v.part) in
-              let now = shows l.project l.layout t f starts files key k q z at among (sym object) (sym part) in
+              let was = shows old.project old.layout y.good.starts y.good.laying last.table.starts last.table.laying
+              last.table.places (at_place j) there.number there.section there.piece there.at there.among name (sym part ∙ same_v.part) in
+              let now = shows l.project l.layout t f starts laying places key k q z at among (sym object) (sym part) in
               let b = was.some (subst (λ n. n < 2 ^ 64) same_v.offset low) in
               let a = now.some low in
               let kept : kept_at (last_standing y key) (standing_in t f key) ≡ Some (a.0).range =
@@ -192,14 +194,14 @@ module _ (old : GoodLink) (l : KnownLink) (keys : (k : ℕ) → l.number k ≡ k
   complete_or_none None is last short order all offset_is = absurd (false≢true is)
   complete_or_none (Some y) is last short order all offset_is = complete (last_state y) last short order all offset_is
 
-pub none_known : (m : Option LastState) (t : Starts) (f : FileStarts) (key : SectionKey) → m ≡ None
+pub none_known : (m : Option LastState) (t : Starts) (f : Laying) (key : SectionKey) → m ≡ None
     → kept_range m t f key ≡ None
 unfolding kept_range
 none_known m t f key e = ap (λ n. kept_range n t f key) e
 
 -- ---- case by case, as the code finds them
 
-module _ (m : Option Last) (y : Last) (last_is : m ≡ Some y) (t : Starts) (f : FileStarts) (key : SectionKey) where
+module _ (m : Option Last) (y : Last) (last_is : m ≡ Some y) (t : Starts) (f : Laying) (key : SectionKey) where
   kept_is : kept_range (last_of m) t f key ≡ kept_at (last_standing (last_state y) key) (standing_in t f key)
   unfolding kept_range
   kept_is = ap (λ n. kept_range (last_of n) t f key) last_is
@@ -219,12 +221,12 @@ module _ (m : Option Last) (y : Last) (last_is : m ≡ Some y) (t : Starts) (f :
 
 -- ---- what symbols were worth
 
-pub not_kept : (m : Option LastState) (t : Starts) (f : FileStarts) (object : ObjectKey) → m ≡ None
+pub not_kept : (m : Option LastState) (t : Starts) (f : Laying) (object : ObjectKey) → m ≡ None
     → IsKept (kept_range m t f) object → ⊥
 not_kept m t f object e kept =
     false≢true (subst IsSome (none_known m t f (record { object = object; part = kept.0 }) e) kept.1)
 
-module _ (old : GoodLink) (l : KnownLink) (keys : (k : ℕ) → l.number k ≡ k) (t : Starts) (f : FileStarts)
+module _ (old : GoodLink) (l : KnownLink) (keys : (k : ℕ) → l.number k ≡ k) (t : Starts) (f : Laying)
     (y : LastState) (last : IsLastOf old l.project y) (object : ObjectKey) (index : SymbolIndex) (symbol : Symbol)
     (o : NamedObject) (x : NamedSymbol) (is : IsSymbolOf l object index symbol o x) where
   worth : (p : Option ℕ) → last_place y object ≡ p → (part : Part)
@@ -245,7 +247,7 @@ module _ (old : GoodLink) (l : KnownLink) (keys : (k : ℕ) → l.number k ≡ k
       → value_of (last_value y object index) ≡ referenced_value old.project old.layout o x
   was_worth kept = worth (last_place y object) refl kept.0 kept.1
 
-pub worth_of : (old : GoodLink) (l : KnownLink) → ((k : ℕ) → l.number k ≡ k) → (t : Starts) (f : FileStarts)
+pub worth_of : (old : GoodLink) (l : KnownLink) → ((k : ℕ) → l.number k ≡ k) → (t : Starts) (f : Laying)
     (m : Option Last) (y : Last) → m ≡ Some y → IfSome (last_of m) (IsLastOf old l.project) → (object : ObjectKey)
     (index : SymbolIndex) (symbol : Symbol) (o : NamedObject) (x : NamedSymbol) → IsSymbolOf l object index symbol o x
     → IsKept (kept_range (last_of m) t f) object

@@ -30,7 +30,7 @@ use Rattle.ldmodel.specs.declared.sections.Part.{Part}
 use Rattle.ldmodel.specs.declared.sections.Part.TheVariants.{InTable, InCommon}
 use Rattle.ldmodel.specs.declared.sections.SectionKey.{SectionKey}
 use Rattle.ldproject.specs.ByPlace.{name_of_section, piece_in, rows_in}
-use Rattle.ldkept.specs.FileStarts.{IsOwned}
+use Rattle.ldkept.specs.InPlace.{IsOwned}
 use Rattle.ldkept.specs.First.{HasReplaced}
 use Rattle.ldkept.specs.Origins.{AreOrigins}
 use Rattle.ldkept.specs.SameRows.{are_same_pieces, came_for, first_changed, has_same_name, is_of_same_object}

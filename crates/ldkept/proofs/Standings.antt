@@ -6,9 +6,10 @@ use Rattle.std.specs.List.{Contains, list_any}
 use Rattle.std.specs.Option.{option_and_then, option_map}
 use Rattle.std.specs.Prelude.{nat_lt, position}
 use Rattle.std.proofs.lemmas.Bool.{lt-ltb}
-use Rattle.std.proofs.lemmas.Option.{same_Some}
+use Rattle.std.proofs.lemmas.Option.{same_Some, slice_get-map}
 use Rattle.std.proofs.lemmas.Slice.Eq.{bytes_eq-Decides}
 use Rattle.ldmodel.specs.Layout.{Layout, PlacedPiece, PlacedSection}
+use Rattle.ldmodel.specs.Lent.{placed_of}
 use Rattle.ldmodel.specs.NameFaults.{object_name}
 use Rattle.ldmodel.specs.Project.{Project}
 use Rattle.ldmodel.specs.Sections.{is_same_part}
@@ -17,15 +18,17 @@ use Rattle.ldmodel.specs.Stayed as model
 use Rattle.ldmodel.specs.Stayed.{LinkedPiece, linked_piece, linked_pieces, range_in}
 use Rattle.ldmodel.specs.SymbolValues.{is_part, placed_part}
 use Rattle.ldmodel.specs.declared.sections.SectionKey.{SectionKey}
+use Rattle.ldlayout.specs.Laying.{IsLaying}
+use Rattle.ldlayout.specs.Offsets.{IsOffset}
 use Rattle.ldlayout.specs.Starts.{AreStarts, IsPartPlace, place_in}
+use Rattle.ldlayout.specs.declared.laying.Laying.{Laying}
 use Rattle.ldlayout.specs.declared.starts.PartPlace.{PartPlace}
 use Rattle.ldlayout.specs.declared.starts.Starts.{Starts}
 use Rattle.ldtargets.specs.Earlier.{range_of}
 use Rattle.ldtargets.specs.declared.earlier.FileRange.{FileRange}
-use Rattle.ldkept.specs.FileStarts.{AreFileStarts, IsFileStart, IsOwned, bytes_from, entries_of, range_from}
-use Rattle.ldkept.specs.Standing.{standing_in, standing_of, standing_with}
-use Rattle.ldkept.specs.declared.file_starts.FileStart.{FileStart}
-use Rattle.ldkept.specs.declared.file_starts.FileStarts.{FileStarts}
+use Rattle.ldkept.specs.InPlace.{AreInPlace, IsOwned, entries_of}
+use Rattle.ldkept.specs.Standing as code
+use Rattle.ldkept.specs.Standing.{bytes_from, range_from, standing_in, standing_of, standing_with}
 use Rattle.ldkept.specs.declared.standing.Standing.{Standing}
 use Rattle.ldkept.proofs.Kept.{IsAt, Shows, same_part}
 use Rattle.ldkept.proofs.Members.{Beside, beside, both_of, find_in, in_back, in_either, in_front, in_map, map_in}
@@ -120,40 +123,32 @@ fits_none = record {
   some = λ low. (code_range 0 0, refl);
 }
 
-fits : (s : Layout) (q : PlacedSection) (z : PlacedPiece) (g : FileStart) → IsFileStart s q g
-    → Fits (range_in (segments s.sections) q z) (range_from g z.start z.piece.size)
+fits : (s : Layout) (q : PlacedSection) (z : PlacedPiece) (offset : ℕ) → IsOffset s q offset
+    → Fits (range_in (segments s.sections) q z) (range_from (placed_of q) offset z.start z.piece.size)
 unfolding range_from
-fits s q z g is =
-    subst (Fits (range_in (segments s.sections) q z))
-    (sym (ap (λ c. cond (c && not (z.piece.size == 0)) (bytes_from (g.offset + (z.start - g.start)) z.piece.size)
-    (Some (code_range 0 0))) is.in_file))
-    (go (has_file_bytes q && not (z.piece.size == 0)) refl)
+fits s q z offset is = go (has_file_bytes q && not (z.piece.size == 0))
   where
-    go : (b : Bool) → (has_file_bytes q && not (z.piece.size == 0)) ≡ b
+    go : (b : Bool)
         → Fits (cond b (model_range (file_offset (segments s.sections) q + (z.start - q.start)) z.piece.size)
         (model_range 0 0))
-        (cond b (bytes_from (g.offset + (z.start - g.start)) z.piece.size) (Some (code_range 0 0)))
-    go true e =
-        let has = both_of (has_file_bytes q) (not (z.piece.size == 0)) e in
-        let same : g.offset + (z.start - g.start) ≡ file_offset (segments s.sections) q + (z.start - q.start) =
-        ap (λ n. n + (z.start - g.start)) (is.offset has.0)
-        ∙ ap (λ n. file_offset (segments s.sections) q + (z.start - n)) is.start in
+        (cond b (bytes_from (offset + (z.start - q.start)) z.piece.size) (Some (code_range 0 0)))
+    go true =
         subst (λ n. Fits (model_range (file_offset (segments s.sections) q + (z.start - q.start)) z.piece.size)
-        (bytes_from n z.piece.size)) (sym same)
+        (bytes_from (n + (z.start - q.start)) z.piece.size)) (sym is)
         (fits_from (file_offset (segments s.sections) q + (z.start - q.start)) z.piece.size)
-    go false e = fits_none
+    go false = fits_none
 
 -- ---- what the tables have
 
 abbrev place_with : ℕ → ℕ → ℕ → PartPlace
 place_with start size n = record { start = start; size = size; section = record { 0 = n } }
 
-module _ (p : Project) (s : Layout) (t : Starts) (f : FileStarts) (starts : AreStarts p s t)
-    (files : AreFileStarts p s f) where
+module _ (p : Project) (s : Layout) (t : Starts) (f : Laying) (starts : AreStarts p s t) (laying : IsLaying p s f)
+    (places : AreInPlace p s) where
   pub owned : (k : ℕ) (q : PlacedSection) (z : PlacedPiece) → slice_get s.sections k ≡ Some q → Contains q.pieces z
       → IsOwned p z.piece
   owned k q z at among =
-      member_of (IsOwned p) (entries_of s) z.piece files.owned
+      member_of (IsOwned p) (entries_of s) z.piece places.owned
       (subst (λ l. Contains l z.piece) (sym (flat s.sections))
       (map_in (λ (x : PlacedPiece). x.piece) (pieces s.sections) z (pieces_in s.sections k q z at among)))
 
@@ -163,14 +158,14 @@ module _ (p : Project) (s : Layout) (t : Starts) (f : FileStarts) (starts : AreS
     part_found : placed_part s (object_name p key.object.0) key.part ≡ Some z
     part_found =
         ap (λ n. placed_part s n key.part) object ∙ ap (λ m. placed_part s z.piece.object m) part
-        ∙ found s files.once k q z at among
+        ∙ found s places.once k q z at among
 
     number_found : position (λ (r : PlacedSection). list_any (is_part (object_name p key.object.0) key.part) r.pieces)
         s.sections ≡ Some k
     number_found =
         ap (λ n. position (λ (r : PlacedSection). list_any (is_part n key.part) r.pieces) s.sections) object
         ∙ ap (λ m. position (λ (r : PlacedSection). list_any (is_part z.piece.object m) r.pieces) s.sections) part
-        ∙ section_is s files.once k q z at among
+        ∙ section_is s places.once k q z at among
 
     place_is : place_in t key ≡ Some (place_with z.start z.piece.size k)
     place_is = go (place_in t key) (starts.places key)
@@ -187,18 +182,25 @@ module _ (p : Project) (s : Layout) (t : Starts) (f : FileStarts) (starts : AreS
             ∙ ap (λ n. Some (place_with z.start n x.section.0)) size
             ∙ ap (λ n. Some (place_with z.start z.piece.size n)) number
 
-    file : Beside (IsFileStart s) f.sections.items k q
-    file = beside (IsFileStart s) s.sections f.sections.items k q files.sections at
+    section_at : slice_get f.placement.sections k ≡ Some (placed_of q)
+    section_at =
+        ap (λ l. slice_get l k) laying.places.sections ∙ slice_get-map placed_of s.sections k
+        ∙ ap (option_map placed_of) at
+
+    begun : Beside (IsOffset s) f.offsets.items k q
+    begun = beside (IsOffset s) s.sections f.offsets.items k q laying.offsets at
 
     abbrev bytes : Option FileRange
-    bytes = range_from (file.member) z.start z.piece.size
+    bytes = range_from (placed_of q) (begun.member) z.start z.piece.size
 
     standing_is : standing_in t f key ≡ option_map (standing_with (place_with z.start z.piece.size k)) bytes
     unfolding standing_in
     standing_is =
         ap (option_and_then (standing_of f)) place_is
         ∙ ap (λ m. option_map (standing_with (place_with z.start z.piece.size k))
-        (option_and_then (λ (g : FileStart). range_from g z.start z.piece.size) m)) (file.at)
+        (option_and_then (code.range_in f (place_with z.start z.piece.size k)) m)) section_at
+        ∙ ap (λ m. option_map (standing_with (place_with z.start z.piece.size k))
+        (option_and_then (λ (offset : ℕ). range_from (placed_of q) offset z.start z.piece.size) m)) (begun.at)
 
     shown : (m : Option FileRange) → Fits ((of_link p s q z).range) m
         → Shows (of_link p s q z) (option_map (standing_with (place_with z.start z.piece.size k)) m)
@@ -217,7 +219,7 @@ module _ (p : Project) (s : Layout) (t : Starts) (f : FileStarts) (starts : AreS
     }
 
     pub shows : Shows (of_link p s q z) (standing_in t f key)
-    shows = subst (Shows (of_link p s q z)) (sym standing_is) (shown bytes (fits s q z (file.member) (file.is)))
+    shows = subst (Shows (of_link p s q z)) (sym standing_is) (shown bytes (fits s q z (begun.member) (begun.is)))
 
   -- what stands somewhere by the tables is an input section in the output
   pub record Stood (key : SectionKey) (a : Standing) : Type 0 where

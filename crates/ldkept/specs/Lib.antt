@@ -1,5 +1,5 @@
 pub mod Origins
-pub mod FileStarts
+pub mod InPlace
 pub mod Standing
 pub use Rattle.ldtargets.specs.SymbolTable
 pub mod Table

@@ -13,20 +13,21 @@ use Rattle.ldmodel.specs.declared.names.ObjectKey.{ObjectKey}
 use Rattle.ldmodel.specs.declared.sections.Part.{Part}
 use Rattle.ldmodel.specs.declared.sections.SectionKey.{SectionKey}
 use Rattle.ldnaming.specs.Naming.{NamingState}
+use Rattle.ldlayout.specs.Laying.{IsLaying}
 use Rattle.ldlayout.specs.Starts.{AreStarts}
+use Rattle.ldlayout.specs.declared.laying.Laying.{Laying}
 use Rattle.ldlayout.specs.declared.starts.Starts.{Starts}
 use Rattle.ldtargets.specs.KnownLink.{KnownLink}
 use Rattle.ldtargets.specs.declared.earlier.FileRange.{FileRange}
 use Rattle.ldtargets.specs.declared.value.SymbolValue.{SymbolValue}
 use Rattle.ldtargets.specs.declared.value.SymbolValue.TheVariants.{NotDefined}
 use Rattle.ldvalues.specs.LinkView.{known_link}
-use Rattle.ldkept.specs.FileStarts.{AreFileStarts}
+use Rattle.ldkept.specs.InPlace.{AreInPlace}
 use Rattle.ldkept.specs.Marks.{AreMarks}
 use Rattle.ldkept.specs.Origins.{AreOrigins}
 use Rattle.ldkept.specs.Standing.{same_standing, standing_in}
 use Rattle.ldkept.specs.SymbolTable.{value_at}
 use Rattle.ldkept.specs.Table.{IsTable}
-use Rattle.ldkept.specs.declared.file_starts.FileStarts.{FileStarts}
 use Rattle.ldkept.specs.declared.good.Good.{Good}
 use Rattle.ldkept.specs.declared.standing.Standing.{Standing}
 use Rattle.ldkept.specs.declared.stays.Last.{Last}
@@ -67,7 +68,7 @@ last_place x k = slice_index_or x.from k.0 None
 -- where an input section did
 abbrev pub standing_from : LastState → Part → ℕ → Option Standing
 standing_from x part i =
-    standing_in x.good.starts x.good.files (record { object = record { 0 = i }; part = part })
+    standing_in x.good.starts x.good.laying (record { object = record { 0 = i }; part = part })
 
 unfoldable pub last_standing : LastState → SectionKey → Option Standing
 last_standing x k = option_and_then (standing_from x k.part) (last_place x k.object)
@@ -87,12 +88,12 @@ kept_at (Some before) None = None
 kept_at (Some before) (Some now) = if same_standing before now then Some now.range else None
 
 -- which input sections stayed, and where their bytes stand in the file
-unfoldable pub kept_range : Option LastState → Starts → FileStarts → SectionKey → Option FileRange
-kept_range None starts files k = None
-kept_range (Some x) starts files k = kept_at (last_standing x k) (standing_in starts files k)
+unfoldable pub kept_range : Option LastState → Starts → Laying → SectionKey → Option FileRange
+kept_range None starts laying k = None
+kept_range (Some x) starts laying k = kept_at (last_standing x k) (standing_in starts laying k)
 
 abbrev pub range_of : Stays → SectionKey → Option FileRange
-range_of s k = kept_range (last_of s.last) s.starts.now s.files.now k
+range_of s k = kept_range (last_of s.last) s.starts.now s.laying.now k
 
 -- this object of the earlier project was replaced by that of the new one which has its name
 pub record IsReplaced (p q : Project) (r : ReplacedState) : Type 0 where
@@ -117,7 +118,8 @@ pub record AreStays (s : Stays) (old : GoodLink) (l : KnownLink) : Type 0 where
   pub link : l ≡ known_link l.project l.layout naming
   pub names : AreNamesDistinct l.project.objects
   pub starts : AreStarts l.project l.layout s.starts.now
-  pub files : AreFileStarts l.project l.layout s.files.now
+  pub laying : IsLaying l.project l.layout s.laying.now
+  pub places : AreInPlace l.project l.layout
   pub short : image_length l.project l.layout ≤ max_image_length
   pub last : IfSome (last_of s.last) (IsLastOf old l.project)
   pub marks : AreMarks old l.project l.layout s.marks.now

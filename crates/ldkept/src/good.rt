@@ -1,13 +1,12 @@
 //! What is kept of a link without faults.
 
-use crate::file_starts::FileStarts;
 use crate::symbol_table::SymbolTable;
 use ldlayout::laying::Laying;
 use ldlayout::starts::Starts;
 use ldmodel::rows::Piece;
 
-/// What is kept of a link without faults: its rows, its layout, where its input sections and its output sections stand,
-/// and what its symbols are worth, by its own places.
+/// What is kept of a link without faults: its rows, its layout, where its input sections stand, and what its symbols
+/// are worth, by its own places.
 #[derive(Drop)]
 pub struct Good {
     /// The row of each output section.
@@ -16,8 +15,6 @@ pub struct Good {
     pub laying: Laying,
     /// Where its input sections stand.
     pub starts: Starts,
-    /// Where its output sections stand.
-    pub files: FileStarts,
     /// What its symbols are worth.
     pub symbols: SymbolTable,
 }

@@ -6,9 +6,9 @@
 //! - `file_starts`, `symbol_table`, `standing`: where sections stood, and what symbols were worth.
 #![tactic(auto)]
 
-pub mod file_starts;
 pub mod first;
 pub mod good;
+pub mod in_place;
 pub mod marks;
 mod names;
 mod same;

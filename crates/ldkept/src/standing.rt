@@ -1,10 +1,11 @@
 //! Where an input section stands in a link, in memory and in the file.
 
 ghost use Rattle.std.specs.Prelude.{◌≡◌};
-ghost use Rattle.ldkept.specs.Standing.{standing_in};
+ghost use Rattle.ldkept.specs.Standing.{range_at, range_from, standing_in};
 
-use crate::file_starts::FileStarts;
-use ldlayout::starts::Starts;
+use ldlayout::laying::Laying;
+use ldlayout::starts::{PartPlace, Starts};
+use ldmodel::laid::Placed;
 use ldmodel::sections::SectionKey;
 use ldtargets::earlier::FileRange;
 
@@ -19,17 +20,48 @@ pub(crate) struct Standing {
     pub range: FileRange,
 }
 
+/// Where the bytes of an input section stand in the file, whose output section begins at this offset of it: no bytes,
+/// where the output section has none. None where they begin past 2^64.
+#[tactic(auto, unfolding(crate::specs::Standing::range_from))]
+fn range_from(section: &Placed, offset: u128, start: u64, size: u64) -> Option<FileRange>
+    ensures { result ≡ range_from section.now offset start size }
+{
+    if section.load_size == 0 || size == 0 {
+        return Some(FileRange {
+            offset: 0,
+            length: 0,
+        });
+    }
+    let from_start = start.saturating_sub(section.start);
+    let offset = offset.checked_add(u128::from(from_start))?;
+    let offset = u64::try_from(offset).ok()?;
+    Some(FileRange {
+        offset,
+        length: size,
+    })
+}
+
+/// Where the bytes of an input section in its place stand in the file; none where they begin past 2^64.
+fn range_at(laying: &Laying, place: PartPlace) -> Option<FileRange>
+    ensures { result ≡ range_at laying.now place }
+{
+    let number = place.section.0 as usize;
+    let section = laying.placement.sections().get(number)?;
+    let offset = laying.offsets.get(number)?;
+    range_from(section, *offset, place.start, place.size)
+}
+
 /// Where an input section stands in a link, if it is in the output. None where its bytes in the file begin past 2^64.
 #[tactic(auto, unfolding(crate::specs::Standing::standing_in))]
 pub(crate) fn find_standing(
     starts: &Starts,
-    files: &FileStarts,
+    laying: &Laying,
     section: SectionKey,
 ) -> Option<Standing>
-    ensures { result ≡ standing_in starts.now files.now section }
+    ensures { result ≡ standing_in starts.now laying.now section }
 {
     let place = starts.find(section)?;
-    let range = files.range(place)?;
+    let range = range_at(laying, place)?;
     Some(Standing {
         start: place.start,
         size: place.size,

@@ -7,13 +7,13 @@ ghost use Rattle.ldtargets.specs.Earlier.{IsComplete};
 ghost use Rattle.ldtargets.specs.KnownLink.{KnownLink};
 ghost use Rattle.ldkept.specs.Stays.{AreStays, last_standing, last_state, last_value, range_of};
 
-use crate::file_starts::FileStarts;
 use crate::good::Good;
 use crate::standing::{Standing, find_standing};
 use elfobj::object::Object;
 use elfobj::relocation::SymbolIndex;
 use elfobj::symbol::Symbol;
 use ldlaws::segments::{files_in_order, sections_in_file};
+use ldlayout::laying::Laying;
 use ldlayout::starts::Starts;
 use ldmodel::names::ObjectKey;
 use ldmodel::sections::SectionKey;
@@ -63,7 +63,7 @@ impl<'a> Last<'a> {
             object: ObjectKey(place),
             part: section.part,
         };
-        find_standing(&self.good.starts, &self.good.files, section)
+        find_standing(&self.good.starts, &self.good.laying, section)
     }
 
     /// What a symbol of an object of the new link was worth in the earlier one.
@@ -84,8 +84,8 @@ pub struct Stays<'a> {
     pub last: Option<Last<'a>>,
     /// Where the input sections of the new one stand.
     pub starts: &'a Starts,
-    /// Where the output sections of the new one stand.
-    pub files: &'a FileStarts,
+    /// Where everything of the new one stands.
+    pub laying: &'a Laying,
     /// Which objects of the new one, by their places, name a symbol that may have another value than in the last one;
     /// an object past the end of the list may, too.
     pub marks: &'a [bool],
@@ -122,7 +122,7 @@ impl<'a> Earlier for Stays<'a> {
     fn stayed(&self, section: SectionKey) -> Option<FileRange> {
         let last = self.last?;
         let before = last.standing(section)?;
-        let now = find_standing(self.starts, self.files, section)?;
+        let now = find_standing(self.starts, self.laying, section)?;
         if before == now { Some(now.range) } else { None }
     }
 

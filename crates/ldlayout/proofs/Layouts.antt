@@ -1,6 +1,9 @@
 -- From a placement to the layout of a project.
-use Rattle.std.proofs.Common.{◌≡◌, ◌∙◌, ℕ, List, [], Ok, refl, sym, subst}
+use Rattle.std.proofs.Common.{◌≡◌, ◌∙◌, ℕ, List, [], Ok, map, refl, sym, subst}
+use Rattle.std.specs.List.{AllZip}
+use Rattle.ldlaws.specs.ImageBytes.{AreNamed}
 use Rattle.ldmodel.specs.Layout.{Layout}
+use Rattle.ldmodel.specs.Lent.{AreSegments, placed_of}
 use Rattle.ldmodel.specs.Link.{layout, of_length}
 use Rattle.ldmodel.specs.Names.{provided}
 use Rattle.ldmodel.specs.Overlaps.{overlaps}
@@ -10,6 +13,7 @@ use Rattle.ldmodel.specs.Rows.{Piece, rows}
 use Rattle.ldmodel.specs.SectionHeaders.{image_length}
 use Rattle.ldmodel.specs.Segments.{segments}
 use Rattle.ldmodel.specs.declared.laid.Placed.{Placed}
+use Rattle.ldlayout.specs.Offsets.{IsOffset}
 use Rattle.ldlayout.specs.Placing.{AreAllSegments}
 use Rattle.ldtree.specs.declared.statement.Statement.{Statement}
 use Rattle.place.specs.Outcomes as outcomes
@@ -53,8 +57,14 @@ layout_is p s a b = rw (a, b) refl
 
 -- places and all segments that are made of them
 pub has_layout : (p : Project) (l : Laying) (h : HasPlaces p l.placement) (placed : List Placed)
-    → placed ≡ l.placement.sections → AreAllSegments placed l.segments.items → HasLayout p l
-has_layout p l h placed e segments = record {
+    → placed ≡ l.placement.sections → AreAllSegments placed l.segments.items → AreNamed h.layout.sections
+    → (map placed_of h.layout.sections ≡ placed
+    → AreSegments h.layout.sections (segments h.layout.sections) l.segments.items
+    → AllZip (IsOffset h.layout) h.layout.sections l.offsets.items)
+    → HasLayout p l
+has_layout p l h placed e made named begun =
+    let same : map placed_of h.layout.sections ≡ placed = sym h.places.sections ∙ sym e in
+    let segments = made h.layout.sections same in record {
   layout = h.layout;
   is = record {
     placed = h.placed;
@@ -62,6 +72,8 @@ has_layout p l h placed e segments = record {
     layout = layout_is p h.layout h.placed h.apart;
     places = h.places;
     kept = h.kept;
-    segments = segments h.layout.sections (sym h.places.sections ∙ sym e);
+    segments = segments;
+    offsets = begun same segments;
+    named = named;
   };
 }

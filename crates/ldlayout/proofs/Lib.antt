@@ -3,6 +3,9 @@ pub mod Steps
 pub mod Offsets
 pub mod Tail
 mod Layouts
+pub mod Lists
+mod Named
+pub mod Walking
 mod Ranks
 mod Searching
 mod Numbers

@@ -1,5 +1,7 @@
 -- The layout of a project as the code keeps it, or why there is none.
 use Rattle.std.specs.Prelude.{◌≡◌, [], ◌∷◌, ⊤, Ok, Err}
+use Rattle.std.specs.List.{AllZip}
+use Rattle.ldlaws.specs.ImageBytes.{AreNamed}
 use Rattle.ldmodel.specs.Layout.{Layout}
 use Rattle.ldmodel.specs.Lent.{AreSegments}
 use Rattle.ldmodel.specs.Link.{layout, of_length}
@@ -13,12 +15,13 @@ use Rattle.ldmodel.specs.Segments.{segments}
 use Rattle.ldmodel.specs.declared.fault.Fault.{Fault}
 use Rattle.ldproject.specs.ByPlace.{faults_in}
 use Rattle.place.specs.Places.{AreOf, IsPlacement, Places}
+use Rattle.ldlayout.specs.Offsets.{IsOffset}
 use Rattle.ldlayout.specs.declared.laying.LayFault.{LayFault}
 use Rattle.ldlayout.specs.declared.laying.LayFault.TheVariants.{Faulty, NoMemory}
 use Rattle.ldlayout.specs.declared.laying.Laying.{Laying}
 
 -- s is the layout of the project but for the length of its image, and l is s; a later layout of the script may take
--- its placement over
+-- its placement over; output sections have different names
 pub record IsLaying (p : Project) (s : Layout) (l : Laying) : Type 0 where
   pub placed : placement p.script (rows p) (provided p) ≡ Ok s
   pub apart : overlaps s.sections ≡ []
@@ -26,6 +29,8 @@ pub record IsLaying (p : Project) (s : Layout) (l : Laying) : Type 0 where
   pub places : AreOf p.script s l.placement
   pub kept : IsPlacement p.script (rows p) (provided p) l.placement
   pub segments : AreSegments s.sections (segments s.sections) l.segments.items
+  pub offsets : AllZip (IsOffset s) s.sections l.offsets.items
+  pub named : AreNamed s.sections
 
 -- places of the project's layout, in which no output sections meet
 pub record HasPlaces (p : Project) (l : Places) : Type 0 where

@@ -2,6 +2,7 @@ pub mod Grouping
 pub mod Placing
 pub mod Length
 pub mod Laying
+pub mod Offsets
 pub mod Entries
 pub mod Headers
 pub mod Numbering

@@ -11,6 +11,7 @@ ghost use Rattle.place.specs.Counted.{CountsPieces, entries};
 ghost use Rattle.place.specs.Kept.{IsKept};
 ghost use Rattle.place.specs.Outcomes as outcomes;
 
+use crate::offsets::offsets;
 use crate::segments::segments;
 use ldbase::meter::Meter;
 use ldmodel::fault::Fault;
@@ -19,6 +20,7 @@ use ldmodel::segment::Segment;
 use ldnaming::naming::Naming;
 use ldproject::view::ProjectView;
 use place::fault::PlaceFault;
+use place::law::outputs_are_of_script;
 use place::place::place;
 use place::placement::Placement;
 use std::alloc::{AllocError, Global};
@@ -30,6 +32,8 @@ pub struct Laying {
     pub placement: Placement,
     /// The places in the file: the segments.
     pub segments: Vec<Segment>,
+    /// Where each output section begins in the file; 0 where its size is 0.
+    pub offsets: Vec<u128>,
 }
 
 /// Why a project has no layout.
@@ -131,11 +135,15 @@ impl Laying {
         ensures resumed { IfOk result (λ _. IfSome kept.entry (λ k.
             CountsPieces meter.old meter.new (entries k.1 (map (λ v. v.items) rows.now)))) }
     {
+        outputs_are_of_script();
+        let _statements = project.script().statements();
         let placement = place_rows(alloc, project, naming, rows, kept, meter)?;
         let segments = segments(alloc, placement.laid())?;
+        let offsets = offsets(alloc, placement.sections(), &segments)?;
         Ok(Laying {
             placement,
             segments,
+            offsets,
         })
     }
 }

@@ -13,6 +13,7 @@ mod headers;
 pub mod laying;
 pub mod length;
 mod numbering;
+mod offsets;
 mod sections;
 pub mod segments;
 pub mod starts;

@@ -22,7 +22,8 @@ use Rattle.ldmodel.specs.declared.sections.Part.TheVariants.{InTable, InCommon}
 use Rattle.ldmodel.specs.declared.sections.SectionKey.{SectionKey}
 use Rattle.ldoutput.specs.declared.relocated.Relocated.{Relocated}
 use Rattle.ldtargets.specs.KnownLink.{KnownLink}
-use Rattle.ldoutput.proofs.Lists.{each_at, find_at, get_left, later_of_map, take_next, zip_more}
+use Rattle.ldlayout.proofs.Lists.{each_at, find_at, later_of_map}
+use Rattle.ldoutput.proofs.Lists.{get_left, take_next, zip_more}
 use Rattle.ldoutput.proofs.Running.{drop_drop}
 use Rattle.ldoutput.specs.Output.{IsRow}
 use Rattle.ldoutput.specs.Pieces.{AreRowsAt, AreSources, IsRowAt, IsSized}

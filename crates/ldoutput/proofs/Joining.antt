@@ -13,6 +13,8 @@ use Rattle.ldimage.specs.OfLink.{IsImageSection}
 use Rattle.ldimage.specs.declared.section.ImagePiece.{ImagePiece}
 use Rattle.ldimage.specs.declared.section.ImageSection.{ImageSection}
 use Rattle.ldlaws.specs.ImageBytes.{AreNamed}
+use Rattle.ldlayout.proofs.Walking.{in_file_are}
+use Rattle.ldlayout.specs.Offsets.{IsOffset}
 use Rattle.ldmodel.specs.FileLayout.{IsFileLayout}
 use Rattle.ldmodel.specs.Layout.{Layout, PlacedSection}
 use Rattle.ldmodel.specs.Lent.{placed_of}
@@ -23,10 +25,9 @@ use Rattle.ldmodel.specs.declared.laid.PlacedData.{PlacedData}
 use Rattle.ldmodel.specs.declared.sections.SectionKey.{SectionKey}
 use Rattle.ldtree.specs.Numbering.{OutputSectionAt}
 use Rattle.ldoutput.proofs.Lists.{at_zip, next_zip, zip_more}
-use Rattle.ldoutput.proofs.Walking.{in_file_are}
 use Rattle.ldoutput.specs.DataRuns.{AreDataOf}
 use Rattle.ldoutput.specs.Joined.{AreJoined, IsAt}
-use Rattle.ldoutput.specs.Output.{AreDrawn, AreDrawnOf, IsDrawn, IsOffset, IsOutput, IsRow, IsSectionKept}
+use Rattle.ldoutput.specs.Output.{AreDrawn, AreDrawnOf, IsDrawn, IsOutput, IsRow, IsSectionKept}
 use Rattle.ldoutput.specs.Output.{in_file_at, with_bytes}
 use Rattle.ldoutput.specs.declared.output.Output.{Output}
 

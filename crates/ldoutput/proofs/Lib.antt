@@ -11,9 +11,7 @@ mod Fills
 mod Joining
 mod Faultless
 mod Lists
-mod Named
 mod Numbering
-mod Walking
 mod Whole
 mod OfRows
 mod OfSections

@@ -24,8 +24,8 @@ use Rattle.ldtargets.specs.Filled.{ObjectSection, ends_of, sections_in, sections
 use Rattle.ldtargets.specs.KnownLink.{KnownLink}
 use Rattle.ldoutput.specs.Numbers.{AreFirsts, HaveNumbers}
 use Rattle.ldoutput.specs.Runs.{AreRunsUnless, IsRunUnless}
-use Rattle.ldoutput.proofs.Lists.{each_join, get_left, get_push, get_right, later_of_map, mapped_at, pairs_later}
-use Rattle.ldoutput.proofs.Lists.{take_next}
+use Rattle.ldlayout.proofs.Lists.{later_of_map}
+use Rattle.ldoutput.proofs.Lists.{each_join, get_left, get_push, get_right, mapped_at, pairs_later, take_next}
 
 -- the objects before a place have their first numbers, which differ in each, and `next` comes after them
 pub record FirstsSoFar (inputs : List Input) (place next : ℕ) (firsts : List ℕ) : Type 0 where

@@ -33,7 +33,8 @@ use Rattle.elfobj.specs.Numbering.{IsNumberedAt}
 use Rattle.elfobj.specs.Object.{ObjectData}
 use Rattle.elfobj.specs.declared.section.Section.{Section}
 use Rattle.ldmodel.specs.SymbolValues.{placed_part}
-use Rattle.ldoutput.proofs.Lists.{find_at, take_next, zip_each, zip_more, zip_right}
+use Rattle.ldlayout.proofs.Lists.{find_at}
+use Rattle.ldoutput.proofs.Lists.{take_next, zip_each, zip_more, zip_right}
 use Rattle.ldoutput.specs.Kept.{IsKeptBy}
 use Rattle.ldoutput.specs.Numbers.{HaveNumbers}
 use Rattle.ldoutput.specs.Output.{IsRow}

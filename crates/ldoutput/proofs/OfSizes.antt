@@ -21,7 +21,8 @@ use Rattle.ldmodel.specs.Rows.{is_taken_by, piece_of, pieces_in, row, rows, sort
 use Rattle.ldmodel.specs.Sections.{InputSection}
 use Rattle.ldmodel.specs.Sorting.{insert_by, sort_by}
 use Rattle.ldtree.specs.Numbering.{InputStatementAt, input_statements}
-use Rattle.ldoutput.proofs.Lists.{each_at, each_filter, each_into_map, each_join}
+use Rattle.ldlayout.proofs.Lists.{each_at, each_filter, each_into_map}
+use Rattle.ldoutput.proofs.Lists.{each_join}
 use Rattle.ldoutput.proofs.OfRows.{named_self, numbered_is}
 use Rattle.ldoutput.specs.Numbers.{HaveNumbers}
 use Rattle.ldoutput.specs.Pieces.{IsSized}

@@ -2,6 +2,7 @@
 use Rattle.std.specs.Prelude.{◌≡◌, Bool, ℕ, List, Some, map, slice_get}
 use Rattle.std.specs.List.{AllZip}
 use Rattle.ldimage.specs.declared.section.ImagePiece.{ImagePiece}
+use Rattle.ldlayout.specs.Offsets.{IsOffset}
 use Rattle.ldmodel.specs.Layout.{Layout, PlacedSection}
 use Rattle.ldmodel.specs.Lent.{placed_of}
 use Rattle.ldmodel.specs.Project.{Project}
@@ -10,7 +11,7 @@ use Rattle.ldmodel.specs.declared.laid.PlacedData.{PlacedData}
 use Rattle.ldmodel.specs.declared.sections.SectionKey.{SectionKey}
 use Rattle.ldtree.specs.Numbering.{OutputSectionAt}
 use Rattle.ldoutput.specs.DataRuns.{AreDataOf}
-use Rattle.ldoutput.specs.Output.{IsOffset, IsRow}
+use Rattle.ldoutput.specs.Output.{IsRow}
 
 -- those of a number are of an output section
 pub record IsAt (p : Project) (s : Layout) (stays : SectionKey → Bool) (q : PlacedSection) (k : ℕ) (place : Placed)

@@ -7,7 +7,6 @@ pub mod Drawable
 pub mod Joined
 pub mod Kept
 pub mod Numbers
-pub mod Offsets
 pub mod Output
 pub mod Parts
 pub mod Pieces

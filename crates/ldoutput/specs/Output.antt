@@ -12,6 +12,7 @@ use Rattle.ldimage.specs.InMemory.{IsSectionFilled}
 use Rattle.ldimage.specs.OfLink.{IsImageData, IsImagePiece, IsImageSection, loaded}
 use Rattle.ldimage.specs.declared.section.ImagePiece.{ImagePiece}
 use Rattle.ldimage.specs.declared.section.ImageSection.{ImageSection}
+use Rattle.ldlayout.specs.Offsets.{IsOffset}
 use Rattle.ldoutput.specs.Kept.{IsKeptBy}
 use Rattle.ldoutput.specs.declared.output.Output.{Output}
 
@@ -21,10 +22,6 @@ pub record IsRow (p : Project) (s : Layout) (stays : SectionKey → Bool) (q : P
   pub pieces : AllZip (IsImagePiece p s) q.pieces ys
   pub filled : All IsFilled ys
   pub kept : AllZip (IsKeptBy p stays) q.pieces ys
-
--- where an output section begins in the file
-abbrev pub IsOffset : Layout → PlacedSection → ℕ → Type 0
-IsOffset s q o = o ≡ file_offset (segments s.sections) q
 
 -- all that is drawn of an output section
 pub record IsOutput (p : Project) (s : Layout) (stays : SectionKey → Bool) (q : PlacedSection) (x : Output)

@@ -17,7 +17,6 @@ mod keys;
 mod law;
 pub mod length;
 pub mod map;
-pub mod offsets;
 mod output;
 mod parts;
 mod pieces;

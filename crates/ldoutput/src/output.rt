@@ -13,7 +13,6 @@ ghost use Rattle.ldoutput.specs.Joined.{AreJoined, IsAt};
 ghost use Rattle.ldoutput.specs.Output.{IsOutput, IsRow};
 
 use crate::data_runs::data_runs;
-use crate::offsets::offsets;
 use ldimage::section::ImagePiece;
 use ldlayout::laying::Laying;
 use ldmodel::laid::{Placed, PlacedData};
@@ -125,10 +124,15 @@ pub(crate) fn outputs<'a>(
 {
     outputs_are_of_script();
     let script = project.script();
-    let _statements = script.statements();
     let sections = script.output_sections(alloc)?;
     let laid = laying.placement.laid();
-    let offsets = offsets(alloc, laid.sections, &laying.segments)?;
     let runs = data_runs(alloc, laid.data_commands, laid.sections.len())?;
-    join(alloc, laid.sections, &sections, &offsets, pieces, &runs)
+    join(
+        alloc,
+        laid.sections,
+        &sections,
+        &laying.offsets,
+        pieces,
+        &runs,
+    )
 }

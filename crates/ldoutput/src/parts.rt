@@ -2,7 +2,7 @@
 
 ghost use Rattle.std.specs.Prelude.{◌≡◌, ◌++◌, ◌∷◌, [], Bool, IfOk, OnOk, List};
 ghost use Rattle.std.specs.List.{AllZip};
-ghost use Rattle.ldlayout.specs.Laying.{IsLaying};
+ghost use Rattle.ldlaws.specs.ImageBytes.{AreNamed};
 ghost use Rattle.ldmodel.specs.Layout.{Layout, PlacedSection};
 ghost use Rattle.ldmodel.specs.Project.{Project};
 ghost use Rattle.ldmodel.specs.declared.sections.SectionKey.{SectionKey};
@@ -23,7 +23,6 @@ use ldlayout::starts::Starts;
 use ldmodel::memory::NoMemory;
 use ldproject::view::ProjectView;
 use ldvalues::values::Values;
-use place::law::outputs_are_of_script;
 use std::alloc::{AllocError, Global};
 
 /// One more than the greatest offset that a section header can state.
@@ -94,18 +93,12 @@ fn add_section<'a>(
 /// The output sections with bytes in the file, as they are drawn. Fails where memory runs out.
 fn image_sections<'a>(
     alloc: Global,
-    project: &ProjectView<'_>,
-    laying: &Laying,
     outputs: &[Output<'a>],
 ) -> Result<Vec<ImageSection<'a>>, NoMemory>
-    ensures { IfOk result (λ v. (s : Layout) (stays : SectionKey → Bool) → IsLaying project.now s laying.now
-        → AllZip (IsOutput project.now s stays) s.sections outputs.now → AreDrawn project.now s stays v.items) }
+    ensures { IfOk result (λ v. (p : Project) (s : Layout) (stays : SectionKey → Bool) → AreNamed s.sections
+        → AllZip (IsOutput p s stays) s.sections outputs.now → AreDrawn p s stays v.items) }
 {
-    outputs_are_of_script();
     segments_by_neighbours();
-    let script = project.script();
-    let _statements = script.statements();
-    let _segments = laying.segments.len();
     let mut sections = Vec::new(alloc);
     for output in outputs {
         add_section(&mut sections, output)?;
@@ -149,7 +142,7 @@ pub(crate) fn drawing_parts<'a>(
     let entry = values.entry.number_or_0();
     let table = tail.headers.offset();
     let headers = headers(alloc, entry, segments, table, headings.len())?;
-    let sections = image_sections(alloc, project, laying, outputs)?;
+    let sections = image_sections(alloc, outputs)?;
     Ok(Parts {
         headers,
         sections,

@@ -3,7 +3,7 @@ use Rattle.std.specs.Prelude.{◌≡◌, ◌≤◌, ℕ, IfSome, IsSome, List, [
 use Rattle.std.specs.List.{All}
 use Rattle.ldimage.specs.Kept.{ArePatchesOf}
 use Rattle.ldimage.specs.Stretches.{EndsBy}
-use Rattle.ldkept.specs.FileStarts.{AreFileStarts}
+use Rattle.ldkept.specs.InPlace.{AreInPlace}
 use Rattle.ldkept.specs.Marks.{AreMarks}
 use Rattle.ldkept.specs.Stays.{IsLastOf, LastState, last_of, range_of}
 use Rattle.ldkept.specs.Table.{IsTable}
@@ -40,7 +40,7 @@ pub record IsArranged (p : Project) (x : Arrangement) : Type 0 where
   pub layout : Layout
   pub laying : IsLaying p layout x.laying
   pub starts : AreStarts p layout x.starts
-  pub files : AreFileStarts p layout x.files
+  pub places : AreInPlace p layout
   pub rest : link p ≡ placed p (model.layout p)
 
 -- the earlier link is one without faults
@@ -70,7 +70,8 @@ pub record IsShort (p : Project) (l : Laying) (w : LinkView) (v : Values) : Type
 -- the tables of a link at a layout beside those of the earlier one, if there is one
 pub record AreBeside (p : Project) (s : Layout) (y : Stays) : Type 0 where
   pub starts : AreStarts p s y.starts.now
-  pub files : AreFileStarts p s y.files.now
+  pub laying : IsLaying p s y.laying.now
+  pub places : AreInPlace p s
   pub last : IfSome (last_of y.last) (HasOld p)
   pub marks : (old : GoodLink) → IfSome (last_of y.last) (IsLastOf old p) → AreMarks old p s y.marks.now
 
@@ -116,5 +117,5 @@ pub record IsDrawn (p : Project) (x : Arrangement) (bytes : List ℕ) (d : Drawn
   pub layout : Layout
   pub link : link p ≡ record { status = 0; image = bytes; map = d.map.items; faults = [] }
   pub table : IsTable (new_link p layout)
-      (record { rows = x.rows; laying = x.laying; starts = x.starts; files = x.files; symbols = d.symbols })
+      (record { rows = x.rows; laying = x.laying; starts = x.starts; symbols = d.symbols })
   pub image : bytes ≡ image p layout

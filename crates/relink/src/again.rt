@@ -132,7 +132,7 @@ fn linked_over(
     let stays = Stays {
         last,
         starts: &arranged.starts,
-        files: &arranged.files,
+        laying,
         marks: &marks,
     };
     let map = drawn_over(
@@ -167,14 +167,12 @@ fn relinked(
         rows,
         laying,
         starts,
-        files,
     } = arranged;
     let Drawn { symbols, map } = drawn;
     let good = Good {
         rows,
         laying,
         starts,
-        files,
         symbols,
     };
     Ok(Ended::Good(good, map))

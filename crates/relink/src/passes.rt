@@ -20,8 +20,8 @@ ghost use Rattle.relink.specs.Stops.{IsStop};
 use crate::stop::{Stop, end_if_faulty};
 use gather::gathering::Gathering;
 use gather::matches::Matches;
-use ldkept::file_starts::FileStarts;
 use ldkept::first::resumed;
+use ldkept::in_place::are_in_place;
 use ldkept::stays::{Last, Stays};
 use ldkept::symbol_table::SymbolTable;
 use ldlayout::laying::{LayFault, Laying};
@@ -128,8 +128,6 @@ pub(crate) struct Arrangement {
     pub laying: Laying,
     /// Where each input section starts.
     pub starts: Starts,
-    /// Where each output section stands in the file.
-    pub files: FileStarts,
 }
 
 /// Names, gathering and layout: where everything stands, over names that are decided, matches that are found, and an
@@ -155,12 +153,11 @@ pub(crate) fn arranged(
     let rows = gathered(alloc, project, naming, matches)?;
     let laying = laid(alloc, project, naming, &rows, last, meter)?;
     let starts = Starts::of(alloc, project, &rows, &laying)?;
-    let files = FileStarts::of(alloc, project, &laying)?;
+    are_in_place(project, &laying)?;
     Ok(Arrangement {
         rows,
         laying,
         starts,
-        files,
     })
 }
 

@@ -7,7 +7,7 @@ use Rattle.ldmodel.specs.Project.{NamedObject}
 use Rattle.ldproject.specs.Inputs.{shown_input}
 use Rattle.ldproject.specs.declared.input.Input.{Input}
 use Rattle.ldoutput.proofs.Faultless.{each_more}
-use Rattle.ldoutput.proofs.Lists.{each_into_map}
+use Rattle.ldlayout.proofs.Lists.{each_into_map}
 use Rattle.ldoutput.proofs.good.are_numbered.Goals as goal
 
 abbrev HasNumbers : NamedObject → Type 0

@@ -3,21 +3,17 @@ use Rattle.std.proofs.Common.{◌∙◌, sym, ap, subst, List, length, map}
 use Rattle.std.specs.Borrow.{Bor}
 use Rattle.std.specs.List.{AllZip}
 use Rattle.std.proofs.lemmas.List.{length-map}
-use Rattle.ldlaws.specs.ImageBytes.{AreNamed}
-use Rattle.ldmodel.specs.Lent.{AreSegments, data_of, placed_of}
+use Rattle.ldmodel.specs.Lent.{data_of, placed_of}
+use Rattle.ldlayout.specs.Offsets.{IsOffset}
 use Rattle.ldmodel.specs.Names.{provided}
 use Rattle.ldmodel.specs.Rows.{rows}
-use Rattle.ldmodel.specs.Segments.{segments}
 use Rattle.ldmodel.specs.declared.laid.PlacedData.{PlacedData}
-use Rattle.ldscript.specs.Script.{IsSound}
 use Rattle.ldtree.specs.Numbered.{shown_sections}
 use Rattle.ldtree.specs.Numbering.{OutputSectionAt, output_sections}
 use Rattle.ldoutput.proofs.Fills.{fills_are}
 use Rattle.ldoutput.proofs.Lists.{if_ok}
-use Rattle.ldoutput.proofs.Named.{are_named}
 use Rattle.ldoutput.proofs.output.outputs.Goals as goal
 use Rattle.ldoutput.specs.DataRuns.{AreDataOf}
-use Rattle.ldoutput.specs.Output.{IsOffset}
 
 pub returns : goal.returns
 returns c =
@@ -26,21 +22,17 @@ returns c =
     if_ok c.join.result
     (λ v h s stays laying pieces.
     let outputs = c.outputs_are_of_script.ensures p (rows p) (provided p) s laying.placed in
-    let named : AreNamed s.sections =
-    are_named p s.sections (subst IsSound c.script-script.ensures c.statements-statements.ensures.sound) outputs in
     let placed = sym (c.laid-laid.ensures.sections ∙ laying.places.sections) in
-    let tree = ap shown_sections c.deref-2.ensures.value ∙ c.in_ok-sections.ensures
+    let tree = ap shown_sections c.deref.ensures.value ∙ c.in_ok-sections.ensures
     ∙ ap output_sections c.script-script.ensures in
     h p s stays (record {
       placed = placed;
       names = outputs ∙ ap (map (λ (o : OutputSectionAt). o.section.name)) (sym tree);
       fills = fills_are p (rows p) (provided p) s laying.placed
           ∙ ap (map (λ (o : OutputSectionAt). o.section.fill)) (sym tree);
-      begun = subst (λ l. AllZip (IsOffset s) s.sections l) (sym c.deref-3.ensures.value)
-          (c.in_ok-offsets.ensures.offsets s named placed
-          (subst (λ xs. AreSegments s.sections (segments s.sections) xs) (sym c.deref.ensures.value) laying.segments));
+      begun = subst (λ l. AllZip (IsOffset s) s.sections l) (sym c.deref-2.ensures.value) laying.offsets;
       pieces = pieces;
-      data_commands = subst (λ l. AllZip AreDataOf s.sections (map now l)) (sym c.deref-4.ensures.value)
+      data_commands = subst (λ l. AllZip AreDataOf s.sections (map now l)) (sym c.deref-3.ensures.value)
           (c.in_ok-runs.ensures s.sections
           (ap (map data_of) c.laid-laid.ensures.data_commands ∙ laying.places.data_commands)
           (sym (ap length placed) ∙ length-map s.sections placed_of));

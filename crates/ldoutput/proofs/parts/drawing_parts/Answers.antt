@@ -37,6 +37,6 @@ returns c s stays are =
             ap length c.deref-2.ensures.value,
             AllZip-long (IsTableSection s) s.sections c.deref-2.result.now headings,
           ));
-      drawn = c.in_ok-sections.ensures s stays are.laying are.outputs;
+      drawn = c.in_ok-sections.ensures p s stays are.laying.named are.outputs;
       tail = tail;
     }

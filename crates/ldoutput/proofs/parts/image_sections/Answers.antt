@@ -2,13 +2,8 @@
 use Rattle.std.proofs.Common.{sym, subst, take, arith}
 use Rattle.std.proofs.lemmas.List.{take_all}
 use Rattle.std.proofs.lemmas.Slice.Zip.{AllZip-long}
-use Rattle.ldlaws.specs.ImageBytes.{AreNamed}
-use Rattle.ldmodel.specs.Names.{provided}
-use Rattle.ldmodel.specs.Rows.{rows}
-use Rattle.ldscript.specs.Script.{IsSound}
 use Rattle.ldoutput.proofs.Joining.{drawn_all}
 use Rattle.ldoutput.proofs.Lists.{next_zip}
-use Rattle.ldoutput.proofs.Named.{are_named}
 use Rattle.ldoutput.proofs.parts.image_sections.Goals as goal
 use Rattle.ldoutput.specs.Output.{AreDrawnOf, IsOutput}
 
@@ -21,12 +16,8 @@ loop-output-preserved c p s stays outputs =
     (c.in_ok-add_section.ensures p s stays next.member (take k s.sections) next.is (c.loop-output.invariant p s stays outputs))
 
 pub returns : goal.returns
-returns c s stays laying outputs =
-    let p = c.args.project.now in
+returns c p s stays named outputs =
     let k = c.loop-output.output-index in
-    let named : AreNamed s.sections =
-    are_named p s.sections (subst IsSound c.script-script.ensures c.statements-statements.ensures.sound)
-    (c.outputs_are_of_script.ensures p (rows p) (provided p) s laying.placed) in
     let long = AllZip-long (IsOutput p s stays) s.sections c.args.outputs.now outputs in
     drawn_all p s stays c.loop-output.sections.items named (c.segments_by_neighbours.ensures.is s.sections)
     (subst (λ qs. AreDrawnOf p s stays qs c.loop-output.sections.items)

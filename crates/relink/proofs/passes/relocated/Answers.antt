@@ -18,7 +18,7 @@ returns-in-Ok-clause-good c =
     (c.requires.symbols s h.laying) c.inputs-inputs.ensures.distinct c.in_ok-relocated.ensures
     c.is_complete.ensures.complete c.is_complete.ensures.none in
     let same = ap (faults_in p) c.deref.ensures.value ∙ b.faults in
-    let new = c.is_good.ensures.good s h.laying c.requires.short.length
+    let new = c.is_good.ensures s h.laying c.requires.short.length
     (none_of (relocation_faults p s) (λ next. c.in-Ok.ensures.good (relocation_faults p s) next same)) in
     record {
       short = c.requires.short;

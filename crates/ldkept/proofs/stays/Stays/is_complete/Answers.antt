@@ -12,9 +12,9 @@ use Rattle.ldkept.proofs.stays.Stays.is_complete.Goals as goal
 pub returns-clause-complete : goal.returns-clause-complete
 returns-clause-complete c = λ old l h some.
     complete_or_none old l (λ k. ap (λ (m : KnownLink). m.number k) h.link) h.names c.args.self.now.starts.now
-    c.args.self.now.files.now h.starts h.files c.args.self.now.last some h.last h.short
+    c.args.self.now.laying.now h.starts h.laying h.places c.args.self.now.last some h.last h.short
     (c.files_in_order.ensures l.layout.sections) (c.sections_in_file.ensures.all l.layout.sections)
-    (c.sections_in_file.ensures.offset l.layout.sections h.files.named)
+    (c.sections_in_file.ensures.offset l.layout.sections h.laying.named)
 
 -- a section that is known to have stayed has, if each range that is known says so
 if_known : (old : GoodLink) (l : KnownLink) (key : SectionKey) (known : Option FileRange)
@@ -26,8 +26,8 @@ pub returns-clause-sound : goal.returns-clause-sound
 returns-clause-sound c = λ old l h key.
     if_known old l key (range_of c.args.self.now key) (λ r e.
     sound old l (λ k. ap (λ (m : KnownLink). m.number k) h.link) h.names c.args.self.now.starts.now
-    c.args.self.now.files.now h.starts h.files (last_of c.args.self.now.last) h.last key r e)
+    c.args.self.now.laying.now h.starts h.laying h.places (last_of c.args.self.now.last) h.last key r e)
 
 pub returns-clause-none : goal.returns-clause-none
 returns-clause-none c = λ e k.
-    none_known (last_of c.args.self.now.last) c.args.self.now.starts.now c.args.self.now.files.now k (ap last_of e)
+    none_known (last_of c.args.self.now.last) c.args.self.now.starts.now c.args.self.now.laying.now k (ap last_of e)

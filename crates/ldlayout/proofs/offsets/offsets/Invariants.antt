@@ -1,7 +1,7 @@
 -- What is found so far, and what the rest gives, are all.
 use Rattle.std.proofs.Common.{◌≡◌, ◌++◌, drop}
-use Rattle.ldoutput.specs.Offsets.{offsets_in}
-use Rattle.ldoutput.proofs.offsets.offsets.Given as goal
+use Rattle.ldlayout.specs.Offsets.{offsets_in}
+use Rattle.ldlayout.proofs.offsets.offsets.Given as goal
 
 abbrev pub invariant-loop-section : goal.invariant-loop-section
 invariant-loop-section l =

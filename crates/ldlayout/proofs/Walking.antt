@@ -20,10 +20,10 @@ use Rattle.ldmodel.specs.Segments.{in_segment}
 use Rattle.ldmodel.specs.Segments.{nonempty, page_size, reach, sections_in, segments, start_of}
 use Rattle.ldmodel.specs.declared.laid.Placed.{Placed}
 use Rattle.ldmodel.specs.declared.segment.Segment as code
-use Rattle.ldoutput.proofs.Lists.{each_at, each_filter, each_of_map, find_at, find_none}
-use Rattle.ldoutput.proofs.Lists.{later_filter, later_of_map}
-use Rattle.ldoutput.specs.Offsets.{is_last, offset_at, offsets_in}
-use Rattle.ldoutput.specs.Output.{IsOffset}
+use Rattle.ldlayout.proofs.Lists.{each_at, each_filter, each_of_map, find_at, find_none}
+use Rattle.ldlayout.proofs.Lists.{later_filter, later_of_map}
+use Rattle.ldlayout.specs.Offsets.{is_last, offset_at, offsets_in}
+use Rattle.ldlayout.specs.Offsets.{IsOffset}
 
 -- sections of nonzero size, and where they begin in the file, in the segments from one on
 data Ahead : List code.Segment → List PlacedSection → List ℕ → Type 0 where

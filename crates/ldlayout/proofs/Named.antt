@@ -20,7 +20,7 @@ use Rattle.ldtree.specs.declared.statement.ItemCommand.{ItemCommand}
 use Rattle.ldtree.specs.declared.statement.ItemCommand.TheVariants as item
 use Rattle.ldtree.specs.declared.statement.Statement.{Statement}
 use Rattle.ldmodel.specs.Project.{Project}
-use Rattle.ldoutput.proofs.Lists.{later_of_map}
+use Rattle.ldlayout.proofs.Lists.{later_of_map}
 
 -- names of output sections, in the order in which a script mentions them among others
 data Among : List (List ℕ) → List Mention → Type 0 where

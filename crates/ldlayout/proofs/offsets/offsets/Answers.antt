@@ -1,6 +1,6 @@
 -- In the end nothing is left.
-use Rattle.ldoutput.proofs.Walking.{walked_all}
-use Rattle.ldoutput.proofs.offsets.offsets.Goals as goal
+use Rattle.ldlayout.proofs.Walking.{walked_all}
+use Rattle.ldlayout.proofs.offsets.offsets.Goals as goal
 
 pub returns-clause-offsets : goal.returns-clause-offsets
 returns-clause-offsets c s named same are =

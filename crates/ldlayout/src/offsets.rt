@@ -6,8 +6,8 @@ ghost use Rattle.ldlaws.specs.ImageBytes.{AreNamed};
 ghost use Rattle.ldmodel.specs.Layout.{Layout};
 ghost use Rattle.ldmodel.specs.Lent.{AreSegments, placed_of};
 ghost use Rattle.ldmodel.specs.Segments as model;
-ghost use Rattle.ldoutput.specs.Offsets.{is_last, offset_at, offsets_in};
-ghost use Rattle.ldoutput.specs.Output.{IsOffset};
+ghost use Rattle.ldlayout.specs.Offsets.{is_last, offset_at, offsets_in};
+ghost use Rattle.ldlayout.specs.Offsets.{IsOffset};
 
 use ldlaws::segments::segments_by_neighbours;
 use ldmodel::laid::Placed;
@@ -71,13 +71,12 @@ fn step(segments: &[Segment], number: usize, section: &Placed) -> Result<Place, 
 /// # Errors
 ///
 /// Where memory runs out, or where one begins past any file.
-pub fn offsets(
+pub(crate) fn offsets(
     alloc: Global,
     sections: &[Placed],
     segments: &[Segment],
 ) -> Result<Vec<u128>, NoMemory>
-    ensures walked { IfOk result (λ v. v.items ≡ offsets_in sections.now segments.now) }
-    ensures offsets { IfOk result (λ v. (s : Layout) → AreNamed s.sections → map placed_of s.sections ≡ sections.now
+    ensures { IfOk result (λ v. (s : Layout) → AreNamed s.sections → map placed_of s.sections ≡ sections.now
         → AreSegments s.sections (model.segments s.sections) segments.now → AllZip (IsOffset s) s.sections v.items) }
 {
     segments_by_neighbours();
