@@ -25,6 +25,7 @@ ghost use Rattle.ldimage.specs.Plan.{IsDrawnFor, count_unstayed};
 ghost use Rattle.ldimage.specs.Stretches.{EndsBy, patch_bytes};
 ghost use Rattle.ldimage.specs.declared.section.Drawing.{Drawing};
 
+use ldlaws::layout::{layout_by_effects, nothing_meets};
 use ldlaws::segments::{sections_in_file, segments_by_neighbours};
 use ldlaws::stayed::{fields_in_image, pieces_in_image, stayed_in_both, untouched_bytes};
 
@@ -53,7 +54,10 @@ pub fn drawing_stands()
 pub fn placement_is_in_memory()
     ensures { (script : List Statement) (rows : List (List Piece)) (provided : List (List ℕ)) (s : Layout)
         → placement script rows provided ≡ Ok s → All IsInMemory (nonempty s.sections) }
-{}
+{
+    nothing_meets();
+    layout_by_effects();
+}
 
 /// What is kept of the image of an old link is right for a new one, where only input sections that stayed are kept, and
 /// patches give the fields of their sites whose symbol has another value: then the drawing and the patches are a plan

@@ -7,8 +7,12 @@ ghost use Rattle.ldmodel.specs.Project.{Project};
 ghost use Rattle.ldmodel.specs.Rows.{Piece};
 ghost use Rattle.place.specs.Meetings.{AreOutputs};
 
+use ldlaws::layout::layout_by_effects;
+
 /// The output sections of a layout are those of its script, in the order of the text: what `overlaps` asks of a caller.
 pub fn outputs_are_of_script()
     ensures { (p : Project) (rows : List (List Piece)) (provided : List (List ℕ)) (s : Layout)
         → placement p.script rows provided ≡ Ok s → AreOutputs p s.sections }
-{}
+{
+    layout_by_effects();
+}
