@@ -1,7 +1,5 @@
 //! What each symbol of each object is worth in a link.
 
-pub use ldtargets::symbol_table::SymbolTable;
-
 ghost use Rattle.std.specs.Prelude.{◌≡◌, ◌+◌, ◌++◌, IfOk, OnOk, Some, length, map};
 ghost use Rattle.ldmodel.specs.Layout.{Layout};
 ghost use Rattle.ldmodel.specs.Project.{NamedObject};
@@ -18,6 +16,7 @@ use ldmodel::memory::NoMemory;
 use ldmodel::names::ObjectKey;
 use ldproject::input::Input;
 use ldproject::view::ProjectView;
+pub use ldtargets::symbol_table::SymbolTable;
 use ldtargets::target::referenced_value;
 use ldtargets::value::SymbolValue;
 use ldvalues::link_view::LinkView;

@@ -84,7 +84,9 @@ fn drawn_over(
     stays.is_complete();
     let _inputs = project.inputs();
     let _bytes = meter.bytes();
-    let fields = evaluated(alloc, &*project, laying, stays, view, values, symbols, meter)?;
+    let fields = evaluated(
+        alloc, &*project, laying, stays, view, values, symbols, meter,
+    )?;
     let map = map_text(alloc, project, rows, laying, values)?;
     // the last call that may fail, since it changes the canvas
     draw_image(
