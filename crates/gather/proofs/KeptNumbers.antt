@@ -18,7 +18,7 @@ use Rattle.gather.specs.LiveMarks.{IsSectionAt}
 use Rattle.gather.specs.Matches.{number_of}
 use Rattle.gather.specs.Roots.{is_kept_by, kept_numbers}
 use Rattle.gather.specs.declared.gathered.Gathered.{Gathered}
-use Rattle.gather.proofs.Members.{here, later, first_or_later, none_in_nil}
+use Rattle.gather.proofs.InLists.{here, later, first_or_later, none_in_nil}
 
 -- one section later
 pub kept_step : (statements : List InputStatementAt) (old new all : List ℕ) (xs : List Gathered) (i : ℕ) (d : Gathered)

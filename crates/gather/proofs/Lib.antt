@@ -1,7 +1,7 @@
 pub mod FirstTakers
 pub mod Marks
 pub mod NamedLists
-pub mod Members
+pub mod InLists
 pub mod LivePaths
 pub mod Sorts
 pub mod RowSteps
@@ -18,8 +18,8 @@ pub mod Collecting
 pub mod ByNumber
 pub mod Named
 pub mod Preparing
-pub mod Sorting
+pub mod NamedRows
 pub mod Tables
 pub mod Keyed
-pub mod Referring
+pub mod Refers
 pub mod Starting

@@ -14,7 +14,7 @@ use Rattle.ldmodel.specs.Reach.{Path, start, step}
 use Rattle.ldmodel.specs.Sections.{InputSection}
 use Rattle.gather.specs.Graphs.{Graph, IsIn, IsLive, IsMarked, from_root, from_live}
 use Rattle.gather.specs.LiveMarks.{IsGraphOf, IsSectionAt, marked}
-use Rattle.gather.proofs.Members.{in_filter, filter_in, filter_twice, same_test, marked_filter}
+use Rattle.gather.proofs.InLists.{in_filter, filter_in, filter_twice, same_test, marked_filter}
 
 live_in : (g : Graph) (k : ℕ) → IsLive g k → IsIn g k
 live_in g k (from_root s c i) = i

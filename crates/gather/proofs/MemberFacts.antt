@@ -24,7 +24,7 @@ use Rattle.gather.specs.Members.{member_facts}
 use Rattle.gather.specs.declared.gathered.Gathered.{Gathered}
 use Rattle.gather.specs.declared.member.CommonBlock.{CommonBlock}
 use Rattle.gather.specs.declared.member.Member.{Member}
-use Rattle.gather.proofs.Members.{here, later}
+use Rattle.gather.proofs.InLists.{here, later}
 
 -- what stands at a place of a list
 pub there : {X : Type 0} (xs : List X) (i : ℕ) → i < length xs → (x : X) × (slice_get xs i ≡ Some x)

@@ -30,7 +30,7 @@ use Rattle.gather.specs.Numbers.{AddsTargets, IsNumberOf, Refers}
 use Rattle.gather.specs.Symbols.{IsObjectAt}
 use Rattle.gather.proofs.Keyed.{as_many, id_at, id_in, there}
 use Rattle.gather.proofs.Named.{found_one}
-use Rattle.gather.proofs.Referring.{or_cases, or_left, or_right}
+use Rattle.gather.proofs.Refers.{or_cases, or_left, or_right}
 use Rattle.gather.proofs.Seen.{object_at}
 
 -- the relocations of a section of an object of the project

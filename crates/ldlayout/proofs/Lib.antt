@@ -1,6 +1,6 @@
 pub mod Grouped
 pub mod Steps
-pub mod Offsets
+pub mod FileOffsets
 pub mod Tail
 mod Layouts
 pub mod Lists

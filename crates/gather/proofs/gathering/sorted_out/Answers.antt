@@ -2,7 +2,7 @@ use Rattle.std.proofs.Common.{◌∙◌, sym, subst}
 use Rattle.gather.specs.RowPieces.{AreTaken}
 use Rattle.gather.specs.ProjectMembers.{by_place}
 use Rattle.gather.proofs.Named.{orphan_faults}
-use Rattle.gather.proofs.Sorting.{same_rows}
+use Rattle.gather.proofs.NamedRows.{same_rows}
 use Rattle.gather.proofs.gathering.sorted_out.Goals as goal
 
 pub returns : goal.returns

@@ -1,5 +1,5 @@
 use Rattle.std.proofs.Common.{◌<◌, length, arith}
-use Rattle.gather.proofs.Referring.{next_targets, no_targets}
+use Rattle.gather.proofs.Refers.{next_targets, no_targets}
 use Rattle.gather.proofs.referring.add_targets.Goals as goal
 
 pub loop-relocation-init : goal.loop-relocation-init

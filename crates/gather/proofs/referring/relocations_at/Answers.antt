@@ -1,7 +1,7 @@
 use Rattle.std.proofs.Common.{subst, ◌<◌}
 use Rattle.std.specs.List.{AllPairs}
 use Rattle.elfobj.specs.declared.section.Section.{Section}
-use Rattle.gather.proofs.Referring.{relocations_nowhere, relocations_there}
+use Rattle.gather.proofs.Refers.{relocations_nowhere, relocations_there}
 use Rattle.gather.proofs.referring.relocations_at.Goals as goal
 
 pub returns-in-Some : goal.returns-in-Some
