@@ -11,3 +11,4 @@ pub mod Shown
 pub mod Leading
 pub mod Noting
 pub mod Tabled
+pub mod Tagged

@@ -2,6 +2,7 @@ pub mod Refused
 pub mod Listing
 pub mod Slots
 pub mod Next
+pub mod Tags
 pub mod Touched
 pub mod Staging
 pub mod Holding

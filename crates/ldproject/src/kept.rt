@@ -5,16 +5,17 @@ ghost use Rattle.std.specs.Option.{option_copied};
 ghost use Rattle.ldmodel.specs.Edits.{AreNamesDistinct, place_of, is_in_use};
 ghost use Rattle.ldproject.specs.Inputs.{shown_inputs};
 ghost use Rattle.ldproject.specs.Listing.{AreKeysDistinct, found_under, key_count, keys_of, objects_of};
-ghost use Rattle.ldproject.specs.Next.{Fits, next_entries, CanChange, next_slot, named_under, KeysAreStable};
-ghost use Rattle.slab.specs.Slab.{get};
+ghost use Rattle.ldproject.specs.Next.{Fits, next_entries, named_under, KeysAreStable};
 
 mod growing;
+mod tagged;
+mod tags;
 
 use crate::input::Input;
+use crate::kept::tagged::TaggedObjects;
 use crate::named::NamedObject;
-use crate::staged::{StagedObjects, Step};
+use crate::staged::StagedObjects;
 use ldmodel::memory::NoMemory;
-use slab::Slab;
 use std::alloc::Global;
 use std::marker::Model;
 
@@ -22,7 +23,7 @@ use std::marker::Model;
 #[derive(Drop)]
 pub struct Kept {
     alloc: Global,
-    objects: Slab<NamedObject>,
+    objects: TaggedObjects,
     order: Vec<usize>,
 }
 
@@ -43,26 +44,6 @@ impl Model for Kept {
     ghost invariant = { λ k. IsOrdered k.objects k.order.items };
 }
 
-/// Makes a step on the objects, with no allocation.
-fn change(objects: &mut Slab<NamedObject>, step: Step)
-    requires { CanChange objects.old step }
-    ensures { (key : ℕ) → get objects.new key ≡ next_slot objects.old step key }
-{
-    match step {
-        Step::Put { key, named } => {
-            if objects.contains(key) {
-                objects[key] = named;
-            } else {
-                objects.insert_reserved(named);
-            }
-        }
-        Step::Remove { key } => {
-            objects.remove(key);
-        }
-        Step::Move { .. } | Step::Stay => {}
-    }
-}
-
 impl Kept {
     /// No object.
     pub fn new(alloc: Global) -> Kept
@@ -70,7 +51,7 @@ impl Kept {
     {
         Kept {
             alloc,
-            objects: Slab::new(alloc),
+            objects: TaggedObjects::new(alloc),
             order: Vec::new(alloc),
         }
     }
@@ -89,11 +70,15 @@ impl Kept {
         self.order.is_empty()
     }
 
-    /// Where the object with this name stands. The names are looked through one by one.
+    /// Where the object with this name stands. That no object has it is mostly known at once; else the names are looked
+    /// through one by one.
     pub fn place_of(&self, name: &[u8]) -> Option<usize>
         ensures place { result ≡ place_of (objects_of self.now.entries) name.now }
         ensures used { is_some result ≡ is_in_use (objects_of self.now.entries) name.now }
     {
+        if self.objects.surely_lack(name) {
+            return None;
+        }
         for (i, key) in self.order.iter().enumerate() {
             if self.objects[*key].name() == name {
                 return Some(i);
@@ -170,7 +155,7 @@ impl Kept {
             step,
             places: _,
         } = staged;
-        change(&mut self.objects, step);
+        self.objects.change(step);
         self.order = order;
     }
 }

@@ -6,7 +6,7 @@ use Rattle.ldproject.proofs.kept.Kept.commit.Goals as goal
 
 pub invariant_of-self : goal.invariant_of-self
 invariant_of-self c =
-    Stepped-ordered c.args.self.now c.args.staged c.self.inside.objects c.change.new.objects c.self.inside.order.items
+    Stepped-ordered c.args.self.now c.args.staged c.self.inside.objects c.change.new.self c.self.inside.order.items
     (record {
       entries = ap (λ (k : Contents). k.entries) c.self.view_is;
       ordered = c.self.invariant;
@@ -16,7 +16,7 @@ invariant_of-self c =
 
 pub returns-clause-next : goal.returns-clause-next
 returns-clause-next c =
-    Stepped-entries c.args.self.now c.args.staged c.self.inside.objects c.change.new.objects c.self.inside.order.items
+    Stepped-entries c.args.self.now c.args.staged c.self.inside.objects c.change.new.self c.self.inside.order.items
     (record {
       entries = ap (λ (k : Contents). k.entries) c.self.view_is;
       ordered = c.self.invariant;
@@ -26,7 +26,7 @@ returns-clause-next c =
 
 pub returns-clause-stable : goal.returns-clause-stable
 returns-clause-stable c =
-    let next = Stepped-entries c.args.self.now c.args.staged c.self.inside.objects c.change.new.objects
+    let next = Stepped-entries c.args.self.now c.args.staged c.self.inside.objects c.change.new.self
     c.self.inside.order.items
     (record {
       entries = ap (λ (k : Contents). k.entries) c.self.view_is;
