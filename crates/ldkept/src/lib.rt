@@ -3,7 +3,6 @@
 
 pub mod first;
 pub mod good;
-pub mod in_place;
 pub mod marks;
 mod names;
 mod same;

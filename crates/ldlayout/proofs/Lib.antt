@@ -1,10 +1,13 @@
 pub mod Grouped
 pub mod Steps
-pub mod Offsets
+pub mod FileOffsets
 pub mod Tail
 mod Layouts
 pub mod Lists
 mod Named
+mod Ascending
+pub mod Members
+mod Owned
 pub mod Walking
 mod Ranks
 mod Searching

@@ -14,7 +14,7 @@ use Rattle.ldmodel.specs.Segments.{groups, nonempty}
 use Rattle.ldmodel.specs.Tail.{SymbolEntry, symbol_bytes, symbol_entry, symbol_name_table, symbol_table, table_symbols}
 use Rattle.ldmodel.specs.declared.segment.Segment as code
 use Rattle.ldlayout.specs.Placing.{Follow, past}
-use Rattle.ldlayout.proofs.Offsets.{ends_are, follow_are, zip_long}
+use Rattle.ldlayout.proofs.FileOffsets.{ends_are, follow_are, zip_long}
 
 length_flat : {A B : Type 0} (f : A → List B) (n : ℕ) → ((x : A) → length (f x) ≡ n) → (xs : List A)
     → length (flat_map f xs) ≡ length xs * n

@@ -1,7 +1,7 @@
 -- One segment a step.
 use Rattle.std.proofs.Common.{◌∙◌, arith, ap, length}
 use Rattle.ldmodel.specs.Segments.{headers_end}
-use Rattle.ldlayout.proofs.Offsets.{reached_all, reached_more, reached_near, reached_none, room}
+use Rattle.ldlayout.proofs.FileOffsets.{reached_all, reached_more, reached_near, reached_none, room}
 use Rattle.ldlayout.proofs.length.loaded_end.Goals as goal
 
 pub loop-segment-init : goal.loop-segment-init

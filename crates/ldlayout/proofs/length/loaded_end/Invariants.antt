@@ -2,7 +2,7 @@
 use Rattle.std.proofs.Common.{drop, length}
 use Rattle.ldmodel.specs.Segments.{headers_end}
 use Rattle.ldlayout.specs.Placing.{Follow}
-use Rattle.ldlayout.proofs.Offsets.{Reached}
+use Rattle.ldlayout.proofs.FileOffsets.{Reached}
 use Rattle.ldlayout.proofs.length.loaded_end.Given as goal
 
 abbrev pub invariant-loop-segment : goal.invariant-loop-segment

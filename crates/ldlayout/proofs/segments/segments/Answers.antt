@@ -4,8 +4,8 @@ use Rattle.std.specs.List.{AllZip}
 use Rattle.ldmodel.specs.Lent.{AreSegments}
 use Rattle.ldmodel.specs.Segments.{groups, nonempty, segments}
 use Rattle.ldlayout.specs.Grouping.{IsGroup}
-use Rattle.ldlayout.proofs.Offsets.{congruent_near, Placing, placing_all, placing_more, placing_none, room}
-use Rattle.ldlayout.proofs.Offsets.{segments_are}
+use Rattle.ldlayout.proofs.FileOffsets.{congruent_near, Placing, placing_all, placing_more, placing_none, room}
+use Rattle.ldlayout.proofs.FileOffsets.{segments_are}
 use Rattle.ldlayout.proofs.segments.segments.Goals as goal
 
 pub loop-group-init : goal.loop-group-init

@@ -1,6 +1,6 @@
 -- The groups so far have their places, and the file is not long.
 use Rattle.std.proofs.Common.{drop}
-use Rattle.ldlayout.proofs.Offsets.{Placing}
+use Rattle.ldlayout.proofs.FileOffsets.{Placing}
 use Rattle.ldlayout.proofs.segments.segments.Given as goal
 
 abbrev pub invariant-loop-group : goal.invariant-loop-group
