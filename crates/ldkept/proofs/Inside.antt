@@ -15,7 +15,7 @@ use Rattle.ldmodel.specs.Stayed.{FileRange, range_in}
 use Rattle.ldlaws.specs.FileOrder.{AreInFileOrder, end_in_file, with_file_bytes}
 use Rattle.ldlaws.specs.ImageBytes.{AreNamed}
 use Rattle.ldlaws.specs.Spread.{IsSpread, piece_end}
-use Rattle.ldkept.proofs.Members.{both_of, filter_in, got, in_map, member_of}
+use Rattle.ldlayout.proofs.Members.{both_of, filter_in, got, in_map, member_of}
 
 up_to_multiple : (n : ℕ) → n ≤ next_multiple_of n 8
 up_to_multiple n = omega arith

@@ -21,7 +21,7 @@ use Rattle.ldtargets.specs.Earlier.{range_of}
 use Rattle.ldkept.specs.Origins.{AreOrigins}
 use Rattle.ldkept.specs.Standing.{same_standing}
 use Rattle.ldkept.specs.declared.standing.Standing.{Standing}
-use Rattle.ldkept.proofs.Members.{any_in, both_of, first_or_later, got, none_in_nil, of_both}
+use Rattle.ldlayout.proofs.Members.{any_in, both_of, first_or_later, got, none_in_nil, of_both}
 use Rattle.ldkept.proofs.Once.{own_part}
 
 -- ---- the object of a name

@@ -1,6 +1,4 @@
-mod Members
 mod Once
-mod Owned
 mod Inside
 mod Kept
 mod Standings

@@ -16,8 +16,8 @@ use Rattle.ldmodel.specs.declared.sections.Part.{Part}
 use Rattle.ldmodel.specs.declared.sections.Part.TheVariants.{InTable, InCommon}
 use Rattle.ldlaws.specs.PlacedOnce.{Differ}
 use Rattle.ldlaws.specs.Spread.{EachLater, entries_in}
-use Rattle.ldkept.proofs.Members.{across, any_in, first_or_later, in_back, in_either, in_front, last_part}
-use Rattle.ldkept.proofs.Members.{later_of_map, member_of, none_any, none_in_nil}
+use Rattle.ldlayout.proofs.Members.{across, any_in, first_or_later, in_back, in_either, in_front, last_part}
+use Rattle.ldlayout.proofs.Members.{later_of_map, member_of, none_any, none_in_nil}
 
 abbrev pub rows_flat : List PlacedSection → List Piece
 rows_flat qs = flat_map (λ (row : List Piece). row) (map entries_in qs)

@@ -31,7 +31,6 @@ use Rattle.ldtargets.specs.Earlier.{HasStayedAt, IsComplete, IsKept, IsPieceOf}
 use Rattle.ldtargets.specs.KnownLink.{IsSymbolOf, KnownLink, name_of_object}
 use Rattle.ldtargets.specs.Values.{value_of}
 use Rattle.ldtargets.specs.declared.earlier.FileRange.{FileRange}
-use Rattle.ldkept.specs.InPlace.{AreInPlace}
 use Rattle.ldkept.specs.Standing.{same_standing, standing_in}
 use Rattle.ldkept.specs.Stays.{IsLastOf, LastState, kept_at, kept_range, last_of, last_place, last_standing, last_state}
 use Rattle.ldkept.specs.Stays.{last_value, standing_from, value_from}
@@ -40,7 +39,7 @@ use Rattle.ldkept.specs.declared.stays.Last.{Last}
 use Rattle.ldkept.proofs.Inside.{below_64}
 use Rattle.ldkept.proofs.Kept as same
 use Rattle.ldkept.proofs.Kept.{Same, alike, same_of}
-use Rattle.ldkept.proofs.Members.{in_any}
+use Rattle.ldlayout.proofs.Members.{in_any}
 use Rattle.ldkept.proofs.Standings.{Linked, in_link, link_in, of_link, owned, shows, stood}
 
 -- a range is known where an input section stands as it stood
@@ -69,8 +68,7 @@ then_some f (Some x) y e = (x, refl, e)
 
 module _ (old : GoodLink) (l : KnownLink) (keys : (k : ℕ) → l.number k ≡ k)
     (names : AreNamesDistinct l.project.objects) (t : Starts) (f : Laying)
-    (starts : AreStarts l.project l.layout t) (laying : IsLaying l.project l.layout f)
-    (places : AreInPlace l.project l.layout) where
+    (starts : AreStarts l.project l.layout t) (laying : IsLaying l.project l.layout f) where
   named : (key : SectionKey) → name_of_object l key.object ≡ object_name l.project key.object.0
   named key = ap (object_name l.project) (keys key.object.0)
 
@@ -85,7 +83,7 @@ module _ (old : GoodLink) (l : KnownLink) (keys : (k : ℕ) → l.number k ≡ k
       x = of_link l.project l.layout q z
 
       some : 0 < length z.piece.object
-      some = (owned l.project l.layout t f starts laying places k q z at among).some
+      some = (owned l.project l.layout t f starts laying k q z at among).some
 
       -- ---- what is known to have stayed did
 
@@ -95,8 +93,8 @@ module _ (old : GoodLink) (l : KnownLink) (keys : (k : ℕ) → l.number k ≡ k
       sound_one r h =
           let w = then_some (standing_from y key.part) (last_place y key.object) h.old h.was in
           let before = stood old.project old.layout y.good.starts y.good.laying last.table.starts last.table.laying
-          last.table.places (at_place w.0) h.old w.2 in
-          let now = (shows l.project l.layout t f starts laying places key k q z at among (sym object) (sym part)).is h.new h.is
+          (at_place w.0) h.old w.2 in
+          let now = (shows l.project l.layout t f starts laying key k q z at among (sym object) (sym part)).is h.new h.is
           in (
             same.sound old l.project y.from last.origins last.table.names names key.object.0 x object refl some
                 (of_link old.project old.layout before.section before.piece) refl w.0 w.1
@@ -114,7 +112,7 @@ module _ (old : GoodLink) (l : KnownLink) (keys : (k : ℕ) → l.number k ≡ k
           (offset_is : (v : SectionInFile) → Contains (in_file (segments l.layout.sections)) v
           → file_offset (segments l.layout.sections) v.section ≡ v.offset) where
         low : x.range.offset < 2 ^ 64
-        low = below_64 l.project l.layout places.spread laying.named order all offset_is k q z at among short
+        low = below_64 l.project l.layout starts.apart.spread laying.named order all offset_is k q z at among short
 
         module _ (w : LinkedPiece) (there : Linked (of_link old.project old.layout) old.layout.sections w)
             (is_same : Same x w) where
@@ -129,7 +127,7 @@ module _ (old : GoodLink) (l : KnownLink) (keys : (k : ℕ) → l.number k ≡ k
               → kept_at (last_standing y key) (standing_in t f key) ≡ None → ⊥
           stands None e g h =
               let o = owned old.project old.layout y.good.starts y.good.laying last.table.starts last.table.laying
-              last.table.places there.number there.section there.piece there.at there.among in
+              there.number there.section there.piece there.at there.among in
               same.not_fresh old l.project y.from last.origins last.table.names names key.object.0 x object refl some v
               refl same_v o.object o.among o.is e
           stands (Some j) e g h =
@@ -137,8 +135,8 @@ module _ (old : GoodLink) (l : KnownLink) (keys : (k : ℕ) → l.number k ≡ k
               same.old_name old l.project y.from last.origins last.table.names names key.object.0 x object refl some v
               refl same_v j e in
               let was = shows old.project old.layout y.good.starts y.good.laying last.table.starts last.table.laying
-              last.table.places (at_place j) there.number there.section there.piece there.at there.among name (sym part ∙ same_v.part) in
-              let now = shows l.project l.layout t f starts laying places key k q z at among (sym object) (sym part) in
+              (at_place j) there.number there.section there.piece there.at there.among name (sym part ∙ same_v.part) in
+              let now = shows l.project l.layout t f starts laying key k q z at among (sym object) (sym part) in
               let b = was.some (subst (λ n. n < 2 ^ 64) same_v.offset low) in
               let a = now.some low in
               let kept : kept_at (last_standing y key) (standing_in t f key) ≡ Some (a.0).range =

@@ -14,7 +14,7 @@ use Rattle.ldproject.specs.ByPlace.{rows_in}
 use Rattle.ldtree.specs.declared.statement.Statement.{Statement}
 use Rattle.place.specs.Kept.{IsKept}
 use Rattle.place.specs.Places.{IsPlacement}
-use Rattle.ldkept.specs.InPlace.{IsOwned}
+use Rattle.ldlayout.specs.InPlace.{IsOwned}
 use Rattle.ldkept.specs.First.{IsFirstChanged, IsNext}
 use Rattle.ldkept.specs.SameRows.{first_changed}
 use Rattle.ldkept.specs.Stays.{IsLastOf, LastState}
@@ -44,7 +44,7 @@ module _ (old : GoodLink) (new : Project) (x : LastState) (last : IsLastOf old n
       owned =
           subst (λ (r : List (List model.Piece)).
           Each (IsOwned old.project) (flat_map (λ (row : List model.Piece). row) r)) (placed ∙ sym last.table.rows)
-          last.table.places.owned
+          last.table.starts.apart.owned
 
       pub is_first : IsFirstChanged old.project new first
       is_first n same =

@@ -30,14 +30,14 @@ use Rattle.ldmodel.specs.declared.sections.Part.{Part}
 use Rattle.ldmodel.specs.declared.sections.Part.TheVariants.{InTable, InCommon}
 use Rattle.ldmodel.specs.declared.sections.SectionKey.{SectionKey}
 use Rattle.ldproject.specs.ByPlace.{name_of_section, piece_in, rows_in}
-use Rattle.ldkept.specs.InPlace.{IsOwned}
+use Rattle.ldlayout.specs.InPlace.{IsOwned}
 use Rattle.ldkept.specs.First.{HasReplaced}
 use Rattle.ldkept.specs.Origins.{AreOrigins}
 use Rattle.ldkept.specs.SameRows.{are_same_pieces, came_for, first_changed, has_same_name, is_of_same_object}
 use Rattle.ldkept.specs.SameRows.{is_same_piece, is_same_row, is_same_section, kind_number, part_name}
 use Rattle.ldkept.specs.Stays.{IsReplaced, LastState, ReplacedState, last_place}
 use Rattle.ldkept.proofs.Kept.{counted, same_part}
-use Rattle.ldkept.proofs.Members.{both_of, each_split, got, of_both}
+use Rattle.ldlayout.proofs.Members.{both_of, each_split, got, of_both}
 use Rattle.ldkept.proofs.Once.{own_part}
 
 -- ---- lists

@@ -26,13 +26,13 @@ use Rattle.ldlayout.specs.declared.starts.PartPlace.{PartPlace}
 use Rattle.ldlayout.specs.declared.starts.Starts.{Starts}
 use Rattle.ldtargets.specs.Earlier.{range_of}
 use Rattle.ldtargets.specs.declared.earlier.FileRange.{FileRange}
-use Rattle.ldkept.specs.InPlace.{AreInPlace, IsOwned, entries_of}
+use Rattle.ldlayout.specs.InPlace.{IsOwned, entries_of}
 use Rattle.ldkept.specs.Standing as code
 use Rattle.ldkept.specs.Standing.{bytes_from, range_from, standing_in, standing_of, standing_with}
 use Rattle.ldkept.specs.declared.standing.Standing.{Standing}
 use Rattle.ldkept.proofs.Kept.{IsAt, Shows, same_part}
-use Rattle.ldkept.proofs.Members.{Beside, beside, both_of, find_in, in_back, in_either, in_front, in_map, map_in}
-use Rattle.ldkept.proofs.Members.{member_of, none_in_nil}
+use Rattle.ldlayout.proofs.Members.{Beside, beside, both_of, find_in, in_back, in_either, in_front, in_map, map_in}
+use Rattle.ldlayout.proofs.Members.{member_of, none_in_nil}
 use Rattle.ldkept.proofs.Once.{flat, found, in_pieces, pieces, pieces_in, section_is}
 
 -- ---- input sections in the output
@@ -144,11 +144,11 @@ abbrev place_with : ℕ → ℕ → ℕ → PartPlace
 place_with start size n = record { start = start; size = size; section = record { 0 = n } }
 
 module _ (p : Project) (s : Layout) (t : Starts) (f : Laying) (starts : AreStarts p s t) (laying : IsLaying p s f)
-    (places : AreInPlace p s) where
+    where
   pub owned : (k : ℕ) (q : PlacedSection) (z : PlacedPiece) → slice_get s.sections k ≡ Some q → Contains q.pieces z
       → IsOwned p z.piece
   owned k q z at among =
-      member_of (IsOwned p) (entries_of s) z.piece places.owned
+      member_of (IsOwned p) (entries_of s) z.piece starts.apart.owned
       (subst (λ l. Contains l z.piece) (sym (flat s.sections))
       (map_in (λ (x : PlacedPiece). x.piece) (pieces s.sections) z (pieces_in s.sections k q z at among)))
 
@@ -158,14 +158,14 @@ module _ (p : Project) (s : Layout) (t : Starts) (f : Laying) (starts : AreStart
     part_found : placed_part s (object_name p key.object.0) key.part ≡ Some z
     part_found =
         ap (λ n. placed_part s n key.part) object ∙ ap (λ m. placed_part s z.piece.object m) part
-        ∙ found s places.once k q z at among
+        ∙ found s starts.apart.once k q z at among
 
     number_found : position (λ (r : PlacedSection). list_any (is_part (object_name p key.object.0) key.part) r.pieces)
         s.sections ≡ Some k
     number_found =
         ap (λ n. position (λ (r : PlacedSection). list_any (is_part n key.part) r.pieces) s.sections) object
         ∙ ap (λ m. position (λ (r : PlacedSection). list_any (is_part z.piece.object m) r.pieces) s.sections) part
-        ∙ section_is s places.once k q z at among
+        ∙ section_is s starts.apart.once k q z at among
 
     place_is : place_in t key ≡ Some (place_with z.start z.piece.size k)
     place_is = go (place_in t key) (starts.places key)

@@ -1,5 +1,4 @@
 pub mod Origins
-pub mod InPlace
 pub mod Standing
 pub use Rattle.ldtargets.specs.SymbolTable
 pub mod Table

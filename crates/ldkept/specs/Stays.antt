@@ -22,7 +22,6 @@ use Rattle.ldtargets.specs.declared.earlier.FileRange.{FileRange}
 use Rattle.ldtargets.specs.declared.value.SymbolValue.{SymbolValue}
 use Rattle.ldtargets.specs.declared.value.SymbolValue.TheVariants.{NotDefined}
 use Rattle.ldvalues.specs.LinkView.{known_link}
-use Rattle.ldkept.specs.InPlace.{AreInPlace}
 use Rattle.ldkept.specs.Marks.{AreMarks}
 use Rattle.ldkept.specs.Origins.{AreOrigins}
 use Rattle.ldkept.specs.Standing.{same_standing, standing_in}
@@ -119,7 +118,6 @@ pub record AreStays (s : Stays) (old : GoodLink) (l : KnownLink) : Type 0 where
   pub names : AreNamesDistinct l.project.objects
   pub starts : AreStarts l.project l.layout s.starts.now
   pub laying : IsLaying l.project l.layout s.laying.now
-  pub places : AreInPlace l.project l.layout
   pub short : image_length l.project l.layout ≤ max_image_length
   pub last : IfSome (last_of s.last) (IsLastOf old l.project)
   pub marks : AreMarks old l.project l.layout s.marks.now

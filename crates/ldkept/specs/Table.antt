@@ -7,7 +7,6 @@ use Rattle.ldproject.specs.ByPlace.{rows_in}
 use Rattle.ldlaws.specs.Untouched.{IsGood}
 use Rattle.ldmodel.specs.Edits.{AreNamesDistinct}
 use Rattle.ldlayout.specs.Starts.{AreStarts}
-use Rattle.ldkept.specs.InPlace.{AreInPlace}
 use Rattle.ldkept.specs.SymbolTable.{AreSymbolValues}
 use Rattle.ldkept.specs.declared.good.Good.{Good}
 
@@ -17,5 +16,4 @@ pub record IsTable (l : GoodLink) (g : Good) : Type 0 where
   pub rows : rows_in l.project g.rows.items ≡ rows l.project
   pub laying : IsLaying l.project l.layout g.laying
   pub starts : AreStarts l.project l.layout g.starts
-  pub places : AreInPlace l.project l.layout
   pub symbols : AreSymbolValues l.project l.layout g.symbols

@@ -8,7 +8,6 @@
 
 pub mod first;
 pub mod good;
-pub mod in_place;
 pub mod marks;
 mod names;
 mod same;

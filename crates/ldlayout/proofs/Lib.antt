@@ -5,6 +5,9 @@ pub mod Tail
 mod Layouts
 pub mod Lists
 mod Named
+mod Ascending
+pub mod Members
+mod Owned
 pub mod Walking
 mod Ranks
 mod Searching

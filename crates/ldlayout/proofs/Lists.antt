@@ -1,5 +1,5 @@
 -- Lists whose members differ from one another, and what is found in them.
-use Rattle.std.proofs.Common.{◌≡◌, ◌∙◌, refl, ap, subst, ℕ, zero, suc, List, [], ◌∷◌, map, filter, find, Some, None}
+use Rattle.std.proofs.Common.{◌≡◌, ◌∙◌, refl, ap, subst, ℕ, zero, suc, List, [], ◌∷◌, ◌++◌, map, filter, find, Some, None}
 use Rattle.std.proofs.Common.{Bool, true, false, cond, slice_get}
 use Rattle.std.proofs.lemmas.Option.{same_Some}
 use Rattle.ldlaws.specs.Spread.{EachLater}
@@ -9,6 +9,10 @@ pub each_at : {X : Type 0} (P : X → Type 0) (xs : List X) (k : ℕ) (x : X) �
 each_at P [] k x h e = absurd (let none : ⊥ = cc in none)
 each_at P (y ∷ ys) zero x h e = subst P (same_Some _ _ e) h.0
 each_at P (y ∷ ys) (suc k) x h e = each_at P ys k x h.1 e
+
+pub each_append : {X : Type 0} (P : X → Type 0) (xs ys : List X) → Each P (xs ++ ys) → Each P xs × Each P ys
+each_append P [] ys h = (tt, h)
+each_append P (x ∷ xs) ys h = let k = each_append P xs ys h.1 in ((h.0, k.0), k.1)
 
 pub each_filter : {X : Type 0} (P : X → Type 0) (test : X → Bool) (xs : List X) → Each P xs → Each P (filter test xs)
 each_filter P test [] h = tt

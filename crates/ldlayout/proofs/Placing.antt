@@ -1,25 +1,25 @@
 -- The entries of all rows say where input sections stand.
 use Rattle.std.proofs.Common.{◌≡◌, ◌+◌, ◌&&◌, ◌||◌, ℕ, Bool, true, false, cond, refl, sym, ap, subst, arith, bytes_eq}
-use Rattle.std.proofs.Common.{◌==◌, ◌<◌, ◌∙◌, get_or}
+use Rattle.std.proofs.Common.{◌==◌, ◌<◌, ◌∙◌, zero, suc}
 use Rattle.std.proofs.Common.{Vec, Global}
 use Rattle.std.proofs.Common.{List, [], ◌∷◌, ◌++◌, length, drop, map, flat_map, filter, find, Option, Some, None}
 use Rattle.std.proofs.lemmas.List.{drop_at, length-map}
 use Rattle.std.proofs.lemmas.Bool.{true≢false}
-use Rattle.std.proofs.lemmas.List.Elements.{All-append, All-map}
 use Rattle.std.proofs.lemmas.Iterator.Adapters.{position_from-zero}
 use Rattle.std.proofs.lemmas.List.Folds.{find-append}
-use Rattle.std.specs.List.{All, list_any, position_from, zip}
+use Rattle.std.specs.List.{All, list_any, position_from}
 use Rattle.std.specs.List.Sorted.{IsSortedByKey, IsStableByKey}
 use Rattle.std.specs.Option.{is_some, option_map, option_or}
 use Rattle.std.specs.Ordering.{is_eq}
 use Rattle.std.specs.Vec.{vec_items}
 use Rattle.elfobj.specs.declared.relocation.SymbolIndex.{SymbolIndex}
 use Rattle.ldmodel.specs.Edits.{AreNamesDistinct}
+use Rattle.ldmodel.specs.FileLayout.{Each}
 use Rattle.ldmodel.specs.Layout.{Layout, PlacedPiece, PlacedSection}
 use Rattle.ldmodel.specs.Lent.{starts_of}
 use Rattle.ldmodel.specs.NameFaults.{object_name}
-use Rattle.ldmodel.specs.Project.{NamedObject, Project}
-use Rattle.ldmodel.specs.Rows as rows
+use Rattle.ldmodel.specs.Project.{Project}
+use Rattle.ldmodel.specs.Rows as model
 use Rattle.ldmodel.specs.Sections.{is_same_part}
 use Rattle.ldmodel.specs.SymbolValues.{is_part}
 use Rattle.ldmodel.specs.declared.rows.Piece.{Piece}
@@ -30,35 +30,35 @@ use Rattle.ldlaws.specs.Spread.{entries_in}
 use Rattle.ldproject.specs.ByPlace.{piece_in, rows_in}
 use Rattle.ldlayout.specs.Entries.{all_entries, entry_of, has_rank, is_block, is_block_part, rank_cmp, rank_in, rank_of}
 use Rattle.ldlayout.specs.Entries.{row_entries}
-use Rattle.ldlayout.specs.Numbering.{number_of, numbering_of}
+use Rattle.ldlayout.specs.InPlace.{AreInPlace, IsOwned, entries_of}
 use Rattle.ldlayout.specs.Sections.{HasSections}
 use Rattle.ldlayout.specs.Starts.{AreStarts, IsPartPlace, part_in, place_in}
 use Rattle.ldlayout.specs.declared.entry.Entry.{Entry}
-use Rattle.ldlayout.specs.declared.numbering.Numbering.{Numbering}
 use Rattle.ldlayout.specs.declared.starts.PartPlace.{PartPlace}
 use Rattle.ldlayout.specs.declared.starts.Starts.{Starts}
-use Rattle.ldlayout.proofs.Numbers.{number_below, same_number}
+use Rattle.ldlayout.proofs.Lists.{each_append}
+use Rattle.ldlayout.proofs.Members.{each_join}
+use Rattle.ldlayout.proofs.Numbers.{in_project, same_key}
 use Rattle.ldlayout.proofs.Ranks.{one_rank}
 use Rattle.ldlayout.proofs.Searching.{kept_first}
 
 module _ (p : Project) (distinct : AreNamesDistinct p.objects) (k : SectionKey) where
-  abbrev numbers : Numbering
-  numbers = numbering_of p.objects
-
   -- an entry is the one that is looked for
   abbrev sought : Entry → Bool
-  sought = has_rank (rank_of (number_of numbers k.object.0) k.part)
+  sought = has_rank (rank_of k.object.0 k.part)
 
   -- and so is a piece
   abbrev test : PlacedPiece → Bool
   test = is_part (object_name p k.object.0) k.part
 
-  same_test : (n t : ℕ) (x : Piece) (y : PlacedPiece) → y.piece ≡ piece_in p x
-      → sought (entry_of numbers n (x, t)) ≡ test y
-  same_test n t x y e =
-      one_rank (number_of numbers x.section.object.0) (number_of numbers k.object.0) x.section.part k.part
-      ∙ ap (λ b. b && is_same_part x.section.part k.part) (same_number p distinct x.section.object.0 k.object.0)
-      ∙ ap (λ (z : rows.Piece). bytes_eq z.object (object_name p k.object.0) && is_same_part z.part k.part) (sym e)
+  same_test : (n t : ℕ) (x : Piece) (y : PlacedPiece) → y.piece ≡ piece_in p x → IsOwned p y.piece
+      → sought (entry_of n (x, t)) ≡ test y
+  same_test n t x y e owned =
+      one_rank x.section.object.0 k.object.0 x.section.part k.part
+      ∙ ap (λ b. b && is_same_part x.section.part k.part)
+      (same_key p distinct x.section.object.0 k.object.0
+      (subst (λ (z : model.Piece). 0 < length z.object) e owned.some))
+      ∙ ap (λ (z : model.Piece). bytes_eq z.object (object_name p k.object.0) && is_same_part z.part k.part) (sym e)
 
   abbrev place_with : ℕ → ℕ → ℕ → PartPlace
   place_with n start size = record { start = start; size = size; section = record { 0 = n } }
@@ -72,25 +72,26 @@ module _ (p : Project) (distinct : AreNamesDistinct p.objects) (k : SectionKey) 
   -- the first of a row
   in_row : (n : ℕ) (row : List Piece) (ys : List PlacedPiece) (more : List ℕ)
       → map (λ (y : PlacedPiece). y.piece) ys ≡ map (piece_in p) row
-      → option_map place_of (find sought (row_entries numbers n row (map (λ (y : PlacedPiece). y.start) ys ++ more)))
+      → Each (IsOwned p) (map (λ (y : PlacedPiece). y.piece) ys)
+      → option_map place_of (find sought (row_entries n row (map (λ (y : PlacedPiece). y.start) ys ++ more)))
       ≡ option_map (place_at n) (find test ys)
-  in_row n [] [] more e = refl
-  in_row n [] (y ∷ ys) more e = cc
-  in_row n (x ∷ row) [] more e = cc
-  in_row n (x ∷ row) (y ∷ ys) more e =
+  in_row n [] [] more e owned = refl
+  in_row n [] (y ∷ ys) more e owned = cc
+  in_row n (x ∷ row) [] more e owned = cc
+  in_row n (x ∷ row) (y ∷ ys) more e owned =
       let one : y.piece ≡ piece_in p x = cc in
       let others : map (λ (y : PlacedPiece). y.piece) ys ≡ map (piece_in p) row = cc in
-      go one (sought (entry_of numbers n (x, y.start))) (test y) (same_test n y.start x y one)
-      (in_row n row ys more others)
+      go one (sought (entry_of n (x, y.start))) (test y) (same_test n y.start x y one owned.0)
+      (in_row n row ys more others owned.1)
     where
       rest : Option Entry
-      rest = find sought (row_entries numbers n row (map (λ (y : PlacedPiece). y.start) ys ++ more))
+      rest = find sought (row_entries n row (map (λ (y : PlacedPiece). y.start) ys ++ more))
 
       go : y.piece ≡ piece_in p x → (a b : Bool) → a ≡ b
           → option_map place_of rest ≡ option_map (place_at n) (find test ys)
-          → option_map place_of (cond a (Some (entry_of numbers n (x, y.start))) rest)
+          → option_map place_of (cond a (Some (entry_of n (x, y.start))) rest)
           ≡ option_map (place_at n) (cond b (Some y) (find test ys))
-      go one true true same e = ap (λ (z : rows.Piece). Some (place_with n y.start z.size)) (sym one)
+      go one true true same e = ap (λ (z : model.Piece). Some (place_with n y.start z.size)) (sym one)
       go one true false same e = cc
       go one false true same e = cc
       go one false false same e = e
@@ -117,24 +118,27 @@ module _ (p : Project) (distinct : AreNamesDistinct p.objects) (k : SectionKey) 
   -- the first entry of all rows
   in_rows : (n : ℕ) (rows : List (Vec Piece Global)) (qs : List PlacedSection)
       → map entries_in qs ≡ map (λ (row : List Piece). map (piece_in p) row) (map vec_items rows)
-      → option_map place_of (find sought (all_entries numbers n rows (flat_map starts_of qs))) ≡ place_from n qs
-  in_rows n [] [] e = refl
-  in_rows n [] (q ∷ qs) e = cc
-  in_rows n (row ∷ rows) [] e = cc
-  in_rows n (row ∷ rows) (q ∷ qs) e =
+      → Each (IsOwned p) (flat_map (λ (row : List model.Piece). row) (map entries_in qs))
+      → option_map place_of (find sought (all_entries n rows (flat_map starts_of qs))) ≡ place_from n qs
+  in_rows n [] [] e owned = refl
+  in_rows n [] (q ∷ qs) e owned = cc
+  in_rows n (row ∷ rows) [] e owned = cc
+  in_rows n (row ∷ rows) (q ∷ qs) e owned =
+      let owns = each_append (IsOwned p) (entries_in q)
+      (flat_map (λ (r : List model.Piece). r) (map entries_in qs)) owned in
       let here : entries_in q ≡ map (piece_in p) row.items = cc in
       let later : map entries_in qs ≡ map (λ (row : List Piece). map (piece_in p) row) (map vec_items rows) = cc in
       let more : List ℕ = flat_map starts_of qs in
-      let own : List Entry = row_entries numbers n row.items (starts_of q ++ more) in
+      let own : List Entry = row_entries n row.items (starts_of q ++ more) in
       let others : List Entry =
-      all_entries numbers (n + 1) rows (drop (length row.items) (starts_of q ++ more)) in
+      all_entries (n + 1) rows (drop (length row.items) (starts_of q ++ more)) in
       ap (option_map place_of) (find-append sought own others)
       ∙ map_or (find sought own) (find sought others)
-      ∙ ap (λ o. option_or o (option_map place_of (find sought others))) (in_row n row.items q.pieces more here)
+      ∙ ap (λ o. option_or o (option_map place_of (find sought others))) (in_row n row.items q.pieces more here owns.0)
       ∙ ap (λ l. option_or (option_map (place_at n) (find test q.pieces))
-      (option_map place_of (find sought (all_entries numbers (n + 1) rows l))))
+      (option_map place_of (find sought (all_entries (n + 1) rows l))))
       (drop_at (starts_of q) more (length row.items) (as_long q row here))
-      ∙ ap (option_or (option_map (place_at n) (find test q.pieces))) (in_rows (n + 1) rows qs later)
+      ∙ ap (option_or (option_map (place_at n) (find test q.pieces))) (in_rows (n + 1) rows qs later owns.1)
     where
       as_long : (q : PlacedSection) (row : Vec Piece Global) → entries_in q ≡ map (piece_in p) row.items
           → length (starts_of q) ≡ length row.items
@@ -177,10 +181,11 @@ module _ (p : Project) (distinct : AreNamesDistinct p.objects) (k : SectionKey) 
 
   -- the first entry is where the part stands
   pub is_place : (s : Layout) (rows : List (Vec Piece Global)) → map entries_in s.sections ≡ rows_in p rows
+      → Each (IsOwned p) (entries_of s)
       → IsPartPlace p s k
-      (option_map place_of (find sought (all_entries numbers 0 rows (flat_map starts_of s.sections))))
-  is_place s rows e =
-      subst (IsPartPlace p s k) (sym (in_rows 0 rows s.sections e))
+      (option_map place_of (find sought (all_entries 0 rows (flat_map starts_of s.sections))))
+  is_place s rows e owned =
+      subst (IsPartPlace p s k) (sym (in_rows 0 rows s.sections e owned))
       (go (place_from 0 s.sections) (place_is 0 s.sections))
     where
       go : (r : Option PartPlace) → IsPlace (find test (all_pieces s.sections))
@@ -235,50 +240,60 @@ found_in collected t sections stable n (InCommon x) =
 
 -- so it has all places
 pub all_places : (p : Project) (s : Layout) (rows : List (Vec Piece Global)) (starts : List ℕ) (collected : List Entry)
-    (t : Starts) → AreNamesDistinct p.objects → t.objects ≡ numbering_of p.objects
-    → map entries_in s.sections ≡ rows_in p rows → starts ≡ flat_map starts_of s.sections
-    → collected ≡ all_entries t.objects 0 rows starts → HasSections collected t.sections
-    → IsSortedByKey rank_in rank_cmp t.blocks.items
+    (t : Starts) → AreNamesDistinct p.objects → AreInPlace p s → map entries_in s.sections ≡ rows_in p rows
+    → starts ≡ flat_map starts_of s.sections → collected ≡ all_entries 0 rows starts
+    → HasSections collected t.sections → IsSortedByKey rank_in rank_cmp t.blocks.items
     → IsStableByKey rank_in rank_cmp (filter is_block collected) t.blocks.items → AreStarts p s t
-all_places p s rows starts collected t distinct numbers placed begin all sections sorted stable =
+all_places p s rows starts collected t distinct apart placed begin all sections sorted stable =
     record {
       sorted = sorted;
-      places = λ k. subst (IsPartPlace p s k) (sym (same k)) (is_place p distinct k s rows placed);
+      places = λ k. subst (IsPartPlace p s k) (sym (same k)) (is_place p distinct k s rows placed apart.owned);
+      apart = apart;
     }
   where
     same : (k : SectionKey) → place_in t k
         ≡ option_map (λ (e : Entry). e.place)
-        (find (has_rank (rank_of (number_of (numbering_of p.objects) k.object.0) k.part))
-        (all_entries (numbering_of p.objects) 0 rows (flat_map starts_of s.sections)))
+        (find (has_rank (rank_of k.object.0 k.part)) (all_entries 0 rows (flat_map starts_of s.sections)))
     same k =
-        found_in collected t sections stable (number_of t.objects k.object.0) k.part
-        ∙ ap (option_map (λ (e : Entry). e.place))
-        (ap (find (has_rank (rank_of (number_of t.objects k.object.0) k.part)))
-        (all ∙ ap (all_entries t.objects 0 rows) begin)
-        ∙ ap (λ (n : Numbering). find (has_rank (rank_of (number_of n k.object.0) k.part))
-        (all_entries n 0 rows (flat_map starts_of s.sections))) numbers)
+        found_in collected t sections stable k.object.0 k.part
+        ∙ ap (λ xs. option_map (λ (e : Entry). e.place) (find (has_rank (rank_of k.object.0 k.part)) xs))
+        (all ∙ ap (all_entries 0 rows) begin)
 
--- the numbers of the objects of all entries
-all_numbers : (o : Numbering) (limit : ℕ) → ((key : ℕ) → number_of o key < limit) → (n : ℕ)
-    (rows : List (Vec Piece Global)) (starts : List ℕ)
-    → All (λ (e : Entry). e.object < limit) (all_entries o n rows starts)
-all_numbers o limit below n [] starts = λ k d h. absurd (omega arith)
-all_numbers o limit below n (row ∷ rows) starts =
-    All-append (λ (e : Entry). e.object < limit) (row_entries o n row.items starts)
-    (all_entries o (n + 1) rows (drop (length row.items) starts))
-    (All-map (λ (e : Entry). e.object < limit) (entry_of o n) (zip row.items starts)
-    (λ k d h. below (get_or (zip row.items starts) k d).0.section.object.0))
-    (all_numbers o limit below (n + 1) rows (drop (length row.items) starts))
+-- ---- all are of objects of the project
 
-pub all_below : (objects : List NamedObject) (o : Numbering) (rows : List (Vec Piece Global)) (starts : List ℕ)
-    (collected : List Entry) (limit : ℕ) → o ≡ numbering_of objects → collected ≡ all_entries o 0 rows starts
-    → limit ≡ length objects + 1 → All (λ (e : Entry). e.object < limit) collected
-all_below objects o rows starts collected limit numbers all end =
-    subst (λ (l : List Entry). All (λ (e : Entry). e.object < limit) l) (sym all)
-    (all_numbers o limit below 0 rows starts)
-  where
-    below : (key : ℕ) → number_of o key < limit
-    below key =
-        let same : number_of o key ≡ number_of (numbering_of objects) key =
-        ap (λ (n : Numbering). number_of n key) numbers in
-        omega (arith, number_below objects key)
+abbrev IsWithin : Project → Entry → Type 0
+IsWithin p e = e.object < length p.objects
+
+row_within : (p : Project) (n : ℕ) (row : List Piece) (starts : List ℕ) → Each (IsOwned p) (map (piece_in p) row)
+    → Each (IsWithin p) (row_entries n row starts)
+row_within p n [] starts h = tt
+row_within p n (x ∷ row) [] h = tt
+row_within p n (x ∷ row) (t ∷ starts) h =
+    (in_project p x.section.object.0 (h.0).some, row_within p n row starts h.1)
+
+rows_within : (p : Project) (n : ℕ) (rows : List (Vec Piece Global)) (starts : List ℕ)
+    → Each (IsOwned p) (flat_map (λ (row : List model.Piece). row) (rows_in p rows))
+    → Each (IsWithin p) (all_entries n rows starts)
+rows_within p n [] starts h = tt
+rows_within p n (row ∷ rows) starts h =
+    let k = each_append (IsOwned p) (map (piece_in p) row.items)
+    (flat_map (λ (r : List model.Piece). r) (rows_in p rows)) h in
+    each_join (IsWithin p) (row_entries n row.items starts)
+    (all_entries (n + 1) rows (drop (length row.items) starts)) (row_within p n row.items starts k.0)
+    (rows_within p (n + 1) rows (drop (length row.items) starts) k.1)
+
+each_all : {X : Type 0} (P : X → Type 0) (xs : List X) → Each P xs → All P xs
+each_all P [] h k d below = absurd (omega (arith, below))
+each_all P (x ∷ xs) h zero d below = h.0
+each_all P (x ∷ xs) h (suc k) d below = each_all P xs h.1 k d (omega (arith, below))
+
+pub all_within : (p : Project) (rows : List (Vec Piece Global)) (starts : List ℕ) (collected : List Entry) (limit : ℕ)
+    → rows_in p rows ≡ model.rows p → Each (IsOwned p) (flat_map (λ (row : List model.Piece). row) (model.rows p))
+    → collected ≡ all_entries 0 rows starts → limit ≡ length p.objects
+    → All (λ (e : Entry). e.object < limit) collected
+all_within p rows starts collected limit same owned all end =
+    subst (λ m. All (λ (e : Entry). e.object < m) collected) (sym end)
+    (subst (All (IsWithin p)) (sym all)
+    (each_all (IsWithin p) (all_entries 0 rows starts)
+    (rows_within p 0 rows starts
+    (subst (λ r. Each (IsOwned p) (flat_map (λ (row : List model.Piece). row) r)) (sym same) owned))))

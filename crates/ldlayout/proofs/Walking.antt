@@ -20,7 +20,7 @@ use Rattle.ldmodel.specs.Segments.{in_segment}
 use Rattle.ldmodel.specs.Segments.{nonempty, page_size, reach, sections_in, segments, start_of}
 use Rattle.ldmodel.specs.declared.laid.Placed.{Placed}
 use Rattle.ldmodel.specs.declared.segment.Segment as code
-use Rattle.ldlayout.proofs.Lists.{each_at, each_filter, each_of_map, find_at, find_none}
+use Rattle.ldlayout.proofs.Lists.{each_append, each_at, each_filter, each_of_map, find_at, find_none}
 use Rattle.ldlayout.proofs.Lists.{later_filter, later_of_map}
 use Rattle.ldlayout.specs.Offsets.{is_last, offset_at, offsets_in}
 use Rattle.ldlayout.specs.Offsets.{IsOffset}
@@ -162,10 +162,6 @@ fold_last g n p (q ∷ qs) = fold_last g (reach g p) q qs
 
 abbrev parts_of : List Segment → List PlacedSection
 parts_of gs = flat_map sections_in (map (λ (g : Segment). g.group) gs)
-
-each_append : {X : Type 0} (P : X → Type 0) (xs ys : List X) → Each P (xs ++ ys) → Each P xs × Each P ys
-each_append P [] ys h = (tt, h)
-each_append P (x ∷ xs) ys h = let k = each_append P xs ys h.1 in ((h.0, k.0), k.1)
 
 ahead_all : (sections : List PlacedSection) (gs : List Segment) (xs : List code.Segment)
     → AllZip (IsSegment sections) gs xs → Each IsTogether (map (λ (g : Segment). g.group) gs)

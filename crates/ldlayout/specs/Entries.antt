@@ -7,9 +7,7 @@ use Rattle.std.proofs.Common.{Vec, Global}
 use Rattle.ldmodel.specs.declared.rows.Piece.{Piece}
 use Rattle.ldmodel.specs.declared.sections.Part.{Part}
 use Rattle.ldmodel.specs.declared.sections.Part.TheVariants.{InTable, InCommon}
-use Rattle.ldlayout.specs.Numbering.{number_of}
 use Rattle.ldlayout.specs.declared.entry.Entry.{Entry}
-use Rattle.ldlayout.specs.declared.numbering.Numbering.{Numbering}
 
 -- by the number of the object, then sections before common blocks, then by the number of the part
 abbrev pub rank_of : ℕ → Part → ℕ × Bool × ℕ
@@ -34,19 +32,18 @@ abbrev pub is_block : Entry → Bool
 is_block e = is_block_part e.part
 
 -- an entry of a row and the address that it starts at, in an output section
-abbrev pub entry_of : Numbering → ℕ → Piece × ℕ → Entry
-entry_of objects section x = record {
-  object = number_of objects x.0.section.object.0;
+abbrev pub entry_of : ℕ → Piece × ℕ → Entry
+entry_of section x = record {
+  object = x.0.section.object.0;
   part = x.0.section.part;
   place = record { start = x.1; size = x.0.size; section = record { 0 = section } };
 }
 
-abbrev pub row_entries : Numbering → ℕ → List Piece → List ℕ → List Entry
-row_entries objects section row starts = map (entry_of objects section) (zip row starts)
+abbrev pub row_entries : ℕ → List Piece → List ℕ → List Entry
+row_entries section row starts = map (entry_of section) (zip row starts)
 
 -- those of all rows, the first of which is that of this output section
-abbrev pub all_entries : Numbering → ℕ → List (Vec Piece Global) → List ℕ → List Entry
-all_entries objects section [] starts = []
-all_entries objects section (row ∷ rows) starts =
-    row_entries objects section row.items starts
-    ++ all_entries objects (section + 1) rows (drop (length row.items) starts)
+abbrev pub all_entries : ℕ → List (Vec Piece Global) → List ℕ → List Entry
+all_entries section [] starts = []
+all_entries section (row ∷ rows) starts =
+    row_entries section row.items starts ++ all_entries (section + 1) rows (drop (length row.items) starts)

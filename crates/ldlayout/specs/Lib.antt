@@ -5,6 +5,6 @@ pub mod Laying
 pub mod Offsets
 pub mod Entries
 pub mod Headers
-pub mod Numbering
+pub mod InPlace
 pub mod Sections
 pub mod Starts

@@ -11,7 +11,7 @@ use Rattle.ldmodel.specs.declared.sections.Part.{Part}
 use Rattle.ldmodel.specs.declared.sections.Part.TheVariants.{InTable, InCommon}
 use Rattle.ldmodel.specs.declared.sections.SectionKey.{SectionKey}
 use Rattle.ldlayout.specs.Entries.{has_rank, rank_cmp, rank_in}
-use Rattle.ldlayout.specs.Numbering.{number_of}
+use Rattle.ldlayout.specs.InPlace.{AreInPlace}
 use Rattle.ldlayout.specs.Sections.{section_in}
 use Rattle.ldlayout.specs.declared.entry.Entry.{Entry}
 use Rattle.ldlayout.specs.declared.starts.PartPlace.{PartPlace}
@@ -35,9 +35,10 @@ part_in t n (InCommon x) =
 
 -- what a table has for an input section
 abbrev pub place_in : Starts → SectionKey → Option PartPlace
-place_in t k = part_in t (number_of t.objects k.object.0) k.part
+place_in t k = part_in t k.object.0 k.part
 
--- a table has all places, those of common blocks sorted
+-- a table has all places, those of common blocks sorted; and each input section stands once
 pub record AreStarts (p : Project) (s : Layout) (t : Starts) : Type 0 where
   pub sorted : IsSortedByKey rank_in rank_cmp t.blocks.items
   pub places : (k : SectionKey) → IsPartPlace p s k (place_in t k)
+  pub apart : AreInPlace p s

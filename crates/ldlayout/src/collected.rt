@@ -4,7 +4,6 @@ ghost use Rattle.std.specs.Prelude.{◌≡◌, ◌++◌, IfOk, OnOk};
 ghost use Rattle.ldlayout.specs.Entries.{all_entries, row_entries};
 
 use crate::entry::Entry;
-use crate::numbering::Numbering;
 use crate::starts::PartPlace;
 use ldmodel::laid::OutputIndex;
 use ldmodel::memory::NoMemory;
@@ -14,17 +13,16 @@ use std::alloc::{AllocError, Global};
 /// Adds the input sections of a row, which start at these addresses.
 fn add_row(
     entries: &mut Vec<Entry>,
-    objects: &Numbering,
     section: OutputIndex,
     row: &[Piece],
     starts: &[u64],
 ) -> Result<(), NoMemory>
     ensures { OnOk result (entries.new.items
-        ≡ entries.old.items ++ row_entries objects.now section.0 row.now starts.now) }
+        ≡ entries.old.items ++ row_entries section.0 row.now starts.now) }
 {
     for (piece, start) in row.iter().zip(starts) {
         entries.push(Entry {
-            object: objects.number(piece.section.object),
+            object: piece.section.object.0,
             part: piece.section.part,
             place: PartPlace {
                 start: *start,
@@ -43,11 +41,10 @@ fn add_row(
 /// Where memory runs out.
 pub(crate) fn collect(
     alloc: Global,
-    objects: &Numbering,
     rows: &[Vec<Piece>],
     starts: &[u64],
 ) -> Result<Vec<Entry>, NoMemory>
-    ensures { IfOk result (λ v. v.items ≡ all_entries objects.now 0 rows.now starts.now) }
+    ensures { IfOk result (λ v. v.items ≡ all_entries 0 rows.now starts.now) }
 {
     let mut entries = Vec::with_capacity(alloc, starts.len())?;
     let mut left = starts;
@@ -56,7 +53,7 @@ pub(crate) fn collect(
             // Unreachable: no script has 2^32 output sections
             return Err(AllocError);
         };
-        add_row(&mut entries, objects, OutputIndex(number), row, left)?;
+        add_row(&mut entries, OutputIndex(number), row, left)?;
         left = &left[row.len().min(left.len())..];
     }
     Ok(entries)

@@ -12,7 +12,7 @@ mod group;
 mod headers;
 pub mod laying;
 pub mod length;
-mod numbering;
+pub mod numbered;
 mod offsets;
 mod sections;
 pub mod segments;

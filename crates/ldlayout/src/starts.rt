@@ -1,6 +1,7 @@
 //! A table of where the input sections of a link stand.
 
 ghost use Rattle.std.specs.Prelude.{◌≡◌, IfOk};
+ghost use Rattle.std.specs.List.{list_any};
 ghost use Rattle.std.specs.List.Sorted.{IsSortedByKey};
 ghost use Rattle.ldmodel.specs.Layout.{Layout};
 ghost use Rattle.ldmodel.specs.Project.{Project};
@@ -8,19 +9,22 @@ ghost use Rattle.ldlayout.specs.Laying.{IsLaying};
 ghost use Rattle.ldmodel.specs.Rows as model;
 ghost use Rattle.ldproject.specs.ByPlace.{rows_in};
 ghost use Rattle.ldlayout.specs.Entries.{rank_cmp, rank_in};
+ghost use Rattle.ldlayout.specs.InPlace.{has_no_name};
 
 use crate::collected::collect;
 use crate::entry::{Entry, blocks_among, find_rank, rank};
 use crate::laying::Laying;
-use crate::numbering::Numbering;
+use crate::numbered::are_numbered;
 use crate::sections::Sections;
-use ldlaws::layout::placed_are_rows;
+use ldlaws::gathering::{live_by_path, once_in_rows};
+use ldlaws::layout::{nothing_meets, placed_are_rows};
 use ldmodel::laid::OutputIndex;
 use ldmodel::memory::NoMemory;
 use ldmodel::rows::Piece;
 use ldmodel::sections::{Part, SectionKey};
+use ldproject::input::Input;
 use ldproject::view::ProjectView;
-use std::alloc::Global;
+use std::alloc::{AllocError, Global};
 
 /// Where an input section stands.
 #[derive(Clone, Copy, Debug, PartialEq, Eq)]
@@ -36,11 +40,17 @@ pub struct PartPlace {
 /// Where the input sections of a link stand.
 #[derive(Drop)]
 pub struct Starts {
-    objects: Numbering,
     sections: Sections,
     /// The common blocks, by rank.
     blocks: Vec<Entry>,
     ghost sorted: { IsSortedByKey rank_in rank_cmp blocks.items },
+}
+
+/// Whether one of these objects has no name.
+fn has_unnamed(inputs: &[Input<'_>]) -> bool
+    ensures { result ≡ list_any has_no_name inputs.now }
+{
+    inputs.iter().any(|input| input.name.is_empty())
 }
 
 impl Starts {
@@ -60,15 +70,21 @@ impl Starts {
         requires { rows_in project.now rows.now ≡ model.rows project.now }
         ensures { IfOk result (λ t. (s : Layout) → IsLaying project.now s laying.now → AreStarts project.now s t) }
     {
+        nothing_meets();
         placed_are_rows();
+        once_in_rows();
+        live_by_path();
+        are_numbered(project);
         let inputs = project.inputs();
-        let objects = Numbering::of(inputs);
-        let entries = collect(alloc, &objects, rows, laying.placement.pieces())?;
-        let sections = Sections::of(alloc, &entries, inputs.len() + 1)?;
+        if has_unnamed(inputs) {
+            // Unreachable: the name of an object has 1 to 255 bytes, but the contract of a project does not say so
+            return Err(AllocError);
+        }
+        let entries = collect(alloc, rows, laying.placement.pieces())?;
+        let sections = Sections::of(alloc, &entries, inputs.len())?;
         let mut blocks = blocks_among(alloc, &entries)?;
         blocks.sort_by_key(|entry| entry.rank())?;
         Ok(Starts {
-            objects,
             sections,
             blocks,
         })
@@ -90,6 +106,6 @@ impl Starts {
         ensures is { result ≡ place_in self.now section }
         ensures place { (p : Project) (s : Layout) → AreStarts p s self.now → IsPartPlace p s section result }
     {
-        self.part(self.objects.number(section.object), section.part)
+        self.part(section.object.0, section.part)
     }
 }

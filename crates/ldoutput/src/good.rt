@@ -1,9 +1,6 @@
 //! Links without faults, as laws on two links ask for them.
 
-ghost use Rattle.std.specs.Prelude.{◌≡◌, ◌≤◌, ◌==◌, [], false};
-ghost use Rattle.elfobj.specs.Sections.{LinkedSection};
-ghost use Rattle.ldlaws.specs.PlacedOnce.{AreNumbered};
-ghost use Rattle.ldlaws.specs.Spread.{EachLater};
+ghost use Rattle.std.specs.Prelude.{◌≡◌, ◌≤◌, []};
 ghost use Rattle.ldlaws.specs.Untouched.{IsGood};
 ghost use Rattle.ldlayout.specs.Laying.{IsLaying};
 ghost use Rattle.ldmodel.specs.Layout.{Layout};
@@ -11,26 +8,10 @@ ghost use Rattle.ldmodel.specs.Link.{max_image_length};
 ghost use Rattle.ldmodel.specs.Relocations.{relocation_faults};
 ghost use Rattle.ldmodel.specs.SectionHeaders.{image_length};
 
-use elfobj::object::Object;
 use ldlaws::stayed::faultless_is_good;
 use ldlayout::laying::Laying;
+use ldlayout::numbered::are_numbered;
 use ldproject::view::ProjectView;
-
-/// The sections of an object that was read have different numbers. The call does nothing.
-fn sections_differ(object: &Object)
-    ensures { EachLater (λ (x y : LinkedSection). (x.number.0 == y.number.0) ≡ false) object.now.sections }
-{
-    let _sections = object.sections();
-}
-
-/// The sections of each object of a project have different numbers. The call does nothing.
-pub fn are_numbered(project: &ProjectView<'_>)
-    ensures { AreNumbered project.now }
-{
-    for input in project.inputs() {
-        sections_differ(input.object);
-    }
-}
 
 /// A link whose image is not too long and whose relocations have no faults is good. The call looks at each object once,
 /// and changes nothing.

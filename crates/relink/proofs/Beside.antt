@@ -79,7 +79,6 @@ are_stays p l y w v is beside names old last = record {
   names = names;
   starts = beside.starts;
   laying = beside.laying;
-  places = beside.places;
   short = is.length;
   last = last;
   marks = beside.marks old last;

@@ -3,7 +3,6 @@ use Rattle.std.specs.Prelude.{◌≡◌, ◌≤◌, ℕ, IfSome, IsSome, List, [
 use Rattle.std.specs.List.{All}
 use Rattle.ldimage.specs.Kept.{ArePatchesOf}
 use Rattle.ldimage.specs.Stretches.{EndsBy}
-use Rattle.ldkept.specs.InPlace.{AreInPlace}
 use Rattle.ldkept.specs.Marks.{AreMarks}
 use Rattle.ldkept.specs.Stays.{IsLastOf, LastState, last_of, range_of}
 use Rattle.ldkept.specs.Table.{IsTable}
@@ -40,7 +39,6 @@ pub record IsArranged (p : Project) (x : Arrangement) : Type 0 where
   pub layout : Layout
   pub laying : IsLaying p layout x.laying
   pub starts : AreStarts p layout x.starts
-  pub places : AreInPlace p layout
   pub rest : link p ≡ placed p (model.layout p)
 
 -- the earlier link is one without faults
@@ -71,7 +69,6 @@ pub record IsShort (p : Project) (l : Laying) (w : LinkView) (v : Values) : Type
 pub record AreBeside (p : Project) (s : Layout) (y : Stays) : Type 0 where
   pub starts : AreStarts p s y.starts.now
   pub laying : IsLaying p s y.laying.now
-  pub places : AreInPlace p s
   pub last : IfSome (last_of y.last) (HasOld p)
   pub marks : (old : GoodLink) → IfSome (last_of y.last) (IsLastOf old p) → AreMarks old p s y.marks.now
 

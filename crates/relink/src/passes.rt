@@ -21,7 +21,6 @@ use crate::stop::{Stop, end_if_faulty};
 use gather::gathering::Gathering;
 use gather::matches::Matches;
 use ldkept::first::resumed;
-use ldkept::in_place::are_in_place;
 use ldkept::stays::{Last, Stays};
 use ldkept::symbol_table::SymbolTable;
 use ldlayout::laying::{LayFault, Laying};
@@ -153,7 +152,6 @@ pub(crate) fn arranged(
     let rows = gathered(alloc, project, naming, matches)?;
     let laying = laid(alloc, project, naming, &rows, last, meter)?;
     let starts = Starts::of(alloc, project, &rows, &laying)?;
-    are_in_place(project, &laying)?;
     Ok(Arrangement {
         rows,
         laying,

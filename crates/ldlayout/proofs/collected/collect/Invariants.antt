@@ -4,5 +4,5 @@ use Rattle.ldlayout.proofs.collected.collect.Given as goal
 
 abbrev pub invariant-loop-number : goal.invariant-loop-number
 invariant-loop-number l =
-    l.entries.items ++ all_entries l.objects l.number (drop l.number l.rows) l.left
-    ≡ all_entries l.objects 0 l.rows l.starts
+    l.entries.items ++ all_entries l.number (drop l.number l.rows) l.left
+    ≡ all_entries 0 l.rows l.starts

@@ -1,5 +1,4 @@
 use Rattle.std.proofs.Common.{◌≡◌, subst, sym}
-use Rattle.ldkept.specs.InPlace.{AreInPlace}
 use Rattle.ldkept.specs.Marks.{AreMarks}
 use Rattle.ldkept.specs.SymbolTable.{AreSymbolValues}
 use Rattle.ldmodel.specs.Layout.{Layout}
@@ -31,7 +30,6 @@ drawn_over-requires-clause-beside c =
     beside_at p _ _ x.layout x.laying (record {
       starts = x.starts;
       laying = x.laying;
-      places = x.places;
       last = has_old p _ _ c.requires.last;
       marks = λ old last. subst (AreMarks old p x.layout) (sym c.deref-2.ensures.value)
           (c.in_ok-marks.ensures old x.layout last
@@ -67,7 +65,6 @@ returns-clause-good c =
         rows = x.rows;
         laying = g.laying;
         starts = subst (λ (z : Layout). AreStarts p z c.args.arranged.now.starts) placed x.starts;
-        places = subst (AreInPlace p) placed x.places;
         symbols = subst (λ (z : Layout). AreSymbolValues p z c.in_ok-symbols.symbols) valued
             (c.in_ok-symbols.ensures k.layout h.naming k.view
             (subst (AreNameValues (known_link p k.layout h.naming)) (sym c.deref.ensures.value) h.values.names));

@@ -9,6 +9,5 @@ returns-clause-good c =
       layout = s;
       laying = is;
       starts = c.in_ok-starts.ensures s is;
-      places = c.in_ok-are_in_place.ensures s is;
       rest = c.in_ok-rows.ensures.rest;
     }

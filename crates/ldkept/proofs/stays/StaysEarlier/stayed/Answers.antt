@@ -31,7 +31,7 @@ returns-then-eq-clause-range c =
 pub returns-then-eq-clause-stayed : goal.returns-then-eq-clause-stayed
 returns-then-eq-clause-stayed c = λ old l h.
     sound old l (λ k. ap (λ (m : KnownLink). m.number k) h.link) h.names c.args.self.now.starts.now
-    c.args.self.now.laying.now h.starts h.laying h.places (last_of c.args.self.now.last) h.last c.args.section
+    c.args.self.now.laying.now h.starts h.laying (last_of c.args.self.now.last) h.last c.args.section
     c.in_ok-now.now.range
     (sym (both c.args.self.now.last c.in_ok-last.last c.in_ok-last.was c.args.self.now.starts.now
     c.args.self.now.laying.now c.args.section c.in_ok-before.before c.in_ok-before.ensures c.in_ok-now.now

@@ -1,5 +1,5 @@
 -- Each input section in the output is of an object of the project.
-use Rattle.std.proofs.Common.{◌≡◌, ◌∙◌, ◌<◌, ℕ, Bool, true, false, cond, not, sym, subst, ap, refl, arith, ◌+◌}
+use Rattle.std.proofs.Common.{◌≡◌, ◌∙◌, ◌<◌, ℕ, Bool, true, false, cond, not, sym, subst, refl, arith, ◌+◌}
 use Rattle.std.proofs.Common.{List, [], ◌∷◌, length, map, filter, flat_map, Option, Some, None}
 use Rattle.std.specs.List.{Contains, cons_option, enumerate_from, filter_map, list_any, range_with_len}
 use Rattle.std.proofs.lemmas.Bool.{eqb-false, true≢false}
@@ -17,13 +17,11 @@ use Rattle.ldmodel.specs.Rows.{Piece, below, is_in_section, is_taken_by, piece_o
 use Rattle.ldmodel.specs.Rows.{taken}
 use Rattle.ldmodel.specs.Sections.{InputSection}
 use Rattle.ldmodel.specs.Sorting.{insert_by, sort_by}
-use Rattle.ldlaws.specs.Spread.{entries_in}
 use Rattle.ldlayout.proofs.Lists.{each_filter, each_into_map}
-use Rattle.ldmodel.specs.Layout.{Layout}
 use Rattle.ldproject.specs.Inputs.{shown_input, shown_inputs}
 use Rattle.ldproject.specs.declared.input.Input.{Input}
-use Rattle.ldkept.specs.InPlace.{IsObjectName, IsOwned, entries_of, has_no_name}
-use Rattle.ldkept.proofs.Members.{Comes, any_in, each_join, here, in_map, later}
+use Rattle.ldlayout.specs.InPlace.{IsObjectName, IsOwned, has_no_name}
+use Rattle.ldlayout.proofs.Members.{Comes, any_in, each_join, here, in_map, later}
 
 -- ---- lists
 
@@ -157,9 +155,7 @@ all_named p inputs same none o c = record {
         go true e = absurd (true≢false (sym (any_in has_no_name inputs k.origin k.among e) ∙ none))
         go false e = let other = eqb-false (length k.origin.name.now) 0 e in omega (arith, other)
 
-pub all_owned : (p : Project) (s : Layout) (inputs : List Input) → shown_inputs inputs ≡ p.objects
+pub all_owned : (p : Project) (inputs : List Input) → shown_inputs inputs ≡ p.objects
     → list_any has_no_name inputs ≡ false → (test : InputSection → Bool) × (live p ≡ filter test (candidates p))
-    → map entries_in s.sections ≡ rows p → Each (IsOwned p) (entries_of s)
-all_owned p s inputs same none in_order placed =
-    subst (Each (IsOwned p)) (ap (flat_map (λ (row : List Piece). row)) (sym placed))
-    (of_rows p (IsObjectName p) (all_named p inputs same none) in_order)
+    → Each (IsOwned p) (flat_map (λ (row : List Piece). row) (rows p))
+all_owned p inputs same none in_order = of_rows p (IsObjectName p) (all_named p inputs same none) in_order

@@ -1,8 +1,8 @@
 use Rattle.std.proofs.Common.{◌<◌, subst}
 use Rattle.std.specs.List.{AllPairs}
 use Rattle.elfobj.specs.declared.section.Section.{Section}
-use Rattle.ldoutput.proofs.Faultless.{numbers_differ}
-use Rattle.ldoutput.proofs.good.sections_differ.Goals as goal
+use Rattle.ldlayout.proofs.Ascending.{numbers_differ}
+use Rattle.ldlayout.proofs.numbered.sections_differ.Goals as goal
 
 pub returns : goal.returns
 returns c =

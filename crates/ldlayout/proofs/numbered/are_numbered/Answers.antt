@@ -6,9 +6,9 @@ use Rattle.ldmodel.specs.FileLayout.{Each}
 use Rattle.ldmodel.specs.Project.{NamedObject}
 use Rattle.ldproject.specs.Inputs.{shown_input}
 use Rattle.ldproject.specs.declared.input.Input.{Input}
-use Rattle.ldoutput.proofs.Faultless.{each_more}
+use Rattle.ldlayout.proofs.Ascending.{each_more}
 use Rattle.ldlayout.proofs.Lists.{each_into_map}
-use Rattle.ldoutput.proofs.good.are_numbered.Goals as goal
+use Rattle.ldlayout.proofs.numbered.are_numbered.Goals as goal
 
 abbrev HasNumbers : NamedObject → Type 0
 HasNumbers o = EachLater (λ (x y : LinkedSection). (x.number.0 == y.number.0) ≡ false) o.object.sections

@@ -3,7 +3,7 @@ use Rattle.elfobj.specs.Sections.{LinkedSection}
 use Rattle.ldlaws.specs.Spread.{EachLater}
 use Rattle.ldmodel.specs.FileLayout.{Each}
 use Rattle.ldproject.specs.declared.input.Input.{Input}
-use Rattle.ldoutput.proofs.good.are_numbered.Given as goal
+use Rattle.ldlayout.proofs.numbered.are_numbered.Given as goal
 
 -- the sections of the objects so far have different numbers
 abbrev pub invariant-loop-input : goal.invariant-loop-input
