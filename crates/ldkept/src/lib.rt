@@ -3,7 +3,7 @@
 //!
 //! - `stays`: what stayed, as `ldtargets` asks it of an earlier link; `good`: what is kept of a link;
 //! - `first` over `same` and `names`: the first row that differs; `marks`: objects with a symbol of another value;
-//! - `file_starts`, `symbol_table`, `standing`: where sections stood, and what symbols were worth.
+//! - `symbol_table`, `standing`: what symbols are worth, and where a section stands in memory and in the file.
 #![tactic(auto)]
 
 pub mod first;

@@ -2,8 +2,10 @@
 //! and perhaps an earlier layout; gives the layout or its faults, and where an input section stands, by its key.
 //!
 //! - `laying`: the phase, over `place`;
-//! - `segments` over `group`: what is loaded as one, and its offset in the file; `length`: how long the image is;
-//! - `starts` over `collected`, `entry`, `numbering`, and `sections` with `headers`: where each input section stands.
+//! - `segments` over `group`: what is loaded as one, and its offset in the file; `offsets`: where output sections begin
+//!   in the file; `length`: how long the image is;
+//! - `starts` over `collected`, `entry`, and `sections` with `headers`: where each input section stands; `numbered`:
+//!   the sections of an object have different numbers.
 #![tactic(auto)]
 
 mod collected;

@@ -2,8 +2,7 @@
 //! project, and perhaps an earlier link; gives fields or their faults, the bytes drawn, the map and the fault lines.
 //!
 //! - `relocated` over `keys`: the fields of all relocations, or their faults; `law`;
-//! - `image` over `output`, `parts`, `pieces`, `data_runs`, `offsets`, `section_numbers`, `symbols`: the image;
-//!   `length`;
+//! - `image` over `output`, `parts`, `pieces`, `data_runs`, `section_numbers`, `symbols`: the image; `length`;
 //! - `good`: a link without faults is one that the laws on two links speak of;
 //! - `map`, `fault_lines` over `by_place`: the texts.
 #![tactic(auto)]
