@@ -14,7 +14,7 @@ ghost use Rattle.ldtargets.specs.Patched.{AreSized};
 ghost use Rattle.ldvalues.specs.LinkView.{known_link};
 
 use ldlaws::gathering::live_by_path;
-use ldlaws::layout::placed_are_rows;
+use ldlaws::layout::{layout_by_effects, placed_are_rows};
 
 /// Each section of an object that stands in a layout ends below 2^64, by its own size.
 pub(crate) fn sections_end_below()
@@ -22,6 +22,7 @@ pub(crate) fn sections_end_below()
         → All (λ (o : NamedObject). AreAscending o.object.sections) p.objects
         → placement p.script (rows p) (provided p) ≡ Ok s → EndBelow (known_link p s a) }
 {
+    layout_by_effects();
     placed_are_rows();
     live_by_path();
 }

@@ -14,6 +14,7 @@ ghost use Rattle.ldoutput.specs.Output.{IsOutput, IsRow};
 
 use crate::data_runs::data_runs;
 use ldimage::section::ImagePiece;
+use ldlaws::layout::layout_by_effects;
 use ldlayout::laying::Laying;
 use ldmodel::laid::{Placed, PlacedData};
 use ldmodel::memory::NoMemory;
@@ -122,6 +123,7 @@ pub(crate) fn outputs<'a>(
         → AllZip (IsRow project.now s stays) s.sections (map vec_items pieces.now)
         → AllZip (IsOutput project.now s stays) s.sections v.items) }
 {
+    layout_by_effects();
     outputs_are_of_script();
     let script = project.script();
     let sections = script.output_sections(alloc)?;

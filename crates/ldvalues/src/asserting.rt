@@ -13,6 +13,7 @@ ghost use Rattle.ldvalues.specs.Values.{AreValues};
 use crate::final_scope::FinalScope;
 use crate::symbols_by_name::SymbolsByName;
 use crate::values::Values;
+use ldlaws::layout::layout_by_effects;
 use ldlayout::laying::Laying;
 use ldmodel::fault::{AssertionIndex, Fault};
 use ldmodel::memory::NoMemory;
@@ -77,6 +78,7 @@ pub fn assertion_faults(
         → AreValues project.now s a values.now
         → faults_in project.now fs.items ≡ definition.assertion_faults project.now s) }
 {
+    layout_by_effects();
     outputs_are_of_script();
     let script = project.script();
     let commands = script.common_commands(alloc)?;

@@ -8,4 +8,5 @@ pub returns : goal.returns
 returns c =
     λ p s a names numbers e.
     end_below p names numbers (c.live_by_path.ensures.in_order p) s
-    (c.placed_are_rows.ensures p (provided p) s e) (ends_below p.script (rows p) (provided p) s e) a
+    (c.placed_are_rows.ensures p (provided p) s e)
+    (ends_below p.script s (c.layout_by_effects.ensures p.script (rows p) (provided p) s e)) a

@@ -28,7 +28,7 @@ returns c =
     h p s stays (record {
       placed = placed;
       names = outputs ∙ ap (map (λ (o : OutputSectionAt). o.section.name)) (sym tree);
-      fills = fills_are p (rows p) (provided p) s laying.placed
+      fills = fills_are p.script s (c.layout_by_effects.ensures p.script (rows p) (provided p) s laying.placed)
           ∙ ap (map (λ (o : OutputSectionAt). o.section.fill)) (sym tree);
       begun = subst (λ l. AllZip (IsOffset s) s.sections l) (sym c.deref-2.ensures.value) laying.offsets;
       pieces = pieces;

@@ -41,5 +41,7 @@ returns c =
     (ap (map shown_symbol) (c.of.ensures ∙ c.deref-2.ensures.value) ∙ values.symbols)
     (c.outputs_are_of_script.ensures c.args.project.now (rows c.args.project.now) (provided c.args.project.now) s
     laying.placed)
-    (regions_are c.args.project.now.script (rows c.args.project.now) (provided c.args.project.now) s laying.placed))
+    (regions_are c.args.project.now.script s
+    (c.layout_by_effects.ensures c.args.project.now.script (rows c.args.project.now) (provided c.args.project.now) s
+    laying.placed)))
     c.loop-number.invariant
