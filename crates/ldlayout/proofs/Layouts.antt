@@ -65,15 +65,15 @@ pub has_layout : (p : Project) (l : Laying) (h : HasPlaces p l.placement) (place
 has_layout p l h placed e made named begun =
     let same : map placed_of h.layout.sections ≡ placed = sym h.places.sections ∙ sym e in
     let segments = made h.layout.sections same in record {
-  layout = h.layout;
-  is = record {
-    placed = h.placed;
-    apart = h.apart;
-    layout = layout_is p h.layout h.placed h.apart;
-    places = h.places;
-    kept = h.kept;
-    segments = segments;
-    offsets = begun same segments;
-    named = named;
-  };
-}
+      layout = h.layout;
+      is = record {
+        placed = h.placed;
+        apart = h.apart;
+        layout = layout_is p h.layout h.placed h.apart;
+        places = h.places;
+        kept = h.kept;
+        segments = segments;
+        offsets = begun same segments;
+        named = named;
+      };
+    }
