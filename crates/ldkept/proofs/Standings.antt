@@ -143,8 +143,8 @@ fits s q z offset is = go (has_file_bytes q && not (z.piece.size == 0))
 abbrev place_with : ℕ → ℕ → ℕ → PartPlace
 place_with start size n = record { start = start; size = size; section = record { 0 = n } }
 
-module _ (p : Project) (s : Layout) (t : Starts) (f : Laying) (starts : AreStarts p s t) (laying : IsLaying p s f)
-    where
+module _ (p : Project) (s : Layout) (t : Starts) (f : Laying) (starts : AreStarts p s t)
+    (laying : IsLaying p s f) where
   pub owned : (k : ℕ) (q : PlacedSection) (z : PlacedPiece) → slice_get s.sections k ≡ Some q → Contains q.pieces z
       → IsOwned p z.piece
   owned k q z at among =

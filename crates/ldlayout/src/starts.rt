@@ -84,10 +84,7 @@ impl Starts {
         let sections = Sections::of(alloc, &entries, inputs.len())?;
         let mut blocks = blocks_among(alloc, &entries)?;
         blocks.sort_by_key(|entry| entry.rank())?;
-        Ok(Starts {
-            sections,
-            blocks,
-        })
+        Ok(Starts { sections, blocks })
     }
 
     /// Where a part of the object of a number stands, if it is in the output.
