@@ -17,16 +17,17 @@ pub const MAP_MODE: u32 = 0o644;
 /// long is seen to be, and one without an end is not read for ever.
 const MOST: usize = MAX_PAYLOAD + 1;
 
-/// The first bytes of a file, as many as one read gives into this buffer; none where a signal interrupts it.
-fn read_once(file: &mut File, buffer: &mut Vec<u8>) -> io::Result<()> {
+/// The first bytes of a file, as many as one read gives into this buffer. Gives whether it did read: a signal may
+/// interrupt it.
+fn read_once(file: &mut File, buffer: &mut Vec<u8>) -> io::Result<bool> {
     match file.read(buffer) {
         Ok(count) => {
             buffer.truncate(count);
-            Ok(())
+            Ok(true)
         }
         Err(error) if error.kind() == ErrorKind::Interrupted => {
             buffer.clear();
-            Ok(())
+            Ok(false)
         }
         Err(error) => Err(error),
     }
@@ -43,9 +44,9 @@ pub fn read_file(rt: &HostRuntime, name: &str) -> io::Result<Vec<u8>> {
     let size = usize::try_from(file.metadata()?.len()).unwrap_or(MOST);
     let room = size.saturating_add(1).min(MOST);
     let mut bytes = vec![in rt.alloc(); 0; room]?;
-    read_once(&mut file, &mut bytes)?;
+    let has_read = read_once(&mut file, &mut bytes)?;
     let count = bytes.len();
-    if count == size && count < room {
+    if has_read && count == size && count < room {
         return Ok(bytes);
     }
     file.take(MOST.saturating_sub(count) as u64)
