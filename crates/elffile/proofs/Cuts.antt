@@ -1,4 +1,5 @@
-use Rattle.std.proofs.Common.{◌≡◌, ℕ, ◌+◌, ◌-◌, ◌≤◌, List, [], length, take, drop, ap, sym, ◌∙◌, subst, arith, Option, Some}
+use Rattle.std.proofs.Common.{◌≡◌, ℕ, ◌+◌, ◌-◌, ◌≤◌, List, [], length, take, drop, ap, sym, ◌∙◌, subst, arith, Option}
+use Rattle.std.proofs.Common.Some
 use Rattle.std.specs.List.{slice_range}
 use Rattle.std.specs.Option.{unwrap_or, IfSome}
 use Rattle.std.proofs.lemmas.Option.{MatchOption-at_some}
@@ -6,7 +7,8 @@ use Rattle.std.proofs.lemmas.List.{length-take, drop-take, take-take, drop-drop}
 use Rattle.elffile.specs.Names.{string_at}
 
 -- a part of a part of a list
-pub cut_cut : {X : Type 0} (bytes : List X) (off size at n : ℕ) → at + n ≤ size → take n (drop at (slice_range bytes off (off + size))) ≡ slice_range bytes (off + at) (off + at + n)
+pub cut_cut : {X : Type 0} (bytes : List X) (off size at n : ℕ) → at + n ≤ size
+    → take n (drop at (slice_range bytes off (off + size))) ≡ slice_range bytes (off + at) (off + at + n)
 cut_cut bytes off size at n h =
     let e : off + size - off ≡ at + (size - at) = omega arith in
     let f : n ≡ off + at + n - (off + at) = omega arith in
@@ -25,12 +27,14 @@ name_cut bytes off size at n h e =
     rw e (sym (cut_cut bytes off size at n (omega arith)))
 
 -- the same, as a call tells it
-pub name_cut_by : (bytes : List ℕ) (off size at n : ℕ) (table : List ℕ) (r : Option ℕ) → table ≡ slice_range bytes off (off + size) → r ≡ Some n
+pub name_cut_by : (bytes : List ℕ) (off size at n : ℕ) (table : List ℕ) (r : Option ℕ)
+    → table ≡ slice_range bytes off (off + size) → r ≡ Some n
     → IfSome r (λ n. at + n ≤ length table) → IfSome r (λ n. string_at table at ≡ Some (take n (drop at table)))
     → slice_range bytes (off + at) (off + at + n) ≡ unwrap_or (string_at (slice_range bytes off (off + size)) at) []
 name_cut_by bytes off size at n table r t e h k =
     let h' : at + n ≤ length table = MatchOption-at_some (Unit {0}) (λ n. at + n ≤ length table) n e h in
-    let k' : string_at table at ≡ Some (take n (drop at table)) = MatchOption-at_some (Unit {0}) (λ n. string_at table at ≡ Some (take n (drop at table))) n e k in
+    let k' : string_at table at ≡ Some (take n (drop at table)) = MatchOption-at_some (Unit {0})
+    (λ n. string_at table at ≡ Some (take n (drop at table))) n e k in
     name_cut bytes off size at n
     (subst (λ xs. at + n ≤ length xs) t h')
     (subst (λ xs. string_at xs at ≡ Some (take n (drop at xs))) t k')

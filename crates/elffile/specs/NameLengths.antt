@@ -19,4 +19,5 @@ name_lengths (b ∷ table) = first_length (b ∷ table) ∷ name_lengths table
 
 -- the length at a byte, where the rest of the table begins with a zero byte, or with a name of this length
 abbrev pub length_before : ℕ → Bool → ℕ → ℕ
-length_before b ends n = if is_graphic b then (if ends then 1 else (if (n == 0) || (n == MAX_NAME_LENGTH) then 0 else n + 1)) else 0
+length_before b ends n = if is_graphic b
+    then (if ends then 1 else (if (n == 0) || (n == MAX_NAME_LENGTH) then 0 else n + 1)) else 0

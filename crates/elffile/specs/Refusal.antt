@@ -1,6 +1,7 @@
 -- When bytes are no object of the profile: the gABI's rules for a relocatable ELF-64 object of x86-64, and
 -- this linker's own limits. Offsets and sizes are whole numbers, so no sum wraps.
-use Rattle.std.specs.Prelude.{ℕ, ◌+◌, ◌*◌, List, [], ◌∷◌, ◌++◌, length, find, Option, Bool, false, not, ◌&&◌, ◌||◌, ◌==◌, nat_lt, nat_le, is_some, bit_or}
+use Rattle.std.specs.Prelude.{ℕ, ◌+◌, ◌*◌, List, [], ◌∷◌, ◌++◌, length, find, Option, Bool, false, not, ◌&&◌, ◌||◌}
+use Rattle.std.specs.Prelude.{◌==◌, nat_lt, nat_le, is_some, bit_or}
 use Rattle.std.specs.List.{list_any}
 use Rattle.std.specs.Int.{is_power_of_two}
 use Rattle.std.specs.Option.{option_map_or}
@@ -10,11 +11,17 @@ use Rattle.elffile.specs.Names.{string_at, is_name}
 use Rattle.elffile.specs.SectionKinds.{kind_of}
 use Rattle.elffile.specs.LinkedKinds.{is_alloc}
 use Rattle.elffile.specs.Sections.{name_table}
-use Rattle.elffile.specs.Tables.{has_wrong_symbol_table, has_wrong_symbol, has_wrong_relocation_section, has_wrong_type, has_wrong_bounds, has_overlap}
+use Rattle.elffile.specs.Tables.{has_wrong_symbol_table, has_wrong_symbol, has_wrong_relocation_section, has_wrong_type}
+use Rattle.elffile.specs.Tables.{has_wrong_bounds, has_overlap}
 use Rattle.elffile.specs.declared.section_header.SectionHeader.{SectionHeader}
-use Rattle.elffile.specs.declared.constants.TheConstants.{ELFCLASS64, ELFDATA2LSB, EV_CURRENT, ET_REL, EM_X86_64, MAX_SECTION_HEADERS, SHT_NULL, SHT_STRTAB, SHT_NOBITS, PROFILE_FLAGS, MAX_SECTION_SIZE}
+use Rattle.elffile.specs.declared.constants.TheConstants.{ELFCLASS64, ELFDATA2LSB, EV_CURRENT, ET_REL, EM_X86_64}
+use Rattle.elffile.specs.declared.constants.TheConstants.{MAX_SECTION_HEADERS, SHT_NULL, SHT_STRTAB, SHT_NOBITS}
+use Rattle.elffile.specs.declared.constants.TheConstants.{PROFILE_FLAGS, MAX_SECTION_SIZE}
 use Rattle.elffile.specs.declared.refusal.ObjectRefusal.{ObjectRefusal}
-use Rattle.elffile.specs.declared.refusal.ObjectRefusal.TheVariants.{Short, NotElf, Machine, SectionTable, SectionCount, SectionBounds, SectionProfile, SymbolTable, Symbol, RelocationSection, RelocationType, FieldBounds, FieldOverlap, NoMemory}
+use Rattle.elffile.specs.declared.refusal.ObjectRefusal.TheVariants.{Short, NotElf, Machine, SectionTable, SectionCount}
+use Rattle.elffile.specs.declared.refusal.ObjectRefusal.TheVariants.{SectionBounds, SectionProfile, SymbolTable, Symbol}
+use Rattle.elffile.specs.declared.refusal.ObjectRefusal.TheVariants.{RelocationSection, RelocationType, FieldBounds}
+use Rattle.elffile.specs.declared.refusal.ObjectRefusal.TheVariants.{FieldOverlap, NoMemory}
 
 -- headers of type NULL are not looked at
 abbrev pub is_looked_at : SectionHeader → Bool
@@ -43,14 +50,17 @@ is_outside_profile bytes h = is_outside_profile_by (name_table bytes) h
 -- the condition of each refusal
 unfoldable pub holds : List ℕ → ObjectRefusal → Bool
 holds bytes Short = nat_lt (length bytes) 64
-holds bytes NotElf = not ((e_ident bytes 0 == 0x7F) && (e_ident bytes 1 == 0x45) && (e_ident bytes 2 == 0x4C) && (e_ident bytes 3 == 0x46))
+holds bytes NotElf = not ((e_ident bytes 0 == 0x7F) && (e_ident bytes 1 == 0x45) && (e_ident bytes 2 == 0x4C)
+    && (e_ident bytes 3 == 0x46))
 holds bytes Machine =
     not ((e_ident bytes 4 == ELFCLASS64) && (e_ident bytes 5 == ELFDATA2LSB) && (e_ident bytes 6 == EV_CURRENT)
     && (e_type bytes == ET_REL) && (e_machine bytes == EM_X86_64) && (e_version bytes == EV_CURRENT))
 holds bytes SectionTable = not (e_shentsize bytes == 64) || nat_lt (length bytes) (e_shoff bytes + 64 * e_shnum bytes)
-holds bytes SectionCount = (e_shnum bytes == 0) || nat_lt MAX_SECTION_HEADERS (e_shnum bytes) || nat_le (e_shnum bytes) (e_shstrndx bytes)
+holds bytes SectionCount = (e_shnum bytes == 0) || nat_lt MAX_SECTION_HEADERS (e_shnum bytes)
+    || nat_le (e_shnum bytes) (e_shstrndx bytes)
 holds bytes SectionBounds =
-    not ((header bytes (e_shstrndx bytes)).sh_type == SHT_STRTAB) || list_any (is_out_of_bounds (length bytes)) (headers bytes)
+    not ((header bytes (e_shstrndx bytes)).sh_type == SHT_STRTAB)
+    || list_any (is_out_of_bounds (length bytes)) (headers bytes)
 holds bytes SectionProfile = list_any (is_outside_profile bytes) (headers bytes)
 holds bytes SymbolTable = has_wrong_symbol_table bytes
 holds bytes Symbol = has_wrong_symbol bytes

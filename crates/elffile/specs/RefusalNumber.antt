@@ -1,7 +1,10 @@
 -- The numbers under which refusals are told.
 use Rattle.std.specs.Prelude.{ℕ}
 use Rattle.elffile.specs.declared.refusal.ObjectRefusal.{ObjectRefusal}
-use Rattle.elffile.specs.declared.refusal.ObjectRefusal.TheVariants.{Short, NotElf, Machine, SectionTable, SectionCount, SectionBounds, SectionProfile, SymbolTable, Symbol, RelocationSection, RelocationType, FieldBounds, FieldOverlap, NoMemory}
+use Rattle.elffile.specs.declared.refusal.ObjectRefusal.TheVariants.{Short, NotElf, Machine, SectionTable, SectionCount}
+use Rattle.elffile.specs.declared.refusal.ObjectRefusal.TheVariants.{SectionBounds, SectionProfile, SymbolTable, Symbol}
+use Rattle.elffile.specs.declared.refusal.ObjectRefusal.TheVariants.{RelocationSection, RelocationType, FieldBounds}
+use Rattle.elffile.specs.declared.refusal.ObjectRefusal.TheVariants.{FieldOverlap, NoMemory}
 
 abbrev pub refusal_number : ObjectRefusal → ℕ
 refusal_number Short = 1

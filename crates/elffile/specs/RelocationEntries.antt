@@ -14,7 +14,8 @@ relocation_entry_at bytes at = record {
 -- the first n entries of a table that begins at a place
 abbrev pub relocation_entries_below : List ℕ → ℕ → ℕ → List RelocationEntry
 relocation_entries_below bytes start zero = []
-relocation_entries_below bytes start (suc n) = relocation_entries_below bytes start n ++ relocation_entry_at bytes (start + 24 * n) ∷ []
+relocation_entries_below bytes start (suc n) =
+    relocation_entries_below bytes start n ++ relocation_entry_at bytes (start + 24 * n) ∷ []
 
 -- `ELF64_R_SYM` of r_info
 abbrev pub r_sym : RelocationEntry → ℕ

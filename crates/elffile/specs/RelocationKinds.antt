@@ -1,6 +1,8 @@
 -- The types of relocations of the profile (x86-64 psABI, "Relocation Types").
 use Rattle.std.specs.Prelude.{ℕ, Option, Some, None, ◌==◌, if◌then◌else◌}
-use Rattle.elffile.specs.declared.constants.TheConstants.{R_X86_64_NONE, R_X86_64_64, R_X86_64_PC32, R_X86_64_PLT32, R_X86_64_32, R_X86_64_32S, R_X86_64_16, R_X86_64_PC16, R_X86_64_8, R_X86_64_PC8, R_X86_64_PC64}
+use Rattle.elffile.specs.declared.constants.TheConstants.{R_X86_64_NONE, R_X86_64_64, R_X86_64_PC32, R_X86_64_PLT32}
+use Rattle.elffile.specs.declared.constants.TheConstants.{R_X86_64_32, R_X86_64_32S, R_X86_64_16, R_X86_64_PC16}
+use Rattle.elffile.specs.declared.constants.TheConstants.{R_X86_64_8, R_X86_64_PC8, R_X86_64_PC64}
 use Rattle.elffile.specs.declared.relocation.RelocationKind.{RelocationKind}
 use Rattle.elffile.specs.declared.relocation.RelocationKind.TheVariants as kind
 

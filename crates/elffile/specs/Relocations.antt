@@ -1,5 +1,6 @@
 -- Relocations of a section (x86-64 psABI, "Relocation Types").
-use Rattle.std.specs.Prelude.{ℕ, ◌+◌, ◌/◌, List, [], ◌∷◌, map, find, Option, Some, None, Bool, false, ◌&&◌, ◌||◌, ◌==◌, nat_lt, min, max, unwrap_or}
+use Rattle.std.specs.Prelude.{ℕ, ◌+◌, ◌/◌, List, [], ◌∷◌, map, find, Option, Some, None, Bool, false, ◌&&◌, ◌||◌, ◌==◌}
+use Rattle.std.specs.Prelude.{nat_lt, min, max, unwrap_or}
 use Rattle.std.specs.List.{list_any}
 use Rattle.elffile.specs.RelocationKinds.{relocation_kind, width}
 use Rattle.elffile.specs.SectionHeaders.{headers}

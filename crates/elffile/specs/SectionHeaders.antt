@@ -21,7 +21,17 @@ header_at bytes at = record {
 
 -- a header of type NULL
 abbrev pub null_header : SectionHeader
-null_header = record { sh_name = 0; sh_type = 0; sh_flags = 0; sh_offset = 0; sh_size = 0; sh_link = 0; sh_info = 0; sh_addralign = 0; sh_entsize = 0 }
+null_header = record {
+  sh_name = 0;
+  sh_type = 0;
+  sh_flags = 0;
+  sh_offset = 0;
+  sh_size = 0;
+  sh_link = 0;
+  sh_info = 0;
+  sh_addralign = 0;
+  sh_entsize = 0;
+}
 
 -- header number k; number 0 counts as type NULL, whatever it says
 unfoldable pub header : List ℕ → ℕ → SectionHeader

@@ -1,8 +1,10 @@
 -- The types of sections that are linked (gABI, "Sections"; psABI, "Section types").
 use Rattle.std.specs.Prelude.{ℕ, Option, Some, None, ◌==◌, if◌then◌else◌}
 use Rattle.elffile.specs.declared.section.SectionKind.{SectionKind}
-use Rattle.elffile.specs.declared.section.SectionKind.TheVariants.{Progbits, Nobits, Note, InitArray, FiniArray, PreinitArray, Unwind}
-use Rattle.elffile.specs.declared.constants.TheConstants.{SHT_PROGBITS, SHT_NOBITS, SHT_NOTE, SHT_INIT_ARRAY, SHT_FINI_ARRAY, SHT_PREINIT_ARRAY, SHT_X86_64_UNWIND}
+use Rattle.elffile.specs.declared.section.SectionKind.TheVariants.{Progbits, Nobits, Note, InitArray, FiniArray}
+use Rattle.elffile.specs.declared.section.SectionKind.TheVariants.{PreinitArray, Unwind}
+use Rattle.elffile.specs.declared.constants.TheConstants.{SHT_PROGBITS, SHT_NOBITS, SHT_NOTE, SHT_INIT_ARRAY}
+use Rattle.elffile.specs.declared.constants.TheConstants.{SHT_FINI_ARRAY, SHT_PREINIT_ARRAY, SHT_X86_64_UNWIND}
 
 -- the types that are linked
 unfoldable pub kind_of : ℕ → Option SectionKind

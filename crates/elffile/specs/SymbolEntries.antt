@@ -16,7 +16,8 @@ symbol_entry_at bytes at = record {
 -- the first n entries of a table that begins at a place
 abbrev pub symbol_entries_below : List ℕ → ℕ → ℕ → List SymbolEntry
 symbol_entries_below bytes start zero = []
-symbol_entries_below bytes start (suc n) = symbol_entries_below bytes start n ++ symbol_entry_at bytes (start + 24 * n) ∷ []
+symbol_entries_below bytes start (suc n) =
+    symbol_entries_below bytes start n ++ symbol_entry_at bytes (start + 24 * n) ∷ []
 
 -- `ELF64_ST_BIND` of st_info
 abbrev pub st_bind : SymbolEntry → ℕ

@@ -1,6 +1,7 @@
 -- Bindings and types of symbols (gABI, "Symbol Table").
 use Rattle.std.specs.Prelude.{ℕ, ◌==◌, if◌then◌else◌}
-use Rattle.elffile.specs.declared.constants.TheConstants.{STB_LOCAL, STB_GLOBAL, STT_NOTYPE, STT_OBJECT, STT_FUNC, STT_SECTION, STT_FILE}
+use Rattle.elffile.specs.declared.constants.TheConstants.{STB_LOCAL, STB_GLOBAL, STT_NOTYPE, STT_OBJECT, STT_FUNC}
+use Rattle.elffile.specs.declared.constants.TheConstants.{STT_SECTION, STT_FILE}
 use Rattle.elffile.specs.declared.symbol.Binding.{Binding}
 use Rattle.elffile.specs.declared.symbol.Binding.TheVariants as binding
 use Rattle.elffile.specs.declared.symbol.SymbolKind.{SymbolKind}

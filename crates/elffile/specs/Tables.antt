@@ -1,6 +1,7 @@
 -- When the symbol table or a relocation section is outside the profile: the gABI's rules, and this linker's own
 -- limits.
-use Rattle.std.specs.Prelude.{ℕ, zero, suc, ◌/◌, ◌%◌, List, length, drop, map, Option, Bool, true, false, not, ◌&&◌, ◌||◌, ◌==◌, nat_lt, nat_le, is_some, is_none, find, count_by, slice_get}
+use Rattle.std.specs.Prelude.{ℕ, zero, suc, ◌/◌, ◌%◌, List, length, drop, map, Option, Bool, true, false, not, ◌&&◌}
+use Rattle.std.specs.Prelude.{◌||◌, ◌==◌, nat_lt, nat_le, is_some, is_none, find, count_by, slice_get}
 use Rattle.std.specs.List.{list_all, list_any, slice_range}
 use Rattle.std.specs.Int.{is_power_of_two}
 use Rattle.std.specs.Option.{option_map_or}
@@ -9,12 +10,16 @@ use Rattle.elffile.specs.SectionHeaders.{header, headers, headers_below}
 use Rattle.elffile.specs.LinkedKinds.{linked_kind}
 use Rattle.elffile.specs.Names.{string_at, is_name}
 use Rattle.elffile.specs.SymbolEntries.{st_bind, st_type}
-use Rattle.elffile.specs.Symbols.{is_symbol_table, symbol_table_number, symbol_table, entries_of, strings_of, symbols_of}
+use Rattle.elffile.specs.Symbols.{is_symbol_table, symbol_table_number, symbol_table, entries_of, strings_of}
+use Rattle.elffile.specs.Symbols.symbols_of
 use Rattle.elffile.specs.RelocationEntries.{r_sym, r_type}
 use Rattle.elffile.specs.RelocationKinds.{relocation_kind}
-use Rattle.elffile.specs.Relocations.{is_relocation_section, changes, relocation_entries, relocations_at, share_bytes, field_end}
+use Rattle.elffile.specs.Relocations.{is_relocation_section, changes, relocation_entries, relocations_at, share_bytes}
+use Rattle.elffile.specs.Relocations.field_end
 use Rattle.elffile.specs.Sections.{section_of, sections_of}
-use Rattle.elffile.specs.declared.constants.TheConstants.{SHT_STRTAB, SHT_REL, STB_LOCAL, STB_GLOBAL, STB_WEAK, STT_SECTION, STT_FILE, STT_COMMON, SHN_UNDEF, SHN_ABS, SHN_COMMON, MAX_SECTION_SIZE}
+use Rattle.elffile.specs.declared.constants.TheConstants.{SHT_STRTAB, SHT_REL, STB_LOCAL, STB_GLOBAL, STB_WEAK}
+use Rattle.elffile.specs.declared.constants.TheConstants.{STT_SECTION, STT_FILE, STT_COMMON, SHN_UNDEF, SHN_ABS}
+use Rattle.elffile.specs.declared.constants.TheConstants.{SHN_COMMON, MAX_SECTION_SIZE}
 use Rattle.elffile.specs.declared.relocation.Relocation.{Relocation}
 use Rattle.elffile.specs.declared.relocation_entry.RelocationEntry.{RelocationEntry}
 use Rattle.elffile.specs.declared.section.Section.{Section}
@@ -42,13 +47,17 @@ is_not_local e = not (is_local e)
 
 -- of the entries from 1 on, one below sh_info is not local, or one from sh_info on is
 abbrev pub has_misplaced_entry : SectionHeader → List SymbolEntry → Bool
-has_misplaced_entry table entries = (not (list_all is_local (slice_range entries 1 table.sh_info))) || list_any is_local (drop table.sh_info entries)
+has_misplaced_entry table entries =
+    (not (list_all is_local (slice_range entries 1 table.sh_info))) || list_any is_local (drop table.sh_info entries)
 
 abbrev pub is_wrong_symbol_table : List ℕ → SectionHeader → Bool
-is_wrong_symbol_table bytes table = has_wrong_header (headers bytes) table || has_misplaced_entry table (entries_of bytes table)
+is_wrong_symbol_table bytes table =
+    has_wrong_header (headers bytes) table || has_misplaced_entry table (entries_of bytes table)
 
 unfoldable pub has_wrong_symbol_table : List ℕ → Bool
-has_wrong_symbol_table bytes = nat_lt 1 (count_by is_symbol_table (headers bytes)) || option_map_or (is_wrong_symbol_table bytes) (symbol_table bytes) false
+has_wrong_symbol_table bytes =
+    nat_lt 1 (count_by is_symbol_table (headers bytes))
+    || option_map_or (is_wrong_symbol_table bytes) (symbol_table bytes) false
 
 -- a section number that is neither one of n sections nor ABS nor COMMON
 abbrev pub is_nowhere : ℕ → SymbolEntry → Bool
@@ -63,7 +72,8 @@ is_wrong_local e = is_local e && ((e.st_shndx == SHN_UNDEF) || (e.st_shndx == SH
 abbrev pub is_wrong_non_local : List ℕ → SymbolEntry → Bool
 is_wrong_non_local strings e =
     is_not_local e
-    && ((st_type e == STT_SECTION) || (st_type e == STT_FILE) || (not (option_map_or is_name (string_at strings e.st_name) false)))
+    && ((st_type e == STT_SECTION) || (st_type e == STT_FILE)
+    || (not (option_map_or is_name (string_at strings e.st_name) false)))
 
 -- not global, or with an alignment that is no power of two, or too large
 abbrev pub is_wrong_common : SymbolEntry → Bool
@@ -74,10 +84,12 @@ is_wrong_common e =
 -- among n sections, with names in a table of strings
 abbrev pub is_wrong_symbol : ℕ → List ℕ → SymbolEntry → Bool
 is_wrong_symbol n strings e =
-    nat_lt STB_WEAK (st_bind e) || nat_lt STT_COMMON (st_type e) || is_nowhere n e || is_wrong_local e || is_wrong_non_local strings e || is_wrong_common e
+    nat_lt STB_WEAK (st_bind e) || nat_lt STT_COMMON (st_type e) || is_nowhere n e || is_wrong_local e
+    || is_wrong_non_local strings e || is_wrong_common e
 
 abbrev pub has_wrong_entry : List ℕ → SectionHeader → Bool
-has_wrong_entry bytes table = list_any (is_wrong_symbol (e_shnum bytes) (strings_of bytes table)) (drop 1 (entries_of bytes table))
+has_wrong_entry bytes table = list_any (is_wrong_symbol (e_shnum bytes) (strings_of bytes table))
+    (drop 1 (entries_of bytes table))
 
 unfoldable pub has_wrong_symbol : List ℕ → Bool
 has_wrong_symbol bytes = option_map_or (has_wrong_entry bytes) (symbol_table bytes) false
@@ -90,20 +102,23 @@ is_linked all k = option_map_or (λ h. is_some (linked_kind h)) (slice_get all k
 -- table (always, if it has none)
 abbrev pub is_wrong_table : Option ℕ → SectionHeader → Bool
 is_wrong_table symtab h =
-    (h.sh_type == SHT_REL) || (not (h.sh_entsize == 24)) || (not (h.sh_size % 24 == 0)) || (not (option_map_or (λ n. h.sh_link == n) symtab false))
+    (h.sh_type == SHT_REL) || (not (h.sh_entsize == 24)) || (not (h.sh_size % 24 == 0))
+    || (not (option_map_or (λ n. h.sh_link == n) symtab false))
 
 -- a relocation section whose sh_info is no header's number, or that changes a linked section in a way outside the
 -- profile; `others` are the headers before its own
 abbrev pub is_wrong_relocation_section : List SectionHeader → Option ℕ → List SectionHeader → SectionHeader → Bool
 is_wrong_relocation_section all symtab others h =
     is_relocation_section h
-    && (nat_le (length all) h.sh_info || (is_linked all h.sh_info && (is_some (find (changes h.sh_info) others) || is_wrong_table symtab h)))
+    && (nat_le (length all) h.sh_info
+    || (is_linked all h.sh_info && (is_some (find (changes h.sh_info) others) || is_wrong_table symtab h)))
 
 -- one of the first n headers is that of a wrong relocation section
 abbrev pub is_wrong_below : List ℕ → ℕ → Bool
 is_wrong_below bytes zero = false
 is_wrong_below bytes (suc n) =
-    is_wrong_below bytes n || is_wrong_relocation_section (headers bytes) (symbol_table_number bytes) (headers_below bytes n) (header bytes n)
+    is_wrong_below bytes n || is_wrong_relocation_section (headers bytes) (symbol_table_number bytes)
+    (headers_below bytes n) (header bytes n)
 
 -- the linked sections as callers see them
 abbrev pub linked_sections : List ℕ → List Section
@@ -117,7 +132,9 @@ abbrev pub has_strange_symbol : List ℕ → ℕ → Section → Bool
 has_strange_symbol bytes n s = list_any (names_no_symbol n) (relocation_entries bytes s.number.0)
 
 unfoldable pub has_wrong_relocation_section : List ℕ → Bool
-has_wrong_relocation_section bytes = is_wrong_below bytes (e_shnum bytes) || list_any (has_strange_symbol bytes (length (symbols_of bytes))) (linked_sections bytes)
+has_wrong_relocation_section bytes =
+    is_wrong_below bytes (e_shnum bytes)
+    || list_any (has_strange_symbol bytes (length (symbols_of bytes))) (linked_sections bytes)
 
 abbrev pub is_strange_type : RelocationEntry → Bool
 is_strange_type e = is_none (relocation_kind (r_type e))

@@ -1,6 +1,7 @@
 //! Names in a string table (gABI, "String Table": a string runs to the next zero byte).
 
-ghost use Rattle.std.specs.Prelude.{◌≡◌, ℕ, ◌≤◌, ◌<◌, ◌+◌, IfOk, IfSome, Some, [], drop, false, get_or, is_some, length, take, true, unwrap_or};
+ghost use Rattle.std.specs.Prelude.{◌≡◌, ℕ, ◌≤◌, ◌<◌, ◌+◌, IfOk, IfSome, Some, [], drop, false, get_or, is_some};
+ghost use Rattle.std.specs.Prelude.{length, take, true, unwrap_or};
 ghost use Rattle.std.specs.Option.{option_map_or};
 ghost use Rattle.std.proofs.Props.{props};
 ghost use Rattle.elffile.specs.NameLengths.{first_length, length_before, name_lengths};
@@ -102,8 +103,10 @@ fn looked_length(table: &[u8], at: usize) -> Option<usize>
 pub fn looked_name(file: &[u8], header: &SectionHeader, at: u32) -> Option<Span>
     requires { header.now.sh_offset + header.now.sh_size ≤ length file.now }
     ensures within { IfSome result (IsInside (length file.now)) }
-    ensures name { IfSome result (λ s. bytes_at file.now s ≡ unwrap_or (string_at (file_bytes file.now header.now) at) []) }
-    ensures limits { IfSome result (λ s. option_map_or is_name (string_at (file_bytes file.now header.now) at) false ≡ true) }
+    ensures name { IfSome result (λ s. bytes_at file.now s ≡ unwrap_or
+        (string_at (file_bytes file.now header.now) at) []) }
+    ensures limits { IfSome result
+        (λ s. option_map_or is_name (string_at (file_bytes file.now header.now) at) false ≡ true) }
 {
     let Some(length) = looked_length(header.file_bytes(file), at as usize) else {
         return None;
@@ -153,7 +156,8 @@ impl<'a> StringTable<'a> {
     pub fn name_length(&self, at: u32) -> Option<u16>
         ensures found { is_some result ≡ option_map_or is_name (string_at (table_of self.now) at) false }
         ensures within { IfSome result (λ n. at + n ≤ length (table_of self.now)) }
-        ensures name { IfSome result (λ n. string_at (table_of self.now) at ≡ Some (take n (drop at (table_of self.now)))) }
+        ensures name { IfSome result (λ n. string_at (table_of self.now) at ≡ Some
+            (take n (drop at (table_of self.now)))) }
     {
         let length = self.length_at(at as usize);
         if length == 0 {

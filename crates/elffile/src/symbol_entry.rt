@@ -38,7 +38,8 @@ impl SymbolEntry {
     ghost use Rattle.elffile.specs.SectionHeaders.{file_bytes};
     ghost use Rattle.elffile.specs.Spans.{IsInside, bytes_at};
     ghost use Rattle.elffile.specs.TableOf.{table_of};
-    ghost use Rattle.elffile.specs.Tables.{is_local, is_nowhere, is_wrong_local, is_wrong_non_local, is_wrong_common, is_wrong_symbol};
+    ghost use Rattle.elffile.specs.Tables.{is_local, is_nowhere, is_wrong_local, is_wrong_non_local, is_wrong_common};
+    ghost use Rattle.elffile.specs.Tables.is_wrong_symbol;
 
     /// `ELF64_ST_BIND` of `st_info`.
     pub fn bind(&self) -> u8
@@ -110,12 +111,15 @@ impl SymbolEntry {
     }
 
     /// Where the name lies in the file, if the entry is within the profile in an object of this number of section
-    /// headers, with the string table of this header. A local entry has an empty name. Each call looks through the name.
+    /// headers, with the string table of this header. A local entry has an empty name. Each call looks through the
+    /// name.
     pub fn looked_name(&self, sections: u16, file: &[u8], strings: &SectionHeader) -> Option<Span>
         requires { strings.now.sh_offset + strings.now.sh_size ≤ length file.now }
-        ensures right { IfSome result (λ s. is_wrong_symbol sections (file_bytes file.now strings.now) self.now ≡ false) }
+        ensures right { IfSome result (λ s. is_wrong_symbol sections
+            (file_bytes file.now strings.now) self.now ≡ false) }
         ensures within { IfSome result (IsInside (length file.now)) }
-        ensures name { IfSome result (λ s. bytes_at file.now s ≡ symbol_name (file_bytes file.now strings.now) self.now) }
+        ensures name { IfSome result (λ s. bytes_at file.now s ≡ symbol_name
+            (file_bytes file.now strings.now) self.now) }
     {
         if self.has_strange_info()
             || self.is_nowhere(sections)

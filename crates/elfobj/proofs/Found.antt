@@ -1,4 +1,5 @@
-use Rattle.std.proofs.Common.{◌≡◌, ℕ, ◌+◌, ◌≤◌, List, [], ◌∷◌, Bool, true, false, cond, ◌||◌, ap, sym, ◌∙◌, ⊎_elim, find, Some, nat_lt, eqb}
+use Rattle.std.proofs.Common.{◌≡◌, ℕ, ◌+◌, ◌≤◌, List, [], ◌∷◌, Bool, true, false, cond, ◌||◌, ap, sym, ◌∙◌, ⊎_elim}
+use Rattle.std.proofs.Common.{find, Some, nat_lt, eqb}
 use Rattle.std.specs.List.{list_any}
 use Rattle.std.proofs.lemmas.Bool.{cases_Bool, or_parts, or_cases, eqb-true, ltb-false}
 use Rattle.std.proofs.lemmas.Option.{none-some, same_Some}
@@ -8,17 +9,20 @@ use Rattle.elffile.specs.Symbols.{is_symbol_table}
 use Rattle.elffile.specs.declared.section_header.SectionHeader.{SectionHeader}
 
 -- a header that is found passes the test, and none that no header passes
-pub found_is : (p : SectionHeader → Bool) (hs : List SectionHeader) (h : SectionHeader) → find p hs ≡ Some h → p h ≡ true
+pub found_is : (p : SectionHeader → Bool) (hs : List SectionHeader) (h : SectionHeader)
+    → find p hs ≡ Some h → p h ≡ true
 found_is p [] h e = absurd (none-some h e)
 found_is p (x ∷ xs) h e = ⊎_elim
     (λ a. ap p (sym (same_Some x h (sym (ap (λ b. cond b (Some x) (find p xs)) a) ∙ e))) ∙ a)
     (λ a. found_is p xs h (sym (ap (λ b. cond b (Some x) (find p xs)) a) ∙ e))
     (cases_Bool (p x))
 
-pub found_not : (p q : SectionHeader → Bool) (hs : List SectionHeader) (h : SectionHeader) → find p hs ≡ Some h → list_any q hs ≡ false → q h ≡ false
+pub found_not : (p q : SectionHeader → Bool) (hs : List SectionHeader) (h : SectionHeader) → find p hs ≡ Some h
+    → list_any q hs ≡ false → q h ≡ false
 found_not p q [] h e n = absurd (none-some h e)
 found_not p q (x ∷ xs) h e n = ⊎_elim
-    (λ a. ap q (sym (same_Some x h (sym (ap (λ b. cond b (Some x) (find p xs)) a) ∙ e))) ∙ (or_parts (q x) (list_any q xs) n).0)
+    (λ a. ap q (sym (same_Some x h (sym (ap (λ b. cond b (Some x) (find p xs)) a) ∙ e)))
+    ∙ (or_parts (q x) (list_any q xs) n).0)
     (λ a. found_not p q xs h (sym (ap (λ b. cond b (Some x) (find p xs)) a) ∙ e) (or_parts (q x) (list_any q xs) n).1)
     (cases_Bool (p x))
 
@@ -30,7 +34,8 @@ pub record IsTableIn (n : ℕ) (h : SectionHeader) : Type 0 where
 in_parts : (past large odd : Bool) → (past || large || odd) ≡ false → (past ≡ false) × (large ≡ false)
 in_parts past large odd h = or_parts past large (or_parts (past || large) odd h).0
 
-in_bounds : (n : ℕ) (h : SectionHeader) (odd : Bool) → (nat_lt n (h.sh_offset + h.sh_size) || nat_lt 2147483648 h.sh_size || odd) ≡ false → IsTableIn n h
+in_bounds : (n : ℕ) (h : SectionHeader) (odd : Bool)
+    → (nat_lt n (h.sh_offset + h.sh_size) || nat_lt 2147483648 h.sh_size || odd) ≡ false → IsTableIn n h
 in_bounds n h odd e =
     let p = in_parts _ _ odd e in
     record { end = ltb-false n (h.sh_offset + h.sh_size) p.0; small = ltb-false 2147483648 h.sh_size p.1 }
@@ -47,10 +52,12 @@ rel_type n h t e = let f = rw t at e in in_bounds n h _ f
 pub strings_type : (n : ℕ) (h : SectionHeader) → h.sh_type ≡ 3 → is_out_of_bounds n h ≡ false → IsTableIn n h
 strings_type n h t e = let f = rw t at e in in_bounds n h _ f
 
-pub symbols_in_file : (n : ℕ) (h : SectionHeader) → is_symbol_table h ≡ true → is_out_of_bounds n h ≡ false → IsTableIn n h
+pub symbols_in_file : (n : ℕ) (h : SectionHeader) → is_symbol_table h ≡ true → is_out_of_bounds n h ≡ false
+    → IsTableIn n h
 symbols_in_file n h t e = symbols_type n h (eqb-true h.sh_type 2 t) e
 
-pub relocations_in_file : (n : ℕ) (h : SectionHeader) → is_relocation_section h ≡ true → is_out_of_bounds n h ≡ false → IsTableIn n h
+pub relocations_in_file : (n : ℕ) (h : SectionHeader) → is_relocation_section h ≡ true → is_out_of_bounds n h ≡ false
+    → IsTableIn n h
 relocations_in_file n h t e = ⊎_elim
     (λ a. rela_type n h (eqb-true h.sh_type 4 a) e)
     (λ a. rel_type n h (eqb-true h.sh_type 9 a) e)

@@ -1,4 +1,5 @@
-use Rattle.std.proofs.Common.{◌≡◌, ℕ, zero, suc, ◌+◌, ◌-◌, ◌<◌, ◌≤◌, ◌⊎◌, List, [], Bool, true, false, cond, not, ◌||◌, ◌&&◌, length, drop, refl, ap, inl, inr, ⊎_elim, arith, Option, Some, None, nat_lt, eqb}
+use Rattle.std.proofs.Common.{◌≡◌, ℕ, zero, suc, ◌+◌, ◌-◌, ◌<◌, ◌≤◌, ◌⊎◌, List, [], Bool, true, false, cond, not, ◌||◌}
+use Rattle.std.proofs.Common.{◌&&◌, length, drop, refl, ap, inl, inr, ⊎_elim, arith, Option, Some, None, nat_lt, eqb}
 use Rattle.std.specs.Prelude.{IsTrue}
 use Rattle.std.specs.List.{All, slice_range}
 use Rattle.std.specs.Int.{is_power_of_two}
@@ -18,14 +19,19 @@ use Rattle.elffile.specs.SectionHeaders.{header}
 use Rattle.elffile.specs.LinkedKinds.{is_alloc, linked_kind}
 use Rattle.elffile.specs.Sections.{linked_as, linked_section, sections_below, sections_of, name_of, contents}
 use Rattle.elffile.specs.declared.refusal.ObjectRefusal.{ObjectRefusal}
-use Rattle.elffile.specs.declared.refusal.ObjectRefusal.TheVariants.{Short, NotElf, Machine, SectionTable, SectionCount, SectionBounds, SectionProfile, SymbolTable, Symbol, RelocationSection, RelocationType, FieldBounds, FieldOverlap}
+use Rattle.elffile.specs.declared.refusal.ObjectRefusal.TheVariants.{Short, NotElf, Machine, SectionTable, SectionCount}
+use Rattle.elffile.specs.declared.refusal.ObjectRefusal.TheVariants.{SectionBounds, SectionProfile, SymbolTable, Symbol}
+use Rattle.elffile.specs.declared.refusal.ObjectRefusal.TheVariants.{RelocationSection, RelocationType, FieldBounds}
+use Rattle.elffile.specs.declared.refusal.ObjectRefusal.TheVariants.FieldOverlap
 use Rattle.elffile.specs.declared.section.SectionKind.{SectionKind}
-use Rattle.elffile.specs.declared.section.SectionKind.TheVariants.{Progbits, Nobits, Note, InitArray, FiniArray, PreinitArray, Unwind}
+use Rattle.elffile.specs.declared.section.SectionKind.TheVariants.{Progbits, Nobits, Note, InitArray, FiniArray}
+use Rattle.elffile.specs.declared.section.SectionKind.TheVariants.{PreinitArray, Unwind}
 use Rattle.elffile.specs.declared.section_header.SectionHeader.{SectionHeader}
 use Rattle.elfobj.proofs.Passing.{none_at}
 use Rattle.elfobj.proofs.Steps.{linkable, linked_parts, kind_not_null}
 
-pub cond_none : (b : Bool) (r : ObjectRefusal) (o : Option ObjectRefusal) → cond b (Some r) o ≡ None → (b ≡ false) × (o ≡ None)
+pub cond_none : (b : Bool) (r : ObjectRefusal) (o : Option ObjectRefusal) → cond b (Some r) o ≡ None
+    → (b ≡ false) × (o ≡ None)
 cond_none true r o h = cc
 cond_none false r o h = (refl, h)
 
@@ -65,11 +71,13 @@ accepted_parts bytes h =
       overlap = n.0;
     }
 
-large_parts : (looked_at a large odd : Bool) → looked_at ≡ true → (looked_at && (a || large || odd)) ≡ false → (large ≡ false) × (odd ≡ false)
+large_parts : (looked_at a large odd : Bool) → looked_at ≡ true → (looked_at && (a || large || odd)) ≡ false
+    → (large ≡ false) × (odd ≡ false)
 large_parts false a large odd l h = absurd (false≢true l)
 large_parts true a large odd l h = let p = or_parts (a || large) odd h in ((or_parts a large p.0).1, p.1)
 
-flag_parts : (looked_at alloc a odd b : Bool) → looked_at ≡ true → alloc ≡ true → (looked_at && alloc && (a || odd || b)) ≡ false → odd ≡ false
+flag_parts : (looked_at alloc a odd b : Bool) → looked_at ≡ true → alloc ≡ true
+    → (looked_at && alloc && (a || odd || b)) ≡ false → odd ≡ false
 flag_parts false alloc a odd b l k h = absurd (false≢true l)
 flag_parts true false a odd b l k h = absurd (false≢true k)
 flag_parts true true a odd b l k h = (or_parts a odd (or_parts (a || odd) b h).0).1
@@ -78,13 +86,15 @@ pub name_told : (o : Option (List ℕ)) → option_map_or is_name o false ≡ tr
 name_told None h = absurd (false≢true h)
 name_told (Some name) h = h
 
-range_length : (bytes : List ℕ) (off size : ℕ) → off + size ≤ length bytes → length (slice_range bytes off (off + size)) ≡ size
+range_length : (bytes : List ℕ) (off size : ℕ) → off + size ≤ length bytes
+    → length (slice_range bytes off (off + size)) ≡ size
 range_length bytes off size h =
     let a = length-take (off + size - off) (drop off bytes) in
     let b = length-drop off bytes in
     omega arith
 
-contents_length : (bytes : List ℕ) (h : SectionHeader) (kind : SectionKind) → IsFileWithin (length bytes) h kind → length (contents bytes h kind) ≡ size_in_file kind h.sh_size
+contents_length : (bytes : List ℕ) (h : SectionHeader) (kind : SectionKind) → IsFileWithin (length bytes) h kind
+    → length (contents bytes h kind) ≡ size_in_file kind h.sh_size
 contents_length bytes h Progbits l = range_length bytes h.sh_offset h.sh_size l
 contents_length bytes h Nobits l = refl
 contents_length bytes h Note l = range_length bytes h.sh_offset h.sh_size l
@@ -94,15 +104,20 @@ contents_length bytes h PreinitArray l = range_length bytes h.sh_offset h.sh_siz
 contents_length bytes h Unwind l = range_length bytes h.sh_offset h.sh_size l
 
 aligned : (a : ℕ) → ((not (eqb a 0)) && (not (is_power_of_two a))) ≡ false → (a ≡ 0) ⊎ IsTrue (is_power_of_two a)
-aligned a h = ⊎_elim (λ p. inl (eqb-true a 0 (not-false _ p))) (λ p. inr (not-false _ p)) (and_cases (not (eqb a 0)) (not (is_power_of_two a)) h)
+aligned a h = ⊎_elim (λ p. inl (eqb-true a 0 (not-false _ p))) (λ p. inr (not-false _ p))
+    (and_cases (not (eqb a 0)) (not (is_power_of_two a)) h)
 
-section_limits : (bytes : List ℕ) (k : ℕ) (h : SectionHeader) (kind : SectionKind) → linked_kind h ≡ Some kind → is_out_of_bounds (length bytes) h ≡ false → is_outside_profile bytes h ≡ false
+section_limits : (bytes : List ℕ) (k : ℕ) (h : SectionHeader) (kind : SectionKind) → linked_kind h ≡ Some kind
+    → is_out_of_bounds (length bytes) h ≡ false → is_outside_profile bytes h ≡ false
     → IsLinkable bytes h kind → IsSectionOfProfile (linked_as bytes k h kind)
 section_limits bytes k h kind e b p l =
     let parts = linked_parts h kind e in
     let looked_at : is_looked_at h ≡ true = ap not (kind_not_null h.sh_type kind parts.1) in
-    let large = large_parts (is_looked_at h) _ (nat_lt 2147483648 h.sh_size) ((not (eqb h.sh_addralign 0)) && (not (is_power_of_two h.sh_addralign))) looked_at b in
-    let flags : bit_or h.sh_flags 55 ≡ 55 = eqb-true (bit_or h.sh_flags 55) 55 (not-false _ (flag_parts (is_looked_at h) (is_alloc h) _ (not (eqb (bit_or h.sh_flags 55) 55)) _ looked_at parts.0 p)) in
+    let large = large_parts (is_looked_at h) _ (nat_lt 2147483648 h.sh_size)
+    ((not (eqb h.sh_addralign 0)) && (not (is_power_of_two h.sh_addralign))) looked_at b in
+    let flags : bit_or h.sh_flags 55 ≡ 55 = eqb-true (bit_or h.sh_flags 55) 55
+    (not-false _ (flag_parts (is_looked_at h) (is_alloc h) _
+    (not (eqb (bit_or h.sh_flags 55) 55)) _ looked_at parts.0 p)) in
     let small = le_or_l h.sh_flags 55 in
     record {
       name = name_told (name_of bytes h) l.name;
@@ -114,7 +129,8 @@ section_limits bytes k h kind e b p l =
       bytes = contents_length bytes h kind l.file;
     }
 
-limits_at : (bytes : List ℕ) (k : ℕ) (o : Option SectionKind) → linked_kind (header bytes k) ≡ o → PassesTests bytes → k < e_shnum bytes → All IsSectionOfProfile (option_to_list (linked_section bytes k (header bytes k) o))
+limits_at : (bytes : List ℕ) (k : ℕ) (o : Option SectionKind) → linked_kind (header bytes k) ≡ o → PassesTests bytes
+    → k < e_shnum bytes → All IsSectionOfProfile (option_to_list (linked_section bytes k (header bytes k) o))
 unfolding holds
 limits_at bytes k None e t l = All-nil IsSectionOfProfile
 limits_at bytes k (Some kind) e t l = All-cons IsSectionOfProfile _ [] (section_limits bytes k (header bytes k) kind e
@@ -122,9 +138,12 @@ limits_at bytes k (Some kind) e t l = All-cons IsSectionOfProfile _ [] (section_
     (none_at (is_outside_profile bytes) bytes k t.profile l)
     (linkable bytes k kind (header bytes k) t l refl e)) (All-nil IsSectionOfProfile)
 
-limits_below : (bytes : List ℕ) (n : ℕ) → PassesTests bytes → n ≤ e_shnum bytes → All IsSectionOfProfile (sections_below bytes n)
+limits_below : (bytes : List ℕ) (n : ℕ) → PassesTests bytes → n ≤ e_shnum bytes
+    → All IsSectionOfProfile (sections_below bytes n)
 limits_below bytes zero t l = All-nil IsSectionOfProfile
-limits_below bytes (suc n) t l = All-append IsSectionOfProfile _ _ (limits_below bytes n t (omega arith)) (limits_at bytes n (linked_kind (header bytes n)) refl t (omega arith))
+limits_below bytes (suc n) t l =
+    All-append IsSectionOfProfile _ _ (limits_below bytes n t (omega arith))
+    (limits_at bytes n (linked_kind (header bytes n)) refl t (omega arith))
 
 -- each linked section of an object is within the profile
 pub limits : (bytes : List ℕ) → object_refusal bytes ≡ None → All IsSectionOfProfile (sections_of bytes)

@@ -1,23 +1,28 @@
 -- Symbols that one pass reads: all of their entries are within the profile.
-use Rattle.std.proofs.Common.{◌≡◌, ℕ, zero, suc, ◌+◌, ◌-◌, ◌*◌, ◌/◌, ◌<◌, ◌≤◌, List, [], ◌∷◌, ◌++◌, Bool, true, false, not, get_or, length, drop, nat_lt, find, Some, None, refl, ap, sym, ◌∙◌, subst, arith, ⊎_elim}
+use Rattle.std.proofs.Common.{◌≡◌, ℕ, zero, suc, ◌+◌, ◌-◌, ◌*◌, ◌/◌, ◌<◌, ◌≤◌, List, [], ◌∷◌, ◌++◌, Bool, true, false}
+use Rattle.std.proofs.Common.{not, get_or, length, drop, nat_lt, find, Some, None, refl, ap, sym, ◌∙◌, subst, arith}
+use Rattle.std.proofs.Common.⊎_elim
 use Rattle.std.specs.List.{count_by, list_all, list_any, slice_range}
 use Rattle.std.proofs.Math.Bool.{beq}
 use Rattle.std.proofs.lemmas.Bool.{and_from, cases_lt, false≢true, le-ltb, lt-ltb, or_from}
-use Rattle.std.proofs.lemmas.List.{get_or-drop, get_or-take, get_or_append_left, get_or_push, length-drop, length-take-le, map_push}
+use Rattle.std.proofs.lemmas.List.{get_or-drop, get_or-take, get_or_append_left, get_or_push, length-drop}
+use Rattle.std.proofs.lemmas.List.{length-take-le, map_push}
 use Rattle.std.proofs.lemmas.List.Folds.{list_any_none}
 use Rattle.elffile.specs.ElfHeader.{e_shnum}
 use Rattle.elffile.specs.Refusal.{holds, symbol_refusals}
 use Rattle.elffile.specs.SectionHeaders.{file_bytes, header, headers}
 use Rattle.elffile.specs.Spans.{IsInside, bytes_at}
 use Rattle.elffile.specs.SymbolEntries.{symbol_entries_below, symbol_entry_at}
-use Rattle.elffile.specs.Symbols.{entries_of, is_symbol_table, named_symbol, null_symbol, symbol_name, symbol_of, symbol_table, symbols_from}
+use Rattle.elffile.specs.Symbols.{entries_of, is_symbol_table, named_symbol, null_symbol, symbol_name, symbol_of}
+use Rattle.elffile.specs.Symbols.{symbol_table, symbols_from}
 use Rattle.elffile.specs.Tables.{has_misplaced_entry, has_wrong_header, is_local, is_wrong_symbol}
 use Rattle.elffile.specs.declared.section_header.SectionHeader.{SectionHeader}
 use Rattle.elffile.specs.declared.span.Span.{Span}
 use Rattle.elffile.specs.declared.symbol.Symbol.{Symbol}
 use Rattle.elffile.specs.declared.symbol_entry.SymbolEntry.{SymbolEntry}
 use Rattle.elfobj.specs.Places.{AreNamed}
-use Rattle.elfobj.proofs.SymbolTables.{entries_length, entry_told, named_push, right_table, symbols_pass, wrong_symbol, wrong_table}
+use Rattle.elfobj.proofs.SymbolTables.{entries_length, entry_told, named_push, right_table, symbols_pass, wrong_symbol}
+use Rattle.elfobj.proofs.SymbolTables.wrong_table
 
 pub same_by : (a b : Bool) → not (beq a b) ≡ false → a ≡ b
 same_by true true h = refl
@@ -26,12 +31,14 @@ same_by false true h = absurd (false≢true (sym h))
 same_by false false h = refl
 
 -- entries by their numbers
-entry_at : (bytes : List ℕ) (start n j : ℕ) (d : SymbolEntry) → j < n → get_or (symbol_entries_below bytes start n) j d ≡ symbol_entry_at bytes (start + 24 * j)
+entry_at : (bytes : List ℕ) (start n j : ℕ) (d : SymbolEntry) → j < n
+    → get_or (symbol_entries_below bytes start n) j d ≡ symbol_entry_at bytes (start + 24 * j)
 entry_at bytes start zero j d l = absurd (omega arith)
 entry_at bytes start (suc n) j d l =
     let long = entries_length bytes start n in
     ⊎_elim
-    (λ m. get_or_append_left (symbol_entries_below bytes start n) (symbol_entry_at bytes (start + 24 * n) ∷ []) d j (omega arith) ∙ entry_at bytes start n j d m)
+    (λ m. get_or_append_left (symbol_entries_below bytes start n) (symbol_entry_at bytes (start + 24 * n) ∷ []) d j
+    (omega arith) ∙ entry_at bytes start n j d m)
     (λ m. let e : j ≡ n = omega arith in
     ap (λ k. get_or (symbol_entries_below bytes start (suc n)) k d) e
     ∙ get_or_push (symbol_entries_below bytes start n) (symbol_entry_at bytes (start + 24 * n)) d n long
@@ -43,31 +50,43 @@ pub each_more : (P : ℕ → Type 0) (k : ℕ) → P k → ((j : ℕ) → 1 ≤ 
 each_more P k p h j a b = ⊎_elim (λ l. h j a l) (λ l. let e : k ≡ j = omega arith in subst P e p) (cases_lt j k)
 
 -- one more symbol
-from_push : (strings : List ℕ) (xs : List SymbolEntry) (y : SymbolEntry) → 0 < length xs → symbols_from strings (xs ++ y ∷ []) ≡ symbols_from strings xs ++ named_symbol strings y ∷ []
+from_push : (strings : List ℕ) (xs : List SymbolEntry) (y : SymbolEntry) → 0 < length xs
+    → symbols_from strings (xs ++ y ∷ []) ≡ symbols_from strings xs ++ named_symbol strings y ∷ []
 from_push strings [] y l = absurd (omega arith)
 from_push strings (x ∷ xs) y l = ap (λ zs. null_symbol ∷ zs) (map_push (named_symbol strings) xs y)
 
-below_more : (bytes : List ℕ) (start k : ℕ) → symbol_entries_below bytes start (k + 1) ≡ symbol_entries_below bytes start k ++ symbol_entry_at bytes (start + 24 * k) ∷ []
+below_more : (bytes : List ℕ) (start k : ℕ)
+    → symbol_entries_below bytes start (k + 1) ≡ symbol_entries_below bytes start k ++ symbol_entry_at bytes
+    (start + 24 * k) ∷ []
 below_more bytes start k = let e : k + 1 ≡ suc k = omega arith in ap (symbol_entries_below bytes start) e
 
-pub symbols_more : (bytes strings : List ℕ) (start k : ℕ) (e : SymbolEntry) (ss ss' : List Symbol) (ps ps' : List Span) (s : Symbol) (p : Span) → 1 ≤ k → e ≡ symbol_entry_at bytes (start + 24 * k)
-    → s ≡ symbol_of e → IsInside (length bytes) p → bytes_at bytes p ≡ symbol_name strings e → ss' ≡ ss ++ s ∷ [] → ps' ≡ ps ++ p ∷ []
-    → AreNamed bytes (symbols_from strings (symbol_entries_below bytes start k)) ss ps → AreNamed bytes (symbols_from strings (symbol_entries_below bytes start (k + 1))) ss' ps'
+pub symbols_more : (bytes strings : List ℕ) (start k : ℕ) (e : SymbolEntry) (ss ss' : List Symbol) (ps ps' : List Span)
+    (s : Symbol) (p : Span) → 1 ≤ k → e ≡ symbol_entry_at bytes (start + 24 * k)
+    → s ≡ symbol_of e → IsInside (length bytes) p → bytes_at bytes p ≡ symbol_name strings e → ss' ≡ ss ++ s ∷ []
+    → ps' ≡ ps ++ p ∷ []
+    → AreNamed bytes (symbols_from strings (symbol_entries_below bytes start k)) ss ps
+    → AreNamed bytes (symbols_from strings (symbol_entries_below bytes start (k + 1))) ss' ps'
 symbols_more bytes strings start k e ss ss' ps ps' s p l f a w b g h n =
     let long = entries_length bytes start k in
-    let more : symbols_from strings (symbol_entries_below bytes start (k + 1)) ≡ symbols_from strings (symbol_entries_below bytes start k) ++ named_symbol strings e ∷ [] =
+    let more : symbols_from strings (symbol_entries_below bytes start (k + 1)) ≡ symbols_from strings
+    (symbol_entries_below bytes start k) ++ named_symbol strings e ∷ [] =
     ap (symbols_from strings) (below_more bytes start k)
     ∙ from_push strings (symbol_entries_below bytes start k) (symbol_entry_at bytes (start + 24 * k)) (omega arith)
     ∙ ap (λ x. symbols_from strings (symbol_entries_below bytes start k) ++ named_symbol strings x ∷ []) (sym f) in
-    subst (λ ns. AreNamed bytes ns ss' ps') (sym more) (rw (g, h) (named_push bytes (symbols_from strings (symbol_entries_below bytes start k)) ss ps (named_symbol strings e) s p n a w b))
+    subst (λ ns. AreNamed bytes ns ss' ps') (sym more)
+    (rw (g, h) (named_push bytes (symbols_from strings (symbol_entries_below bytes start k)) ss ps
+    (named_symbol strings e) s p n a w b))
 
 -- local entries stand before the others
-all_by : (p : SymbolEntry → Bool) (xs : List SymbolEntry) → ((k : ℕ) (d : SymbolEntry) → k < length xs → p (get_or xs k d) ≡ true) → list_all p xs ≡ true
+all_by : (p : SymbolEntry → Bool) (xs : List SymbolEntry)
+    → ((k : ℕ) (d : SymbolEntry) → k < length xs → p (get_or xs k d) ≡ true) → list_all p xs ≡ true
 all_by p [] h = refl
 all_by p (x ∷ xs) h = and_from _ _ (h 0 x (omega arith)) (all_by p xs (λ k d l. h (suc k) d (omega arith)))
 
-pub placed_all : (bytes : List ℕ) (t : SectionHeader) (n : ℕ) → t.sh_size / 24 ≤ n → 1 ≤ t.sh_info → t.sh_info ≤ t.sh_size / 24
-    → ((j : ℕ) → 1 ≤ j → j < n → is_local (symbol_entry_at bytes (t.sh_offset + 24 * j)) ≡ nat_lt j t.sh_info) → has_misplaced_entry t (entries_of bytes t) ≡ false
+pub placed_all : (bytes : List ℕ) (t : SectionHeader) (n : ℕ) → t.sh_size / 24 ≤ n → 1 ≤ t.sh_info
+    → t.sh_info ≤ t.sh_size / 24
+    → ((j : ℕ) → 1 ≤ j → j < n → is_local (symbol_entry_at bytes (t.sh_offset + 24 * j)) ≡ nat_lt j t.sh_info)
+    → has_misplaced_entry t (entries_of bytes t) ≡ false
 placed_all bytes t n l low m h =
     let es = entries_of bytes t in
     let long : length es ≡ t.sh_size / 24 = entries_length bytes t.sh_offset (t.sh_size / 24) in
@@ -77,26 +96,34 @@ placed_all bytes t n l low m h =
     (ap not (all_by is_local (slice_range es 1 t.sh_info) (λ k d a.
     let short = length-take-le (t.sh_info - 1) (drop 1 es) (omega arith) in
     let b : k < t.sh_info - 1 = omega arith in
-    ap is_local (get_or-take (t.sh_info - 1) (drop 1 es) k d b ∙ get_or-drop 1 es k d ∙ entry_at bytes t.sh_offset (t.sh_size / 24) (1 + k) d (omega arith))
+    ap is_local (get_or-take (t.sh_info - 1) (drop 1 es) k d b ∙ get_or-drop 1 es k d
+    ∙ entry_at bytes t.sh_offset (t.sh_size / 24) (1 + k) d (omega arith))
     ∙ h (1 + k) (omega arith) (omega arith) ∙ lt-ltb (1 + k) t.sh_info (omega arith))))
     (list_any_none is_local (drop t.sh_info es) (λ k d a.
-    ap is_local (get_or-drop t.sh_info es k d ∙ entry_at bytes t.sh_offset (t.sh_size / 24) (t.sh_info + k) d (omega arith))
+    ap is_local (get_or-drop t.sh_info es k d
+    ∙ entry_at bytes t.sh_offset (t.sh_size / 24) (t.sh_info + k) d (omega arith))
     ∙ h (t.sh_info + k) (omega arith) (omega arith) ∙ le-ltb (t.sh_info + k) t.sh_info (omega arith)))
 
 pub right_all : (bytes : List ℕ) (t : SectionHeader) (p : SymbolEntry → Bool) (n : ℕ) → t.sh_size / 24 ≤ n
-    → ((j : ℕ) → 1 ≤ j → j < n → p (symbol_entry_at bytes (t.sh_offset + 24 * j)) ≡ false) → list_any p (drop 1 (entries_of bytes t)) ≡ false
+    → ((j : ℕ) → 1 ≤ j → j < n → p (symbol_entry_at bytes (t.sh_offset + 24 * j)) ≡ false)
+    → list_any p (drop 1 (entries_of bytes t)) ≡ false
 right_all bytes t p n l h =
     let es = entries_of bytes t in
     let long : length es ≡ t.sh_size / 24 = entries_length bytes t.sh_offset (t.sh_size / 24) in
     let long' = length-drop 1 es in
     list_any_none p (drop 1 es) (λ k d a.
-    ap p (get_or-drop 1 es k d ∙ entry_at bytes t.sh_offset (t.sh_size / 24) (1 + k) d (omega arith)) ∙ h (1 + k) (omega arith) (omega arith))
+    ap p (get_or-drop 1 es k d ∙ entry_at bytes t.sh_offset (t.sh_size / 24) (1 + k) d (omega arith))
+    ∙ h (1 + k) (omega arith) (omega arith))
 
 -- they are not refused
-pub passing_none : (bytes : List ℕ) (hs : List SectionHeader) (t s : SectionHeader) (n : ℕ) → hs ≡ headers bytes → nat_lt 1 (count_by is_symbol_table (headers bytes)) ≡ false → symbol_table bytes ≡ Some t → has_wrong_header hs t ≡ false
-    → n ≡ e_shnum bytes → s ≡ header bytes t.sh_link → has_misplaced_entry t (entries_of bytes t) ≡ false → list_any (is_wrong_symbol n (file_bytes bytes s)) (drop 1 (entries_of bytes t)) ≡ false
+pub passing_none : (bytes : List ℕ) (hs : List SectionHeader) (t s : SectionHeader) (n : ℕ) → hs ≡ headers bytes
+    → nat_lt 1 (count_by is_symbol_table (headers bytes)) ≡ false → symbol_table bytes ≡ Some t
+    → has_wrong_header hs t ≡ false
+    → n ≡ e_shnum bytes → s ≡ header bytes t.sh_link → has_misplaced_entry t (entries_of bytes t) ≡ false
+    → list_any (is_wrong_symbol n (file_bytes bytes s)) (drop 1 (entries_of bytes t)) ≡ false
     → find (holds bytes) symbol_refusals ≡ None
 passing_none bytes hs t s n e one found right c f placed passes =
     symbols_pass bytes
     (wrong_table bytes t false one found (right_table bytes hs t (entries_of bytes t) e refl right placed))
-    (wrong_symbol bytes t false found (entry_told bytes t s n (file_bytes bytes s) (entries_of bytes t) false c f refl refl passes))
+    (wrong_symbol bytes t false found
+    (entry_told bytes t s n (file_bytes bytes s) (entries_of bytes t) false c f refl refl passes))

@@ -1,4 +1,5 @@
-use Rattle.std.proofs.Common.{◌≡◌, ◌⊎◌, ℕ, List, Bool, true, false, cond, refl, ap, ◌∙◌, Option, Some, None, sym, ◌∷◌, [], ◌++◌, inl, inr, ⊎_elim}
+use Rattle.std.proofs.Common.{◌≡◌, ◌⊎◌, ℕ, List, Bool, true, false, cond, refl, ap, ◌∙◌, Option, Some, None, sym, ◌∷◌}
+use Rattle.std.proofs.Common.{[], ◌++◌, inl, inr, ⊎_elim}
 use Rattle.std.specs.List.{find, list_any}
 use Rattle.std.specs.Option.{option_or}
 use Rattle.std.proofs.lemmas.Option.{none-some, same_Some}
@@ -8,22 +9,27 @@ use Rattle.elffile.specs.ElfHeader.{e_shstrndx}
 use Rattle.elffile.specs.SectionHeaders.{file_bytes, header, headers}
 use Rattle.elffile.specs.Sections.{name_table}
 use Rattle.elfobj.specs.Linkable.{PassesTests}
-use Rattle.elffile.specs.Refusal.{holds, is_outside_profile_by, header_refusals, section_refusals, symbol_refusals, relocation_refusals, object_refusal}
+use Rattle.elffile.specs.Refusal.{holds, is_outside_profile_by, header_refusals, section_refusals, symbol_refusals}
+use Rattle.elffile.specs.Refusal.{relocation_refusals, object_refusal}
 use Rattle.elffile.specs.declared.refusal.ObjectRefusal.{ObjectRefusal}
 use Rattle.elffile.specs.declared.refusal.ObjectRefusal.TheVariants.{NoMemory, SectionBounds, SectionProfile}
 use Rattle.elffile.specs.declared.section_header.SectionHeader.{SectionHeader}
 
 -- the ELF header is refused
-pub refused_by_header : (bytes : List ℕ) (r : ObjectRefusal) → find (holds bytes) header_refusals ≡ Some r → object_refusal bytes ≡ Some r
+pub refused_by_header : (bytes : List ℕ) (r : ObjectRefusal) → find (holds bytes) header_refusals ≡ Some r
+    → object_refusal bytes ≡ Some r
 unfolding object_refusal
-refused_by_header bytes r h = find-append (holds bytes) header_refusals (section_refusals ++ (symbol_refusals ++ relocation_refusals)) ∙ rw h refl
+refused_by_header bytes r h = find-append (holds bytes) header_refusals
+    (section_refusals ++ (symbol_refusals ++ relocation_refusals)) ∙ rw h refl
 
-after_sections : (bytes : List ℕ) (o : Option ObjectRefusal) (r : ObjectRefusal) → find (holds bytes) section_refusals ≡ Some r
+after_sections : (bytes : List ℕ) (o : Option ObjectRefusal) (r : ObjectRefusal)
+    → find (holds bytes) section_refusals ≡ Some r
     → option_or (find (holds bytes) section_refusals) o ≡ Some r
 after_sections bytes o r h = rw h refl
 
 -- it is not, and the section headers are
-pub refused_by_sections : (bytes : List ℕ) (r : ObjectRefusal) → find (holds bytes) header_refusals ≡ None → find (holds bytes) section_refusals ≡ Some r → object_refusal bytes ≡ Some r
+pub refused_by_sections : (bytes : List ℕ) (r : ObjectRefusal) → find (holds bytes) header_refusals ≡ None
+    → find (holds bytes) section_refusals ≡ Some r → object_refusal bytes ≡ Some r
 unfolding object_refusal
 refused_by_sections bytes r h k =
     find-append (holds bytes) header_refusals (section_refusals ++ (symbol_refusals ++ relocation_refusals))
@@ -35,7 +41,8 @@ sections_pass : (bytes : List ℕ) → PassesTests bytes → find (holds bytes) 
 sections_pass bytes t = rw (t.bounds, t.profile) refl
 
 -- neither is: the tables decide
-pub refused_by_tables : (bytes : List ℕ) (o : Option ObjectRefusal) → find (holds bytes) header_refusals ≡ None → PassesTests bytes → find (holds bytes) (symbol_refusals ++ relocation_refusals) ≡ o
+pub refused_by_tables : (bytes : List ℕ) (o : Option ObjectRefusal) → find (holds bytes) header_refusals ≡ None
+    → PassesTests bytes → find (holds bytes) (symbol_refusals ++ relocation_refusals) ≡ o
     → object_refusal bytes ≡ o
 unfolding object_refusal
 refused_by_tables bytes o h t k =
@@ -46,27 +53,35 @@ refused_by_tables bytes o h t k =
     ∙ k
 
 -- the symbol table is refused
-pub refused_by_symbols : (bytes : List ℕ) (r : ObjectRefusal) → find (holds bytes) symbol_refusals ≡ Some r → find (holds bytes) (symbol_refusals ++ relocation_refusals) ≡ Some r
-refused_by_symbols bytes r h = find-append (holds bytes) symbol_refusals relocation_refusals ∙ ap (λ x. option_or x (find (holds bytes) relocation_refusals)) h
+pub refused_by_symbols : (bytes : List ℕ) (r : ObjectRefusal) → find (holds bytes) symbol_refusals ≡ Some r
+    → find (holds bytes) (symbol_refusals ++ relocation_refusals) ≡ Some r
+refused_by_symbols bytes r h = find-append (holds bytes) symbol_refusals relocation_refusals
+    ∙ ap (λ x. option_or x (find (holds bytes) relocation_refusals)) h
 
 -- it is not: the relocation sections decide
-pub refused_by_relocations : (bytes : List ℕ) (o : Option ObjectRefusal) → find (holds bytes) symbol_refusals ≡ None → find (holds bytes) relocation_refusals ≡ o
+pub refused_by_relocations : (bytes : List ℕ) (o : Option ObjectRefusal) → find (holds bytes) symbol_refusals ≡ None
+    → find (holds bytes) relocation_refusals ≡ o
     → find (holds bytes) (symbol_refusals ++ relocation_refusals) ≡ o
-refused_by_relocations bytes o h k = find-append (holds bytes) symbol_refusals relocation_refusals ∙ ap (λ x. option_or x (find (holds bytes) relocation_refusals)) h ∙ k
+refused_by_relocations bytes o h k = find-append (holds bytes) symbol_refusals relocation_refusals
+    ∙ ap (λ x. option_or x (find (holds bytes) relocation_refusals)) h ∙ k
 
 -- the same of calls that may also want memory
-pub symbols_told : (bytes : List ℕ) (e : ObjectRefusal) → (e ≡ NoMemory) ⊎ (find (holds bytes) symbol_refusals ≡ Some e) → (e ≡ NoMemory) ⊎ (find (holds bytes) (symbol_refusals ++ relocation_refusals) ≡ Some e)
+pub symbols_told : (bytes : List ℕ) (e : ObjectRefusal) → (e ≡ NoMemory) ⊎ (find (holds bytes) symbol_refusals ≡ Some e)
+    → (e ≡ NoMemory) ⊎ (find (holds bytes) (symbol_refusals ++ relocation_refusals) ≡ Some e)
 symbols_told bytes e h = ⊎_elim (λ a. inl a) (λ a. inr (refused_by_symbols bytes e a)) h
 
-pub relocations_told : (bytes : List ℕ) (e : ObjectRefusal) → find (holds bytes) symbol_refusals ≡ None → (e ≡ NoMemory) ⊎ (find (holds bytes) relocation_refusals ≡ Some e)
+pub relocations_told : (bytes : List ℕ) (e : ObjectRefusal) → find (holds bytes) symbol_refusals ≡ None
+    → (e ≡ NoMemory) ⊎ (find (holds bytes) relocation_refusals ≡ Some e)
     → (e ≡ NoMemory) ⊎ (find (holds bytes) (symbol_refusals ++ relocation_refusals) ≡ Some e)
 relocations_told bytes e n h = ⊎_elim (λ a. inl a) (λ a. inr (refused_by_relocations bytes (Some e) n a)) h
 
-pub tables_told : (bytes : List ℕ) (e : ObjectRefusal) → find (holds bytes) header_refusals ≡ None → PassesTests bytes → (e ≡ NoMemory) ⊎ (find (holds bytes) (symbol_refusals ++ relocation_refusals) ≡ Some e)
+pub tables_told : (bytes : List ℕ) (e : ObjectRefusal) → find (holds bytes) header_refusals ≡ None → PassesTests bytes
+    → (e ≡ NoMemory) ⊎ (find (holds bytes) (symbol_refusals ++ relocation_refusals) ≡ Some e)
     → (e ≡ NoMemory) ⊎ (object_refusal bytes ≡ Some e)
 tables_told bytes e n t h = ⊎_elim (λ a. inl a) (λ a. inr (refused_by_tables bytes (Some e) n t a)) h
 
-found_or_later : (b : Bool) (q : ObjectRefusal) (o : Option ObjectRefusal) (r : ObjectRefusal) (p : ObjectRefusal → Bool) → p q ≡ b → cond b (Some q) o ≡ Some r → (o ≡ Some r → p r ≡ true) → p r ≡ true
+found_or_later : (b : Bool) (q : ObjectRefusal) (o : Option ObjectRefusal) (r : ObjectRefusal)
+    (p : ObjectRefusal → Bool) → p q ≡ b → cond b (Some q) o ≡ Some r → (o ≡ Some r → p r ≡ true) → p r ≡ true
 found_or_later true q o r p e h k = ap p (sym (same_Some q r h)) ∙ e
 found_or_later false q o r p e h k = k h
 
@@ -75,18 +90,23 @@ find_passes p [] r h = absurd (none-some r h)
 find_passes p (q ∷ rs) r h = found_or_later (p q) q (find p rs) r p refl h (find_passes p rs r)
 
 -- want of memory is no refusal of the bytes
-pub no_memory_found : (bytes : List ℕ) (rs : List ObjectRefusal) (r : ObjectRefusal) → find (holds bytes) rs ≡ Some r → r ≡ NoMemory → find (holds bytes) rs ≡ None
+pub no_memory_found : (bytes : List ℕ) (rs : List ObjectRefusal) (r : ObjectRefusal) → find (holds bytes) rs ≡ Some r
+    → r ≡ NoMemory → find (holds bytes) rs ≡ None
 unfolding holds
 no_memory_found bytes rs r h e = absurd (false≢true (find_passes (holds bytes) rs NoMemory (h ∙ ap (λ x. Some x) e)))
 
 -- the refusals that section headers give
-pub bounds_refused : (bytes : List ℕ) → holds bytes SectionBounds ≡ true → find (holds bytes) section_refusals ≡ Some SectionBounds
+pub bounds_refused : (bytes : List ℕ) → holds bytes SectionBounds ≡ true
+    → find (holds bytes) section_refusals ≡ Some SectionBounds
 bounds_refused bytes h = rw h refl
 
-pub profile_refused : (bytes : List ℕ) → holds bytes SectionBounds ≡ false → holds bytes SectionProfile ≡ true → find (holds bytes) section_refusals ≡ Some SectionProfile
+pub profile_refused : (bytes : List ℕ) → holds bytes SectionBounds ≡ false → holds bytes SectionProfile ≡ true
+    → find (holds bytes) section_refusals ≡ Some SectionProfile
 profile_refused bytes h k = rw (h, k) refl
 
-pub profile_told : (bytes file : List ℕ) (names : SectionHeader) (hs : List SectionHeader) (r b : Bool) → file ≡ bytes → names ≡ header bytes (e_shstrndx bytes) → hs ≡ headers bytes → r ≡ list_any (is_outside_profile_by (file_bytes file names)) hs → r ≡ b
+pub profile_told : (bytes file : List ℕ) (names : SectionHeader) (hs : List SectionHeader) (r b : Bool) → file ≡ bytes
+    → names ≡ header bytes (e_shstrndx bytes) → hs ≡ headers bytes
+    → r ≡ list_any (is_outside_profile_by (file_bytes file names)) hs → r ≡ b
     → holds bytes SectionProfile ≡ b
 unfolding holds name_table
 profile_told bytes file names hs r b e f g h k =
@@ -95,6 +115,9 @@ profile_told bytes file names hs r b e f g h k =
     ∙ ap (λ x. list_any (is_outside_profile_by (file_bytes file names)) x) (sym g)
     ∙ sym h ∙ k
 
-pub passes_told : (bytes file : List ℕ) (names : SectionHeader) (hs : List SectionHeader) (b r : Bool) → b ≡ holds bytes SectionBounds → b ≡ false → file ≡ bytes → names ≡ header bytes (e_shstrndx bytes) → hs ≡ headers bytes
+pub passes_told : (bytes file : List ℕ) (names : SectionHeader) (hs : List SectionHeader) (b r : Bool)
+    → b ≡ holds bytes SectionBounds → b ≡ false → file ≡ bytes → names ≡ header bytes (e_shstrndx bytes)
+    → hs ≡ headers bytes
     → r ≡ list_any (is_outside_profile_by (file_bytes file names)) hs → r ≡ false → PassesTests bytes
-passes_told bytes file names hs b r d l e f g h k = record { bounds = sym d ∙ l; profile = profile_told bytes file names hs r false e f g h k }
+passes_told bytes file names hs b r d l e f g h k =
+    record { bounds = sym d ∙ l; profile = profile_told bytes file names hs r false e f g h k }

@@ -1,4 +1,5 @@
-use Rattle.std.proofs.Common.{◌≡◌, ℕ, ◌/◌, ◌<◌, List, [], ◌∷◌, Bool, true, false, cond, not, ◌&&◌, length, map, drop, refl, ap, sym, ◌∙◌, arith, ⊎_elim, Option, Some, None, eqb, nat_lt}
+use Rattle.std.proofs.Common.{◌≡◌, ℕ, ◌/◌, ◌<◌, List, [], ◌∷◌, Bool, true, false, cond, not, ◌&&◌, length, map, drop}
+use Rattle.std.proofs.Common.{refl, ap, sym, ◌∙◌, arith, ⊎_elim, Option, Some, None, eqb, nat_lt}
 use Rattle.std.specs.Prelude.{IsTrue}
 use Rattle.std.specs.List.{All, list_any}
 use Rattle.std.specs.Option.{option_map_or, unwrap_or}
@@ -10,9 +11,11 @@ use Rattle.elffile.specs.Names.{is_name, string_at}
 use Rattle.elfobj.specs.Profile.{IsCommonBlock, IsNameOf, IsSectionBelow, IsSymbolOfProfile}
 use Rattle.elffile.specs.Refusal.{holds, object_refusal}
 use Rattle.elffile.specs.SymbolEntries.{st_bind}
-use Rattle.elffile.specs.Symbols.{NamedSymbol, entries_of, named_symbol, null_symbol, strings_of, symbol_of, symbol_table, symbols_from, symbols_in, symbols_of}
+use Rattle.elffile.specs.Symbols.{NamedSymbol, entries_of, named_symbol, null_symbol, strings_of, symbol_of}
+use Rattle.elffile.specs.Symbols.{symbol_table, symbols_from, symbols_in, symbols_of}
 use Rattle.elffile.specs.SymbolKinds.{binding_of}
-use Rattle.elffile.specs.Tables.{has_wrong_entry, has_wrong_symbol, is_local, is_not_local, is_wrong_common, is_wrong_non_local, is_wrong_symbol}
+use Rattle.elffile.specs.Tables.{has_wrong_entry, has_wrong_symbol, is_local, is_not_local, is_wrong_common}
+use Rattle.elffile.specs.Tables.{is_wrong_non_local, is_wrong_symbol}
 use Rattle.elffile.specs.declared.section_header.SectionHeader.{SectionHeader}
 use Rattle.elffile.specs.declared.symbol.Binding.TheVariants.{Local, Global, Weak}
 use Rattle.elffile.specs.declared.symbol.SymbolPlace.TheVariants.{Common, Undefined, Absolute, Section}
@@ -25,34 +28,40 @@ strict_name : (b : Bool) (name : List ℕ) → IsTrue (is_name name) → IsNameO
 strict_name true name h = h
 strict_name false name h = h
 
-name_at : (l g : Bool) (o : Option (List ℕ)) → (l ≡ false → option_map_or is_name o false ≡ true) → IsNameOf (cond l Local (cond g Global Weak)) (cond l [] (unwrap_or o []))
+name_at : (l g : Bool) (o : Option (List ℕ)) → (l ≡ false → option_map_or is_name o false ≡ true)
+    → IsNameOf (cond l Local (cond g Global Weak)) (cond l [] (unwrap_or o []))
 name_at true g o h = refl
 name_at false g o h = strict_name g (unwrap_or o []) (name_told o (h refl))
 
-name_right : (strings : List ℕ) (e : SymbolEntry) → is_wrong_non_local strings e ≡ false → is_local e ≡ false → option_map_or is_name (string_at strings e.st_name) false ≡ true
+name_right : (strings : List ℕ) (e : SymbolEntry) → is_wrong_non_local strings e ≡ false → is_local e ≡ false
+    → option_map_or is_name (string_at strings e.st_name) false ≡ true
 name_right strings e h l = ⊎_elim
     (λ a. absurd (false≢true (sym a ∙ ap not l)))
     (λ a. not-false _ (or_parts _ _ a).1)
     (and_cases (is_not_local e) _ h)
 
 -- a common block
-place_common : (n : ℕ) (u a c : Bool) → cond u Undefined (cond a Absolute (cond c Common (Section (record { 0 = n })))) ≡ Common → c ≡ true
+place_common : (n : ℕ) (u a c : Bool)
+    → cond u Undefined (cond a Absolute (cond c Common (Section (record { 0 = n })))) ≡ Common → c ≡ true
 place_common n true a c h = cc
 place_common n false true c h = cc
 place_common n false false true h = refl
 place_common n false false false h = cc
 
-common_right : (e : SymbolEntry) → is_wrong_common e ≡ false → (symbol_of e).place ≡ Common → IsCommonBlock (symbol_of e)
+common_right : (e : SymbolEntry) → is_wrong_common e ≡ false → (symbol_of e).place ≡ Common
+    → IsCommonBlock (symbol_of e)
 unfolding symbol_of
 common_right e h p =
-    let c : eqb e.st_shndx 65522 ≡ true = place_common e.st_shndx (eqb e.st_shndx 0) (eqb e.st_shndx 65521) (eqb e.st_shndx 65522) p in
+    let c : eqb e.st_shndx 65522 ≡ true = place_common e.st_shndx (eqb e.st_shndx 0) (eqb e.st_shndx 65521)
+    (eqb e.st_shndx 65522) p in
     let r = rw c at h in
     let q = or_parts _ _ r in
     let s = or_parts _ _ q.0 in
     let b : st_bind e ≡ 1 = eqb-true (st_bind e) 1 (not-false _ s.0) in
     record { binding = ap binding_of b; alignment = not-false _ s.1; size = ltb-false 2147483648 e.st_size q.1 }
 
-symbol_limits : (n : ℕ) (strings : List ℕ) (e : SymbolEntry) → is_wrong_symbol n strings e ≡ false → IsSymbolOfProfile (named_symbol strings e)
+symbol_limits : (n : ℕ) (strings : List ℕ) (e : SymbolEntry) → is_wrong_symbol n strings e ≡ false
+    → IsSymbolOfProfile (named_symbol strings e)
 unfolding symbol_of
 symbol_limits n strings e h =
     let a = or_parts _ _ h in
@@ -67,13 +76,15 @@ below_told : (b : Bool) → ((not b) && true && true) ≡ false → b ≡ true
 below_told true h = refl
 below_told false h = absurd (false≢true (sym h))
 
-place_below : (n k : ℕ) (u a c : Bool) → ((not (nat_lt k n)) && (not a) && (not c)) ≡ false → IsSectionBelow n (cond u Undefined (cond a Absolute (cond c Common (Section (record { 0 = k })))))
+place_below : (n k : ℕ) (u a c : Bool) → ((not (nat_lt k n)) && (not a) && (not c)) ≡ false
+    → IsSectionBelow n (cond u Undefined (cond a Absolute (cond c Common (Section (record { 0 = k })))))
 place_below n k true a c h = tt
 place_below n k false true c h = tt
 place_below n k false false true h = tt
 place_below n k false false false h = ltb-true k n (below_told (nat_lt k n) h)
 
-symbol_section : (n : ℕ) (strings : List ℕ) (e : SymbolEntry) → is_wrong_symbol n strings e ≡ false → IsSectionBelow n (symbol_of e).place
+symbol_section : (n : ℕ) (strings : List ℕ) (e : SymbolEntry) → is_wrong_symbol n strings e ≡ false
+    → IsSectionBelow n (symbol_of e).place
 unfolding symbol_of
 symbol_section n strings e h =
     let a = or_parts _ _ h in
@@ -87,37 +98,45 @@ record HoldsOfRight (P : NamedSymbol → Type 0) (n : ℕ) : Type 0 where
   pub null : P null_symbol
   pub each : (strings : List ℕ) (e : SymbolEntry) → is_wrong_symbol n strings e ≡ false → P (named_symbol strings e)
 
-all_symbols : (P : NamedSymbol → Type 0) (n : ℕ) (strings : List ℕ) → HoldsOfRight P n → (es : List SymbolEntry) → list_any (is_wrong_symbol n strings) es ≡ false → All P (map (named_symbol strings) es)
+all_symbols : (P : NamedSymbol → Type 0) (n : ℕ) (strings : List ℕ) → HoldsOfRight P n → (es : List SymbolEntry)
+    → list_any (is_wrong_symbol n strings) es ≡ false → All P (map (named_symbol strings) es)
 all_symbols P n strings r [] h = All-nil P
 all_symbols P n strings r (e ∷ es) h =
     let p = or_parts _ _ h in
     All-cons P _ _ (r.each strings e p.0) (all_symbols P n strings r es p.1)
 
-from_limits : (P : NamedSymbol → Type 0) (n : ℕ) (strings : List ℕ) → HoldsOfRight P n → (es : List SymbolEntry) → list_any (is_wrong_symbol n strings) (drop 1 es) ≡ false → All P (symbols_from strings es)
+from_limits : (P : NamedSymbol → Type 0) (n : ℕ) (strings : List ℕ) → HoldsOfRight P n → (es : List SymbolEntry)
+    → list_any (is_wrong_symbol n strings) (drop 1 es) ≡ false → All P (symbols_from strings es)
 from_limits P n strings r [] h = All-nil P
 from_limits P n strings r (e ∷ es) h = All-cons P _ _ r.null (all_symbols P n strings r es h)
 
-in_limits : (P : NamedSymbol → Type 0) (bytes : List ℕ) → HoldsOfRight P (e_shnum bytes) → (o : Option SectionHeader) → option_map_or (has_wrong_entry bytes) o false ≡ false → All P (symbols_in bytes o)
+in_limits : (P : NamedSymbol → Type 0) (bytes : List ℕ) → HoldsOfRight P (e_shnum bytes) → (o : Option SectionHeader)
+    → option_map_or (has_wrong_entry bytes) o false ≡ false → All P (symbols_in bytes o)
 in_limits P bytes r None h = All-nil P
 in_limits P bytes r (Some t) h = from_limits P (e_shnum bytes) (strings_of bytes t) r (entries_of bytes t) h
 
-all_limits : (P : NamedSymbol → Type 0) (bytes : List ℕ) → HoldsOfRight P (e_shnum bytes) → object_refusal bytes ≡ None → All P (symbols_of bytes)
+all_limits : (P : NamedSymbol → Type 0) (bytes : List ℕ) → HoldsOfRight P (e_shnum bytes) → object_refusal bytes ≡ None
+    → All P (symbols_of bytes)
 unfolding holds has_wrong_symbol symbols_of
 all_limits P bytes r h = in_limits P bytes r (symbol_table bytes) (accepted_parts bytes h).symbol
 
 -- each symbol of an object is within the profile
 pub symbol_limits_of : (bytes : List ℕ) → object_refusal bytes ≡ None → All IsSymbolOfProfile (symbols_of bytes)
-symbol_limits_of bytes h = all_limits IsSymbolOfProfile bytes (record { null = record { name = refl; common = λ h. cc }; each = symbol_limits (e_shnum bytes) }) h
+symbol_limits_of bytes h = all_limits IsSymbolOfProfile bytes
+    (record { null = record { name = refl; common = λ h. cc }; each = symbol_limits (e_shnum bytes) }) h
 
 -- and in one of its sections, if in any
-pub symbol_sections_of : (bytes : List ℕ) → object_refusal bytes ≡ None → All (λ (s : NamedSymbol). IsSectionBelow (e_shnum bytes) s.symbol.place) (symbols_of bytes)
-symbol_sections_of bytes h = all_limits (λ s. IsSectionBelow (e_shnum bytes) s.symbol.place) bytes (record { null = tt; each = symbol_section (e_shnum bytes) }) h
+pub symbol_sections_of : (bytes : List ℕ) → object_refusal bytes ≡ None
+    → All (λ (s : NamedSymbol). IsSectionBelow (e_shnum bytes) s.symbol.place) (symbols_of bytes)
+symbol_sections_of bytes h = all_limits (λ s. IsSectionBelow (e_shnum bytes) s.symbol.place) bytes
+    (record { null = tt; each = symbol_section (e_shnum bytes) }) h
 
 from_length : (strings : List ℕ) (es : List SymbolEntry) → length (symbols_from strings es) ≡ length es
 from_length strings [] = refl
 from_length strings (e ∷ es) = let l = length-map es (named_symbol strings) in omega arith
 
-in_few : (bytes : List ℕ) (o : Option SectionHeader) → symbol_table bytes ≡ o → object_refusal bytes ≡ None → length (symbols_in bytes o) < 4294967296
+in_few : (bytes : List ℕ) (o : Option SectionHeader) → symbol_table bytes ≡ o → object_refusal bytes ≡ None
+    → length (symbols_in bytes o) < 4294967296
 in_few bytes None e h = omega arith
 in_few bytes (Some t) e h =
     let small = (table_in_file bytes t (accepted_parts bytes h).tests e).small in

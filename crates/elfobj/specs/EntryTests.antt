@@ -18,10 +18,12 @@ field_ends s = ends_in s.kind s.size
 
 -- of entries that follow one another from `base` on, those from each one on and before `past` of it are not refused for
 -- a section
-pub record HavePassed (fault : EntryFault) (bytes : List ℕ) (n : ℕ) (s : Section) (base : ℕ) (past : List ℕ) : Type 0 where
+pub record HavePassed (fault : EntryFault) (bytes : List ℕ) (n : ℕ) (s : Section) (base : ℕ)
+    (past : List ℕ) : Type 0 where
   pub low : (k : ℕ) → k < length past → k ≤ get_or past k 0
   pub high : (k : ℕ) → k < length past → get_or past k 0 ≤ length past
-  pub each : (k j : ℕ) → k < length past → k ≤ j → j < get_or past k 0 → is_refused_for fault n s (relocation_entry_at bytes (base + 24 * j)) ≡ false
+  pub each : (k j : ℕ) → k < length past → k ≤ j → j < get_or past k 0
+      → is_refused_for fault n s (relocation_entry_at bytes (base + 24 * j)) ≡ false
 
 -- a table of a class has no entry that is refused
 abbrev pub PassesIn : ℕ → EntryFault → List ℕ → ℕ → SectionTable → Type 0

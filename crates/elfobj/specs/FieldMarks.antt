@@ -17,6 +17,7 @@ pub record IsWindow (all : List Relocation) (from until : ℕ) (marks : List Boo
   pub order : from ≤ until
   pub within : until ≤ length all
   pub fields : AreBelow all from until (length marks)
-  pub apart : (p q : ℕ) (d : Relocation) → from ≤ p → p < q → q < until → meets (get_or all p d) (get_or all q d) ≡ false
+  pub apart : (p q : ℕ) (d : Relocation) → from ≤ p → p < q → q < until
+      → meets (get_or all p d) (get_or all q d) ≡ false
   pub marked : (p b : ℕ) → from ≤ p → p < until → IsTaken all p b → get_or marks b false ≡ true
   pub found : (b : ℕ) → get_or marks b false ≡ true → (p : ℕ) × (from ≤ p) × (p < until) × IsTaken all p b

@@ -40,12 +40,14 @@ pub record IsPlaced (file : List ℕ) (linked : LinkedSection) (read : Section) 
   pub within : IsWithin (length file) place
 
 -- the parts of an object, as lists of what callers see and places in its bytes
-pub record ArePartsOf (file : List ℕ) (sections : List Section) (places : List Place) (symbols : List Symbol) (names : List Span) (relocations : List Relocation) : Type 0 where
+pub record ArePartsOf (file : List ℕ) (sections : List Section) (places : List Place) (symbols : List Symbol)
+    (names : List Span) (relocations : List Relocation) : Type 0 where
   pub sections_read : AreRead file (sections_of file) sections places
   pub symbols_read : AreNamed file (symbols_of file) symbols names
   pub relocations_read : ArePlaced (map (λ s. s.relocations) (sections_of file)) relocations places
 
 -- what an object keeps: bytes that no test refuses, and what was read of them
-pub record IsObject (file : List ℕ) (sections : List Section) (places : List Place) (symbols : List Symbol) (names : List Span) (relocations : List Relocation) : Type 0 where
+pub record IsObject (file : List ℕ) (sections : List Section) (places : List Place) (symbols : List Symbol)
+    (names : List Span) (relocations : List Relocation) : Type 0 where
   pub refusal : object_refusal file ≡ None
   pub read : ArePartsOf file sections places symbols names relocations

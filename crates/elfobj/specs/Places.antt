@@ -30,7 +30,8 @@ IsFileWithin n h Nobits = Unit {0}
 IsFileWithin n h _ = h.sh_offset + h.sh_size ≤ n
 
 -- the sections as callers see them, and the places of their names and bytes
-pub record AreRead (file : List ℕ) (linked : List LinkedSection) (read : List Section) (places : List Place) : Type 0 where
+pub record AreRead (file : List ℕ) (linked : List LinkedSection) (read : List Section)
+    (places : List Place) : Type 0 where
   pub sections : read ≡ map section_of linked
   pub names : map (name_in file) places ≡ map (λ s. s.name) linked
   pub bytes : map (bytes_in file) places ≡ map (λ s. s.bytes) linked

@@ -1,5 +1,6 @@
 -- What the reader of the relocation sections has found so far.
-use Rattle.std.specs.Prelude.{◌≡◌, ℕ, ◌<◌, List, length, get_or, find, Option, Some, None, Bool, ◌&&◌, ◌||◌, if◌then◌else◌, is_some, nat_le, slice_set}
+use Rattle.std.specs.Prelude.{◌≡◌, ℕ, ◌<◌, List, length, get_or, find, Option, Some, None, Bool, ◌&&◌, ◌||◌}
+use Rattle.std.specs.Prelude.{if◌then◌else◌, is_some, nat_le, slice_set}
 use Rattle.elffile.specs.ElfHeader.{e_shnum}
 use Rattle.elffile.specs.Relocations.{changes, relocation_section}
 use Rattle.elffile.specs.SectionHeaders.{headers_below}
@@ -23,4 +24,5 @@ entered tables h = if is_some (get_or tables h.sh_info None) then tables else sl
 -- whether a relocation section is outside the profile, past those of the tables
 abbrev pub is_wrong_after : List SectionHeader → Option ℕ → List (Option SectionHeader) → SectionHeader → Bool
 is_wrong_after all symtab tables h =
-    nat_le (length all) h.sh_info || (is_linked all h.sh_info && (is_some (get_or tables h.sh_info None) || is_wrong_table symtab h))
+    nat_le (length all) h.sh_info || (is_linked all h.sh_info
+    && (is_some (get_or tables h.sh_info None) || is_wrong_table symtab h))

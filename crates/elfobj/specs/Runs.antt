@@ -1,5 +1,6 @@
 -- Tables of relocations as places in the file, and runs of decoded entries. Entry number k of class c, below 24, takes
--- the 24 bytes of the file from 24 * k + c on, so that tables of one class that overlap in the file have entries in common.
+-- the 24 bytes of the file from 24 * k + c on, so that tables of one class that overlap in the file have entries in
+-- common.
 use Rattle.std.specs.Prelude.{◌≡◌, ℕ, ◌+◌, ◌*◌, ◌/◌, ◌%◌, ◌<◌, ◌≤◌, List, Bool, ◌||◌, get_or, length, map}
 use Rattle.std.specs.List.{All, list_any, slice_range}
 use Rattle.elffile.specs.RelocationEntries.{relocation_entries_below}
@@ -41,12 +42,15 @@ abbrev pub IsCovered : ℕ → ℕ → ℕ → SectionTable → Type 0
 IsCovered class low end t = 0 < t.count → t.start % 24 ≡ class → (low ≤ t.start / 24) × (t.start / 24 + t.count ≤ end)
 
 -- entries of a class, decoded, which stand among `all`, and cover each table of the class
-pub record IsRun (bytes : List ℕ) (tables : List SectionTable) (all : List Relocation) (class : ℕ) (run : Run) : Type 0 where
+pub record IsRun (bytes : List ℕ) (tables : List SectionTable) (all : List Relocation) (class : ℕ)
+    (run : Run) : Type 0 where
   pub within : run.first + run.count ≤ length all
-  pub entries : slice_range all run.first (run.first + run.count) ≡ map relocation_of (relocation_entries_below bytes (24 * run.low + class) run.count)
+  pub entries : slice_range all run.first (run.first + run.count) ≡ map relocation_of
+      (relocation_entries_below bytes (24 * run.low + class) run.count)
   pub covers : All (IsCovered class run.low (run.low + run.count)) tables
 
 -- the runs of the first n classes
-pub record AreRuns (bytes : List ℕ) (tables : List SectionTable) (all : List Relocation) (n : ℕ) (runs : List Run) : Type 0 where
+pub record AreRuns (bytes : List ℕ) (tables : List SectionTable) (all : List Relocation) (n : ℕ)
+    (runs : List Run) : Type 0 where
   pub count : length runs ≡ n
   pub each : (class : ℕ) (d : Run) → class < n → IsRun bytes tables all class (get_or runs class d)

@@ -1,5 +1,5 @@
-//! The test of the entries of one table, among tables whose entries may overlap in the file: an entry that has passed is
-//! passed over.
+//! The test of the entries of one table, among tables whose entries may overlap in the file: an entry that has passed
+//! is passed over.
 //!
 //! Entries that follow one another in the file have numbers from 0 on. A list of numbers `past` says of each entry that
 //! those from it on and before `past` of it have passed, so that none is known to have passed where `past` is the
@@ -60,7 +60,8 @@ pub fn is_table_refused(
     requires end { first + table.now.count ≤ length past.old }
     requires within { base + 24 * length past.old ≤ length bytes.now }
     requires passed { HavePassed fault bytes.now symbols table.now.section base past.old }
-    ensures value { result ≡ list_any (is_refused_for fault symbols table.now.section) (table_entries bytes.now table.now) }
+    ensures value { result ≡ list_any (is_refused_for fault symbols table.now.section)
+        (table_entries bytes.now table.now) }
     ensures long { length past.new ≡ length past.old }
     ensures passed { HavePassed fault bytes.now symbols table.now.section base past.new }
 {

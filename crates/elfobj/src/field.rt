@@ -52,8 +52,8 @@ fn are_ascending(relocations: &[Relocation]) -> bool
     true
 }
 
-/// Makes `room` these relocations in the order of their offsets. They are copied where they have it, as assemblers write
-/// them, and else sorted.
+/// Makes `room` these relocations in the order of their offsets. They are copied where they have it, as assemblers
+/// write them, and else sorted.
 pub fn put_in_order(
     relocations: &[Relocation],
     room: &mut Vec<Relocation>,

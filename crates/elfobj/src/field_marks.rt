@@ -17,8 +17,10 @@ use std::alloc::{AllocError, Global};
 /// Whether a byte of a field has a mark.
 fn is_marked(marks: &[bool], relocation: &Relocation) -> bool
     requires { field_end relocation.now ≤ length marks.now }
-    ensures marked { result ≡ true → (b : ℕ) × (relocation.now.offset ≤ b) × (b < field_end relocation.now) × (get_or marks.now b false ≡ true) }
-    ensures free { result ≡ false → (b : ℕ) → relocation.now.offset ≤ b → b < field_end relocation.now → get_or marks.now b false ≡ false }
+    ensures marked { result ≡ true
+        → (b : ℕ) × (relocation.now.offset ≤ b) × (b < field_end relocation.now) × (get_or marks.now b false ≡ true) }
+    ensures free { result ≡ false → (b : ℕ) → relocation.now.offset ≤ b → b < field_end relocation.now
+        → get_or marks.now b false ≡ false }
 {
     let start = relocation.offset as usize;
     let end = start + relocation.kind.width() as usize;
@@ -34,8 +36,10 @@ fn is_marked(marks: &[bool], relocation: &Relocation) -> bool
 fn mark(marks: &mut [bool], relocation: &Relocation, is_taken: bool)
     requires { field_end relocation.now ≤ length marks.old }
     ensures long { length marks.new ≡ length marks.old }
-    ensures inside { (b : ℕ) → relocation.now.offset ≤ b → b < field_end relocation.now → get_or marks.new b false ≡ is_taken }
-    ensures outside { (b : ℕ) → (b < relocation.now.offset) ⊎ (field_end relocation.now ≤ b) → get_or marks.new b false ≡ get_or marks.old b false }
+    ensures inside { (b : ℕ) → relocation.now.offset ≤ b → b < field_end relocation.now
+        → get_or marks.new b false ≡ is_taken }
+    ensures outside { (b : ℕ) → (b < relocation.now.offset) ⊎ (field_end relocation.now ≤ b)
+        → get_or marks.new b false ≡ get_or marks.old b false }
 {
     let start = relocation.offset as usize;
     let end = start + relocation.kind.width() as usize;

@@ -2,8 +2,8 @@
 //! slices of them, or gives them back with the lowest refusal that holds.
 //!
 //! - `object`: reading, and what a caller gets; `section`, `symbol`, `relocation`, `refusal`: its types;
-//! - `symbols`, `ordered_table`: a table of symbols, or of fields in the order of their offsets, that passes all its tests
-//!   is read in the pass that tests it;
+//! - `symbols`, `ordered_table`: a table of symbols, or of fields in the order of their offsets, that passes all its
+//!   tests is read in the pass that tests it;
 //! - `section_table`, `symbol_table`, `relocation_table`: the tests of all headers and entries, in their order;
 //! - `relocation_fault` over `entry_test` and `field_marks`: entries tested before any is kept; whether fields share a
 //!   byte;

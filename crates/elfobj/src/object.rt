@@ -1,6 +1,7 @@
 //! An object: its bytes, and what was read of them.
 
-ghost use Rattle.std.specs.Prelude.{◌≡◌, ◌≢◌, ◌<◌, ◌^◌, ◌⊎◌, IfErr, IfNone, IfOk, IfSome, None, OnOk, Some, find, length, map, unwrap_or, []};
+ghost use Rattle.std.specs.Prelude.{◌≡◌, ◌≢◌, ◌<◌, ◌^◌, ◌⊎◌, IfErr, IfNone, IfOk, IfSome, None, OnOk, Some, find};
+ghost use Rattle.std.specs.Prelude.{length, map, unwrap_or, []};
 ghost use Rattle.std.specs.List.{All, AllPairs, slice_get};
 ghost use Rattle.std.specs.List.Sorted.{IsNonDecreasingBy, IsPermutation};
 ghost use Rattle.ldbase.specs.Raised.{raised};
@@ -40,14 +41,16 @@ impl Model for Object {
 
     ghost view = { λ a. object_of a.bytes.items };
 
-    ghost invariant = { λ a. IsObject a.bytes.items a.sections.items a.places.items a.symbols.items a.names.items a.relocations.items };
+    ghost invariant = { λ a. IsObject a.bytes.items a.sections.items a.places.items a.symbols.items a.names.items
+        a.relocations.items };
 }
 
 impl Object {
     ghost use Rattle.elffile.specs.ElfHeader.{e_shnum};
     ghost use Rattle.elfobj.specs.Numbering.{IsNumberedAt};
     ghost use Rattle.elfobj.specs.Object.{object_of};
-    ghost use Rattle.elfobj.specs.Profile.{HasRelocationsOfProfile, IsSectionBelow, IsSectionOfProfile, IsSymbolOfProfile};
+    ghost use Rattle.elfobj.specs.Profile.{HasRelocationsOfProfile, IsSectionBelow, IsSectionOfProfile};
+    ghost use Rattle.elfobj.specs.Profile.IsSymbolOfProfile;
     ghost use Rattle.elffile.specs.Refusal.{header_refusals, holds, object_refusal};
     ghost use Rattle.elffile.specs.Sections.{section_of};
     ghost use Rattle.elffile.specs.Spans.{bytes_at};
@@ -168,8 +171,8 @@ impl Object {
         self.names[symbol.0 as usize]
     }
 
-    /// The relocations of a section, in the order of their table. Each names one of `symbols` and lies in its section, and
-    /// no two share a byte; a section without bytes has none.
+    /// The relocations of a section, in the order of their table. Each names one of `symbols` and lies in its section,
+    /// and no two share a byte; a section without bytes has none.
     pub fn relocations(&self, section: LinkedIndex) -> &[Relocation]
         requires { section.0 < length self.now.sections }
         ensures value { slice_get (map (λ s. s.relocations) self.now.sections) section.0 ≡ Some result.now }
@@ -182,15 +185,17 @@ impl Object {
     /// Makes `room` the relocations of this section in the order of their offsets. They are sorted where the table has
     /// another order; where it has this one, as assemblers write it, they are copied.
     ///
-    /// No second order is kept: tables may overlap in the file, so that the orders of all could take far more memory than
-    /// the object. An error says that there was no memory for the copy.
+    /// No second order is kept: tables may overlap in the file, so that the orders of all could take far more memory
+    /// than the object. An error says that there was no memory for the copy.
     pub fn relocations_by_offset(
         &self,
         section: LinkedIndex,
         room: &mut Vec<Relocation>,
     ) -> Result<(), AllocError>
         requires { section.0 < length self.now.sections }
-        ensures same { OnOk result (IsPermutation (unwrap_or (slice_get (map (λ s. s.relocations) self.now.sections) section.0) []) room.new.items) }
+        ensures same { OnOk result
+            (IsPermutation (unwrap_or (slice_get (map (λ s. s.relocations) self.now.sections) section.0) [])
+            room.new.items) }
         ensures order { OnOk result (IsNonDecreasingBy (λ r. r.offset) room.new.items) }
     {
         put_in_order(self.relocations(section), room)

@@ -35,9 +35,12 @@ fn push_ordered(
     all: &mut Vec<Relocation>,
 ) -> Result<bool, AllocError>
     requires { table.now.start + 24 * table.now.count ≤ length bytes.now }
-    ensures read { IfOk result (λ b. b ≡ true → all.new.items ≡ all.old.items ++ map relocation_of (table_entries bytes.now table.now)) }
-    ensures passes { IfOk result (λ b. b ≡ true → list_any (is_refused_for Any symbols table.now.section) (table_entries bytes.now table.now) ≡ false) }
-    ensures apart { IfOk result (λ b. b ≡ true → share_bytes (map relocation_of (table_entries bytes.now table.now)) ≡ false) }
+    ensures read { IfOk result (λ b. b ≡ true
+        → all.new.items ≡ all.old.items ++ map relocation_of (table_entries bytes.now table.now)) }
+    ensures passes { IfOk result (λ b. b ≡ true
+        → list_any (is_refused_for Any symbols table.now.section) (table_entries bytes.now table.now) ≡ false) }
+    ensures apart { IfOk result (λ b. b ≡ true
+        → share_bytes (map relocation_of (table_entries bytes.now table.now)) ≡ false) }
 {
     let mut end = 0;
     for k in 0..table.count {
@@ -66,9 +69,14 @@ pub fn read_ordered(
     symbols: usize,
 ) -> Result<Option<Relocations>, AllocError>
     requires { All (IsTableOf bytes.now) tables.now }
-    ensures read { IfOk result (λ o. IfSome o (λ r. AreRelocated (map (λ s. relocations_at bytes.now s.number.0) (map (λ t. t.section) tables.now)) r.all.items r.spans.items)) }
-    ensures passes { IfOk result (λ o. IfSome o (λ r. list_any (has_refused_entry Any bytes.now symbols) (map (λ t. t.section) tables.now) ≡ false)) }
-    ensures apart { IfOk result (λ o. IfSome o (λ r. list_any share_bytes (map (relocations_in r.all.items) r.spans.items) ≡ false)) }
+    ensures read { IfOk result
+        (λ o. IfSome o (λ r. AreRelocated
+        (map (λ s. relocations_at bytes.now s.number.0) (map (λ t. t.section) tables.now)) r.all.items r.spans.items)) }
+    ensures passes { IfOk result
+        (λ o. IfSome o (λ r. list_any (has_refused_entry Any bytes.now symbols)
+        (map (λ t. t.section) tables.now) ≡ false)) }
+    ensures apart { IfOk result
+        (λ o. IfSome o (λ r. list_any share_bytes (map (relocations_in r.all.items) r.spans.items) ≡ false)) }
 {
     let count = entry_count(tables);
     if bytes.len() / RELA_SIZE < count {

@@ -45,7 +45,8 @@ pub fn place_of(names: &StringTable, header: &SectionHeader, kind: SectionKind, 
     requires file { IsFileWithin len header.now kind }
     requires len { len ≡ length names.now.file.now }
     ensures within { IsWithin len result }
-    ensures name { name_in names.now.file.now result ≡ unwrap_or (string_at (table_of names.now) header.now.sh_name) [] }
+    ensures name { name_in names.now.file.now result ≡ unwrap_or
+        (string_at (table_of names.now) header.now.sh_name) [] }
     ensures bytes { bytes_in names.now.file.now result ≡ contents names.now.file.now header.now kind }
 {
     Place {

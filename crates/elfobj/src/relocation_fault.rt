@@ -83,8 +83,8 @@ pub fn smallest_first(
     Ok(sorted)
 }
 
-/// Whether an entry of a table of a class is outside the profile in this way, where `past` knows of no entry that it has
-/// passed. Each entry that passes is tested once, since the tables come in the order of the room in their sections.
+/// Whether an entry of a table of a class is outside the profile in this way, where `past` knows of no entry that it
+/// has passed. Each entry that passes is tested once, since the tables come in the order of the room in their sections.
 fn is_refused_among(
     bytes: &[u8],
     tables: &[SectionTable],
@@ -99,7 +99,8 @@ fn is_refused_among(
     requires covers { All (IsCovered class low (low + length past.old)) tables.now }
     requires within { 24 * low + class + 24 * length past.old ≤ length bytes.now }
     requires own { (k : ℕ) → k < length past.old → get_or past.old k 0 ≡ k }
-    ensures some { result ≡ true → list_any (has_refused_entry fault bytes.now symbols) (map (λ t. t.section) tables.now) ≡ true }
+    ensures some { result ≡ true → list_any (has_refused_entry fault bytes.now symbols)
+        (map (λ t. t.section) tables.now) ≡ true }
     ensures none { result ≡ false → All (PassesIn class fault bytes.now symbols) tables.now }
 {
     let base = RELA_SIZE * low + class;
@@ -127,7 +128,8 @@ fn is_class_refused(
     requires long { 24 ≤ length bytes.now }
     requires tables { All (IsTableOf bytes.now) tables.now }
     requires order { IsNonDecreasingBy (λ t. field_ends t.section) tables.now }
-    ensures some { IfOk result (λ b. b ≡ true → list_any (has_refused_entry fault bytes.now symbols) (map (λ t. t.section) tables.now) ≡ true) }
+    ensures some { IfOk result (λ b. b ≡ true
+        → list_any (has_refused_entry fault bytes.now symbols) (map (λ t. t.section) tables.now) ≡ true) }
     ensures none { IfOk result (λ b. b ≡ false → All (PassesIn class fault bytes.now symbols) tables.now) }
 {
     let (low, end) = class_range(tables, class, bytes.len());
@@ -135,8 +137,8 @@ fn is_class_refused(
     Ok(is_refused_among(bytes, tables, class, low, &mut past, fault, symbols))
 }
 
-/// Whether an entry of one of these tables, those of the smallest sections first, is outside the profile in this way. It
-/// stops at the first one.
+/// Whether an entry of one of these tables, those of the smallest sections first, is outside the profile in this way.
+/// It stops at the first one.
 pub fn is_any_refused(
     alloc: Global,
     bytes: &[u8],
@@ -147,7 +149,8 @@ pub fn is_any_refused(
     requires long { 24 ≤ length bytes.now }
     requires tables { All (IsTableOf bytes.now) tables.now }
     requires order { IsNonDecreasingBy (λ t. field_ends t.section) tables.now }
-    ensures { IfOk result (λ b. b ≡ list_any (has_refused_entry fault bytes.now symbols) (map (λ t. t.section) tables.now)) }
+    ensures { IfOk result (λ b. b ≡ list_any (has_refused_entry fault bytes.now symbols)
+        (map (λ t. t.section) tables.now)) }
 {
     for class in 0..RELA_SIZE {
         if is_class_refused(alloc, bytes, tables, class, fault, symbols)? {

@@ -1,5 +1,6 @@
-//! The relocations of an object, decoded. Tables may overlap in the file: those that lie a whole number of entries apart
-//! share one decoded run, so that no entry is decoded twice at one place of the file, however many tables have it.
+//! The relocations of an object, decoded. Tables may overlap in the file: those that lie a whole number of entries
+//! apart share one decoded run, so that no entry is decoded twice at one place of the file, however many tables have
+//! it.
 
 ghost use Rattle.std.specs.Prelude.{◌≡◌, ◌≤◌, ◌<◌, ◌+◌, ◌*◌, ◌/◌, ◌^◌, ◌++◌, IfOk, OnOk, length, map};
 ghost use Rattle.std.specs.List.{All};
@@ -89,7 +90,8 @@ fn push_entries(
     all: &mut Vec<Relocation>,
 ) -> Result<(), AllocError>
     requires { start + 24 * count ≤ length bytes.now }
-    ensures { OnOk result (all.new.items ≡ all.old.items ++ map relocation_of (relocation_entries_below bytes.now start count)) }
+    ensures { OnOk result (all.new.items ≡ all.old.items ++ map relocation_of
+        (relocation_entries_below bytes.now start count)) }
 {
     for k in 0..count {
         let entry = read_relocation_entry(bytes, start + RELA_SIZE * k);
@@ -144,7 +146,8 @@ fn find_spans(
     runs: &[Run],
 ) -> Result<Vec<Span>, AllocError>
     requires runs { AreRuns bytes.now tables.now all.now 24 runs.now }
-    ensures { IfOk result (λ v. AreRelocated (map (λ t. map relocation_of (table_entries bytes.now t)) tables.now) all.now v.items) }
+    ensures { IfOk result (λ v. AreRelocated
+        (map (λ t. map relocation_of (table_entries bytes.now t)) tables.now) all.now v.items) }
 {
     let mut spans = Vec::with_capacity(alloc, tables.len())?;
     for table in tables {
@@ -166,7 +169,8 @@ pub fn read_tables(
 ) -> Result<Relocations, AllocError>
     requires long { 24 ≤ length bytes.now }
     requires tables { All (IsTableOf bytes.now) tables.now }
-    ensures { IfOk result (λ r. AreRelocated (map (λ s. relocations_at bytes.now s.number.0) (map (λ t. t.section) tables.now)) r.all.items r.spans.items) }
+    ensures { IfOk result (λ r. AreRelocated
+        (map (λ s. relocations_at bytes.now s.number.0) (map (λ t. t.section) tables.now)) r.all.items r.spans.items) }
 {
     let (all, runs) = read_runs(alloc, bytes, tables)?;
     let spans = find_spans(alloc, bytes, tables, &all, &runs)?;

@@ -1,6 +1,7 @@
 //! The relocation sections: their tests, and the relocations that they hold.
 
-ghost use Rattle.std.specs.Prelude.{◌≡◌, ℕ, ◌≤◌, ◌<◌, ◌+◌, ◌*◌, ◌⊎◌, IfErr, IfOk, IfSome, List, None, Some, false, true, find, length, map, replicate};
+ghost use Rattle.std.specs.Prelude.{◌≡◌, ℕ, ◌≤◌, ◌<◌, ◌+◌, ◌*◌, ◌⊎◌, IfErr, IfOk, IfSome, List, None, Some, false};
+ghost use Rattle.std.specs.Prelude.{true, find, length, map, replicate};
 ghost use Rattle.std.specs.List.{All, list_any};
 ghost use Rattle.std.specs.List.Sorted.{IsNonDecreasingBy, IsPermutation};
 ghost use Rattle.elffile.specs.ElfHeader.{e_shnum};
@@ -103,7 +104,8 @@ fn changing_tables(
     requires headers { headers.now ≡ headers_of bytes.now }
     ensures right { IfOk result (λ v. is_wrong_below bytes.now (e_shnum bytes.now) ≡ false) }
     ensures tables { IfOk result (λ v. AreTables bytes.now v.items) }
-    ensures wrong { IfErr result (λ e. (e ≡ NoMemory) ⊎ ((e ≡ RelocationSection) × (is_wrong_below bytes.now (e_shnum bytes.now) ≡ true))) }
+    ensures wrong { IfErr result (λ e. (e ≡ NoMemory)
+        ⊎ ((e ≡ RelocationSection) × (is_wrong_below bytes.now (e_shnum bytes.now) ≡ true))) }
 {
     let symtab = symbol_table_number(headers);
     let Ok(mut tables) = no_tables(alloc, headers.len()) else {
@@ -217,7 +219,8 @@ fn in_order(alloc: Global, spans: &[Span]) -> Result<Vec<Span>, AllocError>
 fn is_any_overlap(alloc: Global, relocations: &Relocations, size: usize) -> Result<bool, AllocError>
     requires within { All (IsInside (length relocations.now.all.items)) relocations.now.spans.items }
     requires fields { All (λ s. AreBelow relocations.now.all.items s.start s.end size) relocations.now.spans.items }
-    ensures { IfOk result (λ b. b ≡ list_any share_bytes (map (relocations_in relocations.now.all.items) relocations.now.spans.items)) }
+    ensures { IfOk result (λ b. b ≡ list_any share_bytes
+        (map (relocations_in relocations.now.all.items) relocations.now.spans.items)) }
 {
     let spans = in_order(alloc, &relocations.spans)?;
     is_any_shared(alloc, &relocations.all, &spans, size)
@@ -238,7 +241,8 @@ fn read_tested(
     requires tables { AreTablesOf bytes.now (linked_sections bytes.now) tables.now }
     requires symbols { symbols ≡ length (symbols_of bytes.now) }
     ensures ok { IfOk result (λ r. find (holds bytes.now) relocation_refusals ≡ None) }
-    ensures relocations { IfOk result (λ r. AreRelocated (map (λ s. s.relocations) (sections_of bytes.now)) r.all.items r.spans.items) }
+    ensures relocations { IfOk result
+        (λ r. AreRelocated (map (λ s. s.relocations) (sections_of bytes.now)) r.all.items r.spans.items) }
     ensures refused { IfErr result (λ e. (e ≡ NoMemory) ⊎ (find (holds bytes.now) relocation_refusals ≡ Some e)) }
 {
     let Ok(refusal) = entry_refusal(alloc, bytes, tables, symbols) else {
@@ -272,7 +276,8 @@ pub fn read_relocations(
     requires sections { sections.now ≡ linked_sections bytes.now }
     requires symbols { symbols ≡ length (symbols_of bytes.now) }
     ensures ok { IfOk result (λ r. find (holds bytes.now) relocation_refusals ≡ None) }
-    ensures relocations { IfOk result (λ r. AreRelocated (map (λ s. s.relocations) (sections_of bytes.now)) r.all.items r.spans.items) }
+    ensures relocations { IfOk result
+        (λ r. AreRelocated (map (λ s. s.relocations) (sections_of bytes.now)) r.all.items r.spans.items) }
     ensures refused { IfErr result (λ e. (e ≡ NoMemory) ⊎ (find (holds bytes.now) relocation_refusals ≡ Some e)) }
 {
     let changing = changing_tables(alloc, bytes, headers)?;

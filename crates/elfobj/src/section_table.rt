@@ -4,7 +4,8 @@ ghost use Rattle.std.specs.Prelude.{◌≡◌, ◌⊎◌, ◌++◌, IfErr, IfNon
 ghost use Rattle.std.specs.List.{list_any};
 ghost use Rattle.elfobj.specs.Linkable.{ArePartsOf, IsNameTable, PassesTests};
 ghost use Rattle.elffile.specs.ElfHeader.{e_shstrndx};
-ghost use Rattle.elffile.specs.Refusal.{holds, is_out_of_bounds, is_outside_profile_by, header_refusals, object_refusal, relocation_refusals, symbol_refusals};
+ghost use Rattle.elffile.specs.Refusal.{holds, is_out_of_bounds, is_outside_profile_by, header_refusals};
+ghost use Rattle.elffile.specs.Refusal.{object_refusal, relocation_refusals, symbol_refusals};
 ghost use Rattle.elffile.specs.SectionHeaders.{header, headers as headers_of};
 ghost use Rattle.elffile.specs.SectionTable.{HasSectionTable};
 ghost use Rattle.elffile.specs.TableOf.{table_of};
@@ -82,8 +83,10 @@ fn read_tables<'a>(
     requires headers { headers.now ≡ headers_of bytes.now }
     requires tests { PassesTests bytes.now }
     ensures ok { IfOk result (λ p. find (holds bytes.now) (symbol_refusals ++ relocation_refusals) ≡ None) }
-    ensures read { IfOk result (λ p. ArePartsOf bytes.now p.linked.sections.items p.linked.places.items p.symbols.symbols.items p.symbols.names.items p.relocations.items) }
-    ensures refused { IfErr result (λ e. (e ≡ NoMemory) ⊎ (find (holds bytes.now) (symbol_refusals ++ relocation_refusals) ≡ Some e)) }
+    ensures read { IfOk result (λ p. ArePartsOf bytes.now p.linked.sections.items p.linked.places.items p.symbols.symbols.items
+        p.symbols.names.items p.relocations.items) }
+    ensures refused { IfErr result
+        (λ e. (e ≡ NoMemory) ⊎ (find (holds bytes.now) (symbol_refusals ++ relocation_refusals) ≡ Some e)) }
 {
     let Ok(mut linked) = linked_sections(alloc, bytes, &names, headers) else {
         return Err(ObjectRefusal::NoMemory);
@@ -108,7 +111,8 @@ fn read_tables<'a>(
 /// Reads the parts of a file, or tells why it is no object.
 pub fn read_parts(alloc: Global, bytes: &[u8]) -> Result<Parts, ObjectRefusal>
     ensures ok { IfOk result (λ p. object_refusal bytes.now ≡ None) }
-    ensures read { IfOk result (λ p. ArePartsOf bytes.now p.linked.sections.items p.linked.places.items p.symbols.symbols.items p.symbols.names.items p.relocations.items) }
+    ensures read { IfOk result (λ p. ArePartsOf bytes.now p.linked.sections.items p.linked.places.items p.symbols.symbols.items
+        p.symbols.names.items p.relocations.items) }
     ensures refused { IfErr result (λ e. (e ≡ NoMemory) ⊎ (object_refusal bytes.now ≡ Some e)) }
     ensures memory { IfErr result (λ e. e ≡ NoMemory → find (holds bytes.now) header_refusals ≡ None) }
 {

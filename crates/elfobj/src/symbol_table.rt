@@ -1,6 +1,7 @@
 //! The symbol table: its tests, and the symbols that it holds.
 
-ghost use Rattle.std.specs.Prelude.{◌≡◌, ◌≤◌, ◌+◌, ◌⊎◌, ◌<◌, ◌++◌, ◌∷◌, [], IfErr, IfOk, OnOk, None, Some, count_by, drop, false, find, length, nat_lt, position};
+ghost use Rattle.std.specs.Prelude.{◌≡◌, ◌≤◌, ◌+◌, ◌⊎◌, ◌<◌, ◌++◌, ◌∷◌, [], IfErr, IfOk, OnOk, None, Some, count_by};
+ghost use Rattle.std.specs.Prelude.{drop, false, find, length, nat_lt, position};
 ghost use Rattle.std.specs.List.{list_all, list_any};
 ghost use Rattle.elfobj.specs.Places.{AreNamed};
 ghost use Rattle.elffile.specs.Spans.{IsInside, bytes_at};
@@ -9,9 +10,11 @@ ghost use Rattle.elffile.specs.SectionHeaders.{headers as headers_of};
 ghost use Rattle.elffile.specs.SectionTable.{HasSectionTable};
 ghost use Rattle.elffile.specs.ElfHeader.{e_shstrndx};
 ghost use Rattle.elfobj.specs.Linkable.{IsNameTable, PassesTests};
-ghost use Rattle.elffile.specs.Symbols.{entries_of, is_symbol_table, symbol_name, symbol_table, symbols_from, symbols_of};
+ghost use Rattle.elffile.specs.Symbols.{entries_of, is_symbol_table, symbol_name, symbol_table, symbols_from};
+ghost use Rattle.elffile.specs.Symbols.symbols_of;
 ghost use Rattle.elffile.specs.TableOf.{table_of};
-ghost use Rattle.elffile.specs.Tables.{has_misplaced_entry, has_wrong_header, is_local, is_string_table, is_wrong_non_local, is_wrong_symbol};
+ghost use Rattle.elffile.specs.Tables.{has_misplaced_entry, has_wrong_header, is_local, is_string_table};
+ghost use Rattle.elffile.specs.Tables.{is_wrong_non_local, is_wrong_symbol};
 ghost use Rattle.elffile.specs.declared.refusal.ObjectRefusal.TheVariants.{NoMemory};
 
 use crate::refusal::ObjectRefusal;
@@ -143,7 +146,8 @@ fn named_symbols(
 ) -> Result<Symbols, AllocError>
     requires some { 0 < length entries.now }
     requires names { list_any (is_wrong_non_local (table_of strings.now)) (drop 1 entries.now) ≡ false }
-    ensures { IfOk result (λ s. AreNamed strings.now.file.now (symbols_from (table_of strings.now) entries.now) s.symbols.items s.names.items) }
+    ensures { IfOk result (λ s. AreNamed strings.now.file.now
+        (symbols_from (table_of strings.now) entries.now) s.symbols.items s.names.items) }
 {
     let mut symbols = Symbols::of_null(alloc, entries.len())?;
     let rest = &entries[1..];
@@ -153,8 +157,8 @@ fn named_symbols(
     Ok(symbols)
 }
 
-/// The string table of a symbol table, whose header has this number. It is that of the sections' names where the header is,
-/// and else the first is let go before the second is made.
+/// The string table of a symbol table, whose header has this number. It is that of the sections' names where the header
+/// is, and else the first is let go before the second is made.
 fn symbol_names<'a>(
     alloc: Global,
     bytes: &'a [u8],

@@ -1,7 +1,8 @@
 //! The symbols of an object, and the pass that reads them where all are within the profile, as compilers write them. Of
 //! other symbols it finds only that they are not such.
 
-ghost use Rattle.std.specs.Prelude.{◌≡◌, ℕ, ◌≤◌, ◌+◌, ◌/◌, ◌++◌, ◌∷◌, [], IfOk, IfSome, List, OnOk, drop, false, length};
+ghost use Rattle.std.specs.Prelude.{◌≡◌, ℕ, ◌≤◌, ◌+◌, ◌/◌, ◌++◌, ◌∷◌, [], IfOk, IfSome, List, OnOk, drop, false};
+ghost use Rattle.std.specs.Prelude.length;
 ghost use Rattle.std.specs.List.{list_any};
 ghost use Rattle.elffile.specs.SectionHeaders.{file_bytes};
 ghost use Rattle.elffile.specs.Symbols.{entries_of, null_symbol, symbols_from};
@@ -73,8 +74,13 @@ pub fn read_passing(
     requires within { table.now.sh_offset + table.now.sh_size ≤ length bytes.now }
     requires strings { strings.now.sh_offset + strings.now.sh_size ≤ length bytes.now }
     ensures placed { IfOk result (λ o. IfSome o (λ s. has_misplaced_entry table.now (entries_of bytes.now table.now) ≡ false)) }
-    ensures right { IfOk result (λ o. IfSome o (λ s. list_any (is_wrong_symbol sections (file_bytes bytes.now strings.now)) (drop 1 (entries_of bytes.now table.now)) ≡ false)) }
-    ensures symbols { IfOk result (λ o. IfSome o (λ s. AreNamed bytes.now (symbols_from (file_bytes bytes.now strings.now) (entries_of bytes.now table.now)) s.symbols.items s.names.items)) }
+    ensures right { IfOk result
+        (λ o. IfSome o (λ s. list_any (is_wrong_symbol sections (file_bytes bytes.now strings.now))
+        (drop 1 (entries_of bytes.now table.now)) ≡ false)) }
+    ensures symbols { IfOk result
+        (λ o. IfSome o (λ s. AreNamed bytes.now
+        (symbols_from (file_bytes bytes.now strings.now) (entries_of bytes.now table.now)) s.symbols.items
+        s.names.items)) }
 {
     let start = table.sh_offset as usize;
     let count = table.sh_size as usize / SYM_SIZE;

@@ -1,6 +1,7 @@
 //! The word of a command line that names a file.
 
-ghost use Rattle.std.specs.Prelude.{◌≡◌, ◌≤◌, ◌<◌, ◌↔◌, ◌∷◌, [], ℕ, List, Ok, None, length, map, string_bytes, IfOk, IfSome, IfErr};
+ghost use Rattle.std.specs.Prelude.{◌≡◌, ◌≤◌, ◌<◌, ◌↔◌, ◌∷◌, [], ℕ, List, Ok, None, length, map, string_bytes, IfOk};
+ghost use Rattle.std.specs.Prelude.{IfSome, IfErr};
 ghost use Rattle.filearg.specs.declared.fault.FileFault.TheVariants.{Words};
 
 use crate::fault::FileFault;

@@ -1,5 +1,6 @@
 -- Pieces with the fields that lie in them.
-use Rattle.std.specs.Prelude.{◌≡◌, ℕ, ◌+◌, ◌-◌, ◌<◌, ◌≤◌, max, min, List, [], ◌∷◌, length, slice_index, AllPairs, Bool, false, ◌&&◌, nat_le, nat_lt, if◌then◌else◌}
+use Rattle.std.specs.Prelude.{◌≡◌, ℕ, ◌+◌, ◌-◌, ◌<◌, ◌≤◌, max, min, List, [], ◌∷◌, length, slice_index, AllPairs, Bool}
+use Rattle.std.specs.Prelude.{false, ◌&&◌, nat_le, nat_lt, if◌then◌else◌}
 use Rattle.ldfields.specs.declared.patch.Patch.{Patch}
 
 -- where a field ends in its piece

@@ -80,7 +80,8 @@ impl Canvas {
     pub fn resize_reserved(&mut self, n: usize)
         requires { n ≤ self.old.room }
         ensures len { length self.new.bytes ≡ n }
-        ensures kept { (o : ℕ) → o < n → o < length self.old.bytes → slice_index self.new.bytes o ≡ slice_index self.old.bytes o }
+        ensures kept { (o : ℕ) → o < n → o < length self.old.bytes
+            → slice_index self.new.bytes o ≡ slice_index self.old.bytes o }
         ensures zeros { (o : ℕ) → length self.old.bytes ≤ o → o < n → slice_index self.new.bytes o ≡ 0 }
         ensures room { self.old.room ≤ self.new.room }
     {
@@ -91,9 +92,11 @@ impl Canvas {
     /// the bytes that it writes.
     pub fn write(&mut self, at: usize, bytes: &[u8], meter: &mut Meter)
         requires { at + length bytes.now ≤ length self.old.bytes }
-        ensures written { (i : ℕ) → i < length bytes.now → slice_index self.new.bytes (at + i) ≡ slice_index bytes.now i }
+        ensures written { (i : ℕ) → i < length bytes.now
+            → slice_index self.new.bytes (at + i) ≡ slice_index bytes.now i }
         ensures before { (o : ℕ) → o < at → slice_index self.new.bytes o ≡ slice_index self.old.bytes o }
-        ensures after { (o : ℕ) → at + length bytes.now ≤ o → slice_index self.new.bytes o ≡ slice_index self.old.bytes o }
+        ensures after { (o : ℕ) → at + length bytes.now ≤ o
+            → slice_index self.new.bytes o ≡ slice_index self.old.bytes o }
         ensures len { length self.new.bytes ≡ length self.old.bytes }
         ensures room { self.new.room ≡ self.old.room }
         ensures counted { meter.new ≡ raised meter.old Count.Bytes (length bytes.now) }

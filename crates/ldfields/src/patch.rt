@@ -38,7 +38,8 @@ fn is_ascending(patches: &[Patch]) -> bool
 pub fn in_order(mut patches: Vec<Patch>) -> Result<Vec<Patch>, AllocError>
     requires { AreApart patches.items }
     ensures order { IfOk result (λ v. (n : ℕ) → All (IsWithin n) patches.items → AreInOrder 0 n v.items) }
-    ensures same { IfOk result (λ v. (bytes : List ℕ) (i : ℕ) → patched_byte bytes v.items i ≡ patched_byte bytes patches.items i) }
+    ensures same { IfOk result (λ v. (bytes : List ℕ) (i : ℕ)
+        → patched_byte bytes v.items i ≡ patched_byte bytes patches.items i) }
 {
     if !is_ascending(&patches) {
         patches.sort_by_key(|p| p.offset)?;
@@ -59,10 +60,13 @@ fn write_up_to(
     requires order { done ≤ patch.now.offset }
     requires end { patch_end patch.now ≤ length bytes.now }
     ensures end { result ≡ patch_end patch.now }
-    ensures own { (i : ℕ) → done ≤ i → i < patch.now.offset → slice_index canvas.new.bytes (at + i) ≡ slice_index bytes.now i }
-    ensures field { (i : ℕ) → patch.now.offset ≤ i → i < patch_end patch.now → slice_index canvas.new.bytes (at + i) ≡ slice_index patch.now.field (i - patch.now.offset) }
+    ensures own { (i : ℕ) → done ≤ i → i < patch.now.offset
+        → slice_index canvas.new.bytes (at + i) ≡ slice_index bytes.now i }
+    ensures field { (i : ℕ) → patch.now.offset ≤ i → i < patch_end patch.now
+        → slice_index canvas.new.bytes (at + i) ≡ slice_index patch.now.field (i - patch.now.offset) }
     ensures before { (o : ℕ) → o < at + done → slice_index canvas.new.bytes o ≡ slice_index canvas.old.bytes o }
-    ensures after { (o : ℕ) → at + patch_end patch.now ≤ o → slice_index canvas.new.bytes o ≡ slice_index canvas.old.bytes o }
+    ensures after { (o : ℕ) → at + patch_end patch.now ≤ o
+        → slice_index canvas.new.bytes o ≡ slice_index canvas.old.bytes o }
     ensures len { length canvas.new.bytes ≡ length canvas.old.bytes }
     ensures room { canvas.new.room ≡ canvas.old.room }
     ensures counted { meter.new ≡ raised meter.old Count.Bytes (patch_end patch.now - done) }
@@ -84,9 +88,11 @@ pub fn write_patched(
 )
     requires within { at + length bytes.now ≤ length canvas.old.bytes }
     requires order { AreInOrder 0 (length bytes.now) patches.now }
-    ensures written { (i : ℕ) → i < length bytes.now → slice_index canvas.new.bytes (at + i) ≡ patched_byte bytes.now patches.now i }
+    ensures written { (i : ℕ) → i < length bytes.now
+        → slice_index canvas.new.bytes (at + i) ≡ patched_byte bytes.now patches.now i }
     ensures before { (o : ℕ) → o < at → slice_index canvas.new.bytes o ≡ slice_index canvas.old.bytes o }
-    ensures after { (o : ℕ) → at + length bytes.now ≤ o → slice_index canvas.new.bytes o ≡ slice_index canvas.old.bytes o }
+    ensures after { (o : ℕ) → at + length bytes.now ≤ o
+        → slice_index canvas.new.bytes o ≡ slice_index canvas.old.bytes o }
     ensures len { length canvas.new.bytes ≡ length canvas.old.bytes }
     ensures room { canvas.new.room ≡ canvas.old.room }
     ensures counted { meter.new ≡ raised meter.old Count.Bytes (length bytes.now) }

@@ -47,7 +47,8 @@ fn write_short_run(canvas: &mut Canvas, at: usize, n: usize, pattern: &[u8], met
     requires within { at + n ≤ length canvas.old.bytes }
     requires some { 0 < length pattern.now }
     requires short { n ≤ 32 }
-    ensures written { (i : ℕ) → i < n → slice_index canvas.new.bytes (at + i) ≡ slice_index pattern.now (i % length pattern.now) }
+    ensures written { (i : ℕ) → i < n
+        → slice_index canvas.new.bytes (at + i) ≡ slice_index pattern.now (i % length pattern.now) }
     ensures before { (o : ℕ) → o < at → slice_index canvas.new.bytes o ≡ slice_index canvas.old.bytes o }
     ensures after { (o : ℕ) → at + n ≤ o → slice_index canvas.new.bytes o ≡ slice_index canvas.old.bytes o }
     ensures len { length canvas.new.bytes ≡ length canvas.old.bytes }
@@ -64,7 +65,8 @@ fn write_chunks(canvas: &mut Canvas, at: usize, n: usize, pattern: &[u8], meter:
     requires within { at + n ≤ length canvas.old.bytes }
     requires some { 0 < length pattern.now }
     requires most { length pattern.now ≤ 8 }
-    ensures written { (i : ℕ) → i < n → slice_index canvas.new.bytes (at + i) ≡ slice_index pattern.now (i % length pattern.now) }
+    ensures written { (i : ℕ) → i < n
+        → slice_index canvas.new.bytes (at + i) ≡ slice_index pattern.now (i % length pattern.now) }
     ensures before { (o : ℕ) → o < at → slice_index canvas.new.bytes o ≡ slice_index canvas.old.bytes o }
     ensures after { (o : ℕ) → at + n ≤ o → slice_index canvas.new.bytes o ≡ slice_index canvas.old.bytes o }
     ensures len { length canvas.new.bytes ≡ length canvas.old.bytes }
@@ -86,7 +88,8 @@ pub fn write_run(canvas: &mut Canvas, at: usize, n: usize, pattern: &[u8], meter
     requires within { at + n ≤ length canvas.old.bytes }
     requires some { 0 < length pattern.now }
     requires most { length pattern.now ≤ 8 }
-    ensures written { (i : ℕ) → i < n → slice_index canvas.new.bytes (at + i) ≡ slice_index pattern.now (i % length pattern.now) }
+    ensures written { (i : ℕ) → i < n
+        → slice_index canvas.new.bytes (at + i) ≡ slice_index pattern.now (i % length pattern.now) }
     ensures before { (o : ℕ) → o < at → slice_index canvas.new.bytes o ≡ slice_index canvas.old.bytes o }
     ensures after { (o : ℕ) → at + n ≤ o → slice_index canvas.new.bytes o ≡ slice_index canvas.old.bytes o }
     ensures len { length canvas.new.bytes ≡ length canvas.old.bytes }

@@ -47,7 +47,8 @@ left options stream before rest written after held last outcome r f e =
       rest = rest;
       held = held;
       last = last;
-      ran = subst (λ (w : Option (List ℕ)). Ran (world stream before (empty_project options)) (world rest w last) outcome)
+      ran =
+          subst (λ (w : Option (List ℕ)). Ran (world stream before (empty_project options)) (world rest w last) outcome)
           e r;
       sent = f;
     }

@@ -234,7 +234,8 @@ module _ (d : Drawing) (k at : ℕ) (e : ImagePart) (h : IsDrawing d) (r : ArePa
           | inl f ↦ (let order =
               parts-order (end_of_sections (length d.headers.now) d.sections.now) d.tail.now k i e y h.tail f.1 n in
               omega (arith, order))
-          | inr f ↦ (let one = ap (λ (t : ImagePart). t.offset) (same-at d.tail.now i k y e (omega (arith, c.1, f.1)) l) in
+          | inr f ↦ (let one = ap (λ (t : ImagePart). t.offset)
+              (same-at d.tail.now i k y e (omega (arith, c.1, f.1)) l) in
               omega (arith, one))
         ])
       ])

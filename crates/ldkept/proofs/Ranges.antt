@@ -94,7 +94,8 @@ module _ (old : GoodLink) (l : KnownLink) (keys : (k : ℕ) → l.number k ≡ k
           let w = then_some (standing_from y key.part) (last_place y key.object) h.old h.was in
           let before = stood old.project old.layout y.good.starts y.good.laying last.table.starts last.table.laying
           (at_place w.0) h.old w.2 in
-          let now = (shows l.project l.layout t f starts laying key k q z at among (sym object) (sym part)).is h.new h.is
+          let now = (shows l.project l.layout t f starts laying key k q z at among (sym object)
+          (sym part)).is h.new h.is
           in (
             same.sound old l.project y.from last.origins last.table.names names key.object.0 x object refl some
                 (of_link old.project old.layout before.section before.piece) refl w.0 w.1

@@ -15,8 +15,8 @@ use Rattle.ldkept.specs.declared.standing.Standing.{Standing}
 abbrev pub bytes_from : ℕ → ℕ → Option FileRange
 bytes_from offset size = if nat_lt offset (2 ^ 64) then Some (record { offset = offset; length = size }) else None
 
--- the bytes of an input section that starts at an address, where its output section begins at an offset; no bytes, where
--- the output section has none in the file
+-- the bytes of an input section that starts at an address, where its output section begins at an offset; no bytes,
+-- where the output section has none in the file
 unfoldable pub range_from : Placed → ℕ → ℕ → ℕ → Option FileRange
 range_from q offset start size =
     if not (q.load_size == 0) && not (size == 0) then bytes_from (offset + (start - q.start)) size

@@ -60,7 +60,8 @@ pub fn marks_of(
     last: Option<Last<'_>>,
     symbols: &SymbolTable,
 ) -> Result<Vec<bool>, NoMemory>
-    ensures { IfOk result (λ marks. (old : GoodLink) (s : Layout) → IfSome (last_of last.entry) (IsLastOf old project.now)
+    ensures { IfOk result (λ marks. (old : GoodLink) (s : Layout)
+        → IfSome (last_of last.entry) (IsLastOf old project.now)
         → AreSymbolValues project.now s symbols.now → AreMarks old project.now s marks.items) }
 {
     let inputs = project.inputs();

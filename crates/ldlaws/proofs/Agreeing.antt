@@ -1,5 +1,6 @@
 -- Values in scopes that agree.
-use Rattle.std.proofs.Common.{◌≡◌, ℕ, ◌∙◌, sym, ap, Bool, true, false, cond, List, Option, Some, None, Result, Ok, Err, refl}
+use Rattle.std.proofs.Common.{◌≡◌, ℕ, ◌∙◌, sym, ap, Bool, true, false, cond, List, Option, Some, None, Result, Ok, Err}
+use Rattle.std.proofs.Common.refl
 use Rattle.std.proofs.Common.{subst}
 use Rattle.std.specs.Option.{option_map}
 use Rattle.ldterms.specs.Expressions as expression
@@ -53,10 +54,12 @@ module _ (s t : Scope) (dot : ℕ) (agree : DoAgree s t) where
       of_both (value s dot c) (value t dot c) _ _ (same c) (λ x.
       of_choice (value s dot a) (value t dot a) (value s dot b) (value t dot b) (same a) (same b) (is_true x))
   same (expression.OfRegion q n) =
-      subst (λ r. Same (named n (option_map (asked_of_region q) (s.region n))) (named n (option_map (asked_of_region q) r)))
+      subst (λ r. Same (named n (option_map (asked_of_region q) (s.region n)))
+      (named n (option_map (asked_of_region q) r)))
       (agree.regions n) (of_one _)
   same (expression.OfSection q n) =
-      subst (λ r. Same (named n (option_map (asked_of_section q) (s.section n))) (named n (option_map (asked_of_section q) r)))
+      subst (λ r. Same (named n (option_map (asked_of_section q) (s.section n)))
+      (named n (option_map (asked_of_section q) r)))
       (agree.sections n) (of_one _)
   same (expression.AlignDot a) =
       of_both (value s dot a) (value t dot a) _ _ (same a) (λ x. of_one (aligned dot x))

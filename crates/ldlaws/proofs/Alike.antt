@@ -1,5 +1,6 @@
 -- Statements lead to layouts that differ in symbols alone from layouts that do.
-use Rattle.std.proofs.Common.{◌≡◌, ℕ, ◌+◌, ◌==◌, nat_lt, List, [], ◌∷◌, ◌++◌, Bool, true, false, cond, Option, Some, None}
+use Rattle.std.proofs.Common.{◌≡◌, ℕ, ◌+◌, ◌==◌, nat_lt, List, [], ◌∷◌, ◌++◌, Bool, true, false, cond, Option, Some}
+use Rattle.std.proofs.Common.None
 use Rattle.std.proofs.Common.{Result, Ok, Err, refl, sym, ap, subst, ◌∙◌, bytes_eq}
 use Rattle.std.proofs.lemmas.List.{append-nil}
 use Rattle.std.specs.List.{list_any}
@@ -24,7 +25,8 @@ use Rattle.ldtree.specs.declared.section.BodyCommand.TheVariants as body
 use Rattle.ldtree.specs.declared.section.BodyStatement.{BodyStatement}
 use Rattle.ldtree.specs.declared.section.Width.{Width}
 use Rattle.ldmodel.specs.Assigning.{assigned, common_step}
-use Rattle.ldmodel.specs.Body.{Body, piece_placed, piece_start, pieces_placed, input_step, with_dot, with_data, data_step}
+use Rattle.ldmodel.specs.Body.{Body, piece_placed, piece_start, pieces_placed, input_step, with_dot, with_data}
+use Rattle.ldmodel.specs.Body.data_step
 use Rattle.ldmodel.specs.Body.{moved, advanced, set_to, dot_step, body_command_step, body_step}
 use Rattle.ldmodel.specs.Chain.{and_then}
 use Rattle.ldmodel.specs.Fault.{Fault, MovedBack}
@@ -205,7 +207,8 @@ module _ (s : Layout) (ys : List ScriptSymbol) (names : List (List ℕ)) where
       both_ok (AreAlike names) s (having s ys) (record { same = refl; symbols = h })
 
 -- bodies
-module _ (b : Body) (ys : List ScriptSymbol) (names : List (List ℕ)) (h : AreSymbolsAlike names b.layout.symbols ys) where
+module _ (b : Body) (ys : List ScriptSymbol) (names : List (List ℕ))
+    (h : AreSymbolsAlike names b.layout.symbols ys) where
   abbrev c : Body
   c = with_symbols b ys
 
@@ -252,7 +255,8 @@ module _ (b : Body) (ys : List ScriptSymbol) (names : List (List ℕ)) (h : AreS
       (λ x. and_then (address line (b.layout.dot + n)) (λ end. Ok (with_dot (with_data b (little_bytes n x)) end)))
       (λ x. and_then (address line (b.layout.dot + n)) (λ end. Ok (with_dot (with_data c (little_bytes n x)) end)))
       (numbers line e)
-      (λ x y p. both_then IsSame (AreBodiesAlike names) (address line (b.layout.dot + n)) (address line (b.layout.dot + n))
+      (λ x y p. both_then IsSame (AreBodiesAlike names) (address line (b.layout.dot + n))
+      (address line (b.layout.dot + n))
       (λ end. Ok (with_dot (with_data b (little_bytes n x)) end))
       (λ end. Ok (with_dot (with_data c (little_bytes n y)) end)) (same_both (address line (b.layout.dot + n)))
       (λ u v q. both_ok (AreBodiesAlike names) (with_dot (with_data b (little_bytes n x)) u)

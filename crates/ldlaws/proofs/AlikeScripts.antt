@@ -1,4 +1,5 @@
--- The layouts of a script in which other PROVIDEs are in force differ in symbols alone, as far as the rows are the same.
+-- The layouts of a script in which other PROVIDEs are in force differ in symbols alone, as far as the rows are the
+-- same.
 use Rattle.std.proofs.Common.{◌≡◌, ℕ, ◌+◌, ◌≤◌, List, [], ◌∷◌, ◌++◌, length, Bool, true, false}
 use Rattle.std.proofs.Common.{Result, Ok, refl, sym, ap, subst, ◌∙◌, append_assoc, arith, bytes_eq, Some}
 use Rattle.std.specs.List.{Contains, list_any}
@@ -38,7 +39,8 @@ use Rattle.ldlaws.proofs.Effects.{came, common_named, kept_same, named_kept, reg
 use Rattle.ldlaws.proofs.Finding.{in_append, in_front}
 
 -- the statements of SECTIONS
-module _ (first : ℕ) (old rows : List (List Piece)) (earlier provided : List (List ℕ)) (rs : AreSameBefore first old rows)
+module _ (first : ℕ) (old rows : List (List Piece)) (earlier provided : List (List ℕ))
+    (rs : AreSameBefore first old rows)
   where
     fewer : (xs : List Item) (s t : Layout) → run (item_step rows provided) s xs ≡ Ok t → length s.sections
         ≤ length t.sections
@@ -74,9 +76,11 @@ module _ (first : ℕ) (old rows : List (List Piece)) (earlier provided : List (
             and_then (number (having s t.symbols) r.line r.extent) (λ extent.
             Ok (with_region (having s t.symbols) r.name origin extent))))
         go =
-            both_then IsSame (AreAlike names) (number s r.line r.origin) (number (having s t.symbols) r.line r.origin) _ _
+            both_then IsSame (AreAlike names) (number s r.line r.origin)
+            (number (having s t.symbols) r.line r.origin) _ _
             (number_both names s t.symbols a.symbols r.line r.origin) (λ x x' e.
-            both_then IsSame (AreAlike names) (number s r.line r.extent) (number (having s t.symbols) r.line r.extent) _ _
+            both_then IsSame (AreAlike names) (number s r.line r.extent)
+            (number (having s t.symbols) r.line r.extent) _ _
             (number_both names s t.symbols a.symbols r.line r.extent) (λ y y' f.
             both_ok (AreAlike names) (with_region s r.name x y) (with_region (having s t.symbols) r.name x' y')
             (record { same = rw (e, f) refl; symbols = a.symbols })))
@@ -90,7 +94,8 @@ module _ (first : ℕ) (old rows : List (List Piece)) (earlier provided : List (
     regions_alike names (x ∷ xs) s t u v a p q =
         let k = came (region_step s x) (λ z. run region_step z xs) u p in
         let m = came (region_step t x) (λ z. run region_step z xs) v q in
-        regions_alike names xs k.value m.value u v (region_alike names x s t k.value m.value a k.is m.is) k.gives m.gives
+        regions_alike names xs k.value m.value u v
+        (region_alike names x s t k.value m.value a k.is m.is) k.gives m.gives
 
     -- statements
     command_alike : (names : List (List ℕ)) (line : ℕ) (c : Command) (s t u v : Layout)
@@ -265,7 +270,8 @@ all_new before (given {n = n} {ms = ms} r) h =
     let later : NoClash (before ++ SymbolGiven n ∷ []) ms = shift before (SymbolGiven n) ms h in (
       refl,
       refl,
-      none_later (before ++ SymbolGiven n ∷ []) n (in_append before (SymbolGiven n ∷ []) (SymbolGiven n) (0, omega arith, refl))
+      none_later (before ++ SymbolGiven n ∷ []) n
+          (in_append before (SymbolGiven n ∷ []) (SymbolGiven n) (0, omega arith, refl))
           r later,
       all_new (before ++ SymbolGiven n ∷ []) r later,
     )

@@ -23,7 +23,8 @@ use Rattle.ldmodel.specs.Layout.{Layout, PlacedSection, ScriptSymbol, address, n
 use Rattle.ldmodel.specs.Placement.{free_dot_step, item_command_step, item_step, next_row, opened, section_step}
 use Rattle.ldmodel.specs.Rows.{Piece}
 use Rattle.ldmodel.specs.SectionEnd.{find_region, load_region, placed_section, section_end, with_room, with_section}
-use Rattle.ldmodel.specs.SectionHead.{Given, Head, first_free, given, given_alignment, given_load, head_of, load_address}
+use Rattle.ldmodel.specs.SectionHead.{Given, Head, first_free, given, given_alignment, given_load, head_of}
+use Rattle.ldmodel.specs.SectionHead.load_address
 use Rattle.ldmodel.specs.SectionHead.{number_if_given, start_of, widest}
 use Rattle.ldlaws.specs.Alike.{AreAlike, AreBodiesAlike, AreSameBefore, AreSymbolsAlike, given_names, names_given}
 use Rattle.ldlaws.specs.Alike.{with_symbols}
@@ -54,7 +55,8 @@ module _ (names : List (List ℕ)) (s : Layout) (ys : List ScriptSymbol) (a : Ar
   given_both line o =
       both_then IsSame IsSame (number_if_given s line o.address) (number_if_given t line o.address) _ _
       (given_number line o.address) (λ at at' p.
-      both_then IsSame IsSame (number_if_given s line (given_load o.load)) (number_if_given t line (given_load o.load)) _ _
+      both_then IsSame IsSame (number_if_given s line (given_load o.load))
+      (number_if_given t line (given_load o.load)) _ _
       (given_number line (given_load o.load)) (λ load load' q.
       both_then IsSame IsSame (number_if_given s line o.alignment) (number_if_given t line o.alignment) _ _
       (given_number line o.alignment) (λ align align' r.
@@ -110,7 +112,8 @@ module _ (names : List (List ℕ)) (s : Layout) (ys : List ScriptSymbol) (a : Ar
       (start_same line o.region g.address (widest g.alignment row))
       ∙ same_start row line o g (start_of t line o.region g.address (widest g.alignment row))
 
-  head_both : (row : List Piece) (line : ℕ) (o : OutputSection) → Both IsSame (head_of s row line o) (head_of t row line o)
+  head_both : (row : List Piece) (line : ℕ) (o : OutputSection)
+      → Both IsSame (head_of s row line o) (head_of t row line o)
   unfolding head_of
   head_both row line o =
       both_then IsSame IsSame (given s line o) (given t line o) (going row line o s) (going row line o t)

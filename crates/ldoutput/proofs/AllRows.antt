@@ -168,9 +168,12 @@ module _ (p : Project) (stays : SectionKey → Bool) (numbers : List ℕ) (r : R
     within = fits;
     drawn = λ l same sources h.
         let q = placed_at l k at row old e below h so_far in
-        subst (λ qs. AllZip (IsRow l.project l.layout stays) qs new) (sym (take_next l.layout.sections k q.section q.here))
-        (subst (λ zs. AllZip (IsRow l.project l.layout stays) (take k l.layout.sections ++ q.section ∷ []) zs) (sym pushed)
-        (zip_more (IsRow l.project l.layout stays) (take k l.layout.sections) old q.section y (so_far.drawn l same sources h)
+        subst (λ qs. AllZip (IsRow l.project l.layout stays) qs new)
+        (sym (take_next l.layout.sections k q.section q.here))
+        (subst (λ zs. AllZip (IsRow l.project l.layout stays) (take k l.layout.sections ++ q.section ∷ []) zs)
+        (sym pushed)
+        (zip_more (IsRow l.project l.layout stays) (take k l.layout.sections) old q.section y
+        (so_far.drawn l same sources h)
         (make l q.section same sources (row_at l k at row h q))));
     rest = λ l h.
         let q = placed_at l k at row old e below h so_far in
@@ -187,5 +190,6 @@ module _ (p : Project) (stays : SectionKey → Bool) (numbers : List ℕ) (r : R
   all_rows l k at ys past same sources h so_far =
       let many : length l.layout.sections ≡ length rows =
       sym (length-map l.layout.sections entries_in) ∙ ap length h.placed in
-      subst (λ qs. AllZip (IsRow l.project l.layout stays) qs ys) (take_all k l.layout.sections (omega (arith, past, many)))
+      subst (λ qs. AllZip (IsRow l.project l.layout stays) qs ys)
+      (take_all k l.layout.sections (omega (arith, past, many)))
       (so_far.drawn l same sources h)

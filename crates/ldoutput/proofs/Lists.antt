@@ -24,8 +24,10 @@ pub zip_each : {A B : Type 0} (R S : A → B → Type 0) (xs : List A) (ys : Lis
 zip_each R S [] [] f all = tt
 zip_each R S [] (y ∷ ys) f all = absurd all
 zip_each R S (x ∷ xs) [] f all = absurd all
-zip_each R S (x ∷ xs) (y ∷ ys) f all =
-    (f x y (0, omega arith, refl) all.0, zip_each R S xs ys (λ z w c r. f z w (suc c.0, omega (arith, c.1), c.2) r) all.1)
+zip_each R S (x ∷ xs) (y ∷ ys) f all = (
+  f x y (0, omega arith, refl) all.0,
+  zip_each R S xs ys (λ z w c r. f z w (suc c.0, omega (arith, c.1), c.2) r) all.1,
+)
 
 -- what follows of the second member of each pair
 pub zip_right : {A B : Type 0} (R : A → B → Type 0) (P : B → Type 0) (xs : List A) (ys : List B)

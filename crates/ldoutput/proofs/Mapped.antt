@@ -53,7 +53,8 @@ names_listed p s (x ∷ xs) = go (stands p x) (names_listed p s xs)
     rest = filter defined (map (output_symbol p s) xs)
 
     go : (b : Bool) → map name_of rest ≡ filter (stands p) xs
-        → map name_of (cond b (output_symbol p s x ∷ rest) rest) ≡ cond b (x ∷ filter (stands p) xs) (filter (stands p) xs)
+        → map name_of (cond b (output_symbol p s x ∷ rest) rest) ≡ cond b (x ∷ filter (stands p) xs)
+        (filter (stands p) xs)
     go true e = ap (λ (ys : List Name). x ∷ ys) e
     go false e = e
 

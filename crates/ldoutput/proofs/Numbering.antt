@@ -186,12 +186,15 @@ run_of R (x ∷ xs) (r ∷ rs) (suc n) s h e =
     let rest = run_of R xs rs n s h.1 e in record { run = rest.run; at = rest.at; is = rest.is }
 
 pub run_found : (l : KnownLink) (stays : SectionKey → Bool) (o : NamedObject) (x : LinkedSection)
-    (firsts ends : List ℕ) (patches run : List Patch) (place section first number begin end : ℕ) → AreFirsts l.project.objects (length l.project.objects) firsts
-    → AreRunsUnless l stays patches ends → slice_get l.project.objects place ≡ Some o → slice_get o.object.sections section ≡ Some x
+    (firsts ends : List ℕ) (patches run : List Patch) (place section first number begin end : ℕ)
+    → AreFirsts l.project.objects (length l.project.objects) firsts
+    → AreRunsUnless l stays patches ends → slice_get l.project.objects place ≡ Some o
+    → slice_get o.object.sections section ≡ Some x
     → slice_get firsts place ≡ Some first → number ≡ first + section → slice_get (0 ∷ ends) number ≡ Some begin
     → slice_get (0 ∷ ends) (number + 1) ≡ Some end → run ≡ take (end - begin) (drop begin patches)
     → IsRunUnless l stays (record { object = o; section = x }) run
-run_found l stays o x firsts ends patches run place section first number begin end are runs there own at sum from to is =
+run_found l stays o x firsts ends patches run place section first number begin end are runs there own at
+    sum from to is =
     let ss : List ObjectSection = sections_in l.project.objects in
     let number_is : number ≡ length (sections_in (take place l.project.objects)) + section =
     sum ∙ ap (λ n. n + section) (are.at place first at) in

@@ -304,7 +304,8 @@ member (x ∷ xs) zero l = (x, refl)
 member (x ∷ xs) (suc k) l = member xs k (omega (arith, l))
 
 -- one entry more
-pub one_entry : (own p : Project) (s : Layout) (stays : SectionKey → Bool) (q : PlacedSection) (row : List Piece) (starts : List ℕ) (k : ℕ)
+pub one_entry : (own p : Project) (s : Layout) (stays : SectionKey → Bool) (q : PlacedSection) (row : List Piece)
+    (starts : List ℕ) (k : ℕ)
     (piece : Piece) (start : ℕ) (y : ImagePiece) (old new : List ImagePiece) → IsRowAt own s row starts q
     → k < length row
     → slice_get row k ≡ Some piece → slice_get starts k ≡ Some start
@@ -317,7 +318,8 @@ one_entry own p s stays q row starts k piece start y old new h l at_row at_start
     (zip_more (IsRowPiece p s stays) (take k q.pieces) old m.0 y so_far
     (make m.0 (h.each k piece start m.0 m.1 at_row at_start))))
 
-pub all_entries : (own p : Project) (s : Layout) (stays : SectionKey → Bool) (q : PlacedSection) (row : List Piece) (starts : List ℕ) (k : ℕ)
+pub all_entries : (own p : Project) (s : Layout) (stays : SectionKey → Bool) (q : PlacedSection) (row : List Piece)
+    (starts : List ℕ) (k : ℕ)
     (ys : List ImagePiece) → IsRowAt own s row starts q → length row ≤ k
     → AllZip (IsRowPiece p s stays) (take k q.pieces) ys → IsRow p s stays q ys
 all_entries own p s stays q row starts k ys h past z =

@@ -177,4 +177,5 @@ found-placed entries k = in_use_of (nat_eq k) (keys_of entries) ∙ any entries
 
     any : (es : List Entry) → list_any (nat_eq k) (keys_of es) ≡ is_some (found_under es k)
     any [] = refl
-    any (e ∷ es) = either (nat_eq k e.key) (list_any (nat_eq k) (keys_of es)) (Some e.named) (found_under es k) refl (any es)
+    any (e ∷ es) = either (nat_eq k e.key) (list_any (nat_eq k) (keys_of es)) (Some e.named)
+        (found_under es k) refl (any es)

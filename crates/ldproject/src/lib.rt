@@ -2,8 +2,8 @@
 //! Takes edits; gives a `Staged` edit or a refusal, and lends a project, or the next one, to a link.
 //!
 //! - `project`: with its tests that need no payload (`early`), `staging`, `lending`, `looking`; `edit`: tests of edits;
-//! - `kept` with `growing`, `tagged` and `tags`: objects under keys; `staged`, `named`; `order`: keys by place, places by
-//!   key;
+//! - `kept` with `growing`, `tagged` and `tags`: objects under keys; `staged`, `named`; `order`: keys by place, places
+//!   by key;
 //! - `input`, `view`: a project as it is lent to a link; `law`: tables that follow an edit.
 #![tactic(auto)]
 

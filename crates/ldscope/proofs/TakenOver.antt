@@ -68,7 +68,8 @@ module _ (script : List Statement) (e : Earlier) (ts : List Taken) (xs : List Cl
     (commands : List PlacedData) (t : Taken) (number_is : number ≡ length ts)
     (i : IsSectionOf e number count o row commands t) where
   pieces_long : length (taken_pieces t.starts.now t.row.now) ≡ length t.starts.now
-  pieces_long = taken_long t.starts.now t.row.now (let l = i.enough in let r = ap length i.row_is in omega (arith, l, r))
+  pieces_long = taken_long t.starts.now t.row.now
+      (let l = i.enough in let r = ap length i.row_is in omega (arith, l, r))
 
   alone : both ts xs ≡ map keyed_taken ts
   alone = rw none (append-nil (map keyed_taken ts))

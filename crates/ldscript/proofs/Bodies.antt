@@ -20,13 +20,15 @@ use Rattle.ldtree.specs.declared.section.Width.TheVariants.{Byte, Short, Long, Q
 use Rattle.ldtree.specs.declared.section.BodyCommand.{BodyCommand}
 use Rattle.ldtree.specs.declared.section.BodyCommand.TheVariants as body
 use Rattle.ldtree.specs.declared.section.BodyStatement.{BodyStatement}
-use Rattle.ldscript.proofs.Singles.{Single, tokens_same, words_same, mark_fixed, pair_single, behind_tree, keys_differ, name_no_key, common_single, dot_command_single, in_parentheses_single}
+use Rattle.ldscript.proofs.Singles.{Single, tokens_same, words_same, mark_fixed, pair_single, behind_tree, keys_differ}
+use Rattle.ldscript.proofs.Singles.{name_no_key, common_single, dot_command_single, in_parentheses_single}
 use Rattle.ldscript.proofs.Inputs.{pattern_no_key, word_no_mark, input_single, input_no_mark, marks_apart, kept_cases}
 use Rattle.ldscript.proofs.Lists.{Listed, closing_single}
 
 -- the width that a word names
 abbrev width_named : List ℕ → Width
-width_named w = if bytes_eq w (codes "BYTE") then Byte else (if bytes_eq w (codes "SHORT") then Short else (if bytes_eq w (codes "LONG") then Long else Quad))
+width_named w = if bytes_eq w (codes "BYTE") then Byte
+    else (if bytes_eq w (codes "SHORT") then Short else (if bytes_eq w (codes "LONG") then Long else Quad))
 
 width_back : (w : Width) → width_named (width_word w) ≡ w
 width_back Byte = refl
@@ -70,7 +72,9 @@ keep_no_name : is_free_name (codes "KEEP") ≡ false
 unfolding is_free_name is_reserved
 keep_no_name = refl
 
-width_no_key : (w : Width) (v : List ℕ) → (bytes_eq (codes "BYTE") v ≡ false) × (bytes_eq (codes "SHORT") v ≡ false) × (bytes_eq (codes "LONG") v ≡ false) × (bytes_eq (codes "QUAD") v ≡ false)
+width_no_key : (w : Width) (v : List ℕ)
+    → (bytes_eq (codes "BYTE") v ≡ false) × (bytes_eq (codes "SHORT") v ≡ false) × (bytes_eq (codes "LONG") v ≡ false)
+    × (bytes_eq (codes "QUAD") v ≡ false)
     → (ts r s : List Lexeme) → key Pattern (width_word w) ts r → key Pattern v ts s → ⊥
 width_no_key Byte v d ts r s x y = keys_differ Pattern (codes "BYTE") v refl d.0 ts r s x y
 width_no_key Short v d ts r s x y = keys_differ Pattern (codes "SHORT") v refl d.1 ts r s x y
@@ -78,14 +82,17 @@ width_no_key Long v d ts r s x y = keys_differ Pattern (codes "LONG") v refl d.2
 width_no_key Quad v d ts r s x y = keys_differ Pattern (codes "QUAD") v refl d.3 ts r s x y
 
 -- a word that no pattern has, and not KEEP, begins no input statement
-key_no_input : (v : List ℕ) → is_free_word v ≡ false → bytes_eq v v ≡ true → bytes_eq v (codes "KEEP") ≡ false → (i : Input) (ts r s : List Lexeme) → key Pattern v ts r → input i ts s → ⊥
+key_no_input : (v : List ℕ) → is_free_word v ≡ false → bytes_eq v v ≡ true → bytes_eq v (codes "KEEP") ≡ false
+    → (i : Input) (ts r s : List Lexeme) → key Pattern v ts r → input i ts s → ⊥
 key_no_input v f e k i ts r s x y = elim (kept_cases i.keep i ts s y) [
   | inl d ↦ pattern_no_key v f i.file ts d.0 r d.1 x
   | inr d ↦ keys_differ Pattern v (codes "KEEP") e k ts r d.0 x d.1
 ]
 
 -- a word with a mark behind it that is not `(`
-word_no_input : (w : List ℕ) (m : Mark) → (m ≡ OpenParenthesis → ⊥) → bytes_eq w w ≡ true → bytes_eq w (codes "KEEP") ≡ false → (i : Input) (ts us r s : List Lexeme) → token (Word w) ts us → mark m us r → input i ts s → ⊥
+word_no_input : (w : List ℕ) (m : Mark) → (m ≡ OpenParenthesis → ⊥) → bytes_eq w w ≡ true
+    → bytes_eq w (codes "KEEP") ≡ false → (i : Input) (ts us r s : List Lexeme) → token (Word w) ts us → mark m us r
+    → input i ts s → ⊥
 word_no_input w m d e k i ts us r s x h y = elim (kept_cases i.keep i ts s y) [
   | inl p ↦
       let same = (tokens_same (Word p.1.0) (Word w) ts p.0 us p.1.3 x).1 in
@@ -93,32 +100,43 @@ word_no_input w m d e k i ts us r s x h y = elim (kept_cases i.keep i ts s y) [
   | inr p ↦ keys_differ Pattern w (codes "KEEP") e k ts us p.0 x p.1
 ]
 
-dot_no_common : (a : DotCommand) (b : Common) (ts r s : List Lexeme) → dot_command Pattern a ts r → common Pattern b ts s → ⊥
+dot_no_common : (a : DotCommand) (b : Common) (ts r s : List Lexeme) → dot_command Pattern a ts r
+    → common Pattern b ts s → ⊥
 dot_no_common a (commons.Assign b) ts r s x y = name_no_key Pattern b.name (codes ".") dot_no_name ts y.0 x.0 y.1 x.1
-dot_no_common a (commons.Provide b) ts r s x y = keys_differ Pattern (codes ".") (codes "PROVIDE") refl refl ts x.0 y.0 x.1 y.1
-dot_no_common a (commons.Assert b) ts r s x y = keys_differ Pattern (codes ".") (codes "ASSERT") refl refl ts x.0 y.0 x.1 y.1
+dot_no_common a (commons.Provide b) ts r s x y =
+    keys_differ Pattern (codes ".") (codes "PROVIDE") refl refl ts x.0 y.0 x.1 y.1
+dot_no_common a (commons.Assert b) ts r s x y =
+    keys_differ Pattern (codes ".") (codes "ASSERT") refl refl ts x.0 y.0 x.1 y.1
 
-dot_no_data : (a : DotCommand) (w : Width) (e : Expr) (ts r s : List Lexeme) → dot_command Pattern a ts r → data_part (w, e) ts s → ⊥
+dot_no_data : (a : DotCommand) (w : Width) (e : Expr) (ts r s : List Lexeme) → dot_command Pattern a ts r
+    → data_part (w, e) ts s → ⊥
 dot_no_data a w e ts r s x y = width_no_key w (codes ".") (refl, refl, refl, refl) ts y.0 x.0 y.1 x.1
 
 dot_no_input : (a : DotCommand) (i : Input) (ts r s : List Lexeme) → dot_command Pattern a ts r → input i ts s → ⊥
 dot_no_input (Set e) i ts r s x y = word_no_input (codes ".") Assign (λ q. cc) refl refl i ts x.0 x.2.0 s x.1 x.2.1 y
 dot_no_input (Add e) i ts r s x y = word_no_input (codes ".") AddAssign (λ q. cc) refl refl i ts x.0 x.2.0 s x.1 x.2.1 y
 
-common_no_data : (a : Common) (w : Width) (e : Expr) (ts r s : List Lexeme) → common Pattern a ts r → data_part (w, e) ts s → ⊥
-common_no_data (commons.Assign a) w e ts r s x y = name_no_key Pattern a.name (width_word w) (width_no_name w) ts x.0 y.0 x.1 y.1
-common_no_data (commons.Provide a) w e ts r s x y = width_no_key w (codes "PROVIDE") (refl, refl, refl, refl) ts y.0 x.0 y.1 x.1
-common_no_data (commons.Assert a) w e ts r s x y = width_no_key w (codes "ASSERT") (refl, refl, refl, refl) ts y.0 x.0 y.1 x.1
+common_no_data : (a : Common) (w : Width) (e : Expr) (ts r s : List Lexeme) → common Pattern a ts r
+    → data_part (w, e) ts s → ⊥
+common_no_data (commons.Assign a) w e ts r s x y =
+    name_no_key Pattern a.name (width_word w) (width_no_name w) ts x.0 y.0 x.1 y.1
+common_no_data (commons.Provide a) w e ts r s x y =
+    width_no_key w (codes "PROVIDE") (refl, refl, refl, refl) ts y.0 x.0 y.1 x.1
+common_no_data (commons.Assert a) w e ts r s x y =
+    width_no_key w (codes "ASSERT") (refl, refl, refl, refl) ts y.0 x.0 y.1 x.1
 
 common_no_input : (a : Common) (i : Input) (ts r s : List Lexeme) → common Pattern a ts r → input i ts s → ⊥
 common_no_input (commons.Assign a) i ts r s x y = elim (kept_cases i.keep i ts s y) [
   | inl p ↦
       let same = (tokens_same (Word p.1.0) (Word a.name) ts p.0 x.0 p.1.3 x.1.1).1 in
-      marks_apart Assign OpenParenthesis x.0 x.2.0 p.2.0 (λ q. cc) x.2.1 (subst (λ l. mark OpenParenthesis l p.2.0) same p.2.1)
+      marks_apart Assign OpenParenthesis x.0 x.2.0 p.2.0 (λ q. cc) x.2.1
+      (subst (λ l. mark OpenParenthesis l p.2.0) same p.2.1)
   | inr p ↦ name_no_key Pattern a.name (codes "KEEP") keep_no_name ts x.0 p.0 x.1 p.1
 ]
-common_no_input (commons.Provide a) i ts r s x y = key_no_input (codes "PROVIDE") provide_no_word refl refl i ts x.0 s x.1 y
-common_no_input (commons.Assert a) i ts r s x y = key_no_input (codes "ASSERT") assert_no_word refl refl i ts x.0 s x.1 y
+common_no_input (commons.Provide a) i ts r s x y =
+    key_no_input (codes "PROVIDE") provide_no_word refl refl i ts x.0 s x.1 y
+common_no_input (commons.Assert a) i ts r s x y =
+    key_no_input (codes "ASSERT") assert_no_word refl refl i ts x.0 s x.1 y
 
 data_no_input : (w : Width) (e : Expr) (i : Input) (ts r s : List Lexeme) → data_part (w, e) ts r → input i ts s → ⊥
 data_no_input Byte e i ts r s x y = key_no_input (codes "BYTE") (width_no_word Byte) refl refl i ts x.0 s x.1 y
@@ -130,12 +148,15 @@ data_same : (v w : Width) (e f : Expr) → v ≡ w → e ≡ f → body.Data v e
 data_same v w e f p q = ap (λ x. body.Data x e) p ∙ ap (λ x. body.Data w x) q
 
 pub body_command_single : Single body_command
-body_command_single ts r s (body.Dot a) (body.Dot b) x y = let e = dot_command_single Pattern ts r s a b x y in (ap body.Dot e.0, e.1)
-body_command_single ts r s (body.Common a) (body.Common b) x y = let e = common_single Pattern ts r s a b x y in (ap body.Common e.0, e.1)
+body_command_single ts r s (body.Dot a) (body.Dot b) x y = let e = dot_command_single Pattern ts r s a b x y in
+    (ap body.Dot e.0, e.1)
+body_command_single ts r s (body.Common a) (body.Common b) x y = let e = common_single Pattern ts r s a b x y in
+    (ap body.Common e.0, e.1)
 body_command_single ts r s (body.Data v e) (body.Data w f) x y =
     let h = pair_single width_part in_parentheses width_single in_parentheses_single ts r s v w e f x y in
     (data_same v w e f h.0 h.1, h.2)
-body_command_single ts r s (body.Input a) (body.Input b) x y = let e = input_single ts r s a b x y in (ap body.Input e.0, e.1)
+body_command_single ts r s (body.Input a) (body.Input b) x y = let e = input_single ts r s a b x y in
+    (ap body.Input e.0, e.1)
 body_command_single ts r s (body.Dot a) (body.Common b) x y = absurd (dot_no_common a b ts r s x y)
 body_command_single ts r s (body.Dot a) (body.Data w e) x y = absurd (dot_no_data a w e ts r s x y)
 body_command_single ts r s (body.Dot a) (body.Input b) x y = absurd (dot_no_input a b ts r s x y)
@@ -182,17 +203,21 @@ body_listed = record {
 pub closed_body_single : Single (λ ss. statements body_statement ss ▸ mark CloseBrace)
 closed_body_single ts r s a b x y = closing_single body_listed a b ts r s x y
 
-pub width_none : (ts : List Lexeme) → ((us : List Lexeme) → key Pattern (codes "BYTE") ts us → ⊥) → ((us : List Lexeme) → key Pattern (codes "SHORT") ts us → ⊥)
-    → ((us : List Lexeme) → key Pattern (codes "LONG") ts us → ⊥) → ((us : List Lexeme) → key Pattern (codes "QUAD") ts us → ⊥) → NoneAt width_part ts
+pub width_none : (ts : List Lexeme) → ((us : List Lexeme) → key Pattern (codes "BYTE") ts us → ⊥)
+    → ((us : List Lexeme) → key Pattern (codes "SHORT") ts us → ⊥)
+    → ((us : List Lexeme) → key Pattern (codes "LONG") ts us → ⊥)
+    → ((us : List Lexeme) → key Pattern (codes "QUAD") ts us → ⊥) → NoneAt width_part ts
 width_none ts a b c d Byte more k = a more k
 width_none ts a b c d Short more k = b more k
 width_none ts a b c d Long more k = c more k
 width_none ts a b c d Quad more k = d more k
 
 pub data_none : (ts us : List Lexeme) (w : Width) → width_part w ts us → NoneAt in_parentheses us → NoneAt data_part ts
-data_none ts us w h n (v, e) more d = n e more (behind_tree width_part (in_parentheses e) width_single ts us more w v h d).1
+data_none ts us w h n (v, e) more d =
+    n e more (behind_tree width_part (in_parentheses e) width_single ts us more w v h d).1
 
-pub body_none : (ts : List Lexeme) → NoneAt (dot_command Pattern) ts → NoneAt (common Pattern) ts → NoneAt data_part ts → NoneAt input ts → NoneAt body_command ts
+pub body_none : (ts : List Lexeme) → NoneAt (dot_command Pattern) ts → NoneAt (common Pattern) ts → NoneAt data_part ts
+    → NoneAt input ts → NoneAt body_command ts
 body_none ts a b c d (body.Dot y) more k = a y more k
 body_none ts a b c d (body.Common y) more k = b y more k
 body_none ts a b c d (body.Data w e) more k = c (w, e) more k

@@ -1,5 +1,6 @@
 -- Lists without `;`, up to what closes them.
-use Rattle.std.proofs.Common.{◌≡◌, ◌∙◌, refl, sym, ap, subst, List, [], ◌∷◌, ◌++◌, length, ◌<◌, ◌≤◌, arith, append_assoc}
+use Rattle.std.proofs.Common.{◌≡◌, ◌∙◌, refl, sym, ap, subst, List, [], ◌∷◌, ◌++◌, length, ◌<◌, ◌≤◌, arith}
+use Rattle.std.proofs.Common.append_assoc
 use Rattle.ldtokens.specs.Tokens.{Lexeme}
 use Rattle.ldscript.specs.Steps.{Part, ◌▸◌, each, some}
 use Rattle.ldscript.specs.Readings.{Takes, NoneAt}
@@ -20,7 +21,8 @@ module _ {A : Type 0} {Stop : List Lexeme → Type 0} {c : Part} {p : A → Part
 
   -- where a member stands, a list has one
   pub each_member : EachListed Stop c p → (x : A) (ts us : List Lexeme) → p x ts us
-      → ((y : A) (more : List Lexeme) → p y ts more → Stop more → (y ≡ x) × (more ≡ us)) → (ys : List A) (r : List Lexeme) → (each p ys ▸ c) ts r
+      → ((y : A) (more : List Lexeme) → p y ts more → Stop more → (y ≡ x) × (more ≡ us))
+      → (ys : List A) (r : List Lexeme) → (each p ys ▸ c) ts r
       → (zs : List A) × (ys ≡ x ∷ zs) × (each p zs ▸ c) us r
   each_member l x ts us h only [] r d = absurd (l.no_close x ts us r h (subst (λ t. c t r) (sym d.1) d.2))
   each_member l x ts us h only (y ∷ ys) r d =
@@ -28,8 +30,10 @@ module _ {A : Type 0} {Stop : List Lexeme → Type 0} {c : Part} {p : A → Part
       let same = only y d.1.0 d.1.1 stops in
       (ys, ap (λ z. z ∷ ys) same.0, (d.0, subst (λ t. each p ys t d.0) same.1 d.1.2, d.2))
 
-  pub each_single : EachListed Stop c p → (xs ys : List A) (ts r s : List Lexeme) → (each p xs ▸ c) ts r → (each p ys ▸ c) ts s → (xs ≡ ys) × (r ≡ s)
-  each_single l [] [] ts r s x y = (refl, l.closes ts r s (subst (λ t. c t r) (sym x.1) x.2) (subst (λ t. c t s) (sym y.1) y.2))
+  pub each_single : EachListed Stop c p → (xs ys : List A) (ts r s : List Lexeme) → (each p xs ▸ c) ts r
+      → (each p ys ▸ c) ts s → (xs ≡ ys) × (r ≡ s)
+  each_single l [] [] ts r s x y =
+      (refl, l.closes ts r s (subst (λ t. c t r) (sym x.1) x.2) (subst (λ t. c t s) (sym y.1) y.2))
   each_single l [] (y ∷ ys) ts r s d e = absurd (l.no_close y ts e.1.0 r e.1.1 (subst (λ t. c t r) (sym d.1) d.2))
   each_single l (x ∷ xs) ys ts r s d e =
       let stops : Stop d.1.0 = each_stops l xs d.1.0 r (d.0, d.1.2, d.2) in
@@ -44,15 +48,18 @@ module _ {A : Type 0} {Stop : List Lexeme → Type 0} {c : Part} {p : A → Part
   some_single l ts r s (a ∷ xs) (b ∷ ys) x y = each_single l (a ∷ xs) (b ∷ ys) ts r s x y
 
   -- where the list is empty, there is no list of one member or more
-  pub empty_none : EachListed Stop c p → (xs : List A) (ts us : List Lexeme) → xs ≡ [] → (each p xs ▸ c) ts us → NoneAt (λ xs. some p xs ▸ c) ts
+  pub empty_none : EachListed Stop c p → (xs : List A) (ts us : List Lexeme) → xs ≡ [] → (each p xs ▸ c) ts us
+      → NoneAt (λ xs. some p xs ▸ c) ts
   empty_none l xs ts us e h [] more d = d.1
   empty_none l xs ts us e h (y ∷ ys) more d = let q = (each_single l xs (y ∷ ys) ts us more h d).0 in cc
 
-pub some_of_each : {A : Type 0} (c : Part) (p : A → Part) (xs : List A) (ts us : List Lexeme) → (xs ≡ [] → ⊥) → (each p xs ▸ c) ts us → (some p xs ▸ c) ts us
+pub some_of_each : {A : Type 0} (c : Part) (p : A → Part) (xs : List A) (ts us : List Lexeme) → (xs ≡ [] → ⊥)
+    → (each p xs ▸ c) ts us → (some p xs ▸ c) ts us
 some_of_each c p [] ts us n d = absurd (n refl)
 some_of_each c p (x ∷ xs) ts us n d = d
 
-pub some_none : {A : Type 0} (c : Part) (p : A → Part) (ts : List Lexeme) → NoneAt (λ xs. each p xs ▸ c) ts → NoneAt (λ xs. some p xs ▸ c) ts
+pub some_none : {A : Type 0} (c : Part) (p : A → Part) (ts : List Lexeme) → NoneAt (λ xs. each p xs ▸ c) ts
+    → NoneAt (λ xs. some p xs ▸ c) ts
 some_none c p ts n [] more d = d.1
 some_none c p ts n (x ∷ xs) more d = n (x ∷ xs) more d
 
@@ -61,7 +68,8 @@ append_nil [] = refl
 append_nil (x ∷ xs) = ap (λ ys. x ∷ ys) (append_nil xs)
 
 -- the members read so far: what completes the rest completes the whole, and the other way round
-pub record EachSoFar {A : Type 0} (c : Part) (p : A → Part) (ts : List Lexeme) (xs : List A) (rest : List Lexeme) : Type 0 where
+pub record EachSoFar {A : Type 0} (c : Part) (p : A → Part) (ts : List Lexeme) (xs : List A)
+    (rest : List Lexeme) : Type 0 where
   pub forth : (ys : List A) (r : List Lexeme) → each p ys rest r → each p (xs ++ ys) ts r
   pub back : (ys : List A) (r : List Lexeme) → (each p ys ▸ c) ts r → (zs : List A) × (each p zs ▸ c) rest r
   pub shorter : length rest ≤ length ts
@@ -69,22 +77,27 @@ pub record EachSoFar {A : Type 0} (c : Part) (p : A → Part) (ts : List Lexeme)
 pub each_so_far_none : {A : Type 0} (c : Part) (p : A → Part) (ts : List Lexeme) → EachSoFar c p ts [] ts
 each_so_far_none c p ts = record { forth = λ ys r d. d; back = λ ys r d. (ys, d); shorter = omega arith }
 
-pub each_so_far_member : {A : Type 0} (Stop : List Lexeme → Type 0) (c : Part) (p : A → Part) → EachListed Stop c p → (ts : List Lexeme) (xs : List A) (x : A) (rest us : List Lexeme)
-    → EachSoFar c p ts xs rest → p x rest us → ((y : A) (more : List Lexeme) → p y rest more → Stop more → (y ≡ x) × (more ≡ us)) → length us < length rest → EachSoFar c p ts (xs ++ x ∷ []) us
+pub each_so_far_member : {A : Type 0} (Stop : List Lexeme → Type 0) (c : Part) (p : A → Part) → EachListed Stop c p
+    → (ts : List Lexeme) (xs : List A) (x : A) (rest us : List Lexeme)
+    → EachSoFar c p ts xs rest → p x rest us
+    → ((y : A) (more : List Lexeme) → p y rest more → Stop more → (y ≡ x) × (more ≡ us)) → length us < length rest
+    → EachSoFar c p ts (xs ++ x ∷ []) us
 each_so_far_member Stop c p l ts xs x rest us s m only h = record {
   forth = λ ys r d. subst (λ zs. each p zs ts r) (sym (append_assoc xs (x ∷ []) ys)) (s.forth (x ∷ ys) r (us, m, d));
   back = λ ys r d. let b = s.back ys r d in let k = each_member l x rest us m only b.0 r b.1 in (k.0, k.2);
   shorter = omega (arith, s.shorter);
 }
 
-pub each_so_far_closed : {A : Type 0} (c : Part) (p : A → Part) (ts : List Lexeme) (xs : List A) (rest us : List Lexeme) → EachSoFar c p ts xs rest → c rest us → length us < length rest
+pub each_so_far_closed : {A : Type 0} (c : Part) (p : A → Part) (ts : List Lexeme) (xs : List A) (rest us : List Lexeme)
+    → EachSoFar c p ts xs rest → c rest us → length us < length rest
     → Takes (λ ys. each p ys ▸ c) ts xs us
 each_so_far_closed c p ts xs rest us s m h = record {
   spells = (rest, subst (λ zs. each p zs ts rest) (append_nil xs) (s.forth [] rest refl), m);
   shorter = omega (arith, s.shorter);
 }
 
-pub each_so_far_stuck : {A : Type 0} (Stop : List Lexeme → Type 0) (c : Part) (p : A → Part) → EachListed Stop c p → (ts : List Lexeme) (xs : List A) (rest : List Lexeme)
+pub each_so_far_stuck : {A : Type 0} (Stop : List Lexeme → Type 0) (c : Part) (p : A → Part) → EachListed Stop c p
+    → (ts : List Lexeme) (xs : List A) (rest : List Lexeme)
     → EachSoFar c p ts xs rest → ((us : List Lexeme) → c rest us → ⊥)
     → ((y : A) (more : List Lexeme) → p y rest more → Stop more → ⊥) → NoneAt (λ ys. each p ys ▸ c) ts
 each_so_far_stuck {A} Stop c p l ts xs rest s no_end no_member ys r d = let b = s.back ys r d in stuck b.0 b.1 where

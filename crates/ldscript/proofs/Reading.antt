@@ -6,15 +6,20 @@ use Rattle.ldscript.specs.Readings.{NoneAt, Reads, Follows}
 use Rattle.ldscript.proofs.Singles.{Fixed, behind}
 
 -- where a part can't begin, nothing that begins with it stands
-pub none_front : {A : Type 0} (p : Part) (q : A → Part) (ts : List Lexeme) → ((us : List Lexeme) → p ts us → ⊥) → NoneAt (λ a. p ▸ q a) ts
+pub none_front : {A : Type 0} (p : Part) (q : A → Part) (ts : List Lexeme) → ((us : List Lexeme) → p ts us → ⊥)
+    → NoneAt (λ a. p ▸ q a) ts
 none_front p q ts n y more d = n d.0 d.1
 
-pub none_behind : {A : Type 0} (p : Part) (q : A → Part) → Fixed p → (ts us : List Lexeme) → p ts us → NoneAt q us → NoneAt (λ a. p ▸ q a) ts
+pub none_behind : {A : Type 0} (p : Part) (q : A → Part) → Fixed p → (ts us : List Lexeme) → p ts us → NoneAt q us
+    → NoneAt (λ a. p ▸ q a) ts
 none_behind p q f ts us h n y more d = n y more (behind p (q y) f ts us more h d)
 
-pub reads_behind : {A X E : Type 0} (p : Part) (q : A → Part) → Fixed p → (ts us : List Lexeme) → p ts us × (length us < length ts)
-    → (tree : X → A) (rest : X → List Lexeme) (r : Result (Option X) E) → Reads q us tree rest r → Reads (λ a. p ▸ q a) ts tree rest r
-reads_behind p q f ts us h tree rest (Ok (Some x)) d = record { spells = (us, h.0, d.spells); shorter = omega (arith, h.1, d.shorter) }
+pub reads_behind : {A X E : Type 0} (p : Part) (q : A → Part) → Fixed p → (ts us : List Lexeme)
+    → p ts us × (length us < length ts)
+    → (tree : X → A) (rest : X → List Lexeme) (r : Result (Option X) E) → Reads q us tree rest r
+    → Reads (λ a. p ▸ q a) ts tree rest r
+reads_behind p q f ts us h tree rest (Ok (Some x)) d =
+    record { spells = (us, h.0, d.spells); shorter = omega (arith, h.1, d.shorter) }
 reads_behind p q f ts us h tree rest (Ok None) d = none_behind p q f ts us h.0 d
 reads_behind p q f ts us h tree rest (Err e) d = tt
 

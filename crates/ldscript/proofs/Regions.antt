@@ -10,33 +10,49 @@ use Rattle.ldterms.specs.Grammar.{Stops, Whole}
 use Rattle.ldscript.specs.Steps.{◌▸◌, mark, token, key, name, each, expression}
 use Rattle.ldscript.specs.Grammar.{ended, region_head, region_middle, region}
 use Rattle.ldtree.specs.declared.statement.Region.{Region}
-use Rattle.ldscript.proofs.Singles.{Fixed, Single, SingleUntil, tokens_same, mark_fixed, key_fixed, then_fixed, end_single, behind, behind_tree, name_single, expression_single, ended_single, stops_at}
+use Rattle.ldscript.proofs.Singles.{Fixed, Single, SingleUntil, tokens_same, mark_fixed, key_fixed, then_fixed}
+use Rattle.ldscript.proofs.Singles.{end_single, behind, behind_tree, name_single, expression_single, ended_single}
+use Rattle.ldscript.proofs.Singles.stops_at
 use Rattle.ldscript.proofs.Each.{EachListed, each_single}
 
 pub region_head_single : Single region_head
-region_head_single = end_single name (mark Colon ▸ key Expression (codes "ORIGIN") ▸ mark Assign) (name_single Expression)
-    (then_fixed (mark Colon) (key Expression (codes "ORIGIN") ▸ mark Assign) (mark_fixed Colon) (then_fixed (key Expression (codes "ORIGIN")) (mark Assign) (key_fixed Expression (codes "ORIGIN")) (mark_fixed Assign)))
+region_head_single = end_single name (mark Colon ▸ key Expression (codes "ORIGIN") ▸ mark Assign)
+    (name_single Expression)
+    (then_fixed (mark Colon) (key Expression (codes "ORIGIN") ▸ mark Assign) (mark_fixed Colon)
+    (then_fixed (key Expression (codes "ORIGIN")) (mark Assign) (key_fixed Expression (codes "ORIGIN"))
+    (mark_fixed Assign)))
 
 pub region_middle_fixed : Fixed region_middle
-region_middle_fixed = then_fixed (key Expression (codes "LENGTH")) (mark Assign) (key_fixed Expression (codes "LENGTH")) (mark_fixed Assign)
+region_middle_fixed = then_fixed (key Expression (codes "LENGTH")) (mark Assign) (key_fixed Expression (codes "LENGTH"))
+    (mark_fixed Assign)
 
 regions_same : (a b : Region) → a.line ≡ b.line → a.name ≡ b.name → a.origin ≡ b.origin → a.extent ≡ b.extent → a ≡ b
 regions_same a b e f g h =
     let mk : ℕ → List ℕ → Expr → Expr → Region = λ l n o x. record { line = l; name = n; origin = o; extent = x } in
-    ap (λ l. mk l a.name a.origin a.extent) e ∙ ap (λ n. mk b.line n a.origin a.extent) f ∙ ap (λ o. mk b.line b.name o a.extent) g ∙ ap (λ x. mk b.line b.name b.origin x) h
+    ap (λ l. mk l a.name a.origin a.extent) e ∙ ap (λ n. mk b.line n a.origin a.extent) f
+    ∙ ap (λ o. mk b.line b.name o a.extent) g ∙ ap (λ x. mk b.line b.name b.origin x) h
 
 -- behind the head; behind ORIGIN's expression; behind `LENGTH =`
-pub region_name : (b : Region) (ts us more : List Lexeme) (n : List ℕ) → region_head n ts us → region b ts more → (b.name ≡ n) × (ended Comma b.origin ▸ region_middle ▸ expression b.extent) us more
-region_name b ts us more n h d = behind_tree region_head (ended Comma b.origin ▸ region_middle ▸ expression b.extent) region_head_single ts us more n b.name h d.1
+pub region_name : (b : Region) (ts us more : List Lexeme) (n : List ℕ) → region_head n ts us → region b ts more
+    → (b.name ≡ n) × (ended Comma b.origin ▸ region_middle ▸ expression b.extent) us more
+region_name b ts us more n h d =
+    behind_tree region_head (ended Comma b.origin ▸ region_middle ▸ expression b.extent) region_head_single ts us more
+    n b.name h d.1
 
-pub region_origin : (b : Region) (us vs more : List Lexeme) (o : Expr) → ended Comma o us vs → (ended Comma b.origin ▸ region_middle ▸ expression b.extent) us more → (b.origin ≡ o) × (region_middle ▸ expression b.extent) vs more
-region_origin b us vs more o h d = behind_tree (ended Comma) (region_middle ▸ expression b.extent) (ended_single Comma tt) us vs more o b.origin h d
+pub region_origin : (b : Region) (us vs more : List Lexeme) (o : Expr) → ended Comma o us vs
+    → (ended Comma b.origin ▸ region_middle ▸ expression b.extent) us more
+    → (b.origin ≡ o) × (region_middle ▸ expression b.extent) vs more
+region_origin b us vs more o h d =
+    behind_tree (ended Comma) (region_middle ▸ expression b.extent) (ended_single Comma tt) us vs more o b.origin h d
 
-pub region_extent : (b : Region) (vs ws more : List Lexeme) → region_middle vs ws → (region_middle ▸ expression b.extent) vs more → expression b.extent ws more
+pub region_extent : (b : Region) (vs ws more : List Lexeme) → region_middle vs ws
+    → (region_middle ▸ expression b.extent) vs more → expression b.extent ws more
 region_extent b vs ws more h d = behind region_middle (expression b.extent) region_middle_fixed vs ws more h d
 
-pub region_only : (ts us vs ws rest : List Lexeme) (a b : Region) (more : List Lexeme) → region_head a.name ts us → ended Comma a.origin us vs → region_middle vs ws
-    → ((f : Expr) (more : List Lexeme) → expression f ws more → Stops Whole more → (f ≡ a.extent) × (more ≡ rest)) → a.line ≡ b.line → region b ts more → Stops Whole more → (b ≡ a) × (more ≡ rest)
+pub region_only : (ts us vs ws rest : List Lexeme) (a b : Region) (more : List Lexeme) → region_head a.name ts us
+    → ended Comma a.origin us vs → region_middle vs ws
+    → ((f : Expr) (more : List Lexeme) → expression f ws more → Stops Whole more → (f ≡ a.extent) × (more ≡ rest))
+    → a.line ≡ b.line → region b ts more → Stops Whole more → (b ≡ a) × (more ≡ rest)
 region_only ts us vs ws rest a b more h i j only line d st =
     let e = region_name b ts us more a.name h d in
     let f = region_origin b us vs more a.origin i e.1 in

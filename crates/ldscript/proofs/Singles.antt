@@ -5,13 +5,16 @@ use Rattle.std.proofs.lemmas.Bool.{false≢true}
 use Rattle.ldtokens.specs.Tokens.{Token, Lexeme, lexeme, Text, Punctuation}
 use Rattle.ldtokens.specs.Words.{is_free_name, is_reserved}
 use Rattle.ldtokens.specs.declared.token.Mark.{Mark}
-use Rattle.ldtokens.specs.declared.token.Mark.TheVariants.{OpenParenthesis, CloseParenthesis, Semicolon, Comma, Assign, AddAssign}
+use Rattle.ldtokens.specs.declared.token.Mark.TheVariants.{OpenParenthesis, CloseParenthesis, Semicolon, Comma, Assign}
+use Rattle.ldtokens.specs.declared.token.Mark.TheVariants.AddAssign
 use Rattle.ldtokens.specs.declared.token.Mode.{Mode}
 use Rattle.ldtokens.specs.declared.token.Mode.TheVariants.{Expression, Pattern}
 use Rattle.ldterms.specs.Expressions.{Expr}
 use Rattle.ldterms.specs.Grammar.{Whole, Stops, StopsAt, Sign}
-use Rattle.ldscript.specs.Steps.{Part, ◌▸◌, token, mark, word_in, key, is_name_spelling, is_name_in, name_in, name, string, expression}
-use Rattle.ldscript.specs.Grammar.{ended, set_to, add_to, dot_change, dot_command, assign, provided_name, provided, provide, asserted, assertion, common, in_parentheses}
+use Rattle.ldscript.specs.Steps.{Part, ◌▸◌, token, mark, word_in, key, is_name_spelling, is_name_in, name_in, name}
+use Rattle.ldscript.specs.Steps.{string, expression}
+use Rattle.ldscript.specs.Grammar.{ended, set_to, add_to, dot_change, dot_command, assign, provided_name, provided}
+use Rattle.ldscript.specs.Grammar.{provide, asserted, assertion, common, in_parentheses}
 use Rattle.ldtree.specs.declared.common.Assignment.{Assignment}
 use Rattle.ldtree.specs.declared.common.Assertion.{Assertion}
 use Rattle.ldtree.specs.declared.common.Common.TheVariants as commons
@@ -55,7 +58,8 @@ pub behind : (p q : Part) → Fixed p → (ts us more : List Lexeme) → p ts us
 behind p q f ts us more h d = subst (λ l. q l more) (f ts d.0 us d.1 h) d.2
 
 -- the same behind a part with a tree
-pub behind_tree : {A : Type 0} (p : A → Part) (q : Part) → Single p → (ts us more : List Lexeme) (a b : A) → p a ts us → (p b ▸ q) ts more → (b ≡ a) × q us more
+pub behind_tree : {A : Type 0} (p : A → Part) (q : Part) → Single p → (ts us more : List Lexeme) (a b : A) → p a ts us
+    → (p b ▸ q) ts more → (b ≡ a) × q us more
 behind_tree p q f ts us more a b h d =
     let e = f ts d.0 us b a d.1 h in
     (e.0, subst (λ l. q l more) e.1 d.2)
@@ -69,7 +73,8 @@ end_single {A} p q f g ts r s a b x y =
     (e.0, g y.0 r s (subst (λ l. q l r) e.1 x.2) y.2)
 
 pub pair_single : {A B : Type 0} (p : A → Part) (q : B → Part) → Single p → Single q
-    → (ts r s : List Lexeme) (a a' : A) (b b' : B) → (p a ▸ q b) ts r → (p a' ▸ q b') ts s → (a ≡ a') × (b ≡ b') × (r ≡ s)
+    → (ts r s : List Lexeme) (a a' : A) (b b' : B) → (p a ▸ q b) ts r → (p a' ▸ q b') ts s
+    → (a ≡ a') × (b ≡ b') × (r ≡ s)
 pair_single {A} {B} p q f g ts r s a a' b b' x y =
     let e = f ts x.0 y.0 a a' x.1 y.1 in
     let h = g y.0 r s b b' (subst (λ l. q b l r) e.1 x.2) y.2 in
@@ -80,7 +85,8 @@ same_words : (mode : Mode) (v w : List ℕ) → word_in mode v ≡ word_in mode 
 same_words Expression v w e = cc
 same_words Pattern v w e = cc
 
-pub words_same : (mode : Mode) (v w : List ℕ) (ts r s : List Lexeme) → token (word_in mode v) ts r → token (word_in mode w) ts s → (v ≡ w) × (r ≡ s)
+pub words_same : (mode : Mode) (v w : List ℕ) (ts r s : List Lexeme) → token (word_in mode v) ts r
+    → token (word_in mode w) ts s → (v ≡ w) × (r ≡ s)
 words_same mode v w ts r s a b =
     let e = tokens_same (word_in mode v) (word_in mode w) ts r s a b in
     (same_words mode v w e.0, e.1)
@@ -97,7 +103,8 @@ same_texts v w e = cc
 pub string_single : Single string
 string_single ts r s a b x y = let e = tokens_same (Text a) (Text b) ts r s x y in (same_texts a b e.0, e.1)
 
-pub keys_differ : (mode : Mode) (v w : List ℕ) → bytes_eq v v ≡ true → bytes_eq v w ≡ false → (ts r s : List Lexeme) → key mode v ts r → key mode w ts s → ⊥
+pub keys_differ : (mode : Mode) (v w : List ℕ) → bytes_eq v v ≡ true → bytes_eq v w ≡ false → (ts r s : List Lexeme)
+    → key mode v ts r → key mode w ts s → ⊥
 keys_differ mode v w h k ts r s a b =
     let e : v ≡ w = (words_same mode v w ts r s a b).0 in
     false≢true (sym k ∙ sym (ap (λ x. bytes_eq v x) e) ∙ h)
@@ -110,7 +117,8 @@ name_free Pattern n h = first (is_free_name n) (is_name_spelling n) h where
   first false b h = h
 
 -- a word that the language keeps is no name
-pub name_no_key : (mode : Mode) (n w : List ℕ) → is_free_name w ≡ false → (ts r s : List Lexeme) → name_in mode n ts r → key mode w ts s → ⊥
+pub name_no_key : (mode : Mode) (n w : List ℕ) → is_free_name w ≡ false → (ts r s : List Lexeme) → name_in mode n ts r
+    → key mode w ts s → ⊥
 name_no_key mode n w k ts r s a b =
     let e : n ≡ w = (words_same mode n w ts r s a.1 b).0 in
     false≢true (sym k ∙ sym (ap is_free_name e) ∙ name_free mode n a.0)
@@ -134,7 +142,8 @@ pub add_to_single : Single add_to
 add_to_single = skip_single (mark AddAssign) (ended Semicolon) (mark_fixed AddAssign) (ended_single Semicolon tt)
 
 pub in_parentheses_single : Single in_parentheses
-in_parentheses_single = skip_single (mark OpenParenthesis) (ended CloseParenthesis) (mark_fixed OpenParenthesis) (ended_single CloseParenthesis tt)
+in_parentheses_single = skip_single (mark OpenParenthesis) (ended CloseParenthesis) (mark_fixed OpenParenthesis)
+    (ended_single CloseParenthesis tt)
 
 pub marks_differ : (m n : Mark) (ts r s : List Lexeme) → (m ≡ n → ⊥) → mark m ts r → mark n ts s → ⊥
 marks_differ m n ts r s d a b = d (mark_of_same ((tokens_same (Punctuation m) (Punctuation n) ts r s a b).0)) where
@@ -162,33 +171,43 @@ assertions_same a b e f =
 
 pub assign_single : (mode : Mode) → Single (assign mode)
 assign_single mode ts r s a b x y =
-    let e = pair_single (name_in mode) set_to (name_single mode) set_to_single ts r s a.name b.name a.value b.value x y in
+    let e = pair_single (name_in mode) set_to
+    (name_single mode) set_to_single ts r s a.name b.name a.value b.value x y in
     (assignments_same a b e.0 e.1, e.2)
 
 pub provided_name_single : Single provided_name
-provided_name_single = skip_single (mark OpenParenthesis) (λ n. name n ▸ mark Assign) (mark_fixed OpenParenthesis) (end_single name (mark Assign) (name_single Expression) (mark_fixed Assign))
+provided_name_single = skip_single (mark OpenParenthesis) (λ n. name n ▸ mark Assign) (mark_fixed OpenParenthesis)
+    (end_single name (mark Assign) (name_single Expression) (mark_fixed Assign))
 
 pub provided_single : Single provided
 provided_single ts r s a b x y =
-    let e = pair_single provided_name (ended CloseParenthesis) provided_name_single (ended_single CloseParenthesis tt) ts r s a.name b.name a.value b.value x y in
+    let e = pair_single provided_name (ended CloseParenthesis) provided_name_single
+    (ended_single CloseParenthesis tt) ts r s a.name b.name a.value b.value x y in
     (assignments_same a b e.0 e.1, e.2)
 
 pub provide_single : (mode : Mode) → Single (provide mode)
-provide_single mode = skip_single (key mode (codes "PROVIDE")) provided (key_fixed mode (codes "PROVIDE")) provided_single
+provide_single mode = skip_single (key mode (codes "PROVIDE")) provided
+    (key_fixed mode (codes "PROVIDE")) provided_single
 
 pub message_single : Single (λ m. string m ▸ mark CloseParenthesis)
 message_single = end_single string (mark CloseParenthesis) string_single (mark_fixed CloseParenthesis)
 
-asserted_behind : (ts r s : List Lexeme) (a b : Assertion) → (ended Comma a.condition ▸ string a.message ▸ mark CloseParenthesis) ts r → (ended Comma b.condition ▸ string b.message ▸ mark CloseParenthesis) ts s → (a ≡ b) × (r ≡ s)
+asserted_behind : (ts r s : List Lexeme) (a b : Assertion)
+    → (ended Comma a.condition ▸ string a.message ▸ mark CloseParenthesis) ts r
+    → (ended Comma b.condition ▸ string b.message ▸ mark CloseParenthesis) ts s → (a ≡ b) × (r ≡ s)
 asserted_behind ts r s a b x y =
-    let e = pair_single (ended Comma) (λ m. string m ▸ mark CloseParenthesis) (ended_single Comma tt) message_single ts r s a.condition b.condition a.message b.message x y in
+    let e = pair_single (ended Comma) (λ m. string m ▸ mark CloseParenthesis)
+    (ended_single Comma tt) message_single ts r s a.condition b.condition a.message b.message x y in
     (assertions_same a b e.0 e.1, e.2)
 
 pub asserted_single : Single asserted
-asserted_single = skip_single (mark OpenParenthesis) (λ a. ended Comma a.condition ▸ string a.message ▸ mark CloseParenthesis) (mark_fixed OpenParenthesis) asserted_behind
+asserted_single = skip_single (mark OpenParenthesis)
+    (λ a. ended Comma a.condition ▸ string a.message ▸ mark CloseParenthesis)
+    (mark_fixed OpenParenthesis) asserted_behind
 
 pub assertion_single : (mode : Mode) → Single (assertion mode)
-assertion_single mode = skip_single (key mode (codes "ASSERT")) asserted (key_fixed mode (codes "ASSERT")) asserted_single
+assertion_single mode = skip_single (key mode (codes "ASSERT")) asserted
+    (key_fixed mode (codes "ASSERT")) asserted_single
 
 provide_kept : is_free_name (codes "PROVIDE") ≡ false
 unfolding is_free_name is_reserved
@@ -198,16 +217,26 @@ assert_kept : is_free_name (codes "ASSERT") ≡ false
 unfolding is_free_name is_reserved
 assert_kept = refl
 
-provide_no_assert : (mode : Mode) (ts r s : List Lexeme) → key mode (codes "PROVIDE") ts r → key mode (codes "ASSERT") ts s → ⊥
+provide_no_assert : (mode : Mode) (ts r s : List Lexeme) → key mode (codes "PROVIDE") ts r
+    → key mode (codes "ASSERT") ts s → ⊥
 provide_no_assert mode = keys_differ mode (codes "PROVIDE") (codes "ASSERT") refl refl
 
 pub common_single : (mode : Mode) → Single (common mode)
-common_single mode ts r s (commons.Assign a) (commons.Assign b) x y = let e = assign_single mode ts r s a b x y in (ap commons.Assign e.0, e.1)
-common_single mode ts r s (commons.Provide a) (commons.Provide b) x y = let e = provide_single mode ts r s a b x y in (ap commons.Provide e.0, e.1)
-common_single mode ts r s (commons.Assert a) (commons.Assert b) x y = let e = assertion_single mode ts r s a b x y in (ap commons.Assert e.0, e.1)
-common_single mode ts r s (commons.Assign a) (commons.Provide b) x y = absurd (name_no_key mode a.name (codes "PROVIDE") provide_kept ts x.0 y.0 x.1 y.1)
-common_single mode ts r s (commons.Assign a) (commons.Assert b) x y = absurd (name_no_key mode a.name (codes "ASSERT") assert_kept ts x.0 y.0 x.1 y.1)
-common_single mode ts r s (commons.Provide a) (commons.Assign b) x y = absurd (name_no_key mode b.name (codes "PROVIDE") provide_kept ts y.0 x.0 y.1 x.1)
-common_single mode ts r s (commons.Assert a) (commons.Assign b) x y = absurd (name_no_key mode b.name (codes "ASSERT") assert_kept ts y.0 x.0 y.1 x.1)
-common_single mode ts r s (commons.Provide a) (commons.Assert b) x y = absurd (provide_no_assert mode ts x.0 y.0 x.1 y.1)
-common_single mode ts r s (commons.Assert a) (commons.Provide b) x y = absurd (provide_no_assert mode ts y.0 x.0 y.1 x.1)
+common_single mode ts r s (commons.Assign a) (commons.Assign b) x y = let e = assign_single mode ts r s a b x y in
+    (ap commons.Assign e.0, e.1)
+common_single mode ts r s (commons.Provide a) (commons.Provide b) x y = let e = provide_single mode ts r s a b x y in
+    (ap commons.Provide e.0, e.1)
+common_single mode ts r s (commons.Assert a) (commons.Assert b) x y = let e = assertion_single mode ts r s a b x y in
+    (ap commons.Assert e.0, e.1)
+common_single mode ts r s (commons.Assign a) (commons.Provide b) x y =
+    absurd (name_no_key mode a.name (codes "PROVIDE") provide_kept ts x.0 y.0 x.1 y.1)
+common_single mode ts r s (commons.Assign a) (commons.Assert b) x y =
+    absurd (name_no_key mode a.name (codes "ASSERT") assert_kept ts x.0 y.0 x.1 y.1)
+common_single mode ts r s (commons.Provide a) (commons.Assign b) x y =
+    absurd (name_no_key mode b.name (codes "PROVIDE") provide_kept ts y.0 x.0 y.1 x.1)
+common_single mode ts r s (commons.Assert a) (commons.Assign b) x y =
+    absurd (name_no_key mode b.name (codes "ASSERT") assert_kept ts y.0 x.0 y.1 x.1)
+common_single mode ts r s (commons.Provide a) (commons.Assert b) x y =
+    absurd (provide_no_assert mode ts x.0 y.0 x.1 y.1)
+common_single mode ts r s (commons.Assert a) (commons.Provide b) x y =
+    absurd (provide_no_assert mode ts y.0 x.0 y.1 x.1)

@@ -6,7 +6,9 @@ use Rattle.ldtokens.specs.declared.token.Mark.TheVariants.{OpenParenthesis}
 use Rattle.ldterms.specs.Operators.{unary_of}
 use Rattle.ldterms.specs.declared.operator.UnaryOperator.{UnaryOperator}
 use Rattle.ldterms.specs.Expressions.{Expr}
-use Rattle.ldterms.specs.Grammar.{Word, Terminal, Numeral, Worded, Sign, terminal_of, Begins, Level, Spells, number, dot, name, group, of_region, of_section, align, one_argument, two_arguments, primary, unary, operand, binary, operators, choice}
+use Rattle.ldterms.specs.Grammar.{Word, Terminal, Numeral, Worded, Sign, terminal_of, Begins, Level, Spells, number}
+use Rattle.ldterms.specs.Grammar.{dot, name, group, of_region, of_section, align, one_argument, two_arguments, primary}
+use Rattle.ldterms.specs.Grammar.{unary, operand, binary, operators, choice}
 use Rattle.ldscript.specs.Steps.{mark}
 
 same_first : (x y : Lexeme) (r s : List Lexeme) → x ∷ r ≡ y ∷ s → x ≡ y
@@ -30,7 +32,8 @@ same_sign : (m n : Mark) → Sign m ≡ Sign n → m ≡ n
 same_sign m n e = cc
 
 -- a mark that is no `(` and no operator before an operand
-pub starts : (m : Mark) → (OpenParenthesis ≡ m → ⊥) → unary_of m ≡ None → (l : Level) (e : Expr) (ts r vs : List Lexeme) → Spells l e ts r → mark m ts vs → ⊥
+pub starts : (m : Mark) → (OpenParenthesis ≡ m → ⊥) → unary_of m ≡ None → (l : Level) (e : Expr) (ts r vs : List Lexeme)
+    → Spells l e ts r → mark m ts vs → ⊥
 starts m o u l e ts r vs (number b s) d = no_numeral _ m (begins_same ts r vs _ m b d)
 starts m o u l e ts r vs (dot b) d = no_worded _ m (begins_same ts r vs _ m b d)
 starts m o u l e ts r vs (name b) d = no_worded _ m (begins_same ts r vs _ m b d)

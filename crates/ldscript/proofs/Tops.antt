@@ -4,10 +4,12 @@ use Rattle.std.specs.Prelude.{codes, bytes_eq}
 use Rattle.ldtokens.specs.Tokens.{Lexeme, lexeme, first_line, Name, Punctuation}
 use Rattle.ldtokens.specs.Words.{is_free_name, is_reserved}
 use Rattle.ldtokens.specs.Modes.{IsCut}
-use Rattle.ldtokens.specs.declared.token.Mark.TheVariants.{OpenParenthesis, CloseParenthesis, OpenBrace, CloseBrace, Semicolon}
+use Rattle.ldtokens.specs.declared.token.Mark.TheVariants.{OpenParenthesis, CloseParenthesis, OpenBrace, CloseBrace}
+use Rattle.ldtokens.specs.declared.token.Mark.TheVariants.Semicolon
 use Rattle.ldtokens.specs.declared.token.Mode.TheVariants.{Expression}
 use Rattle.ldscript.specs.Steps.{Part, ◌▸◌, mark, token, key, name, each, statements, Semicolons, none}
-use Rattle.ldscript.specs.Grammar.{common, region, item_statement, entry, memory, sections, top_command, top_statement, script}
+use Rattle.ldscript.specs.Grammar.{common, region, item_statement, entry, memory, sections, top_command, top_statement}
+use Rattle.ldscript.specs.Grammar.script
 use Rattle.ldscript.specs.Readings.{NoneAt}
 use Rattle.ldscript.specs.Script.{IsTree}
 use Rattle.ldtree.specs.declared.common.Common.{Common}
@@ -15,24 +17,31 @@ use Rattle.ldtree.specs.declared.common.Common.TheVariants as commons
 use Rattle.ldtree.specs.declared.statement.Command.{Command}
 use Rattle.ldtree.specs.declared.statement.Command.TheVariants as top
 use Rattle.ldtree.specs.declared.statement.Statement.{Statement}
-use Rattle.ldscript.proofs.Singles.{Single, tokens_same, mark_fixed, key_fixed, skip_single, end_single, keys_differ, name_no_key, name_single, common_single}
+use Rattle.ldscript.proofs.Singles.{Single, tokens_same, mark_fixed, key_fixed, skip_single, end_single, keys_differ}
+use Rattle.ldscript.proofs.Singles.{name_no_key, name_single, common_single}
 use Rattle.ldscript.proofs.Regions.{closed_regions_single}
 use Rattle.ldscript.proofs.Items.{closed_items_single}
 use Rattle.ldscript.proofs.Lists.{Listed, SoFar, append_nil, closing_single, so_far_stuck}
 
 pub named_in_parentheses_single : Single (λ n. mark OpenParenthesis ▸ name n ▸ mark CloseParenthesis)
-named_in_parentheses_single = skip_single (mark OpenParenthesis) (λ n. name n ▸ mark CloseParenthesis) (mark_fixed OpenParenthesis) (end_single name (mark CloseParenthesis) (name_single Expression) (mark_fixed CloseParenthesis))
+named_in_parentheses_single = skip_single (mark OpenParenthesis) (λ n. name n ▸ mark CloseParenthesis)
+    (mark_fixed OpenParenthesis) (end_single name (mark CloseParenthesis) (name_single Expression)
+    (mark_fixed CloseParenthesis))
 
 entry_single : Single entry
-entry_single = skip_single (key Expression (codes "ENTRY")) (λ n. mark OpenParenthesis ▸ name n ▸ mark CloseParenthesis) (key_fixed Expression (codes "ENTRY")) named_in_parentheses_single
+entry_single = skip_single (key Expression (codes "ENTRY")) (λ n. mark OpenParenthesis ▸ name n ▸ mark CloseParenthesis)
+    (key_fixed Expression (codes "ENTRY")) named_in_parentheses_single
 
 memory_single : Single memory
-memory_single = skip_single (key Expression (codes "MEMORY")) (λ rs. mark OpenBrace ▸ each region rs ▸ mark CloseBrace) (key_fixed Expression (codes "MEMORY"))
+memory_single = skip_single (key Expression (codes "MEMORY")) (λ rs. mark OpenBrace ▸ each region rs ▸ mark CloseBrace)
+    (key_fixed Expression (codes "MEMORY"))
     (skip_single (mark OpenBrace) (λ rs. each region rs ▸ mark CloseBrace) (mark_fixed OpenBrace) closed_regions_single)
 
 sections_single : Single sections
-sections_single = skip_single (key Expression (codes "SECTIONS")) (λ is. mark OpenBrace ▸ statements item_statement is ▸ mark CloseBrace) (key_fixed Expression (codes "SECTIONS"))
-    (skip_single (mark OpenBrace) (λ is. statements item_statement is ▸ mark CloseBrace) (mark_fixed OpenBrace) closed_items_single)
+sections_single = skip_single (key Expression (codes "SECTIONS"))
+    (λ is. mark OpenBrace ▸ statements item_statement is ▸ mark CloseBrace) (key_fixed Expression (codes "SECTIONS"))
+    (skip_single (mark OpenBrace) (λ is. statements item_statement is ▸ mark CloseBrace)
+    (mark_fixed OpenBrace) closed_items_single)
 
 entry_no_name : is_free_name (codes "ENTRY") ≡ false
 unfolding is_free_name is_reserved
@@ -46,29 +55,46 @@ sections_no_name : is_free_name (codes "SECTIONS") ≡ false
 unfolding is_free_name is_reserved
 sections_no_name = refl
 
-key_no_common : (w : List ℕ) → is_free_name w ≡ false → bytes_eq w w ≡ true → bytes_eq w (codes "PROVIDE") ≡ false → bytes_eq w (codes "ASSERT") ≡ false
+key_no_common : (w : List ℕ) → is_free_name w ≡ false → bytes_eq w w ≡ true → bytes_eq w (codes "PROVIDE") ≡ false
+    → bytes_eq w (codes "ASSERT") ≡ false
     → (c : Common) (ts r s : List Lexeme) → key Expression w ts r → common Expression c ts s → ⊥
 key_no_common w f e p a (commons.Assign c) ts r s x y = name_no_key Expression c.name w f ts y.0 r y.1 x
 key_no_common w f e p a (commons.Provide c) ts r s x y = keys_differ Expression w (codes "PROVIDE") e p ts r y.0 x y.1
 key_no_common w f e p a (commons.Assert c) ts r s x y = keys_differ Expression w (codes "ASSERT") e a ts r y.0 x y.1
 
 pub top_command_single : Single top_command
-top_command_single ts r s (top.Entry a) (top.Entry b) x y = let e = entry_single ts r s a b x y in (ap top.Entry e.0, e.1)
-top_command_single ts r s (top.Memory a) (top.Memory b) x y = let e = memory_single ts r s a b x y in (ap top.Memory e.0, e.1)
-top_command_single ts r s (top.Sections a) (top.Sections b) x y = let e = sections_single ts r s a b x y in (ap top.Sections e.0, e.1)
-top_command_single ts r s (top.Common a) (top.Common b) x y = let e = common_single Expression ts r s a b x y in (ap top.Common e.0, e.1)
-top_command_single ts r s (top.Entry a) (top.Memory b) x y = absurd (keys_differ Expression (codes "ENTRY") (codes "MEMORY") refl refl ts x.0 y.0 x.1 y.1)
-top_command_single ts r s (top.Entry a) (top.Sections b) x y = absurd (keys_differ Expression (codes "ENTRY") (codes "SECTIONS") refl refl ts x.0 y.0 x.1 y.1)
-top_command_single ts r s (top.Entry a) (top.Common b) x y = absurd (key_no_common (codes "ENTRY") entry_no_name refl refl refl b ts x.0 s x.1 y)
-top_command_single ts r s (top.Memory a) (top.Entry b) x y = absurd (keys_differ Expression (codes "MEMORY") (codes "ENTRY") refl refl ts x.0 y.0 x.1 y.1)
-top_command_single ts r s (top.Memory a) (top.Sections b) x y = absurd (keys_differ Expression (codes "MEMORY") (codes "SECTIONS") refl refl ts x.0 y.0 x.1 y.1)
-top_command_single ts r s (top.Memory a) (top.Common b) x y = absurd (key_no_common (codes "MEMORY") memory_no_name refl refl refl b ts x.0 s x.1 y)
-top_command_single ts r s (top.Sections a) (top.Entry b) x y = absurd (keys_differ Expression (codes "SECTIONS") (codes "ENTRY") refl refl ts x.0 y.0 x.1 y.1)
-top_command_single ts r s (top.Sections a) (top.Memory b) x y = absurd (keys_differ Expression (codes "SECTIONS") (codes "MEMORY") refl refl ts x.0 y.0 x.1 y.1)
-top_command_single ts r s (top.Sections a) (top.Common b) x y = absurd (key_no_common (codes "SECTIONS") sections_no_name refl refl refl b ts x.0 s x.1 y)
-top_command_single ts r s (top.Common a) (top.Entry b) x y = absurd (key_no_common (codes "ENTRY") entry_no_name refl refl refl a ts y.0 r y.1 x)
-top_command_single ts r s (top.Common a) (top.Memory b) x y = absurd (key_no_common (codes "MEMORY") memory_no_name refl refl refl a ts y.0 r y.1 x)
-top_command_single ts r s (top.Common a) (top.Sections b) x y = absurd (key_no_common (codes "SECTIONS") sections_no_name refl refl refl a ts y.0 r y.1 x)
+top_command_single ts r s (top.Entry a) (top.Entry b) x y = let e = entry_single ts r s a b x y in
+    (ap top.Entry e.0, e.1)
+top_command_single ts r s (top.Memory a) (top.Memory b) x y = let e = memory_single ts r s a b x y in
+    (ap top.Memory e.0, e.1)
+top_command_single ts r s (top.Sections a) (top.Sections b) x y = let e = sections_single ts r s a b x y in
+    (ap top.Sections e.0, e.1)
+top_command_single ts r s (top.Common a) (top.Common b) x y = let e = common_single Expression ts r s a b x y in
+    (ap top.Common e.0, e.1)
+top_command_single ts r s (top.Entry a) (top.Memory b) x y =
+    absurd (keys_differ Expression (codes "ENTRY") (codes "MEMORY") refl refl ts x.0 y.0 x.1 y.1)
+top_command_single ts r s (top.Entry a) (top.Sections b) x y =
+    absurd (keys_differ Expression (codes "ENTRY") (codes "SECTIONS") refl refl ts x.0 y.0 x.1 y.1)
+top_command_single ts r s (top.Entry a) (top.Common b) x y =
+    absurd (key_no_common (codes "ENTRY") entry_no_name refl refl refl b ts x.0 s x.1 y)
+top_command_single ts r s (top.Memory a) (top.Entry b) x y =
+    absurd (keys_differ Expression (codes "MEMORY") (codes "ENTRY") refl refl ts x.0 y.0 x.1 y.1)
+top_command_single ts r s (top.Memory a) (top.Sections b) x y =
+    absurd (keys_differ Expression (codes "MEMORY") (codes "SECTIONS") refl refl ts x.0 y.0 x.1 y.1)
+top_command_single ts r s (top.Memory a) (top.Common b) x y =
+    absurd (key_no_common (codes "MEMORY") memory_no_name refl refl refl b ts x.0 s x.1 y)
+top_command_single ts r s (top.Sections a) (top.Entry b) x y =
+    absurd (keys_differ Expression (codes "SECTIONS") (codes "ENTRY") refl refl ts x.0 y.0 x.1 y.1)
+top_command_single ts r s (top.Sections a) (top.Memory b) x y =
+    absurd (keys_differ Expression (codes "SECTIONS") (codes "MEMORY") refl refl ts x.0 y.0 x.1 y.1)
+top_command_single ts r s (top.Sections a) (top.Common b) x y =
+    absurd (key_no_common (codes "SECTIONS") sections_no_name refl refl refl b ts x.0 s x.1 y)
+top_command_single ts r s (top.Common a) (top.Entry b) x y =
+    absurd (key_no_common (codes "ENTRY") entry_no_name refl refl refl a ts y.0 r y.1 x)
+top_command_single ts r s (top.Common a) (top.Memory b) x y =
+    absurd (key_no_common (codes "MEMORY") memory_no_name refl refl refl a ts y.0 r y.1 x)
+top_command_single ts r s (top.Common a) (top.Sections b) x y =
+    absurd (key_no_common (codes "SECTIONS") sections_no_name refl refl refl a ts y.0 r y.1 x)
 
 tops_same : (a b : Statement) → a.line ≡ b.line → a.command ≡ b.command → a ≡ b
 tops_same a b e f =
@@ -81,7 +107,8 @@ top_single ts r s a b x y =
     (tops_same a b (x.0 ∙ sym y.0) e.0, e.1)
 
 -- a statement begins with a name token
-top_named : (c : Command) (ts r : List Lexeme) → top_command c ts r → (w : List ℕ) × (us : List Lexeme) × token (Name w) ts us
+top_named : (c : Command) (ts r : List Lexeme) → top_command c ts r
+    → (w : List ℕ) × (us : List Lexeme) × token (Name w) ts us
 top_named (top.Entry a) ts r x = (codes "ENTRY", x.0, x.1)
 top_named (top.Memory a) ts r x = (codes "MEMORY", x.0, x.1)
 top_named (top.Sections a) ts r x = (codes "SECTIONS", x.0, x.1)
@@ -100,8 +127,10 @@ pub tops_listed : Listed (λ ts. Unit {0}) at_end top_statement
 tops_listed = record {
   single = λ ts r s a b x y h k. top_single ts r s a b x y;
   closes = λ ts r s x y. x.1 ∙ sym y.1;
-  no_close = λ x ts r s d e. let n = top_named x.command ts r d.1 in nil_cons (lexeme (Name n.0) n.2.0) n.1 (sym e.0 ∙ n.2.1);
-  no_semicolon = λ x ts r s d e. let n = top_named x.command ts r d.1 in let k = (tokens_same (Name n.0) (Punctuation Semicolon) ts n.1 s n.2 e).0 in cc;
+  no_close = λ x ts r s d e. let n = top_named x.command ts r d.1 in
+      nil_cons (lexeme (Name n.0) n.2.0) n.1 (sym e.0 ∙ n.2.1);
+  no_semicolon = λ x ts r s d e. let n = top_named x.command ts r d.1 in
+      let k = (tokens_same (Name n.0) (Punctuation Semicolon) ts n.1 s n.2 e).0 in cc;
   apart = λ ts r s d e. nil_cons (lexeme (Punctuation Semicolon) e.0) s (sym d.0 ∙ e.1);
   at_close = λ ts r d. tt;
   at_semicolon = λ ts r d. tt;
@@ -112,26 +141,33 @@ pub one_script : (ts : List Lexeme) (a b : List Statement) → script a ts → s
 one_script ts a b x y = (closing_single tops_listed a b ts [] [] ([], x, (refl, refl)) ([], y, (refl, refl))).0
 
 -- no text has two trees
-pub one_tree_of : ((text : List ℕ) (ls ms : List Lexeme) → IsCut text ls → IsCut text ms → ls ≡ ms) → (text : List ℕ) (a b : List Statement) → IsTree text a → IsTree text b → a ≡ b
+pub one_tree_of : ((text : List ℕ) (ls ms : List Lexeme) → IsCut text ls → IsCut text ms → ls ≡ ms)
+    → (text : List ℕ) (a b : List Statement) → IsTree text a → IsTree text b → a ≡ b
 one_tree_of cut text a b x y =
     let e = cut text x.lexemes y.lexemes x.tokens.cut y.tokens.cut in
     one_script y.lexemes a b (subst (λ l. script a l) e x.spelled) y.spelled
 
-pub top_none : (ts : List Lexeme) → NoneAt sections ts → NoneAt memory ts → NoneAt entry ts → NoneAt (common Expression) ts → NoneAt top_command ts
+pub top_none : (ts : List Lexeme) → NoneAt sections ts → NoneAt memory ts → NoneAt entry ts
+    → NoneAt (common Expression) ts → NoneAt top_command ts
 top_none ts a b c d (top.Sections y) more k = a y more k
 top_none ts a b c d (top.Memory y) more k = b y more k
 top_none ts a b c d (top.Entry y) more k = c y more k
 top_none ts a b c d (top.Common y) more k = d y more k
 
 -- the tokens end behind the statements read so far
-pub whole_script : (ts rest : List Lexeme) (xs : List Statement) → SoFar at_end top_statement ts xs rest → rest ≡ [] → script xs ts
-whole_script ts rest xs s e = subst (λ ys. script ys ts) (append_nil xs) (s.forth [] [] (subst (λ l. Semicolons l []) (sym e) none))
+pub whole_script : (ts rest : List Lexeme) (xs : List Statement) → SoFar at_end top_statement ts xs rest → rest ≡ []
+    → script xs ts
+whole_script ts rest xs s e = subst (λ ys. script ys ts) (append_nil xs)
+    (s.forth [] [] (subst (λ l. Semicolons l []) (sym e) none))
 
-pub no_script : (ts rest : List Lexeme) (xs : List Statement) → SoFar at_end top_statement ts xs rest → (rest ≡ [] → ⊥) → ((us : List Lexeme) → mark Semicolon rest us → ⊥) → NoneAt top_command rest
+pub no_script : (ts rest : List Lexeme) (xs : List Statement) → SoFar at_end top_statement ts xs rest → (rest ≡ [] → ⊥)
+    → ((us : List Lexeme) → mark Semicolon rest us → ⊥) → NoneAt top_command rest
     → (s : List Statement) → script s ts → ⊥
 no_script ts rest xs so end semicolon stuck s d =
-    so_far_stuck (λ ts. Unit {0}) at_end top_statement tops_listed ts xs rest so (λ us e. end e.0) semicolon (λ y more k st. stuck y.command more k.1) s [] ([], d, (refl, refl))
+    so_far_stuck (λ ts. Unit {0}) at_end top_statement tops_listed ts xs rest so (λ us e. end e.0) semicolon
+    (λ y more k st. stuck y.command more k.1) s [] ([], d, (refl, refl))
 
-pub takes_statement : (ts xs : List Lexeme) (line : ℕ) (a : Command) → line ≡ first_line ts → top_command a ts xs → (y : Statement) (more : List Lexeme) → top_statement y ts more
+pub takes_statement : (ts xs : List Lexeme) (line : ℕ) (a : Command) → line ≡ first_line ts → top_command a ts xs
+    → (y : Statement) (more : List Lexeme) → top_statement y ts more
     → (y ≡ record { line = line; command = a }) × (more ≡ xs)
 takes_statement ts xs line a l d y more k = top_single ts more xs y (record { line = line; command = a }) k (l, d)

@@ -2,7 +2,8 @@
 -- below is a rule: which tokens a tree stands for. `{x}` is any number of x, `[x]` one or none.
 --
 --   script  = {top}
---   top     = ";" | ENTRY "(" NAME ")" | MEMORY "{" {region} "}" | SECTIONS "{" {item} "}" | NAME "=" e ";" | provide | assert
+-- top     = ";" | ENTRY "(" NAME ")" | MEMORY "{" {region} "}" | SECTIONS "{" {item} "}" | NAME "=" e ";" | provide |
+-- assert
 --   region  = NAME ":" ORIGIN "=" e "," LENGTH "=" e
 --   item    = ";" | "." "=" e ";" | "." "+=" e ";" | NAME "=" e ";" | provide | assert | section
 --   section = NAME [e] ":" [AT "(" e ")"] [ALIGN "(" e ")"] "{" {body} "}" [">" NAME] [AT ">" NAME] ["=" fill]
@@ -21,13 +22,15 @@
 use Rattle.std.specs.Prelude.{◌≡◌, ℕ, List, [], ◌∷◌, Option, Some, None, Bool, true, false, codes}
 use Rattle.ldtokens.specs.Tokens.{Lexeme, Number, Discard}
 use Rattle.ldtokens.specs.declared.token.Mark.{Mark}
-use Rattle.ldtokens.specs.declared.token.Mark.TheVariants.{OpenParenthesis, CloseParenthesis, OpenBrace, CloseBrace, Semicolon, Colon, Comma, Assign, AddAssign, Greater}
+use Rattle.ldtokens.specs.declared.token.Mark.TheVariants.{OpenParenthesis, CloseParenthesis, OpenBrace, CloseBrace}
+use Rattle.ldtokens.specs.declared.token.Mark.TheVariants.{Semicolon, Colon, Comma, Assign, AddAssign, Greater}
 use Rattle.ldtokens.specs.declared.token.Mode.{Mode}
 use Rattle.ldtokens.specs.declared.token.Mode.TheVariants.{Expression, Pattern}
 use Rattle.ldterms.specs.Expressions.{Expr}
 use Rattle.ldterms.specs.Parts as patterns
 use Rattle.ldtree.specs.Fill.{fill_of}
-use Rattle.ldscript.specs.Steps.{Part, ◌▸◌, ◌or◌, nothing, optional, each, some, token, mark, statements, on_line, key, name_in, name, string, expression, pattern}
+use Rattle.ldscript.specs.Steps.{Part, ◌▸◌, ◌or◌, nothing, optional, each, some, token, mark, statements, on_line, key}
+use Rattle.ldscript.specs.Steps.{name_in, name, string, expression, pattern}
 use Rattle.ldtree.specs.declared.input.Sort.{Sort}
 use Rattle.ldtree.specs.declared.input.Sort.TheVariants.{ByName, ByAlignment}
 use Rattle.ldtree.specs.declared.input.SectionWord.{SectionWord}
@@ -207,7 +210,8 @@ address (Some e) = ended Colon e
 
 -- NAME [e] ":" [AT "(" e ")"] [ALIGN "(" e ")"] "{"
 abbrev pub section_head : OutputSection → Part
-section_head s = name s.name ▸ address s.address ▸ optional at_address (load_in_head s.load) ▸ optional alignment s.alignment ▸ mark OpenBrace
+section_head s = name s.name ▸ address s.address ▸ optional at_address
+    (load_in_head s.load) ▸ optional alignment s.alignment ▸ mark OpenBrace
 
 -- [">" NAME] [AT ">" NAME] ["=" fill]
 abbrev pub section_tail : OutputSection → Part
@@ -262,7 +266,8 @@ memory regions = key Expression (codes "MEMORY") ▸ mark OpenBrace ▸ each reg
 abbrev pub sections : List Item → Part
 sections items = key Expression (codes "SECTIONS") ▸ mark OpenBrace ▸ statements item_statement items ▸ mark CloseBrace
 
--- top = ";" | ENTRY "(" NAME ")" | MEMORY "{" {region} "}" | SECTIONS "{" {item} "}" | NAME "=" e ";" | provide | assert
+-- top = ";" | ENTRY "(" NAME ")" | MEMORY "{" {region} "}" | SECTIONS "{" {item} "}" | NAME "=" e ";" | provide |
+-- assert
 abbrev pub top_command : Command → Part
 top_command (top.Entry n) = entry n
 top_command (top.Memory regions) = memory regions

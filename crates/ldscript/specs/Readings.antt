@@ -1,12 +1,14 @@
 -- What the readers of the parts of a script answer, and the parts that one reader reads at once.
 use Rattle.std.specs.Prelude.{◌≡◌, ◌<◌, ◌≤◌, List, codes, length, Bool, true, false, Option, Some, None, IfOk, Result}
 use Rattle.ldtokens.specs.Tokens.{Lexeme, Discard}
-use Rattle.ldtokens.specs.declared.token.Mark.TheVariants.{OpenParenthesis, CloseParenthesis, OpenBrace, Colon, Greater, Assign}
+use Rattle.ldtokens.specs.declared.token.Mark.TheVariants.{OpenParenthesis, CloseParenthesis, OpenBrace, Colon, Greater}
+use Rattle.ldtokens.specs.declared.token.Mark.TheVariants.Assign
 use Rattle.ldtokens.specs.declared.token.Mode.TheVariants.{Expression, Pattern}
 use Rattle.ldterms.specs.Expressions.{Expr}
 use Rattle.ldterms.specs.Parts as patterns
 use Rattle.ldscript.specs.Steps.{Part, ◌▸◌, key, mark, optional, pattern, some, token}
-use Rattle.ldscript.specs.Grammar.{bare, one, selection, width_word, in_parentheses, alignment, at_address, in_region, at_region, filled}
+use Rattle.ldscript.specs.Grammar.{bare, one, selection, width_word, in_parentheses, alignment, at_address, in_region}
+use Rattle.ldscript.specs.Grammar.{at_region, filled}
 use Rattle.ldtree.specs.declared.input.SectionWord.{SectionWord}
 use Rattle.ldtree.specs.declared.input.Sort.{Sort}
 use Rattle.ldscript.specs.declared.read_section.SectionHead.{SectionHead}
@@ -27,7 +29,8 @@ Finds p ts tree rest (Some x) = Takes p ts (tree x) (rest x)
 Finds p ts tree rest None = NoneAt p ts
 
 -- out of memory says nothing of the tokens
-abbrev pub Reads : {A X E : Type 0} → (A → Part) → List Lexeme → (X → A) → (X → List Lexeme) → Result (Option X) E → Type 0
+abbrev pub Reads : {A X E : Type 0} → (A → Part) → List Lexeme → (X → A) → (X → List Lexeme)
+    → Result (Option X) E → Type 0
 Reads p ts tree rest r = IfOk r (λ found. Finds p ts tree rest found)
 
 -- a part without a tree
@@ -65,7 +68,8 @@ abbrev pub head_part : SectionHead → Part
 head_part h = optional at_address h.load ▸ opened_part h.alignment
 
 -- this tree stands here, and no other of which what follows stops it
-pub record TakesOnly {A : Type 0} (Stop : List Lexeme → Type 0) (p : A → Part) (ts : List Lexeme) (x : A) (rest : List Lexeme) : Type 0 where
+pub record TakesOnly {A : Type 0} (Stop : List Lexeme → Type 0) (p : A → Part) (ts : List Lexeme) (x : A)
+    (rest : List Lexeme) : Type 0 where
   pub spells : p x ts rest
   pub only : (y : A) (more : List Lexeme) → p y ts more → Stop more → (y ≡ x) × (more ≡ rest)
   pub shorter : length rest < length ts
@@ -73,11 +77,13 @@ pub record TakesOnly {A : Type 0} (Stop : List Lexeme → Type 0) (p : A → Par
 abbrev pub NoneUntil : {A : Type 0} → (List Lexeme → Type 0) → (A → Part) → List Lexeme → Type 0
 NoneUntil {A} Stop p ts = (y : A) (more : List Lexeme) → p y ts more → Stop more → ⊥
 
-abbrev pub FindsOnly : {A X : Type 0} → (List Lexeme → Type 0) → (A → Part) → List Lexeme → (X → A) → (X → List Lexeme) → Option X → Type 0
+abbrev pub FindsOnly : {A X : Type 0} → (List Lexeme → Type 0) → (A → Part) → List Lexeme → (X → A) → (X → List Lexeme)
+    → Option X → Type 0
 FindsOnly Stop p ts tree rest (Some x) = TakesOnly Stop p ts (tree x) (rest x)
 FindsOnly Stop p ts tree rest None = NoneUntil Stop p ts
 
-abbrev pub ReadsOnly : {A X E : Type 0} → (List Lexeme → Type 0) → (A → Part) → List Lexeme → (X → A) → (X → List Lexeme) → Result (Option X) E → Type 0
+abbrev pub ReadsOnly : {A X E : Type 0} → (List Lexeme → Type 0) → (A → Part) → List Lexeme → (X → A)
+    → (X → List Lexeme) → Result (Option X) E → Type 0
 ReadsOnly Stop p ts tree rest r = IfOk r (λ found. FindsOnly Stop p ts tree rest found)
 
 -- what can't go on an output section
@@ -95,11 +101,13 @@ Maybe f p ts (Some x) rest = p x ts rest × (length rest < length ts)
 abbrev pub Breaks : {A : Type 0} → Part → (A → Part) → List Lexeme → Type 0
 Breaks f p ts = (us : List Lexeme) × f ts us × NoneAt p ts
 
-abbrev pub FindsMaybe : {A X : Type 0} → Part → (A → Part) → List Lexeme → (X → Option A) → (X → List Lexeme) → Option X → Type 0
+abbrev pub FindsMaybe : {A X : Type 0} → Part → (A → Part) → List Lexeme → (X → Option A) → (X → List Lexeme)
+    → Option X → Type 0
 FindsMaybe f p ts tree rest (Some x) = Maybe f p ts (tree x) (rest x)
 FindsMaybe f p ts tree rest None = Breaks f p ts
 
-abbrev pub ReadsMaybe : {A X E : Type 0} → Part → (A → Part) → List Lexeme → (X → Option A) → (X → List Lexeme) → Result (Option X) E → Type 0
+abbrev pub ReadsMaybe : {A X E : Type 0} → Part → (A → Part) → List Lexeme → (X → Option A) → (X → List Lexeme)
+    → Result (Option X) E → Type 0
 ReadsMaybe f p ts tree rest r = IfOk r (λ found. FindsMaybe f p ts tree rest found)
 
 -- [">" NAME] [AT ">" NAME] ["=" fill]
@@ -116,7 +124,8 @@ abbrev pub FindsTail : {X : Type 0} → List Lexeme → (X → SectionTail) → 
 FindsTail ts tree rest (Some x) = TakesTail ts (tree x) (rest x)
 FindsTail ts tree rest None = NoneUntil EndsSection tail_part ts
 
-abbrev pub ReadsTail : {X E : Type 0} → List Lexeme → (X → SectionTail) → (X → List Lexeme) → Result (Option X) E → Type 0
+abbrev pub ReadsTail : {X E : Type 0} → List Lexeme → (X → SectionTail) → (X → List Lexeme)
+    → Result (Option X) E → Type 0
 ReadsTail ts tree rest r = IfOk r (λ found. FindsTail ts tree rest found)
 
 -- "/DISCARD/" ":" "{"

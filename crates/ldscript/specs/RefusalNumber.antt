@@ -1,7 +1,8 @@
 -- The numbers under which refusals are told.
 use Rattle.std.specs.Prelude.{ℕ}
 use Rattle.ldscript.specs.declared.refusal.ScriptRefusal.{ScriptRefusal}
-use Rattle.ldscript.specs.declared.refusal.ScriptRefusal.TheVariants.{NotTokens, NotAScript, Repeated, MisplacedDot, Limit, NoMemory}
+use Rattle.ldscript.specs.declared.refusal.ScriptRefusal.TheVariants.{NotTokens, NotAScript, Repeated, MisplacedDot}
+use Rattle.ldscript.specs.declared.refusal.ScriptRefusal.TheVariants.{Limit, NoMemory}
 
 abbrev pub refusal_number : ScriptRefusal → ℕ
 refusal_number NotTokens = 1

@@ -8,7 +8,8 @@ use Rattle.ldtree.specs.Mentions.{HasClash}
 use Rattle.ldtree.specs.Dots.{has_misplaced_dot}
 use Rattle.ldtree.specs.declared.statement.Statement.{Statement}
 use Rattle.ldscript.specs.declared.refusal.ScriptRefusal.{ScriptRefusal}
-use Rattle.ldscript.specs.declared.refusal.ScriptRefusal.TheVariants.{NotTokens, NotAScript, Repeated, MisplacedDot, Limit, NoMemory}
+use Rattle.ldscript.specs.declared.refusal.ScriptRefusal.TheVariants.{NotTokens, NotAScript, Repeated, MisplacedDot}
+use Rattle.ldscript.specs.declared.refusal.ScriptRefusal.TheVariants.{Limit, NoMemory}
 
 -- the tokens of the text are those that the tree stands for
 pub record IsTree (text : List ℕ) (s : List Statement) : Type 0 where

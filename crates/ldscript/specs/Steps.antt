@@ -1,6 +1,7 @@
 -- The words in which the grammar is written: parts, each of which leads from the tokens at which it begins to those
 -- that follow it.
-use Rattle.std.specs.Prelude.{◌≡◌, ◌⊎◌, ℕ, List, [], ◌∷◌, Option, Some, None, Bool, false, if◌then◌else◌, ◌&&◌, ◌==◌, IsTrue, slice_index}
+use Rattle.std.specs.Prelude.{◌≡◌, ◌⊎◌, ℕ, List, [], ◌∷◌, Option, Some, None, Bool, false, if◌then◌else◌, ◌&&◌, ◌==◌}
+use Rattle.std.specs.Prelude.{IsTrue, slice_index}
 use Rattle.std.specs.List.{list_all}
 use Rattle.ldtokens.specs.Bytes.{is_name_start, is_name_byte}
 use Rattle.ldtokens.specs.Tokens.{Token, Lexeme, lexeme, first_line, Name, Text, Word, Punctuation}
@@ -79,7 +80,8 @@ key mode w = token (word_in mode w)
 -- spelled as a NAME token is: a letter, `_` or `.`, then letters, digits, `_ . $ -`, and no `.-` in front
 unfoldable pub is_name_spelling : List ℕ → Bool
 is_name_spelling w =
-    if is_name_start (slice_index w 0) then (if (slice_index w 0 == 46) && (slice_index w 1 == 45) then false else list_all is_name_byte w)
+    if is_name_start (slice_index w 0)
+    then (if (slice_index w 0 == 46) && (slice_index w 1 == 45) then false else list_all is_name_byte w)
     else false
 
 abbrev pub is_name_in : Mode → List ℕ → Bool

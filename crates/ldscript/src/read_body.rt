@@ -68,7 +68,8 @@ fn body_command<'a>(alloc: Global, tokens: Cursor<'a>) -> Parsed<'a, BodyCommand
 
 /// {body} `}`
 pub fn body<'a>(alloc: Global, tokens: Cursor<'a>) -> Parsed<'a, Sequence<BodyStatement>>
-    ensures { Reads (λ ss. statements body_statement ss ▸ mark Mark.CloseBrace) tokens.entry (λ x. x.0) (λ x. x.1) result }
+    ensures { Reads (λ ss. statements body_statement ss ▸ mark Mark.CloseBrace) tokens.entry (λ x. x.0)
+        (λ x. x.1) result }
 {
     let mut body = Sequence::new(alloc);
     let mut rest = tokens;

@@ -3,7 +3,8 @@
 ghost use Rattle.std.specs.Prelude.{◌≡◌, ◌<◌, ℕ, List, IfOk, IfSome, IsTrue, length};
 ghost use Rattle.ldtokens.specs.Tokens.{Lexeme};
 ghost use Rattle.ldscript.specs.Steps.{◌▸◌, each, some, mark, statements, pattern as pattern_part};
-ghost use Rattle.ldscript.specs.Grammar.{bare, one, sort as sort_part, plain as plain_part, input as input_part, input_statement};
+ghost use Rattle.ldscript.specs.Grammar.{bare, one, sort as sort_part, plain as plain_part, input as input_part};
+ghost use Rattle.ldscript.specs.Grammar.input_statement;
 ghost use Rattle.ldscript.specs.Readings.{Reads, Finds, excluded_files as excluded_files_part, selected, word_part};
 
 use crate::steps::{after, after_key};
@@ -34,7 +35,8 @@ fn pattern<'a>(alloc: Global, tokens: Cursor<'a>) -> Parsed<'a, Pattern>
 
 /// {WORD} `)`
 fn patterns<'a>(alloc: Global, tokens: Cursor<'a>) -> Parsed<'a, Sequence<Pattern>>
-    ensures { Reads (λ ps. each pattern_part ps ▸ mark Mark.CloseParenthesis) tokens.entry (λ x. x.0) (λ x. x.1) result }
+    ensures { Reads (λ ps. each pattern_part ps ▸ mark Mark.CloseParenthesis) tokens.entry (λ x. x.0)
+        (λ x. x.1) result }
 {
     let mut patterns = Sequence::new(alloc);
     let mut rest = tokens;
@@ -52,7 +54,8 @@ fn patterns<'a>(alloc: Global, tokens: Cursor<'a>) -> Parsed<'a, Sequence<Patter
 
 /// WORD {WORD} `)`
 fn some_patterns<'a>(alloc: Global, tokens: Cursor<'a>) -> Parsed<'a, Sequence<Pattern>>
-    ensures { Reads (λ ps. some pattern_part ps ▸ mark Mark.CloseParenthesis) tokens.entry (λ x. x.0) (λ x. x.1) result }
+    ensures { Reads (λ ps. some pattern_part ps ▸ mark Mark.CloseParenthesis) tokens.entry (λ x. x.0)
+        (λ x. x.1) result }
 {
     let Some((patterns, rest)) = patterns(alloc, tokens)? else {
         return Ok(None);
@@ -117,7 +120,8 @@ fn words<'a>(
     may_exclude: bool,
     tokens: Cursor<'a>,
 ) -> Parsed<'a, Sequence<SectionWord>>
-    ensures { Reads (λ ws. each (word_part may_exclude) ws ▸ mark Mark.CloseParenthesis) tokens.entry (λ x. x.0) (λ x. x.1) result }
+    ensures { Reads (λ ws. each (word_part may_exclude) ws ▸ mark Mark.CloseParenthesis) tokens.entry (λ x. x.0)
+        (λ x. x.1) result }
 {
     let mut words = Sequence::new(alloc);
     let mut rest = tokens;
@@ -139,7 +143,8 @@ fn some_words<'a>(
     may_exclude: bool,
     tokens: Cursor<'a>,
 ) -> Parsed<'a, Sequence<SectionWord>>
-    ensures { Reads (λ ws. some (word_part may_exclude) ws ▸ mark Mark.CloseParenthesis) tokens.entry (λ x. x.0) (λ x. x.1) result }
+    ensures { Reads (λ ws. some (word_part may_exclude) ws ▸ mark Mark.CloseParenthesis) tokens.entry (λ x. x.0)
+        (λ x. x.1) result }
 {
     let Some((words, rest)) = words(alloc, may_exclude, tokens)? else {
         return Ok(None);
@@ -239,7 +244,8 @@ pub fn input<'a>(alloc: Global, tokens: Cursor<'a>) -> Parsed<'a, Input>
 
 /// {`;` | input} `}`
 pub fn inputs<'a>(alloc: Global, tokens: Cursor<'a>) -> Parsed<'a, Sequence<InputStatement>>
-    ensures { Reads (λ ss. statements input_statement ss ▸ mark Mark.CloseBrace) tokens.entry (λ x. x.0) (λ x. x.1) result }
+    ensures { Reads (λ ss. statements input_statement ss ▸ mark Mark.CloseBrace) tokens.entry (λ x. x.0)
+        (λ x. x.1) result }
 {
     let mut inputs = Sequence::new(alloc);
     let mut rest = tokens;

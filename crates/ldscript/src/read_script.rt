@@ -2,7 +2,8 @@
 
 ghost use Rattle.std.specs.Prelude.{◌≡◌, ◌<◌, ℕ, List, IsTrue, IfOk, MatchOption, length};
 ghost use Rattle.ldscript.specs.Steps.{◌▸◌, mark};
-ghost use Rattle.ldscript.specs.Grammar.{entry as entry_part, memory as memory_part, sections as sections_part, top_command as top_command_part, script};
+ghost use Rattle.ldscript.specs.Grammar.{entry as entry_part, memory as memory_part, sections as sections_part};
+ghost use Rattle.ldscript.specs.Grammar.{top_command as top_command_part, script};
 ghost use Rattle.ldscript.specs.Readings.{Reads, Finds};
 ghost use Rattle.ldtree.specs.declared.statement.Statement.{Statement};
 
@@ -82,7 +83,8 @@ pub fn statements_of(
     alloc: Global,
     tokens: Cursor<'_>,
 ) -> Result<Option<Sequence<Statement>>, AllocError>
-    ensures { IfOk result (λ found. MatchOption found ((s : List Statement) → script s tokens.entry → ⊥) (λ s. script s tokens.entry)) }
+    ensures { IfOk result (λ found. MatchOption found ((s : List Statement) → script s tokens.entry → ⊥)
+        (λ s. script s tokens.entry)) }
 {
     let mut statements = Sequence::new(alloc);
     let mut rest = tokens;

@@ -2,7 +2,8 @@
 
 ghost use Rattle.std.specs.Prelude.{◌≡◌, ◌<◌, ℕ, List, IsTrue, MatchOption, codes, length};
 ghost use Rattle.ldscript.specs.Steps.{◌▸◌, key, mark, statements};
-ghost use Rattle.ldscript.specs.Grammar.{address as address_part, at_region, filled as filled_part, in_region, load_in_head, load_in_tail, section as section_part};
+ghost use Rattle.ldscript.specs.Grammar.{address as address_part, at_region, filled as filled_part, in_region};
+ghost use Rattle.ldscript.specs.Grammar.{load_in_head, load_in_tail, section as section_part};
 ghost use Rattle.ldscript.specs.Readings.{EndsSection, Reads, ReadsMaybe, ReadsOnly, ReadsTail, opened_part, head_part};
 ghost use Rattle.ldtree.specs.declared.section.Load.{Load};
 
@@ -154,7 +155,8 @@ fn tail<'a>(alloc: Global, tokens: Cursor<'a>) -> Parsed<'a, SectionTail>
 
 /// The load address of an output section, unless its head and its tail both give one.
 fn load_of(head: Option<Formula>, tail: Option<ScriptName>) -> Option<Load>
-    ensures { MatchOption result ((l : Load) → load_in_head l ≡ head → load_in_tail l ≡ tail → ⊥) (λ l. (load_in_head l ≡ head) × (load_in_tail l ≡ tail)) }
+    ensures { MatchOption result ((l : Load) → load_in_head l ≡ head → load_in_tail l ≡ tail → ⊥)
+        (λ l. (load_in_head l ≡ head) × (load_in_tail l ≡ tail)) }
 {
     match (head, tail) {
         (None, None) => Some(Load::Unstated),

@@ -5,7 +5,8 @@ ghost use Rattle.std.specs.List.{list_all};
 ghost use Rattle.ldtokens.specs.Bytes.{is_name_byte};
 ghost use Rattle.ldtokens.specs.Tokens.{Lexeme};
 ghost use Rattle.ldterms.specs.Grammar.{StopsAt, Whole, Sign};
-ghost use Rattle.ldscript.specs.Steps.{◌▸◌, key, mark as mark_part, token, word_in, is_name_in, is_name_spelling, name_in, name as name_part, string, expression};
+ghost use Rattle.ldscript.specs.Steps.{◌▸◌, key, mark as mark_part, token, word_in, is_name_in, is_name_spelling};
+ghost use Rattle.ldscript.specs.Steps.{name_in, name as name_part, string, expression};
 ghost use Rattle.ldscript.specs.Grammar.{ended as ended_part, in_parentheses as parenthesized};
 ghost use Rattle.ldscript.specs.Readings.{Reads, Finds, Follows};
 
@@ -96,7 +97,8 @@ pub fn after(mark: Mark, tokens: Cursor<'_>) -> Option<Cursor<'_>>
 
 /// `(` NAME `)`
 pub fn name_in_parentheses<'a>(tokens: Cursor<'a>) -> Option<(&'a [u8], Cursor<'a>)>
-    ensures { Finds (λ n. mark_part Mark.OpenParenthesis ▸ name_part n ▸ mark_part Mark.CloseParenthesis) tokens.entry (λ x. x.0.now) (λ x. x.1) result }
+    ensures { Finds (λ n. mark_part Mark.OpenParenthesis ▸ name_part n ▸ mark_part Mark.CloseParenthesis) tokens.entry
+        (λ x. x.0.now) (λ x. x.1) result }
 {
     let rest = after(Mark::OpenParenthesis, tokens)?;
     let (name, rest) = plain_name(rest)?;

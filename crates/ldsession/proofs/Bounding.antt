@@ -242,7 +242,8 @@ whole_work h s same bytes new a e last from f change m0 m1 m2 given answers orig
         (from_edit h s same x e v effect.lost origins) refl
 
     between : (b : Answer) (last : Option LastGood) (from : Option (Vec (Option ℕ) Global)) (f : Followed)
-        (known : Bool) → e.known ≡ known → IsEffect h s same b last e → IsLast (listing_of h) bytes b last → shown bytes b ≡ link p
+        (known : Bool) → e.known ≡ known → IsEffect h s same b last e → IsLast (listing_of h) bytes b last
+        → shown bytes b ≡ link p
         → IsFrom last known e.gone (keys_of (next_listing h s).entries) from
         → HasFollowed (next_listing h s) bytes new f
         → HasWorked q (lent last from e.same_script h.contents.entries s.objects) m1 m2 f → (t u : Layout)

@@ -42,7 +42,8 @@ pub same_inserted : {X : Type 0} (xs ys : List X) (i : ℕ) (x y : X) → i ≤ 
 same_inserted xs ys i x y l m e =
     sym (get_or-insert_at xs i x x l) ∙ (ap (λ (zs : List _). get_or zs i x) e ∙ get_or-insert_at ys i y x m)
 
-pub counts_head : {X : Type 0} (f : X → Bool) (x : X) (xs : List X) → count_by f (x ∷ xs) ≡ cond (f x) 1 0 + count_by f xs
+pub counts_head : {X : Type 0} (f : X → Bool) (x : X) (xs : List X)
+    → count_by f (x ∷ xs) ≡ cond (f x) 1 0 + count_by f xs
 counts_head f x xs = sum_by-cons (λ y. cond (f y) 1 0) x xs
 
 pub inserted_counts : {X : Type 0} (f : X → Bool) (xs : List X) (i : ℕ) (x : X) → f x ≡ true

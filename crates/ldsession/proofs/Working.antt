@@ -1,6 +1,7 @@
 -- How much an edit counts.
 use Rattle.std.proofs.Common.{◌≡◌, ◌∙◌, ◌<◌, ◌≤◌, ◌+◌, ◌++◌, ◌⊎◌, ℕ, Bool, true, false, List, [], ◌∷◌}
-use Rattle.std.proofs.Common.{Option, Some, None, append-nil, ap, arith, cond, get_or, inl, inr, length, map, refl, subst, sym}
+use Rattle.std.proofs.Common.{Option, Some, None, append-nil, ap, arith, cond, get_or, inl, inr, length, map, refl}
+use Rattle.std.proofs.Common.{subst, sym}
 use Rattle.std.specs.List.{count_by, find, insert}
 use Rattle.std.specs.Option.{option_map_or}
 use Rattle.std.specs.Prelude.{Ok, is_some, nat_eq, nat_lt, slice_get}

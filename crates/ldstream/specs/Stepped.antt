@@ -40,12 +40,14 @@ abbrev pub LineRead : {E : Type 0} → Option (List ℕ) → Option (List ℕ) �
 LineRead old new line (Ok (Line n)) = (n ≤ 512) × HasNo 10 (take n line) × Consumes old new (take n line ++ 10 ∷ [])
 LineRead old new line (Ok Ended) = Consumes old new [] × IsAtEnd new
 LineRead old new line (Ok Broken) =
-    (bytes : List ℕ) × (0 < length bytes) × HasNo 10 bytes × Consumes old new bytes × (IsAtEnd new ⊎ (512 < length bytes))
+    (bytes : List ℕ) × (0 < length bytes) × HasNo 10 bytes × Consumes old new bytes
+    × (IsAtEnd new ⊎ (512 < length bytes))
 LineRead old new line (Err e) = (bytes : List ℕ) × HasNo 10 bytes × Consumes old new bytes
 
 -- the text is written, or a beginning of it
 abbrev pub Writes : {T E : Type 0} → Option (List ℕ) → Option (List ℕ) → List ℕ → Result T E → Type 0
-Writes old new text result = MatchResult result (λ _. Appends old new text) (λ _. (n : ℕ) × Appends old new (take n text))
+Writes old new text result = MatchResult result (λ _. Appends old new text)
+    (λ _. (n : ℕ) × Appends old new (take n text))
 
 abbrev pub PayloadRead : {E : Type 0} → Option (List ℕ) → Option (List ℕ) → ℕ → Result Payload E → Type 0
 PayloadRead old new n (Ok (Whole v)) = (length v.items ≡ n) × Consumes old new v.items

@@ -237,7 +237,8 @@ impl Index {
             site.target.0 + 1 }
         ensures other_rooms { (t : ℕ) → t ≢ site.target.0 → slice_index self.new.target_room t
             ≡ slice_index self.old.target_room t }
-        ensures object_room { slice_index self.old.object_room object.0 ≤ slice_index self.new.object_room object.0 + 1 }
+        ensures object_room { slice_index self.old.object_room object.0 ≤ slice_index self.new.object_room
+            object.0 + 1 }
     {
         let target = site.target.0;
         let place = self.targets[target].add(SiteKey {

@@ -94,7 +94,8 @@ fn add_moved_site<E: Earlier>(
     requires entry_is { slice_get section.now.relocations.now entry ≡ Some relocation.now }
     requires below { section.now.start + relocation.now.offset < 2 ^ 64 }
     ensures { OnOk result ((old : GoodLink) (l : KnownLink) → E.knows earlier.now old l
-        → IsKept (E.range earlier.now) section.now.object → (o : NamedObject) (x : LinkedSection) → IsPlaced l section.now o x
+        → IsKept (E.range earlier.now) section.now.object → (o : NamedObject) (x : LinkedSection)
+        → IsPlaced l section.now o x
         → IsMoved old l range (sites_among o x section.now.start (relocation.now ∷ [])) patches.old.items
         patches.new.items faults.old.items faults.new.items meter.old meter.new) }
 {
@@ -139,7 +140,8 @@ pub fn add_moved<E: Earlier>(
 ) -> Result<(), NoMemory>
     requires { All (λ r. section.now.start + r.offset < 2 ^ 64) section.now.relocations.now }
     ensures { OnOk result ((old : GoodLink) (l : KnownLink) → E.knows earlier.now old l
-        → IsKept (E.range earlier.now) section.now.object → (o : NamedObject) (x : LinkedSection) → IsPlaced l section.now o x
+        → IsKept (E.range earlier.now) section.now.object → (o : NamedObject) (x : LinkedSection)
+        → IsPlaced l section.now o x
         → IsMoved old l range (sites_among o x section.now.start section.now.relocations.now) patches.old.items
         patches.new.items faults.old.items faults.new.items meter.old meter.new) }
 {

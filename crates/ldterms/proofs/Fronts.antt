@@ -1,8 +1,11 @@
 -- The front of a word is the part that its first bytes spell, and no other part is spelled there.
-use Rattle.std.proofs.Common.{◌≡◌, ◌≢◌, ℕ, zero, suc, ◌+◌, ◌-◌, ◌<◌, Bool, true, false, cond, eqb, ltb, ◌⊎◌, inl, inr, List, [], ◌∷◌, ◌++◌, length, take, get_or, Option, Some, None, refl, sym, ◌∙◌, ap, subst, append_assoc, length-append, arith}
+use Rattle.std.proofs.Common.{◌≡◌, ◌≢◌, ℕ, zero, suc, ◌+◌, ◌-◌, ◌<◌, Bool, true, false, cond, eqb, ltb, ◌⊎◌, inl, inr}
+use Rattle.std.proofs.Common.{List, [], ◌∷◌, ◌++◌, length, take, get_or, Option, Some, None, refl, sym, ◌∙◌, ap, subst}
+use Rattle.std.proofs.Common.{append_assoc, length-append, arith}
 use Rattle.std.specs.List.{take_while, list_all, slice_range, prefix_len}
 use Rattle.std.proofs.Math.Seq.{take-append_seam, get_or-append_seam}
-use Rattle.std.proofs.lemmas.Bool.{false≢true, eqb-true, eq-eqb, lt-ltb, ltb-true, and_parts, and_from, cond-true, cond-false}
+use Rattle.std.proofs.lemmas.Bool.{false≢true, eqb-true, eq-eqb, lt-ltb, ltb-true, and_parts, and_from, cond-true}
+use Rattle.std.proofs.lemmas.Bool.cond-false
 use Rattle.std.proofs.lemmas.List.{take_more, length-take-le}
 use Rattle.std.proofs.lemmas.List.Sums.{take_while-cons, prefix_len-le-length}
 use Rattle.ldterms.specs.Parts.{Part, AnyRun, AnyByte, Byte, OneOf, ranges_of}
@@ -10,16 +13,19 @@ use Rattle.ldterms.specs.Spelling.{is_plain, is_set_byte, is_graphic, IsSetBody,
 use Rattle.ldterms.specs.Front.{Front, front_part, front, escape_front, set_front, set_length}
 
 -- runs that pass a test
-pub run_of : (p : ℕ → Bool) (k : ℕ) (body rest : List ℕ) → p k ≡ false → list_all p body ≡ true → take_while p (body ++ k ∷ rest) ≡ body
+pub run_of : (p : ℕ → Bool) (k : ℕ) (body rest : List ℕ) → p k ≡ false → list_all p body ≡ true
+    → take_while p (body ++ k ∷ rest) ≡ body
 run_of p k [] rest n h = take_while-cons p k rest ∙ cond-false (p k) (k ∷ take_while p rest) [] n
 run_of p k (b ∷ body) rest n h =
     let a = and_parts (p b) (list_all p body) h in
-    take_while-cons p b (body ++ k ∷ rest) ∙ cond-true (p b) (b ∷ take_while p (body ++ k ∷ rest)) [] a.0 ∙ ap (λ v. b ∷ v) (run_of p k body rest n a.1)
+    take_while-cons p b (body ++ k ∷ rest) ∙ cond-true (p b) (b ∷ take_while p (body ++ k ∷ rest)) [] a.0
+    ∙ ap (λ v. b ∷ v) (run_of p k body rest n a.1)
 
 pub run_passes : (p : ℕ → Bool) (xs : List ℕ) → list_all p (take_while p xs) ≡ true
 run_passes p [] = refl
 run_passes p (x ∷ xs) = elim (p x) as (λ v. p x ≡ v → list_all p (take_while p (x ∷ xs)) ≡ true) [
-  | true ↦ λ e. ap (list_all p) (take_while-cons p x xs ∙ cond-true (p x) (x ∷ take_while p xs) [] e) ∙ and_from (p x) (list_all p (take_while p xs)) e (run_passes p xs)
+  | true ↦ λ e. ap (list_all p) (take_while-cons p x xs ∙ cond-true (p x) (x ∷ take_while p xs) [] e)
+      ∙ and_from (p x) (list_all p (take_while p xs)) e (run_passes p xs)
   | false ↦ λ e. ap (list_all p) (take_while-cons p x xs ∙ cond-false (p x) (x ∷ take_while p xs) [] e)
 ] refl
 
@@ -80,12 +86,14 @@ body_in body rest =
     let e : (1 + length body) - 1 ≡ length body = omega arith in
     ap (λ k. take k (body ++ 93 ∷ rest)) e ∙ take-append_seam body (93 ∷ rest)
 
-front_of_set : (body rest : List ℕ) → IsSetBody body → set_front (in_brackets body rest) ≡ front_part (OneOf (ranges_of body)) (2 + length body)
+front_of_set : (body rest : List ℕ) → IsSetBody body
+    → set_front (in_brackets body rest) ≡ front_part (OneOf (ranges_of body)) (2 + length body)
 front_of_set body rest h =
     let word = in_brackets body rest in
     let l = body_length body rest h in
     let t : ltb 0 (set_length word) ≡ true = below_true (set_length word) (omega (arith, l, some_length body h.0)) in
-    let u : eqb (get_or word (1 + set_length word) 0) 93 ≡ true = eq-eqb _ _ (ap (λ k. get_or word (1 + k) 0) l ∙ close_at body rest) in
+    let u : eqb (get_or word (1 + set_length word) 0) 93 ≡ true = eq-eqb _ _
+    (ap (λ k. get_or word (1 + k) 0) l ∙ close_at body rest) in
     set_front_some word t u
     ∙ ap (λ k. front_part (OneOf (ranges_of (slice_range word 1 (1 + k)))) (2 + k)) l
     ∙ ap (λ v. front_part (OneOf (ranges_of v)) (2 + length body)) (body_in body rest)
@@ -104,32 +112,41 @@ front_of_plain : (b : ℕ) (rest : List ℕ) → is_plain b ≡ true → front (
 unfolding front
 front_of_plain b rest g =
     cond-false (eqb b 42) _ _ (no_sign b 42 refl g) ∙ cond-false (eqb b 63) _ _ (no_sign b 63 refl g)
-    ∙ cond-false (eqb b 92) _ _ (no_sign b 92 refl g) ∙ cond-false (eqb b 91) _ _ (no_sign b 91 refl g) ∙ cond-true (is_plain b) _ _ g
+    ∙ cond-false (eqb b 92) _ _ (no_sign b 92 refl g) ∙ cond-false (eqb b 91) _ _ (no_sign b 91 refl g)
+    ∙ cond-true (is_plain b) _ _ g
 
 front_of_escape : (b : ℕ) (rest : List ℕ) → is_graphic b ≡ true → front (92 ∷ b ∷ rest) ≡ front_part (Byte b) 2
 unfolding front escape_front
 front_of_escape b rest g = cond-true (is_graphic b) _ _ g
 
-front_of_signs : (rest : List ℕ) → (front (42 ∷ rest) ≡ front_part AnyRun 1) × (front (63 ∷ rest) ≡ front_part AnyByte 1)
+front_of_signs : (rest : List ℕ)
+    → (front (42 ∷ rest) ≡ front_part AnyRun 1) × (front (63 ∷ rest) ≡ front_part AnyByte 1)
 unfolding front
 front_of_signs rest = (refl, refl)
 
-pub front_of_spelled : (p : Part) (bytes rest : List ℕ) → SpellsPart p bytes → front (bytes ++ rest) ≡ front_part p (length bytes)
-front_of_spelled AnyRun bytes rest e = subst (λ v. front (v ++ rest) ≡ front_part AnyRun (length v)) (sym e) (front_of_signs rest).0
-front_of_spelled AnyByte bytes rest e = subst (λ v. front (v ++ rest) ≡ front_part AnyByte (length v)) (sym e) (front_of_signs rest).1
-front_of_spelled (Byte b) bytes rest (inl (g, e)) = subst (λ v. front (v ++ rest) ≡ front_part (Byte b) (length v)) (sym e) (front_of_plain b rest g)
-front_of_spelled (Byte b) bytes rest (inr (g, e)) = subst (λ v. front (v ++ rest) ≡ front_part (Byte b) (length v)) (sym e) (front_of_escape b rest g)
+pub front_of_spelled : (p : Part) (bytes rest : List ℕ) → SpellsPart p bytes
+    → front (bytes ++ rest) ≡ front_part p (length bytes)
+front_of_spelled AnyRun bytes rest e =
+    subst (λ v. front (v ++ rest) ≡ front_part AnyRun (length v)) (sym e) (front_of_signs rest).0
+front_of_spelled AnyByte bytes rest e =
+    subst (λ v. front (v ++ rest) ≡ front_part AnyByte (length v)) (sym e) (front_of_signs rest).1
+front_of_spelled (Byte b) bytes rest (inl (g, e)) =
+    subst (λ v. front (v ++ rest) ≡ front_part (Byte b) (length v)) (sym e) (front_of_plain b rest g)
+front_of_spelled (Byte b) bytes rest (inr (g, e)) =
+    subst (λ v. front (v ++ rest) ≡ front_part (Byte b) (length v)) (sym e) (front_of_escape b rest g)
 front_of_spelled (OneOf ranges) bytes rest (body, some, r, e) =
     subst (λ v. front (v ++ rest) ≡ front_part (OneOf ranges) (length v)) (sym e)
     (ap front (opened body rest) ∙ front_of_brackets (body ++ 93 ∷ rest) ∙ front_of_set body rest some
-    ∙ ap (λ v. front_part (OneOf v) (2 + length body)) (sym r) ∙ ap (λ k. front_part (OneOf ranges) k) (brackets_length body))
+    ∙ ap (λ v. front_part (OneOf v) (2 + length body)) (sym r)
+    ∙ ap (λ k. front_part (OneOf ranges) k) (brackets_length body))
 
 -- and back: what the front is, is spelled there
 split_cond : {X : Type 0} (t : Bool) (x y z : X) → cond t x y ≡ z → ((t ≡ true) × (x ≡ z)) ⊎ ((t ≡ false) × (y ≡ z))
 split_cond true x y z e = inl (refl, e)
 split_cond false x y z e = inr (refl, e)
 
-spell_as : (p q : Part) (n m : ℕ) (word : List ℕ) → front_part p n ≡ front_part q m → SpellsPart p (take n word) → SpellsPart q (take m word)
+spell_as : (p q : Part) (n m : ℕ) (word : List ℕ) → front_part p n ≡ front_part q m → SpellsPart p (take n word)
+    → SpellsPart q (take m word)
 spell_as p q n m word e s =
     let h = front_same p q n m e in
     subst (λ v. SpellsPart v (take m word)) (sym h.0) (subst (λ k. SpellsPart p (take k word)) (sym h.1) s)
@@ -158,7 +175,8 @@ front_is : (b : ℕ) (rest : List ℕ) → front (b ∷ rest) ≡ cond (eqb b 42
 unfolding front
 front_is b rest = refl
 
-escape_spelled : (b : ℕ) (rest : List ℕ) (q : Part) (m : ℕ) → b ≡ 92 → escape_front (b ∷ rest) ≡ front_part q m → SpellsPart q (take m (b ∷ rest))
+escape_spelled : (b : ℕ) (rest : List ℕ) (q : Part) (m : ℕ) → b ≡ 92 → escape_front (b ∷ rest) ≡ front_part q m
+    → SpellsPart q (take m (b ∷ rest))
 unfolding escape_front
 escape_spelled b [] q m s e = absurd (no_front q m e)
 escape_spelled b (x ∷ rest) q m s e = elim (split_cond (is_graphic x) (front_part (Byte x) 2) None (front_part q m) e) [
@@ -166,8 +184,10 @@ escape_spelled b (x ∷ rest) q m s e = elim (split_cond (is_graphic x) (front_p
   | inr (g, h) ↦ absurd (no_front q m h)
 ]
 
-set_spelled_at : (b : ℕ) (rest : List ℕ) → b ≡ 91 → 0 < set_length (b ∷ rest) → get_or (b ∷ rest) (1 + set_length (b ∷ rest)) 0 ≡ 93
-    → SpellsPart (OneOf (ranges_of (slice_range (b ∷ rest) 1 (1 + set_length (b ∷ rest))))) (take (2 + set_length (b ∷ rest)) (b ∷ rest))
+set_spelled_at : (b : ℕ) (rest : List ℕ) → b ≡ 91 → 0 < set_length (b ∷ rest)
+    → get_or (b ∷ rest) (1 + set_length (b ∷ rest)) 0 ≡ 93
+    → SpellsPart (OneOf (ranges_of (slice_range (b ∷ rest) 1 (1 + set_length (b ∷ rest)))))
+    (take (2 + set_length (b ∷ rest)) (b ∷ rest))
 set_spelled_at b rest s some close =
     let n = set_length (b ∷ rest) in
     let run = take_while is_set_byte rest in
@@ -177,11 +197,14 @@ set_spelled_at b rest s some close =
     let two : 2 + n ≡ suc (n + 1) = omega arith in
     let c : get_or rest n 0 ≡ 93 = sym (ap (λ i. get_or (b ∷ rest) i 0) one) ∙ close in
     let cut : take (n + 1) rest ≡ run ++ 93 ∷ [] =
-    take_more rest n 0 (within_value rest n c) ∙ ap (λ v. v ++ get_or rest n 0 ∷ []) (run_is_front is_set_byte rest) ∙ ap (λ v. run ++ v ∷ []) c in
-    let whole : take (2 + n) (b ∷ rest) ≡ 91 ∷ (run ++ 93 ∷ []) = ap (λ i. take i (b ∷ rest)) two ∙ ap (λ v. v ∷ take (n + 1) rest) s ∙ ap (λ v. 91 ∷ v) cut in
+    take_more rest n 0 (within_value rest n c) ∙ ap (λ v. v ++ get_or rest n 0 ∷ []) (run_is_front is_set_byte rest)
+    ∙ ap (λ v. run ++ v ∷ []) c in
+    let whole : take (2 + n) (b ∷ rest) ≡ 91 ∷ (run ++ 93 ∷ []) = ap (λ i. take i (b ∷ rest)) two
+    ∙ ap (λ v. v ∷ take (n + 1) rest) s ∙ ap (λ v. 91 ∷ v) cut in
     (run, (length_some run some, run_passes is_set_byte rest), ap ranges_of body, whole)
 
-set_spelled : (b : ℕ) (rest : List ℕ) (q : Part) (m : ℕ) → b ≡ 91 → set_front (b ∷ rest) ≡ front_part q m → SpellsPart q (take m (b ∷ rest))
+set_spelled : (b : ℕ) (rest : List ℕ) (q : Part) (m : ℕ) → b ≡ 91 → set_front (b ∷ rest) ≡ front_part q m
+    → SpellsPart q (take m (b ∷ rest))
 unfolding set_front
 set_spelled b rest q m s e =
     let n = set_length (b ∷ rest) in
@@ -219,4 +242,5 @@ spelled_at_front (b ∷ rest) q m e =
     ]
 
 pub nothing_in_front : (bytes more : List ℕ) (p : Part) → SpellsPart p bytes → [] ≡ bytes ++ more → ⊥
-nothing_in_front bytes more p s e = no_front p (length bytes) (sym empty_front ∙ ap front e ∙ front_of_spelled p bytes more s)
+nothing_in_front bytes more p s e =
+    no_front p (length bytes) (sym empty_front ∙ ap front e ∙ front_of_spelled p bytes more s)

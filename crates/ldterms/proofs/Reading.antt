@@ -1,5 +1,6 @@
 -- A word read part by part.
-use Rattle.std.proofs.Common.{◌≡◌, ℕ, zero, suc, ◌≤◌, ◌<◌, ◌↔◌, Bool, false, IsTrue, eqb, List, [], ◌∷◌, ◌++◌, length, take, drop, None, refl, sym, ◌∙◌, ap, subst, length-append, arith}
+use Rattle.std.proofs.Common.{◌≡◌, ℕ, zero, suc, ◌≤◌, ◌<◌, ◌↔◌, Bool, false, IsTrue, eqb, List, [], ◌∷◌, ◌++◌, length}
+use Rattle.std.proofs.Common.{take, drop, None, refl, sym, ◌∙◌, ap, subst, length-append, arith}
 use Rattle.std.proofs.Math.Seq.{drop-append_seam}
 use Rattle.std.proofs.lemmas.Bool.{false≢true, eqb-true, eq-eqb}
 use Rattle.std.proofs.lemmas.List.{nil_from_length, take-append-drop}
@@ -15,13 +16,15 @@ none_left : {word : List ℕ} {ps : List Part} → word ≡ [] → Spells ps wor
 none_left e nothing = refl
 none_left e (part {p = p} bytes more s eq others) = absurd (nothing_in_front bytes more p s (sym e ∙ eq))
 
-first_of : {word : List ℕ} {ps : List Part} (p : Part) (n : ℕ) → front word ≡ front_part p n → Spells ps word → (0 < length word)
+first_of : {word : List ℕ} {ps : List Part} (p : Part) (n : ℕ) → front word ≡ front_part p n → Spells ps word
+    → (0 < length word)
     → (qs : List Part) × (ps ≡ p ∷ qs) × Spells qs (drop n word)
 first_of p n e nothing some = absurd (omega arith)
 first_of p n e (part {p = q} {ps = qs} {word = word} bytes more s eq others) some =
     let f : front word ≡ front_part q (length bytes) = ap front eq ∙ front_of_spelled q bytes more s in
     let h = front_same p q n (length bytes) (sym e ∙ f) in
-    let d : more ≡ drop n word = sym (ap (drop n) eq ∙ ap (λ k. drop k (bytes ++ more)) (sym h.1) ∙ drop-append_seam bytes more) in
+    let d : more ≡ drop n word = sym
+    (ap (drop n) eq ∙ ap (λ k. drop k (bytes ++ more)) (sym h.1) ∙ drop-append_seam bytes more) in
     (qs, ap (λ v. v ∷ qs) h.0, subst (λ v. Spells qs v) d others)
 
 no_first : {word : List ℕ} {ps : List Part} → front word ≡ None → 0 < length word → Spells ps word → ⊥
@@ -37,7 +40,8 @@ ends_empty word e ps s = none_left e s
 pub ends_unspelled : (word : List ℕ) → front word ≡ None → 0 < length word → EndsHere word
 ends_unspelled word e some ps s = absurd (no_first e some s)
 
-pub begins_with : (word : List ℕ) (p : Part) (n : ℕ) → front word ≡ front_part p n → 0 < length word → BeginsWith word p (drop n word)
+pub begins_with : (word : List ℕ) (p : Part) (n : ℕ) → front word ≡ front_part p n → 0 < length word
+    → BeginsWith word p (drop n word)
 begins_with word p n e some = record {
   on = λ qs s. part (take n word) (drop n word) (spelled_at_front word p n e) (sym (take-append-drop n word)) s;
   only = λ ps s. first_of p n e s some;
@@ -76,7 +80,8 @@ spelled_in : (n : ℕ) (ps : List Part) (word : List ℕ) → Spells ps word →
 spelled_in zero [] word nothing l = refl
 spelled_in (suc n) [] word nothing l = ap (λ f. with_rest f (λ k. spelled_within n (drop k []))) empty_front
 spelled_in zero (p ∷ ps) word (part bytes rest s e others) l =
-    let no : length word < length word = omega (arith, some_bytes bytes p s, ap length e, length-append bytes rest, l) in
+    let no : length word < length word = omega
+    (arith, some_bytes bytes p s, ap length e, length-append bytes rest, l) in
     absurd (omega (arith, no))
 spelled_in (suc n) (p ∷ ps) word (part bytes rest s e others) l =
     let f : front word ≡ front_part p (length bytes) = ap front e ∙ front_of_spelled p bytes rest s in
@@ -119,4 +124,8 @@ some_left [] b e f = absurd (false≢true (sym f ∙ e))
 some_left (x ∷ xs) b e f = omega arith
 
 pub empty_test : (xs : List ℕ) (b : Bool) → b ≡ eqb (length xs) 0 → IsTrue b ↔ xs ≡ []
-empty_test xs b e = (λ t. nil_from_length xs (eqb-true (length xs) 0 (sym e ∙ t)), λ n. e ∙ eq-eqb (length xs) 0 (ap length n))
+empty_test xs b e = (
+  λ t. nil_from_length xs (eqb-true (length xs) 0 (sym e ∙ t)),
+  λ n. e
+      ∙ eq-eqb (length xs) 0 (ap length n),
+)

@@ -1,5 +1,6 @@
 -- The part that a word begins with, computed from its first bytes.
-use Rattle.std.specs.Prelude.{ℕ, ◌+◌, ◌≤◌, ◌<◌, ◌&&◌, ◌==◌, nat_lt, List, length, drop, take_while, slice_index, slice_range, Option, Some, None, if◌then◌else◌}
+use Rattle.std.specs.Prelude.{ℕ, ◌+◌, ◌≤◌, ◌<◌, ◌&&◌, ◌==◌, nat_lt, List, length, drop, take_while, slice_index}
+use Rattle.std.specs.Prelude.{slice_range, Option, Some, None, if◌then◌else◌}
 use Rattle.ldterms.specs.Parts.{Part, AnyRun, AnyByte, Byte, OneOf, ranges_of, part_of, IsPlace}
 use Rattle.ldterms.specs.Spelling.{is_plain, is_set_byte, is_graphic}
 use Rattle.ldterms.specs.declared.front.Spelled.{Spelled}

@@ -1,13 +1,14 @@
 -- The grammar of a script's expressions, rule by rule, tightest first.
 --
---   primary   = NUMBER | "." | NAME | "(" whole ")" | of_region "(" NAME ")" | of_section "(" NAME ")" | ALIGN arguments
+-- primary   = NUMBER | "." | NAME | "(" whole ")" | of_region "(" NAME ")" | of_section "(" NAME ")" | ALIGN arguments
 --   of_region = ORIGIN | LENGTH
 --   of_section = ADDR | LOADADDR | SIZEOF
 --   arguments = "(" whole ")" | "(" whole "," whole ")"
 --   within 0  = primary | unary operator, within 0
 --   within n  = within n-1 | within n, operator of level n, within n-1          for n from 1 to 9
 --   whole     = within 9 | within 9 "?" whole ":" whole
-use Rattle.std.specs.Prelude.{◌≡◌, ℕ, suc, ◌^◌, ◌<◌, List, [], ◌∷◌, length, Option, Some, None, if◌then◌else◌, codes, bytes_eq, IfOk, Result}
+use Rattle.std.specs.Prelude.{◌≡◌, ℕ, suc, ◌^◌, ◌<◌, List, [], ◌∷◌, length, Option, Some, None, if◌then◌else◌, codes}
+use Rattle.std.specs.Prelude.{bytes_eq, IfOk, Result}
 use Rattle.ldtokens.specs.Tokens as token
 use Rattle.ldtokens.specs.Tokens.{Token, Lexeme}
 use Rattle.ldtokens.specs.Numbers.{number_value}
@@ -21,7 +22,8 @@ use Rattle.ldterms.specs.declared.expression.RegionQuery.TheVariants.{Origin, Le
 use Rattle.ldterms.specs.declared.expression.SectionQuery.{SectionQuery}
 use Rattle.ldterms.specs.declared.expression.SectionQuery.TheVariants.{Address, LoadAddress, Size}
 use Rattle.ldterms.specs.Operators.{unary_of, binary_of, level_of}
-use Rattle.ldterms.specs.Expressions.{Expr, Number, Dot, Name, Unary, Binary, Choice, OfRegion, OfSection, AlignDot, Align}
+use Rattle.ldterms.specs.Expressions.{Expr, Number, Dot, Name, Unary, Binary, Choice, OfRegion, OfSection, AlignDot}
+use Rattle.ldterms.specs.Expressions.Align
 
 -- what a name is to an expression: `.`, a word that asks something of a memory region or of an output section, ALIGN, a
 -- NAME, or another reserved word
@@ -93,21 +95,34 @@ pub data Level : Type 0 where
 
 -- Spells l e ts rest: e stands at the front of ts, and rest is what follows it. A line for each rule
 pub data Spells : Level → Expr → List Lexeme → List Lexeme → Type 0 where
-  number : {value : ℕ} {ts rest : List Lexeme} → Begins ts (Numeral value) rest → value < 2 ^ 64 → Spells Primary (Number value) ts rest
+  number : {value : ℕ} {ts rest : List Lexeme} → Begins ts (Numeral value) rest → value < 2 ^ 64
+      → Spells Primary (Number value) ts rest
   dot : {ts rest : List Lexeme} → Begins ts (Worded Point) rest → Spells Primary Dot ts rest
-  name : {name : List ℕ} {ts rest : List Lexeme} → Begins ts (Worded (Free name)) rest → Spells Primary (Name name) ts rest
-  group : {e : Expr} {ts us vs rest : List Lexeme} → Begins ts (Sign OpenParenthesis) us → Spells Whole e us vs → Begins vs (Sign CloseParenthesis) rest → Spells Primary e ts rest
-  of_region : {q : RegionQuery} {name : List ℕ} {ts us rest : List Lexeme} → Begins ts (Worded (AsksRegion q)) us → BeginsNamed us name rest → Spells Primary (OfRegion q name) ts rest
-  of_section : {q : SectionQuery} {name : List ℕ} {ts us rest : List Lexeme} → Begins ts (Worded (AsksSection q)) us → BeginsNamed us name rest → Spells Primary (OfSection q name) ts rest
-  align : {e : Expr} {ts us rest : List Lexeme} → Begins ts (Worded Aligns) us → Spells Arguments e us rest → Spells Primary e ts rest
-  one_argument : {a : Expr} {ts us vs rest : List Lexeme} → Begins ts (Sign OpenParenthesis) us → Spells Whole a us vs → Begins vs (Sign CloseParenthesis) rest → Spells Arguments (AlignDot a) ts rest
-  two_arguments : {a b : Expr} {ts us vs ws xs rest : List Lexeme} → Begins ts (Sign OpenParenthesis) us → Spells Whole a us vs → Begins vs (Sign Comma) ws → Spells Whole b ws xs → Begins xs (Sign CloseParenthesis) rest → Spells Arguments (Align a b) ts rest
+  name : {name : List ℕ} {ts rest : List Lexeme} → Begins ts (Worded (Free name)) rest
+      → Spells Primary (Name name) ts rest
+  group : {e : Expr} {ts us vs rest : List Lexeme} → Begins ts (Sign OpenParenthesis) us → Spells Whole e us vs
+      → Begins vs (Sign CloseParenthesis) rest → Spells Primary e ts rest
+  of_region : {q : RegionQuery} {name : List ℕ} {ts us rest : List Lexeme} → Begins ts (Worded (AsksRegion q)) us
+      → BeginsNamed us name rest → Spells Primary (OfRegion q name) ts rest
+  of_section : {q : SectionQuery} {name : List ℕ} {ts us rest : List Lexeme} → Begins ts (Worded (AsksSection q)) us
+      → BeginsNamed us name rest → Spells Primary (OfSection q name) ts rest
+  align : {e : Expr} {ts us rest : List Lexeme} → Begins ts (Worded Aligns) us → Spells Arguments e us rest
+      → Spells Primary e ts rest
+  one_argument : {a : Expr} {ts us vs rest : List Lexeme} → Begins ts (Sign OpenParenthesis) us → Spells Whole a us vs
+      → Begins vs (Sign CloseParenthesis) rest → Spells Arguments (AlignDot a) ts rest
+  two_arguments : {a b : Expr} {ts us vs ws xs rest : List Lexeme} → Begins ts (Sign OpenParenthesis) us
+      → Spells Whole a us vs → Begins vs (Sign Comma) ws → Spells Whole b ws xs → Begins xs (Sign CloseParenthesis) rest
+      → Spells Arguments (Align a b) ts rest
   primary : {e : Expr} {ts rest : List Lexeme} → Spells Primary e ts rest → Spells (Within 0) e ts rest
-  unary : {op : UnaryOperator} {a : Expr} {ts us rest : List Lexeme} → BeginsUnary ts op us → Spells (Within 0) a us rest → Spells (Within 0) (Unary op a) ts rest
+  unary : {op : UnaryOperator} {a : Expr} {ts us rest : List Lexeme} → BeginsUnary ts op us
+      → Spells (Within 0) a us rest → Spells (Within 0) (Unary op a) ts rest
   operand : {n : ℕ} {e : Expr} {ts rest : List Lexeme} → Spells (Within n) e ts rest → Spells (Within (suc n)) e ts rest
-  binary : {n : ℕ} {op : BinaryOperator} {a b : Expr} {ts us vs rest : List Lexeme} → Spells (Within (suc n)) a ts us → BeginsBinary (suc n) us op vs → Spells (Within n) b vs rest → Spells (Within (suc n)) (Binary op a b) ts rest
+  binary : {n : ℕ} {op : BinaryOperator} {a b : Expr} {ts us vs rest : List Lexeme} → Spells (Within (suc n)) a ts us
+      → BeginsBinary (suc n) us op vs → Spells (Within n) b vs rest → Spells (Within (suc n)) (Binary op a b) ts rest
   operators : {e : Expr} {ts rest : List Lexeme} → Spells (Within 9) e ts rest → Spells Whole e ts rest
-  choice : {test a b : Expr} {ts us vs ws xs rest : List Lexeme} → Spells (Within 9) test ts us → Begins us (Sign Question) vs → Spells Whole a vs ws → Begins ws (Sign Colon) xs → Spells Whole b xs rest → Spells Whole (Choice test a b) ts rest
+  choice : {test a b : Expr} {ts us vs ws xs rest : List Lexeme} → Spells (Within 9) test ts us
+      → Begins us (Sign Question) vs → Spells Whole a vs ws → Begins ws (Sign Colon) xs → Spells Whole b xs rest
+      → Spells Whole (Choice test a b) ts rest
 
 -- an operator, if there is one, binds more loosely than this level
 abbrev pub IsLooser : ℕ → Option BinaryOperator → Type 0
@@ -153,7 +168,8 @@ Reads l ts expr rest r = IfOk r (λ found. Finds l ts expr rest found)
 
 -- no tokens have two trees
 abbrev pub OneTree : List Lexeme → Type 0
-OneTree ts = (e f : Expr) (rest more : List Lexeme) → Spells Whole e ts rest → Spells Whole f ts more → Stops Whole rest → Stops Whole more → (e ≡ f) × (rest ≡ more)
+OneTree ts = (e f : Expr) (rest more : List Lexeme) → Spells Whole e ts rest → Spells Whole f ts more → Stops Whole rest
+    → Stops Whole more → (e ≡ f) × (rest ≡ more)
 
 -- each tree whose rest can't go on it is the only one
 abbrev pub OneReading : List Lexeme → Type 0

@@ -14,7 +14,8 @@ Meets (OneOf ranges) bytes = (b : ℕ) × (is_in_any b ranges ≡ true) × (byte
 -- the whole name splits into as many runs as the pattern has parts, and each part is met by its run
 pub data Matches : List Part → List ℕ → Type 0 where
   nothing : Matches [] []
-  part : {p : Part} {ps : List Part} {name : List ℕ} (bytes rest : List ℕ) → Meets p bytes → name ≡ bytes ++ rest → Matches ps rest → Matches (p ∷ ps) name
+  part : {p : Part} {ps : List Part} {name : List ℕ} (bytes rest : List ℕ) → Meets p bytes → name ≡ bytes ++ rest
+      → Matches ps rest → Matches (p ∷ ps) name
 
 -- a test of some end of a name: of the whole name, of each shorter end, or of the empty one
 abbrev pub passes_some_end : (List ℕ → Bool) → List ℕ → Bool

@@ -5,7 +5,10 @@ use Rattle.ldtokens.specs.declared.token.Mark.TheVariants as mark
 use Rattle.ldterms.specs.declared.operator.UnaryOperator.{UnaryOperator}
 use Rattle.ldterms.specs.declared.operator.UnaryOperator.TheVariants.{Not, Negate, Complement}
 use Rattle.ldterms.specs.declared.operator.BinaryOperator.{BinaryOperator}
-use Rattle.ldterms.specs.declared.operator.BinaryOperator.TheVariants.{Multiply, Divide, Remainder, Add, Subtract, ShiftLeft, ShiftRight, Less, LessOrEqual, Greater, GreaterOrEqual, Equal, NotEqual, BitAnd, BitOr, And, Or}
+use Rattle.ldterms.specs.declared.operator.BinaryOperator.TheVariants.{Multiply, Divide, Remainder, Add, Subtract}
+use Rattle.ldterms.specs.declared.operator.BinaryOperator.TheVariants.{ShiftLeft, ShiftRight, Less, LessOrEqual}
+use Rattle.ldterms.specs.declared.operator.BinaryOperator.TheVariants.{Greater, GreaterOrEqual, Equal, NotEqual, BitAnd}
+use Rattle.ldterms.specs.declared.operator.BinaryOperator.TheVariants.{BitOr, And, Or}
 
 -- before an operand: ! - ~
 abbrev pub unary_of : Mark → Option UnaryOperator

@@ -27,12 +27,14 @@ abbrev pub SpellsPart : Part → List ℕ → Type 0
 SpellsPart AnyRun bytes = bytes ≡ 42 ∷ []
 SpellsPart AnyByte bytes = bytes ≡ 63 ∷ []
 SpellsPart (Byte b) bytes = ((is_plain b ≡ true) × (bytes ≡ b ∷ [])) ⊎ ((is_graphic b ≡ true) × (bytes ≡ 92 ∷ b ∷ []))
-SpellsPart (OneOf ranges) bytes = (body : List ℕ) × IsSetBody body × (ranges ≡ ranges_of body) × (bytes ≡ 91 ∷ (body ++ 93 ∷ []))
+SpellsPart (OneOf ranges) bytes =
+    (body : List ℕ) × IsSetBody body × (ranges ≡ ranges_of body) × (bytes ≡ 91 ∷ (body ++ 93 ∷ []))
 
 -- part by part, and nothing else
 pub data Spells : List Part → List ℕ → Type 0 where
   nothing : Spells [] []
-  part : {p : Part} {ps : List Part} {word : List ℕ} (bytes rest : List ℕ) → SpellsPart p bytes → word ≡ bytes ++ rest → Spells ps rest → Spells (p ∷ ps) word
+  part : {p : Part} {ps : List Part} {word : List ℕ} (bytes rest : List ℕ) → SpellsPart p bytes → word ≡ bytes ++ rest
+      → Spells ps rest → Spells (p ∷ ps) word
 
 -- a word spells this pattern and no other
 pub record IsPatternOf (word : List ℕ) (ps : List Part) : Type 0 where

@@ -1,5 +1,5 @@
--- What comes of letting the parts at the front of a pattern take a byte of a name each, up to the first `*`, and how the
--- parts of a word follow one another.
+-- What comes of letting the parts at the front of a pattern take a byte of a name each, up to the first `*`, and how
+-- the parts of a word follow one another.
 use Rattle.std.specs.Prelude.{◌≡◌, ℕ, ◌≤◌, ◌<◌, List, [], ◌∷◌, drop, length}
 use Rattle.ldterms.specs.Parts.{Part, AnyRun}
 use Rattle.ldterms.specs.Spelling.{Spells}

@@ -2,7 +2,8 @@
 
 ghost use Rattle.std.specs.Prelude.{◌≡◌, ◌<◌, ℕ, suc, List, MatchOption};
 ghost use Rattle.ldtokens.specs.Tokens.{Lexeme};
-ghost use Rattle.ldterms.specs.Grammar.{Begins, BeginsUnary, BeginsBinary, BeginsNamed, Sign, Worded, Free, word_of, Reserved, NoReading, Primary};
+ghost use Rattle.ldterms.specs.Grammar.{Begins, BeginsUnary, BeginsBinary, BeginsNamed, Sign, Worded, Free, word_of};
+ghost use Rattle.ldterms.specs.Grammar.{Reserved, NoReading, Primary};
 ghost use Rattle.ldterms.specs.Heads.{IsWord, HasHead};
 
 use crate::expression::{RegionQuery, SectionQuery};
@@ -90,7 +91,8 @@ pub fn read_head<'a>(tokens: &Cursor<'a>) -> Option<(Head<'a>, Cursor<'a>)>
 
 /// The mark that comes next, and what follows it.
 pub fn sign<'a>(tokens: &Cursor<'a>) -> Option<(Mark, Cursor<'a>)>
-    ensures { MatchOption result ((m : Mark) (r : List Lexeme) → Begins tokens.now (Sign m) r → ⊥) (λ x. Begins tokens.now (Sign x.0) x.1) }
+    ensures { MatchOption result ((m : Mark) (r : List Lexeme) → Begins tokens.now (Sign m) r → ⊥)
+        (λ x. Begins tokens.now (Sign x.0) x.1) }
 {
     let Some((kind, _, _, rest)) = tokens.copy().next() else {
         return None;
@@ -103,7 +105,8 @@ pub fn sign<'a>(tokens: &Cursor<'a>) -> Option<(Mark, Cursor<'a>)>
 
 /// What follows this mark, if it comes next.
 pub fn after<'a>(tokens: &Cursor<'a>, wanted: Mark) -> Option<Cursor<'a>>
-    ensures { MatchOption result ((r : List Lexeme) → Begins tokens.now (Sign wanted) r → ⊥) (λ rest. Begins tokens.now (Sign wanted) rest) }
+    ensures { MatchOption result ((r : List Lexeme) → Begins tokens.now (Sign wanted) r → ⊥)
+        (λ rest. Begins tokens.now (Sign wanted) rest) }
 {
     let Some((mark, rest)) = sign(tokens) else {
         return None;
@@ -113,7 +116,8 @@ pub fn after<'a>(tokens: &Cursor<'a>, wanted: Mark) -> Option<Cursor<'a>>
 
 /// The operator before an operand that comes next, and what follows it.
 pub fn unary_ahead<'a>(tokens: &Cursor<'a>) -> Option<(UnaryOperator, Cursor<'a>)>
-    ensures { MatchOption result ((op : UnaryOperator) (r : List Lexeme) → BeginsUnary tokens.now op r → ⊥) (λ x. BeginsUnary tokens.now x.0 x.1) }
+    ensures { MatchOption result ((op : UnaryOperator) (r : List Lexeme) → BeginsUnary tokens.now op r → ⊥)
+        (λ x. BeginsUnary tokens.now x.0 x.1) }
 {
     let Some((mark, rest)) = sign(tokens) else {
         return None;
@@ -127,7 +131,8 @@ pub fn unary_ahead<'a>(tokens: &Cursor<'a>) -> Option<(UnaryOperator, Cursor<'a>
 /// The operator of the level above `below` that comes next, and what follows it.
 pub fn binary_ahead<'a>(below: u8, tokens: &Cursor<'a>) -> Option<(BinaryOperator, Cursor<'a>)>
     requires { below < 9 }
-    ensures { MatchOption result ((op : BinaryOperator) (r : List Lexeme) → BeginsBinary (suc below) tokens.now op r → ⊥) (λ x. BeginsBinary (suc below) tokens.now x.0 x.1) }
+    ensures { MatchOption result ((op : BinaryOperator) (r : List Lexeme) → BeginsBinary (suc below) tokens.now op r
+        → ⊥) (λ x. BeginsBinary (suc below) tokens.now x.0 x.1) }
 {
     let Some((mark, rest)) = sign(tokens) else {
         return None;
@@ -144,7 +149,8 @@ pub fn binary_ahead<'a>(below: u8, tokens: &Cursor<'a>) -> Option<(BinaryOperato
 
 /// The name that comes next, if it is no reserved word and not `.`, and what follows it.
 fn free_name<'a>(tokens: &Cursor<'a>) -> Option<(&'a [u8], Cursor<'a>)>
-    ensures { MatchOption result ((n : List ℕ) (r : List Lexeme) → Begins tokens.now (Worded (Free n)) r → ⊥) (λ x. Begins tokens.now (Worded (Free x.0.now)) x.1) }
+    ensures { MatchOption result ((n : List ℕ) (r : List Lexeme) → Begins tokens.now (Worded (Free n)) r → ⊥)
+        (λ x. Begins tokens.now (Worded (Free x.0.now)) x.1) }
 {
     let Some((head, rest)) = read_head(tokens) else {
         return None;
@@ -157,7 +163,8 @@ fn free_name<'a>(tokens: &Cursor<'a>) -> Option<(&'a [u8], Cursor<'a>)>
 
 /// The name in parentheses that comes next, and what follows it.
 pub fn name_in_parentheses<'a>(tokens: &Cursor<'a>) -> Option<(&'a [u8], Cursor<'a>)>
-    ensures { MatchOption result ((n : List ℕ) (r : List Lexeme) → BeginsNamed tokens.now n r → ⊥) (λ x. BeginsNamed tokens.now x.0.now x.1) }
+    ensures { MatchOption result ((n : List ℕ) (r : List Lexeme) → BeginsNamed tokens.now n r → ⊥)
+        (λ x. BeginsNamed tokens.now x.0.now x.1) }
 {
     let Some(inner) = after(tokens, Mark::OpenParenthesis) else {
         return None;

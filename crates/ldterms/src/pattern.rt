@@ -62,7 +62,8 @@ impl Pattern {
     ///
     /// Where memory runs out.
     pub fn read(alloc: Global, word: &[u8]) -> Result<Option<Pattern>, AllocError>
-        ensures { IfOk result (λ r. MatchOption r ((ps : List Part) → Spells ps word.now → ⊥) (λ p. IsPatternOf word.now p)) }
+        ensures { IfOk result (λ r. MatchOption r ((ps : List Part) → Spells ps word.now → ⊥)
+            (λ p. IsPatternOf word.now p)) }
     {
         if !is_spelled(word) {
             return Ok(None);

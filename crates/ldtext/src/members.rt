@@ -23,5 +23,6 @@ pub trait Members {
     /// The object of a key.
     fn object(&self, key: ObjectKey) -> Option<&Object>
         ensures { option_map (λ o. o.now) result
-            ≡ option_map (λ (o : NamedObject). o.object) (slice_get (project self.now).objects (number self.now key.0)) };
+            ≡ option_map (λ (o : NamedObject). o.object)
+            (slice_get (project self.now).objects (number self.now key.0)) };
 }

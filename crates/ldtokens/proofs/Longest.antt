@@ -20,7 +20,8 @@ or_self (Some x) = refl
 
 pub longest_by_bytes : (mode : Mode) (text : List ℕ) → 0 < length text
     → longest_mark mode text
-    ≡ option_or (row_in mode (spelled_row (slice_index text 0 ∷ slice_index text 1 ∷ []))) (row_in mode (spelled_row (slice_index text 0 ∷ [])))
+    ≡ option_or (row_in mode (spelled_row (slice_index text 0 ∷ slice_index text 1 ∷ [])))
+    (row_in mode (spelled_row (slice_index text 0 ∷ [])))
 unfolding longest_mark
 longest_by_bytes mode [] h = absurd (omega arith)
 longest_by_bytes mode (b ∷ []) h = simp (or_none, or_self, no_zero b)

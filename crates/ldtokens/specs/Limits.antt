@@ -1,5 +1,6 @@
 -- The limits on the tokens of a script, and the refusals of a text.
-use Rattle.std.specs.Prelude.{◌≡◌, ℕ, ◌<◌, ◌≤◌, ◌^◌, List, [], ◌∷◌, ◌++◌, length, map, All, count_by, Bool, true, false, ◌⊎◌}
+use Rattle.std.specs.Prelude.{◌≡◌, ℕ, ◌<◌, ◌≤◌, ◌^◌, List, [], ◌∷◌, ◌++◌, length, map, All, count_by, Bool, true, false}
+use Rattle.std.specs.Prelude.◌⊎◌
 use Rattle.std.specs.List.{list_any}
 use Rattle.ldtokens.specs.Tokens.{Token, Lexeme, Name, Number, Word, Punctuation}
 use Rattle.ldtokens.specs.Numbers.{number_value}
@@ -7,7 +8,10 @@ use Rattle.ldtokens.specs.Modes.{IsCut, at_start, mode_of, state_after}
 use Rattle.ldtokens.specs.declared.token.Mode.{Mode}
 use Rattle.ldtokens.specs.declared.token.Mode.TheVariants.{Expression, Pattern}
 use Rattle.ldtokens.specs.declared.token.Mark.{Mark}
-use Rattle.ldtokens.specs.declared.token.Mark.TheVariants.{OpenParenthesis, OpenBrace, CloseBrace, Semicolon, Not, Minus, Complement, Star, Slash, Percent, Plus, ShiftLeft, ShiftRight, Less, LessOrEqual, Greater, GreaterOrEqual, Equal, NotEqual, And, AndAnd, Or, OrOr, Question}
+use Rattle.ldtokens.specs.declared.token.Mark.TheVariants.{OpenParenthesis, OpenBrace, CloseBrace, Semicolon, Not}
+use Rattle.ldtokens.specs.declared.token.Mark.TheVariants.{Minus, Complement, Star, Slash, Percent, Plus, ShiftLeft}
+use Rattle.ldtokens.specs.declared.token.Mark.TheVariants.{ShiftRight, Less, LessOrEqual, Greater, GreaterOrEqual}
+use Rattle.ldtokens.specs.declared.token.Mark.TheVariants.{Equal, NotEqual, And, AndAnd, Or, OrOr, Question}
 use Rattle.ldtokens.specs.declared.token.Stretch.{Stretch}
 use Rattle.ldtokens.specs.declared.token.Stretch.TheVariants.{Awaited}
 use Rattle.ldtokens.specs.declared.token.LexState.{LexState}
@@ -82,7 +86,8 @@ is_sign _ = false
 -- each run without a break has at most 64 signs
 abbrev pub HasShortRuns : List ModedToken → Type 0
 HasShortRuns ms =
-    (before run after : List ModedToken) → ms ≡ before ++ (run ++ after) → list_any (λ m. is_break m.mode m.token) run ≡ false
+    (before run after : List ModedToken) → ms ≡ before ++ (run ++ after)
+    → list_any (λ m. is_break m.mode m.token) run ≡ false
     → count_by (λ m. is_sign m.token) run ≤ 64
 
 -- the limits on the tokens of a whole text

@@ -1,11 +1,16 @@
 -- The marks of the script language, and which of them stands at the front of a text: the longest.
-use Rattle.std.specs.Prelude.{ℕ, zero, suc, List, [], ◌∷◌, take, length, fold, max, Option, Some, None, Bool, true, false, cond, codes, bytes_eq}
+use Rattle.std.specs.Prelude.{ℕ, zero, suc, List, [], ◌∷◌, take, length, fold, max, Option, Some, None, Bool, true}
+use Rattle.std.specs.Prelude.{false, cond, codes, bytes_eq}
 use Rattle.std.specs.List.{find}
 use Rattle.std.specs.Option.{option_or}
 use Rattle.ldtokens.specs.declared.token.Mode.{Mode}
 use Rattle.ldtokens.specs.declared.token.Mode.TheVariants.{Expression, Pattern}
 use Rattle.ldtokens.specs.declared.token.Mark.{Mark}
-use Rattle.ldtokens.specs.declared.token.Mark.TheVariants.{OpenParenthesis, CloseParenthesis, OpenBrace, CloseBrace, Semicolon, Colon, Comma, Assign, AddAssign, Not, Minus, Complement, Star, Slash, Percent, Plus, ShiftLeft, ShiftRight, Less, LessOrEqual, Greater, GreaterOrEqual, Equal, NotEqual, And, AndAnd, Or, OrOr, Question}
+use Rattle.ldtokens.specs.declared.token.Mark.TheVariants.{OpenParenthesis, CloseParenthesis, OpenBrace, CloseBrace}
+use Rattle.ldtokens.specs.declared.token.Mark.TheVariants.{Semicolon, Colon, Comma, Assign, AddAssign, Not, Minus}
+use Rattle.ldtokens.specs.declared.token.Mark.TheVariants.{Complement, Star, Slash, Percent, Plus, ShiftLeft}
+use Rattle.ldtokens.specs.declared.token.Mark.TheVariants.{ShiftRight, Less, LessOrEqual, Greater, GreaterOrEqual}
+use Rattle.ldtokens.specs.declared.token.Mark.TheVariants.{Equal, NotEqual, And, AndAnd, Or, OrOr, Question}
 
 -- a mark with its spelling
 pub record MarkRow : Type 0 where
@@ -75,7 +80,8 @@ row_in mode (Some r) = cond (is_mark_in mode r.mark) (Some r) None
 -- the longest mark of a mode, of at most this number of bytes, that stands at the front of a text
 abbrev pub longest_within : ℕ → Mode → List ℕ → Option MarkRow
 longest_within zero mode text = None
-longest_within (suc n) mode text = option_or (row_in mode (spelled_row (take (suc n) text))) (longest_within n mode text)
+longest_within (suc n) mode text =
+    option_or (row_in mode (spelled_row (take (suc n) text))) (longest_within n mode text)
 
 -- the number of bytes of the longest mark of all
 abbrev pub longest_spelling : ℕ

@@ -1,10 +1,12 @@
 -- In which mode each token of a script is read, and the cut of a whole text.
-use Rattle.std.specs.Prelude.{◌≡◌, ℕ, ◌+◌, ◌-◌, ◌≤◌, List, [], ◌∷◌, take, drop, count_by, Bool, ◌==◌, if◌then◌else◌, codes, bytes_eq}
+use Rattle.std.specs.Prelude.{◌≡◌, ℕ, ◌+◌, ◌-◌, ◌≤◌, List, [], ◌∷◌, take, drop, count_by, Bool, ◌==◌, if◌then◌else◌}
+use Rattle.std.specs.Prelude.{codes, bytes_eq}
 use Rattle.std.specs.List.{list_any}
 use Rattle.ldtokens.specs.Tokens.{Token, Lexeme, lexeme, Word, Punctuation, End, Blank, Begins, front}
 use Rattle.ldtokens.specs.declared.token.Mode.{Mode}
 use Rattle.ldtokens.specs.declared.token.Mode.TheVariants.{Expression, Pattern}
-use Rattle.ldtokens.specs.declared.token.Mark.TheVariants.{OpenParenthesis, CloseParenthesis, OpenBrace, CloseBrace, Semicolon, Assign, AddAssign}
+use Rattle.ldtokens.specs.declared.token.Mark.TheVariants.{OpenParenthesis, CloseParenthesis, OpenBrace, CloseBrace}
+use Rattle.ldtokens.specs.declared.token.Mark.TheVariants.{Semicolon, Assign, AddAssign}
 use Rattle.ldtokens.specs.declared.token.Stretch.{Stretch}
 use Rattle.ldtokens.specs.declared.token.Stretch.TheVariants.{Closed, Awaited, ToSemicolon, ToParenthesis}
 use Rattle.ldtokens.specs.declared.token.LexState.{LexState}
@@ -85,7 +87,8 @@ line_at text at = 1 + line_feeds (take at text)
 -- these are the tokens of a text from an index on, with their lines
 pub data IsCutFrom (text : List ℕ) : ℕ → LexState → List Lexeme → Type 0 where
   ended : {at : ℕ} {p : LexState} → front (mode_of p) (drop at text) ≡ End → IsCutFrom text at p []
-  blank : {at n : ℕ} {p : LexState} {ls : List Lexeme} → front (mode_of p) (drop at text) ≡ Blank n → IsCutFrom text (at + n) p ls → IsCutFrom text at p ls
+  blank : {at n : ℕ} {p : LexState} {ls : List Lexeme} → front (mode_of p) (drop at text) ≡ Blank n
+      → IsCutFrom text (at + n) p ls → IsCutFrom text at p ls
   token : {at n : ℕ} {p : LexState} {t : Token} {ls : List Lexeme} → front (mode_of p) (drop at text) ≡ Begins t n
       → IsCutFrom text (at + n) (state_after p t) ls → IsCutFrom text at p (lexeme t (line_at text at) ∷ ls)
 

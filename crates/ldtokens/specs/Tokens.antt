@@ -1,9 +1,11 @@
 -- The tokens of a script, and how a text is cut into them: from left to right, each as long as possible.
 -- White space and comments part tokens. A comment begins only where a token could begin, goes before any token
 -- there, and runs from `/*` to the next `*/` behind it.
-use Rattle.std.specs.Prelude.{ℕ, ◌+◌, List, [], ◌∷◌, take, drop, length, slice_index, Option, Some, None, Bool, not, ◌&&◌, ◌||◌, ◌==◌, if◌then◌else◌, codes, bytes_eq, slice_range, ◌<◌, ◌≤◌}
+use Rattle.std.specs.Prelude.{ℕ, ◌+◌, List, [], ◌∷◌, take, drop, length, slice_index, Option, Some, None, Bool, not}
+use Rattle.std.specs.Prelude.{◌&&◌, ◌||◌, ◌==◌, if◌then◌else◌, codes, bytes_eq, slice_range, ◌<◌, ◌≤◌}
 use Rattle.std.specs.Option.{option_map}
-use Rattle.ldtokens.specs.Bytes.{is_space, is_name_start, is_name_byte, is_decimal_digit, is_octal_digit, is_hex_digit, is_word_byte, is_graphic, is_text_byte, run_length}
+use Rattle.ldtokens.specs.Bytes.{is_space, is_name_start, is_name_byte, is_decimal_digit, is_octal_digit, is_hex_digit}
+use Rattle.ldtokens.specs.Bytes.{is_word_byte, is_graphic, is_text_byte, run_length}
 use Rattle.ldtokens.specs.Marks.{MarkRow, longest_mark}
 use Rattle.ldtokens.specs.declared.token.Mode.{Mode}
 use Rattle.ldtokens.specs.declared.token.Mode.TheVariants.{Expression, Pattern}
@@ -105,7 +107,8 @@ name_front text = let n = name_length text in Begins (Name (take n text)) n
 
 -- NUMBER: 0x or 0X and hex digits; 0 and octal digits; 1-9 and decimal digits
 abbrev pub is_hex : List ℕ → Bool
-is_hex text = (slice_index text 0 == 48) && ((slice_index text 1 == 120) || (slice_index text 1 == 88)) && is_hex_digit (slice_index text 2)
+is_hex text = (slice_index text 0 == 48) && ((slice_index text 1 == 120) || (slice_index text 1 == 88))
+    && is_hex_digit (slice_index text 2)
 
 unfoldable pub digits_length : List ℕ → ℕ
 digits_length text =

@@ -5,9 +5,11 @@ use Rattle.std.specs.List.{list_any}
 -- never a NAME or WORD of the grammar
 abbrev pub reserved_words : List (List ℕ)
 reserved_words =
-    codes "ENTRY" ∷ codes "MEMORY" ∷ codes "SECTIONS" ∷ codes "PROVIDE" ∷ codes "PROVIDE_HIDDEN" ∷ codes "HIDDEN" ∷ codes "KEEP"
+    codes "ENTRY" ∷ codes "MEMORY" ∷ codes "SECTIONS" ∷ codes "PROVIDE" ∷ codes "PROVIDE_HIDDEN" ∷ codes
+    "HIDDEN" ∷ codes "KEEP"
     ∷ codes "ASSERT" ∷ codes "BYTE" ∷ codes "SHORT" ∷ codes "LONG" ∷ codes "QUAD" ∷ codes "SORT" ∷ codes "SORT_BY_NAME"
-    ∷ codes "SORT_BY_ALIGNMENT" ∷ codes "EXCLUDE_FILE" ∷ codes "ORIGIN" ∷ codes "LENGTH" ∷ codes "ADDR" ∷ codes "LOADADDR"
+    ∷ codes "SORT_BY_ALIGNMENT" ∷ codes "EXCLUDE_FILE" ∷ codes "ORIGIN" ∷ codes "LENGTH" ∷ codes
+    "ADDR" ∷ codes "LOADADDR"
     ∷ codes "SIZEOF" ∷ codes "ALIGN" ∷ codes "AT" ∷ codes "DEFINED" ∷ codes "MAX" ∷ codes "MIN" ∷ codes "CONSTANT"
     ∷ codes "NOLOAD" ∷ codes "SIZEOF_HEADERS" ∷ codes "FILL" ∷ codes "SQUAD" ∷ codes "INPUT_SECTION_FLAGS" ∷ []
 

@@ -1,7 +1,8 @@
 //! Kinds of bytes in a script, in ASCII.
 
 ghost use Rattle.std.specs.Prelude.{◌≡◌, ◌<◌, length, slice_index};
-ghost use Rattle.ldtokens.specs.Bytes.{is_letter, is_decimal_digit, is_octal_digit, is_hex_digit, is_space, is_name_start, is_name_byte, is_word_byte, is_graphic, is_text_byte};
+ghost use Rattle.ldtokens.specs.Bytes.{is_letter, is_decimal_digit, is_octal_digit, is_hex_digit, is_space};
+ghost use Rattle.ldtokens.specs.Bytes.{is_name_start, is_name_byte, is_word_byte, is_graphic, is_text_byte};
 
 /// Whether a byte is one of `A-Z a-z`.
 pub fn is_letter(b: u8) -> bool

@@ -1,7 +1,8 @@
 //! A walk over the tokens of a text.
 
 ghost use Rattle.std.specs.Prelude.{◌≡◌, ◌∷◌, ◌↔◌, [], ℕ, IsTrue, List, length, map, All, MatchOption};
-ghost use Rattle.ldtokens.specs.Tokens.{Lexeme, lexeme, first_line, Name, Number, Text, Word, Punctuation, spelled_token, lexeme_of};
+ghost use Rattle.ldtokens.specs.Tokens.{Lexeme, lexeme, first_line, Name, Number, Text, Word, Punctuation};
+ghost use Rattle.ldtokens.specs.Tokens.{spelled_token, lexeme_of};
 ghost use Rattle.ldtokens.specs.Modes.{IsPlace};
 
 use super::token::{CodeToken, Mark, TokenKind};
@@ -55,7 +56,8 @@ impl<'a> Cursor<'a> {
 
     /// The next token's kind, bytes and line, and what follows it.
     pub fn next(self) -> Option<(TokenKind, &'a [u8], u32, Cursor<'a>)>
-        ensures { MatchOption result (self.entry ≡ []) (λ x. self.entry ≡ lexeme (spelled_token x.0 x.1.now) x.2 ∷ x.3) }
+        ensures { MatchOption result (self.entry ≡ [])
+            (λ x. self.entry ≡ lexeme (spelled_token x.0 x.1.now) x.2 ∷ x.3) }
     {
         let (first, rest) = split(self.rest)?;
         Some((
@@ -95,7 +97,8 @@ impl<'a> Cursor<'a> {
 
     /// What follows a mark, if that comes next.
     pub fn mark(self, mark: Mark) -> Option<Cursor<'a>>
-        ensures { MatchOption result ((n : ℕ) (r : List Lexeme) → self.entry ≡ lexeme (Punctuation mark) n ∷ r → ⊥) (λ rest. (n : ℕ) × (self.entry ≡ lexeme (Punctuation mark) n ∷ rest)) }
+        ensures { MatchOption result ((n : ℕ) (r : List Lexeme) → self.entry ≡ lexeme (Punctuation mark) n ∷ r → ⊥)
+            (λ rest. (n : ℕ) × (self.entry ≡ lexeme (Punctuation mark) n ∷ rest)) }
     {
         let (kind, _, _, rest) = self.next()?;
         if kind == TokenKind::Punctuation(mark) {
@@ -107,7 +110,8 @@ impl<'a> Cursor<'a> {
 
     /// A number as it is spelled, and what follows it, if one comes next.
     pub fn number(self) -> Option<(&'a [u8], Cursor<'a>)>
-        ensures { MatchOption result ((s : List ℕ) (n : ℕ) (r : List Lexeme) → self.entry ≡ lexeme (Number s) n ∷ r → ⊥) (λ x. (n : ℕ) × (self.entry ≡ lexeme (Number x.0.now) n ∷ x.1)) }
+        ensures { MatchOption result ((s : List ℕ) (n : ℕ) (r : List Lexeme) → self.entry ≡ lexeme (Number s) n ∷ r → ⊥)
+            (λ x. (n : ℕ) × (self.entry ≡ lexeme (Number x.0.now) n ∷ x.1)) }
     {
         match self.next()? {
             (TokenKind::Number, number, _, rest) => Some((number, rest)),
@@ -117,7 +121,8 @@ impl<'a> Cursor<'a> {
 
     /// A name or `.`, and what follows it, if one comes next.
     pub fn name(self) -> Option<(&'a [u8], Cursor<'a>)>
-        ensures { MatchOption result ((s : List ℕ) (n : ℕ) (r : List Lexeme) → self.entry ≡ lexeme (Name s) n ∷ r → ⊥) (λ x. (n : ℕ) × (self.entry ≡ lexeme (Name x.0.now) n ∷ x.1)) }
+        ensures { MatchOption result ((s : List ℕ) (n : ℕ) (r : List Lexeme) → self.entry ≡ lexeme (Name s) n ∷ r → ⊥)
+            (λ x. (n : ℕ) × (self.entry ≡ lexeme (Name x.0.now) n ∷ x.1)) }
     {
         match self.next()? {
             (TokenKind::Name, name, _, rest) => Some((name, rest)),
@@ -127,7 +132,8 @@ impl<'a> Cursor<'a> {
 
     /// A word, and what follows it, if one comes next.
     pub fn word(self) -> Option<(&'a [u8], Cursor<'a>)>
-        ensures { MatchOption result ((s : List ℕ) (n : ℕ) (r : List Lexeme) → self.entry ≡ lexeme (Word s) n ∷ r → ⊥) (λ x. (n : ℕ) × (self.entry ≡ lexeme (Word x.0.now) n ∷ x.1)) }
+        ensures { MatchOption result ((s : List ℕ) (n : ℕ) (r : List Lexeme) → self.entry ≡ lexeme (Word s) n ∷ r → ⊥)
+            (λ x. (n : ℕ) × (self.entry ≡ lexeme (Word x.0.now) n ∷ x.1)) }
     {
         match self.next()? {
             (TokenKind::Word, word, _, rest) => Some((word, rest)),
@@ -137,7 +143,8 @@ impl<'a> Cursor<'a> {
 
     /// The bytes between double quotes, and what follows them, if a text in quotes comes next.
     pub fn text_in_quotes(self) -> Option<(&'a [u8], Cursor<'a>)>
-        ensures { MatchOption result ((s : List ℕ) (n : ℕ) (r : List Lexeme) → self.entry ≡ lexeme (Text s) n ∷ r → ⊥) (λ x. (n : ℕ) × (self.entry ≡ lexeme (Text x.0.now) n ∷ x.1)) }
+        ensures { MatchOption result ((s : List ℕ) (n : ℕ) (r : List Lexeme) → self.entry ≡ lexeme (Text s) n ∷ r → ⊥)
+            (λ x. (n : ℕ) × (self.entry ≡ lexeme (Text x.0.now) n ∷ x.1)) }
     {
         match self.next()? {
             (TokenKind::Text, text, _, rest) => Some((text, rest)),
@@ -147,7 +154,8 @@ impl<'a> Cursor<'a> {
 
     /// What follows this very name, if that comes next.
     pub fn this_name(self, wanted: &[u8]) -> Option<Cursor<'a>>
-        ensures { MatchOption result ((n : ℕ) (r : List Lexeme) → self.entry ≡ lexeme (Name wanted.now) n ∷ r → ⊥) (λ rest. (n : ℕ) × (self.entry ≡ lexeme (Name wanted.now) n ∷ rest)) }
+        ensures { MatchOption result ((n : ℕ) (r : List Lexeme) → self.entry ≡ lexeme (Name wanted.now) n ∷ r → ⊥)
+            (λ rest. (n : ℕ) × (self.entry ≡ lexeme (Name wanted.now) n ∷ rest)) }
     {
         let (name, rest) = self.name()?;
         if name == wanted { Some(rest) } else { None }
@@ -155,7 +163,8 @@ impl<'a> Cursor<'a> {
 
     /// What follows this very word, if that comes next.
     pub fn this_word(self, wanted: &[u8]) -> Option<Cursor<'a>>
-        ensures { MatchOption result ((n : ℕ) (r : List Lexeme) → self.entry ≡ lexeme (Word wanted.now) n ∷ r → ⊥) (λ rest. (n : ℕ) × (self.entry ≡ lexeme (Word wanted.now) n ∷ rest)) }
+        ensures { MatchOption result ((n : ℕ) (r : List Lexeme) → self.entry ≡ lexeme (Word wanted.now) n ∷ r → ⊥)
+            (λ rest. (n : ℕ) × (self.entry ≡ lexeme (Word wanted.now) n ∷ rest)) }
     {
         let (word, rest) = self.word()?;
         if word == wanted { Some(rest) } else { None }

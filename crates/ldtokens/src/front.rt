@@ -1,8 +1,11 @@
 //! What stands at the front of a text.
 
 ghost use Rattle.std.specs.Prelude.{◌≡◌, ◌<◌, ◌≤◌, ◌+◌, true, length, drop, slice_index, IfSome, ◌==◌};
-ghost use Rattle.ldtokens.specs.Bytes.{is_name_start, is_name_byte, is_octal_digit, is_decimal_digit, is_hex_digit, is_text_byte, run_length};
-ghost use Rattle.ldtokens.specs.Tokens.{front_of, IsAdvance, is_hex, digits_length, number_length, name_length, name_front, number_front, text_front, star_slash, comment_front, mark_front, expression_front, word_length, word_front, pattern_front, front};
+ghost use Rattle.ldtokens.specs.Bytes.{is_name_start, is_name_byte, is_octal_digit, is_decimal_digit, is_hex_digit};
+ghost use Rattle.ldtokens.specs.Bytes.{is_text_byte, run_length};
+ghost use Rattle.ldtokens.specs.Tokens.{front_of, IsAdvance, is_hex, digits_length, number_length, name_length};
+ghost use Rattle.ldtokens.specs.Tokens.{name_front, number_front, text_front, star_slash, comment_front, mark_front};
+ghost use Rattle.ldtokens.specs.Tokens.{expression_front, word_length, word_front, pattern_front, front};
 
 use super::bytes::{
     byte_at, is_decimal_digit, is_graphic, is_hex_digit, is_name_byte, is_name_start,

@@ -19,7 +19,12 @@ impl Piece {
     fn behind(self, before: usize, line: u32) -> CodeToken
         requires room { before + self.end ≤ 2 ^ 20 }
         requires order { self.start ≤ self.end }
-        ensures { result ≡ record { kind = self.kind; start = before + self.start; end = before + self.end; line = line } }
+        ensures { result ≡ record {
+          kind = self.kind;
+          start = before + self.start;
+          end = before + self.end;
+          line = line;
+        } }
     {
         CodeToken {
             kind: self.kind,

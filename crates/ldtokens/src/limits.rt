@@ -3,7 +3,8 @@
 ghost use Rattle.std.specs.Prelude.{◌≡◌, ◌+◌, ◌≤◌, ◌^◌, ◌↔◌, IsTrue, length, map, All, count_by, cond, if◌then◌else◌};
 ghost use Rattle.ldtokens.specs.Tokens.{spelled_token, token_of};
 ghost use Rattle.ldtokens.specs.Modes.{IsPlace, at_start};
-ghost use Rattle.ldtokens.specs.Limits.{HasShortSpelling, is_open_brace, counted_mode, moded, is_break, is_sign, is_sign_mark, HasShortRuns, IsWithinLimits};
+ghost use Rattle.ldtokens.specs.Limits.{HasShortSpelling, is_open_brace, counted_mode, moded, is_break, is_sign};
+ghost use Rattle.ldtokens.specs.Limits.{is_sign_mark, HasShortRuns, IsWithinLimits};
 
 use super::number::number_value;
 use super::token::{CodeToken, LexState, Mark, Mode, Stretch, TokenKind};
@@ -97,7 +98,8 @@ fn is_sign_mark(mark: Mark) -> bool
 /// How many signs the run has after a token, if it had `signs` before.
 fn signs_after(signs: usize, mode: Mode, kind: TokenKind, spelled: &[u8]) -> usize
     requires { signs ≤ 64 }
-    ensures { result ≡ (let t = spelled_token kind spelled.now in if is_break mode t then 0 else signs + cond (is_sign t) 1 0) }
+    ensures { result ≡ (let t = spelled_token kind spelled.now in
+        if is_break mode t then 0 else signs + cond (is_sign t) 1 0) }
 {
     if is_break(mode, kind, spelled) {
         return 0;

@@ -2,7 +2,8 @@
 
 ghost use Rattle.std.specs.Prelude.{◌≡◌, ◌<◌, ◌≤◌, ◌^◌, ℕ};
 ghost use Rattle.ldtokens.specs.Tokens.{spelled_token};
-ghost use Rattle.ldtokens.specs.Modes.{mode_of, is_stretch_word, depth_after, opened, closed, state_after, at_start, IsShallow, IsShortStretch};
+ghost use Rattle.ldtokens.specs.Modes.{mode_of, is_stretch_word, depth_after, opened, closed, state_after, at_start};
+ghost use Rattle.ldtokens.specs.Modes.{IsShallow, IsShortStretch};
 
 use super::token::{LexState, Mark, Mode, Stretch, TokenKind};
 use super::words::is_one_of;

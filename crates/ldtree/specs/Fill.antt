@@ -1,12 +1,14 @@
 -- The fill of an output section (GNU ld manual, "Output Section Fill"): `0x`, an even number of 2 to 16 hex digits, and
 -- no suffix. Leading zeros count.
-use Rattle.std.specs.Prelude.{ℕ, ◌+◌, ◌*◌, ◌/◌, zero, suc, List, [], ◌∷◌, ◌++◌, length, drop, slice_index, Option, Some, None, Bool, ◌&&◌, ◌||◌, ◌==◌, if◌then◌else◌}
+use Rattle.std.specs.Prelude.{ℕ, ◌+◌, ◌*◌, ◌/◌, zero, suc, List, [], ◌∷◌, ◌++◌, length, drop, slice_index, Option, Some}
+use Rattle.std.specs.Prelude.{None, Bool, ◌&&◌, ◌||◌, ◌==◌, if◌then◌else◌}
 use Rattle.ldtokens.specs.Bytes.{is_hex_digit}
 use Rattle.ldtokens.specs.Numbers.{digit_value}
 
 -- the byte that two hex digits spell
 abbrev pub hex_pair : ℕ → ℕ → Option ℕ
-hex_pair high low = if is_hex_digit high && is_hex_digit low then Some (16 * digit_value high + digit_value low) else None
+hex_pair high low = if is_hex_digit high
+    && is_hex_digit low then Some (16 * digit_value high + digit_value low) else None
 
 abbrev pub with_byte : List ℕ → Option ℕ → Option (List ℕ)
 with_byte bytes None = None
@@ -19,7 +21,8 @@ with_pair (Some bytes) pair = with_byte bytes pair
 -- the bytes that the first pairs of digits spell, from left to right
 abbrev pub hex_bytes : List ℕ → ℕ → Option (List ℕ)
 hex_bytes digits zero = Some []
-hex_bytes digits (suc n) = with_pair (hex_bytes digits n) (hex_pair (slice_index digits (2 * n)) (slice_index digits (2 * n + 1)))
+hex_bytes digits (suc n) = with_pair (hex_bytes digits n)
+    (hex_pair (slice_index digits (2 * n)) (slice_index digits (2 * n + 1)))
 
 abbrev pub is_even_to_16 : ℕ → Bool
 is_even_to_16 n = (n == 2) || (n == 4) || (n == 6) || (n == 8) || (n == 10) || (n == 12) || (n == 14) || (n == 16)

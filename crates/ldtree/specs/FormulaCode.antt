@@ -5,7 +5,8 @@ use Rattle.ldterms.specs.declared.operator.UnaryOperator.{UnaryOperator}
 use Rattle.ldterms.specs.declared.operator.BinaryOperator.{BinaryOperator}
 use Rattle.ldterms.specs.declared.expression.RegionQuery.{RegionQuery}
 use Rattle.ldterms.specs.declared.expression.SectionQuery.{SectionQuery}
-use Rattle.ldterms.specs.Expressions.{Expr, Number, Dot, Name, Unary, Binary, Choice, OfRegion, OfSection, AlignDot, Align}
+use Rattle.ldterms.specs.Expressions.{Expr, Number, Dot, Name, Unary, Binary, Choice, OfRegion, OfSection, AlignDot}
+use Rattle.ldterms.specs.Expressions.Align
 
 pub data Instruction : Type 0 where
   PushNumber : (value : ℕ) → Instruction
@@ -61,14 +62,16 @@ from_instructions is = last_made (run is [])
 one_operand : (a e : Expr) (i : Instruction) (is : List Instruction) (s : List Expr) → step i (a ∷ s) ≡ e ∷ s
     → ((js : List Instruction) (r : List Expr) → run (operands_first a ++ js) r ≡ run js (a ∷ r))
     → run ((operands_first a ++ i ∷ []) ++ is) s ≡ run is (e ∷ s)
-one_operand a e i is s h ra = ap (λ l. run l s) (append_assoc (operands_first a) (i ∷ []) is) ∙ ra (i ∷ is) s ∙ ap (run is) h
+one_operand a e i is s h ra = ap (λ l. run l s) (append_assoc (operands_first a) (i ∷ []) is) ∙ ra (i ∷ is) s
+    ∙ ap (run is) h
 
 two_operands : (a b e : Expr) (i : Instruction) (is : List Instruction) (s : List Expr) → step i (b ∷ a ∷ s) ≡ e ∷ s
     → ((js : List Instruction) (r : List Expr) → run (operands_first a ++ js) r ≡ run js (a ∷ r))
     → ((js : List Instruction) (r : List Expr) → run (operands_first b ++ js) r ≡ run js (b ∷ r))
     → run ((operands_first a ++ (operands_first b ++ i ∷ [])) ++ is) s ≡ run is (e ∷ s)
 two_operands a b e i is s h ra rb =
-    ap (λ l. run l s) (append_assoc (operands_first a) (operands_first b ++ i ∷ []) is) ∙ ra ((operands_first b ++ i ∷ []) ++ is) s
+    ap (λ l. run l s) (append_assoc (operands_first a) (operands_first b ++ i ∷ []) is)
+    ∙ ra ((operands_first b ++ i ∷ []) ++ is) s
     ∙ ap (λ l. run l (a ∷ s)) (append_assoc (operands_first b) (i ∷ []) is) ∙ rb (i ∷ is) (a ∷ s) ∙ ap (run is) h
 
 runs_first : (e : Expr) (is : List Instruction) (s : List Expr) → run (operands_first e ++ is) s ≡ run is (e ∷ s)

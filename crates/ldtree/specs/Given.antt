@@ -1,6 +1,7 @@
 -- Which command gives a name, which output section or memory region has it, and the symbols that an expression names.
 use Rattle.std.specs.Prelude.{ℕ, suc, List, [], ◌∷◌, ◌++◌, Option, Some, None, bytes_eq, if◌then◌else◌}
-use Rattle.ldterms.specs.Expressions.{Expr, Number, Dot, Name, Unary, Binary, Choice, OfRegion, OfSection, AlignDot, Align}
+use Rattle.ldterms.specs.Expressions.{Expr, Number, Dot, Name, Unary, Binary, Choice, OfRegion, OfSection, AlignDot}
+use Rattle.ldterms.specs.Expressions.Align
 use Rattle.ldtree.specs.declared.common.Common.{Common}
 use Rattle.ldtree.specs.declared.common.Common.TheVariants as commons
 use Rattle.ldtree.specs.declared.given.Given.{Given}
@@ -40,7 +41,8 @@ given_by s name = given_as (assigned_from 0 (common_commands s) name) (provided_
 
 abbrev pub section_from : ℕ → List OutputSectionAt → List ℕ → Option ℕ
 section_from number [] name = None
-section_from number (s ∷ ss) name = if bytes_eq name s.section.name then Some number else section_from (suc number) ss name
+section_from number (s ∷ ss) name =
+    if bytes_eq name s.section.name then Some number else section_from (suc number) ss name
 
 -- the number of the output section of a name
 abbrev pub section_number : List Statement → List ℕ → Option ℕ

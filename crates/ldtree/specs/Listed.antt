@@ -3,7 +3,8 @@ use Rattle.std.specs.Prelude.{◌≡◌, ⊤, Bool, List, [], ◌∷◌, ◌++�
 use Rattle.std.specs.List.{Contains}
 use Rattle.ldtree.specs.declared.mention.Mention as code
 use Rattle.ldtree.specs.declared.mention.Mention.TheVariants as variant
-use Rattle.ldtree.specs.Mentions.{Mention, EntryGiven, MemoryGiven, SectionsGiven, SectionNamed, SymbolGiven, RegionDeclared, RegionUsed, Clashes}
+use Rattle.ldtree.specs.Mentions.{Mention, EntryGiven, MemoryGiven, SectionsGiven, SectionNamed, SymbolGiven}
+use Rattle.ldtree.specs.Mentions.{RegionDeclared, RegionUsed, Clashes}
 
 abbrev pub mention_of : code.Mention → Mention
 mention_of variant.EntryGiven = EntryGiven
@@ -44,6 +45,8 @@ pub record Holds (keys : List code.Mention) (before : List Mention) : Type 0 whe
   pub complete : (m : Mention) → IsOnce m → Contains before m → Contains (shown keys) m
   pub sound : (m : Mention) → Contains (shown keys) m → Contains before m
 
--- the answer says whether this one may not stand behind those that the keys hold; if it may, the new keys hold it as well
+-- the answer says whether this one may not stand behind those that the keys hold; if it may, the new keys hold it as
+-- well
 abbrev pub Meets : List code.Mention → List code.Mention → Mention → Bool → Type 0
-Meets old new m clashes = (before : List Mention) → Holds old before → MatchBool clashes (Clashes before m) ((Clashes before m → ⊥) × Holds new (before ++ m ∷ []))
+Meets old new m clashes = (before : List Mention) → Holds old before
+    → MatchBool clashes (Clashes before m) ((Clashes before m → ⊥) × Holds new (before ++ m ∷ []))

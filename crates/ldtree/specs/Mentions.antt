@@ -1,7 +1,8 @@
 -- What a script does with names, in the order of the text, and what it may not give twice or name too early.
 use Rattle.std.specs.Prelude.{◌≡◌, ℕ, List, [], ◌∷◌, ◌++◌, Option, Some, None}
 use Rattle.std.specs.List.{Contains}
-use Rattle.ldterms.specs.Expressions.{Expr, Number, Dot, Name, Unary, Binary, Choice, OfRegion, OfSection, AlignDot, Align}
+use Rattle.ldterms.specs.Expressions.{Expr, Number, Dot, Name, Unary, Binary, Choice, OfRegion, OfSection, AlignDot}
+use Rattle.ldterms.specs.Expressions.Align
 use Rattle.ldtree.specs.declared.section.BodyCommand.{BodyCommand}
 use Rattle.ldtree.specs.declared.section.BodyCommand.TheVariants as body
 use Rattle.ldtree.specs.declared.section.BodyStatement.{BodyStatement}
@@ -94,7 +95,9 @@ in_load_tail (At e) = []
 in_load_tail (InRegion r) = RegionUsed r ∷ []
 
 abbrev pub in_section : OutputSection → List Mention
-in_section s = SectionNamed s.name ∷ (in_optional s.address ++ in_load_head s.load ++ in_optional s.alignment ++ in_body s.body ++ in_region_name s.region ++ in_load_tail s.load)
+in_section s =
+    SectionNamed s.name ∷ (in_optional s.address ++ in_load_head s.load ++ in_optional s.alignment ++ in_body
+    s.body ++ in_region_name s.region ++ in_load_tail s.load)
 
 abbrev pub in_item_command : ItemCommand → List Mention
 in_item_command (item.Dot c) = in_dot_command c

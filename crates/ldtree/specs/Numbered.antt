@@ -15,7 +15,8 @@ abbrev pub shown_sections : List code_section.OutputSectionAt → List OutputSec
 shown_sections list = map (λ (s : code_section.OutputSectionAt). record { line = s.line; section = s.section.now }) list
 
 abbrev pub shown_inputs : List code_input.InputStatementAt → List InputStatementAt
-shown_inputs list = map (λ (s : code_input.InputStatementAt). record { line = s.line; place = s.place; input = s.input.now }) list
+shown_inputs list =
+    map (λ (s : code_input.InputStatementAt). record { line = s.line; place = s.place; input = s.input.now }) list
 
 abbrev pub shown_commons : List code_common.CommonAt → List CommonAt
 shown_commons list = map (λ (c : code_common.CommonAt). record { line = c.line; command = c.command.now }) list
@@ -26,10 +27,12 @@ shown_regions list = map (λ (r : Bor Region). r.now) list
 abbrev pub AddsItems : List (Bor Item) → List (Bor Item) → List Item → Type 0
 AddsItems old new these = shown_items new ≡ shown_items old ++ these
 
-abbrev pub AddsSections : List code_section.OutputSectionAt → List code_section.OutputSectionAt → List OutputSectionAt → Type 0
+abbrev pub AddsSections : List code_section.OutputSectionAt → List code_section.OutputSectionAt
+    → List OutputSectionAt → Type 0
 AddsSections old new these = shown_sections new ≡ shown_sections old ++ these
 
-abbrev pub AddsInputs : List code_input.InputStatementAt → List code_input.InputStatementAt → List InputStatementAt → Type 0
+abbrev pub AddsInputs : List code_input.InputStatementAt → List code_input.InputStatementAt
+    → List InputStatementAt → Type 0
 AddsInputs old new these = shown_inputs new ≡ shown_inputs old ++ these
 
 abbrev pub AddsCommons : List code_common.CommonAt → List code_common.CommonAt → List CommonAt → Type 0

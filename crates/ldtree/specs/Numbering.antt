@@ -64,7 +64,8 @@ inputs_in place [] = []
 inputs_in place (s ∷ ss) = inputs_of place s.line s.command ++ inputs_in place ss
 
 abbrev pub discarded_inputs : List InputStatement → List InputStatementAt
-discarded_inputs inputs = map (λ (s : InputStatement). record { line = s.line; place = InDiscard; input = s.input }) inputs
+discarded_inputs inputs =
+    map (λ (s : InputStatement). record { line = s.line; place = InDiscard; input = s.input }) inputs
 
 -- those of a statement of SECTIONS, where number is that of the next output section
 abbrev pub item_inputs : ℕ → ItemCommand → List InputStatementAt
@@ -74,7 +75,8 @@ item_inputs number _ = []
 
 abbrev pub inputs_from : ℕ → List Item → List InputStatementAt
 inputs_from number [] = []
-inputs_from number (i ∷ is) = item_inputs number i.command ++ inputs_from (number + length (sections_of i.line i.command)) is
+inputs_from number (i ∷ is) = item_inputs number i.command ++ inputs_from
+    (number + length (sections_of i.line i.command)) is
 
 -- the input statements
 abbrev pub input_statements : List Statement → List InputStatementAt

@@ -7,7 +7,8 @@ use Rattle.ldtree.specs.declared.number_table.NumberTable.{NumberTable}
 use Rattle.ldtree.specs.declared.tables.Tables.{Tables}
 use Rattle.ldtree.specs.declared.statement.Region.{Region}
 use Rattle.ldtree.specs.declared.statement.Statement.{Statement}
-use Rattle.ldtree.specs.Given.{assigned_here, assigned_from, provided_here, provided_from, given_as, given_by, section_from, section_number, region_from, region_number}
+use Rattle.ldtree.specs.Given.{assigned_here, assigned_from, provided_here, provided_from, given_as, given_by}
+use Rattle.ldtree.specs.Given.{section_from, section_number, region_from, region_number}
 use Rattle.ldtree.specs.Numbering.{OutputSectionAt, CommonAt}
 use Rattle.ldtree.specs.NumberTables.{number_at}
 

@@ -2,7 +2,9 @@
 
 ghost use Rattle.std.specs.Prelude.{◌≡◌};
 ghost use Rattle.std.specs.List.{list_any};
-ghost use Rattle.ldtree.specs.Dots.{assert_misplaces, body_command_misplaces, body_misplaces, common_uses_dot, dot_misplaces, has_misplaced_dot, item_command_misplaces, item_misplaces, region_misplaces, top_command_misplaces, top_misplaces, uses_dot};
+ghost use Rattle.ldtree.specs.Dots.{assert_misplaces, body_command_misplaces, body_misplaces, common_uses_dot};
+ghost use Rattle.ldtree.specs.Dots.{dot_misplaces, has_misplaced_dot, item_command_misplaces, item_misplaces};
+ghost use Rattle.ldtree.specs.Dots.{region_misplaces, top_command_misplaces, top_misplaces, uses_dot};
 
 use crate::common::{Common, DotCommand};
 use crate::formula::Formula;

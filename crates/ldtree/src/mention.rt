@@ -2,7 +2,9 @@
 
 ghost use Rattle.std.specs.Prelude.{[], ◌∷◌, OnOk};
 ghost use Rattle.ldterms.specs.Expressions.{expr_of};
-ghost use Rattle.ldtree.specs.Mentions.{in_assignment, in_body, in_body_command, in_common, in_dot_command, in_expression, in_item_command, in_items, in_load_head, in_load_tail, in_optional, in_region_name, in_regions, in_section, in_top_command, mentions};
+ghost use Rattle.ldtree.specs.Mentions.{in_assignment, in_body, in_body_command, in_common, in_dot_command};
+ghost use Rattle.ldtree.specs.Mentions.{in_expression, in_item_command, in_items, in_load_head, in_load_tail};
+ghost use Rattle.ldtree.specs.Mentions.{in_optional, in_region_name, in_regions, in_section, in_top_command, mentions};
 ghost use Rattle.ldtree.specs.Listed.{Adds, mention_of};
 
 use crate::common::{Assignment, Common, DotCommand};

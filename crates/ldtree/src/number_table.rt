@@ -29,7 +29,8 @@ impl NumberTable {
         name: &[u8],
         number: usize,
     ) -> Result<(), AllocError>
-        ensures { OnOk result ((q : List ℕ) → number_at self.new q ≡ (if bytes_eq q name.now then Some number else number_at self.old q)) }
+        ensures { OnOk result ((q : List ℕ)
+            → number_at self.new q ≡ (if bytes_eq q name.now then Some number else number_at self.old q)) }
     {
         let key = Vec::from_slice(alloc, name)?;
         self.numbers.insert(key, number)?;

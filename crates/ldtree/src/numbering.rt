@@ -2,8 +2,12 @@
 
 ghost use Rattle.std.specs.Prelude.{◌≡◌, ◌≤◌, [], ◌∷◌, OnOk, IfOk, length};
 ghost use Rattle.std.specs.Option.{option_copied};
-ghost use Rattle.ldtree.specs.Numbering.{items, items_of, sections_of, sections_in, output_sections, inputs_of, inputs_in, discarded_inputs, item_inputs, inputs_from, input_statements, commons_of, commons_in, item_commons, items_commons, top_commons, common_commands, regions, regions_in, entry_of};
-ghost use Rattle.ldtree.specs.Numbered.{AddsItems, AddsSections, AddsInputs, AddsCommons, AddsRegions, shown_items, shown_sections, shown_inputs, shown_commons, shown_regions};
+ghost use Rattle.ldtree.specs.Numbering.{items, items_of, sections_of, sections_in, output_sections, inputs_of};
+ghost use Rattle.ldtree.specs.Numbering.{inputs_in, discarded_inputs, item_inputs, inputs_from, input_statements};
+ghost use Rattle.ldtree.specs.Numbering.{commons_of, commons_in, item_commons, items_commons, top_commons};
+ghost use Rattle.ldtree.specs.Numbering.{common_commands, regions, regions_in, entry_of};
+ghost use Rattle.ldtree.specs.Numbered.{AddsItems, AddsSections, AddsInputs, AddsCommons, AddsRegions, shown_items};
+ghost use Rattle.ldtree.specs.Numbered.{shown_sections, shown_inputs, shown_commons, shown_regions};
 
 use crate::common::Common;
 use crate::input::{Input, InputStatement};
@@ -113,7 +117,8 @@ fn add_input<'a>(
     place: InputPlace,
     statement: &'a BodyStatement,
 ) -> Result<(), AllocError>
-    ensures { OnOk result (AddsInputs list.old.items list.new.items (inputs_of place statement.now.line statement.now.command)) }
+    ensures { OnOk result (AddsInputs list.old.items list.new.items
+        (inputs_of place statement.now.line statement.now.command)) }
 {
     match &statement.command {
         BodyCommand::Input(input) => {
@@ -215,7 +220,8 @@ fn add_common<'a>(
     line: u32,
     command: &'a Common,
 ) -> Result<(), AllocError>
-    ensures { OnOk result (AddsCommons list.old.items list.new.items (record { line = line; command = command.now } ∷ [])) }
+    ensures { OnOk result (AddsCommons list.old.items list.new.items
+        (record { line = line; command = command.now } ∷ [])) }
 {
     list.push(CommonAt { line, command })?;
     Ok(())
@@ -225,7 +231,8 @@ fn add_body_common<'a>(
     list: &mut Vec<CommonAt<'a>>,
     statement: &'a BodyStatement,
 ) -> Result<(), AllocError>
-    ensures { OnOk result (AddsCommons list.old.items list.new.items (commons_of statement.now.line statement.now.command)) }
+    ensures { OnOk result (AddsCommons list.old.items list.new.items
+        (commons_of statement.now.line statement.now.command)) }
 {
     match &statement.command {
         BodyCommand::Common(command) => add_common(list, statement.line, command),
@@ -268,7 +275,8 @@ fn add_top_commons<'a>(
     list: &mut Vec<CommonAt<'a>>,
     statement: &'a Statement,
 ) -> Result<(), AllocError>
-    ensures { OnOk result (AddsCommons list.old.items list.new.items (top_commons statement.now.line statement.now.command)) }
+    ensures { OnOk result (AddsCommons list.old.items list.new.items
+        (top_commons statement.now.line statement.now.command)) }
 {
     match &statement.command {
         Command::Common(command) => add_common(list, statement.line, command),

@@ -2,7 +2,8 @@
 
 ghost use Rattle.std.specs.Prelude.{◌≡◌, [], IfOk, OnOk};
 ghost use Rattle.ldtree.specs.Numbered.{shown_commons, shown_sections, shown_regions};
-ghost use Rattle.ldtree.specs.Tables.{HasAssigned, HasProvided, HasSections, HasRegions, AssignsOver, ProvidesOver, IsTablesOf, given_in, section_in, region_in};
+ghost use Rattle.ldtree.specs.Tables.{HasAssigned, HasProvided, HasSections, HasRegions, AssignsOver, ProvidesOver};
+ghost use Rattle.ldtree.specs.Tables.{IsTablesOf, given_in, section_in, region_in};
 
 use crate::common::Common;
 use crate::given::Given;

@@ -1,6 +1,7 @@
 -- The first of each run of alike names in a sorted list.
 use Rattle.std.proofs.Common.{◌≡◌, ◌≢◌, ◌∙◌, ℕ, zero, suc, ◌+◌, ◌-◌, ◌<◌, ◌≤◌, ◌⊎◌, List, [], ◌∷◌, ◌++◌, length}
-use Rattle.std.proofs.Common.{get_or, ap, sym, subst, refl, arith, Bool, true, false, cond, inl, inr, ⊎_elim, append-nil}
+use Rattle.std.proofs.Common.{get_or, ap, sym, subst, refl, arith, Bool, true, false, cond, inl, inr, ⊎_elim}
+use Rattle.std.proofs.Common.append-nil
 use Rattle.std.specs.Prelude.{bytes_eq, nat_lt, ◌&&◌}
 use Rattle.std.specs.Cmp.{IsStrictWeakOrder}
 use Rattle.std.specs.Cmp.Lexicographic.{nat_list_cmp_total}
@@ -94,7 +95,8 @@ module _ (names : List Name) (up : IsSortedBy is_before names) where
       (cases_lt k n))
     where
       here : (b : Bool) → is_repeat names n ≡ b → ((j : ℕ) → j < n → In (get_or names j []) (distinct_first names n))
-          → In (get_or names n []) (distinct_first names n) ⊎ In (get_or names n []) (cond b [] (get_or names n [] ∷ []))
+          → In (get_or names n []) (distinct_first names n)
+          ⊎ In (get_or names n []) (cond b [] (get_or names n [] ∷ []))
       here false e earlier = inr (inl refl)
       here true e earlier =
           let both = both_true (nat_lt 0 n) (bytes_eq (get_or names (n - 1) []) (get_or names n [])) e in

@@ -100,7 +100,8 @@ earlier_is_other : (a b : Name) → less a b ≡ true → bytes_eq a b ≡ false
 earlier_is_other a b h = sym (is_eq-slice_cmp a b) ∙ less_is_unequal (order a b) (sym (less_is a b) ∙ h)
 
 -- the first of a name stands where those before the name end
-pub found : (name : Name) (xs : List OutputSymbol) (i : ℕ) (x : OutputSymbol) → Parts name xs i → i < length xs → x ≡ get_or xs i x
+pub found : (name : Name) (xs : List OutputSymbol) (i : ℕ) (x : OutputSymbol) → Parts name xs i → i < length xs
+    → x ≡ get_or xs i x
     → is_named name x ≡ true → found_symbol xs name ≡ Some x
 found name xs i x parts inside at same =
     let here : is_named name (get_or xs i x) ≡ true = ap (is_named name) (sym at) ∙ same in
@@ -132,7 +133,8 @@ none_of name xs d h =
     find_at (is_named name) xs ∙ ap (slice_get xs) is ∙ slice_get_past xs (length xs) (omega arith)
 
 -- there is none where another stands there
-pub missed : (name : Name) (xs : List OutputSymbol) (i : ℕ) (x : OutputSymbol) → AreInOrder xs → Parts name xs i → i < length xs
+pub missed : (name : Name) (xs : List OutputSymbol) (i : ℕ) (x : OutputSymbol) → AreInOrder xs → Parts name xs i
+    → i < length xs
     → x ≡ get_or xs i x → is_named name x ≡ false → found_symbol xs name ≡ None
 missed name xs i x sorted parts inside at other =
     none_of name xs x (λ j h. each j h (cases_lt j i))
@@ -153,7 +155,8 @@ missed name xs i x sorted parts inside at other =
         (sorted_far is_before (ranks_by nat_list_cmp_total name_of) xs sorted i j x l h) greater
 
 -- nor where none does
-pub missed_at_end : (name : Name) (xs : List OutputSymbol) (i : ℕ) → Parts name xs i → length xs ≤ i → found_symbol xs name ≡ None
+pub missed_at_end : (name : Name) (xs : List OutputSymbol) (i : ℕ) → Parts name xs i → length xs ≤ i
+    → found_symbol xs name ≡ None
 missed_at_end name [] i parts past = refl
 missed_at_end name (x ∷ xs) i parts past =
     none_of name (x ∷ xs) x

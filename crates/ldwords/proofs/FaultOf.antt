@@ -1,5 +1,6 @@
 -- The faults that `words` gives, as its clause says them.
-use Rattle.std.proofs.Common.{◌≡◌, ◌≢◌, List, [], ◌∷◌, Result, Ok, Err, IsErrAnd, MatchResult, true, sym, subst, inl, inr, codes}
+use Rattle.std.proofs.Common.{◌≡◌, ◌≢◌, List, [], ◌∷◌, Result, Ok, Err, IsErrAnd, MatchResult, true, sym, subst, inl}
+use Rattle.std.proofs.Common.{inr, codes}
 use Rattle.std.specs.Borrow.{Bor}
 use Rattle.clap.specs.Words.{App, Text, kind_of, takes}
 use Rattle.clap.specs.Faults.{fault_of}
@@ -12,17 +13,21 @@ use Rattle.ldwords.specs.declared.fault.WordsFault.TheVariants.{Memory, Refused}
 use Rattle.ldwords.specs.Fault.{IsFaultAt, IsFaultOf}
 use Rattle.ldwords.specs.Command.{Choices}
 
-pub memory_fault : (a : App) (words : List Text) (P : Call → Type 0) (r : Result Call WordsFault) → IsErrAnd r (λ f. f ≡ Memory) → MatchResult r P (IsFaultAt a words)
+pub memory_fault : (a : App) (words : List Text) (P : Call → Type 0) (r : Result Call WordsFault)
+    → IsErrAnd r (λ f. f ≡ Memory) → MatchResult r P (IsFaultAt a words)
 memory_fault a words P (Ok x) is = absurd is
 memory_fault a words P (Err f) is = subst (IsFaultAt a words) (sym is) tt
 
 -- a kind other than OutOfMemory is among those that are stated
-among : (e : Error) (a : App) (words : List Text) → kind_of e ≢ OutOfMemory → HasKind (fault_of a words) e → IsAmong (kind_of e) (fault_of a words)
+among : (e : Error) (a : App) (words : List Text) → kind_of e ≢ OutOfMemory → HasKind (fault_of a words) e
+    → IsAmong (kind_of e) (fault_of a words)
 among e a words other (inl m) = absurd (other m)
 among e a words other (inr k) = k
 
-pub refused_fault : (a : App) (words : List Text) (P : Call → Type 0) (r : Result Call WordsFault) (e : Error) → IsErrAnd r (IsFaultOf e)
-    → (takes a words ≡ true → kind_of e ≡ OutOfMemory) → HasKind (fault_of a words) e → MatchResult r P (IsFaultAt a words)
+pub refused_fault : (a : App) (words : List Text) (P : Call → Type 0) (r : Result Call WordsFault) (e : Error)
+    → IsErrAnd r (IsFaultOf e)
+    → (takes a words ≡ true → kind_of e ≡ OutOfMemory) → HasKind (fault_of a words) e
+    → MatchResult r P (IsFaultAt a words)
 refused_fault a words P (Ok x) e is passes kinds = absurd is
 refused_fault a words P (Err Memory) e is passes kinds = tt
 refused_fault a words P (Err (Refused d)) e is passes kinds =

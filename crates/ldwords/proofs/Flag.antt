@@ -4,7 +4,8 @@ use Rattle.clap.specs.Words.{Text}
 use Rattle.ldwords.specs.Call.{IsFlag}
 
 -- a flag is set where its text is `true`
-pub flag_says : (stated : Option Text) (b : Bool) → IsFlag stated → (stated ≡ Some (codes "true") → b ≡ true) → (stated ≡ Some (codes "false") → b ≡ false)
+pub flag_says : (stated : Option Text) (b : Bool) → IsFlag stated → (stated ≡ Some (codes "true") → b ≡ true)
+    → (stated ≡ Some (codes "false") → b ≡ false)
     → IsTrue b ↔ (stated ≡ Some (codes "true"))
 flag_says stated b (inl e) set unset = (λ _. e, set)
 flag_says stated b (inr e) set unset = (λ h. let no = unset e in cc, set)

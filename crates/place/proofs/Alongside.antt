@@ -157,7 +157,8 @@ module _ (all : List ℕ) (b : Body) (x : BodyStatement) (xs : List BodyStatemen
       names = a.names;
       body = first.value;
       alike = law a.provided provided (names_given (commons_in xs) ++ a.names) x a.body b first.value c
-          (subst (λ z. AreBodiesAlike z a.body b) (names_on (commons_of x.line x.command) (commons_in xs) a.names) a.alike)
+          (subst (λ z. AreBodiesAlike z a.body b)
+          (names_on (commons_of x.line x.command) (commons_in xs) a.names) a.alike)
           first.first e;
       last = a.last;
       comes = first.second;
@@ -199,7 +200,8 @@ input_stays n h f xs k x l at alongside = by_starts f.starts alongside
 
     by_starts : (o : Option (Bor (List ℕ))) → IfSome o (λ s. BodyAlongside s.now (body_of n h f) (drop k xs))
         → IfInput x.command (IfSome o (λ s.
-        StartAt h.inputs h.dot (row_named n (drop (length h.pieces.items) f.row.now)) (drop (length h.pieces.items) s.now)))
+        StartAt h.inputs h.dot (row_named n (drop (length h.pieces.items) f.row.now))
+        (drop (length h.pieces.items) s.now)))
     by_starts None a = nothing x.command
     by_starts (Some s) a =
         subst (λ j. IfInput x.command (StartAt h.inputs h.dot (row_named n (drop (length h.pieces.items) f.row.now))
@@ -249,7 +251,8 @@ pub section_opened : HeadsAgree → (row : List Piece) (s : Layout) (line : ℕ)
 unfolding section_step placed_section
 section_opened law row s line o all a h e =
     let k = chained (head_of a.state row line o) (λ g.
-    and_then (run (body_step a.provided) (opened a.state row g) o.body) (λ b. section_end line o g b)) a.after a.comes in
+    and_then (run (body_step a.provided) (opened a.state row g) o.body) (λ b. section_end line o g b))
+    a.after a.comes in
     let same : k.value ≡ h = law (names_given (commons_in o.body) ++ a.names) row a.state s line o k.value h a.alike
     k.first e in
     let b = chained (run (body_step a.provided) (opened a.state row k.value) o.body) (λ b.

@@ -41,7 +41,8 @@ module _ (n : Naming) (i : Input) (script : List Statement) (s : Layout) (x : It
       chained (item_step a.rows a.provided a.state x) (λ d. run (item_step a.rows a.provided) d xs) a.leads.layout
       a.leads.comes
 
-  alike : AreAlike (names_given (item_commons x.line x.command) ++ (names_given (items_commons xs) ++ a.names)) a.state s
+  alike : AreAlike (names_given (item_commons x.line x.command) ++ (names_given (items_commons xs) ++ a.names)) a.state
+      s
   alike =
       subst (λ z. AreAlike z a.state s) (names_on (item_commons x.line x.command) (items_commons xs) a.names) a.alike
 
@@ -88,7 +89,8 @@ module _ (n : Naming) (i : Input) (script : List Statement) (s : Layout) (x : It
       by_command (item.Section o) e = λ starts other below at.
           let k : ℕ = length sections in
           let row : List rows.Piece = get_or (map (λ v. v.items) i.rows.now) k [] in
-          let own : a.state.sections ≡ map (section_of n) sections = ap (λ (z : Layout). z.sections) (sym a.alike.same) ∙ is in
+          let own : a.state.sections ≡ map (section_of n) sections = ap (λ (z : Layout). z.sections) (sym a.alike.same)
+          ∙ is in
           let row_is : next_row a.rows a.state ≡ row_named n row =
           ap (λ j. get_or a.rows j []) (ap length own ∙ length-map sections (section_of n))
           ∙ (a.same k below ∙ get_or-map (row_named n) (map (λ v. v.items) i.rows.now) k []) in
@@ -167,7 +169,8 @@ items_alongside n i script script' s t statements items law same_script same_ite
     ≡ names_given (common_commands before) ++ (names_given (items_commons within) ++ left) =
     ap names_given (commons_in_parts statements)
     ∙ (names_both (common_commands before) (items_commons within ++ common_commands after)
-    ∙ ap (λ l. names_given (common_commands before) ++ l) (names_both (items_commons within) (common_commands after))) in
+    ∙ ap (λ l. names_given (common_commands before) ++ l)
+    (names_both (items_commons within) (common_commands after))) in
     subst (λ z. ItemsAlongside n i z t items) (sym same_script)
     (subst (ItemsAlongside n i script t) (sym same_items) (record {
       rows = a.rows;
@@ -175,7 +178,8 @@ items_alongside n i script script' s t statements items law same_script same_ite
       provided = a.provided;
       names = left;
       state = h.value;
-      alike = law i.kept.first a.rows (rows_of n i) a.provided i.provided.now (names_given (items_commons within) ++ left)
+      alike = law i.kept.first a.rows (rows_of n i) a.provided i.provided.now
+          (names_given (items_commons within) ++ left)
           before a.state s h.value t a.same (subst (λ z. AreAlike z a.state s) names a.alike) h.first comes few;
       leads = leads_before script i.kept k.value a.leads.layout (run (item_step a.rows a.provided) h.value within)
           (run (statement_step a.rows a.provided) a.state statements)

@@ -46,8 +46,10 @@ kept_resumes (Ok u) i old new before after one none first =
     let rows : List (List Piece) = map (λ v. v.items) i.rows.now in
     let a : max i.kept.first (length before) ≡ i.kept.first = omega (arith, first) in
     let b : max i.kept.first (length after) ≡ i.kept.first = omega (arith, first, one) in
-    let here : entries (max i.kept.first (length before)) rows ≡ entries i.kept.first rows = ap (λ k. entries k rows) a in
-    let later : entries (max i.kept.first (length after)) rows ≡ entries i.kept.first rows = ap (λ k. entries k rows) b in
+    let here : entries (max i.kept.first (length before)) rows ≡ entries i.kept.first rows = ap
+    (λ k. entries k rows) a in
+    let later : entries (max i.kept.first (length after)) rows ≡ entries i.kept.first rows = ap
+    (λ k. entries k rows) b in
     omega (arith, here, later, none)
 
 -- one more, whichever of both

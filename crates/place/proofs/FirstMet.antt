@@ -1,6 +1,7 @@
 -- The first place at which a test passes, in a list and in a part of it.
 use Rattle.std.proofs.Common.{◌≡◌, ◌∙◌, sym, refl, ap, subst, ℕ, ◌+◌, ◌*◌, ◌≤◌, ◌<◌, List, [], ◌∷◌, ◌++◌, length, take}
-use Rattle.std.proofs.Common.{Bool, true, false, not, ◌==◌, nat_lt, arith, inl, inr, min, cond, position, zero, suc, Option, Some, None}
+use Rattle.std.proofs.Common.{Bool, true, false, not, ◌==◌, nat_lt, arith, inl, inr, min, cond, position, zero, suc}
+use Rattle.std.proofs.Common.{Option, Some, None}
 use Rattle.std.proofs.lemmas.Bool.{cases_lt, le-ltb, lt-ltb, eq-eqb, false_from_ne_true, eqb-true}
 use Rattle.std.specs.List.{position_or_len}
 use Rattle.std.proofs.lemmas.List.{length-append, length-take-le}

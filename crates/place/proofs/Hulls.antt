@@ -1,11 +1,14 @@
 -- Marks of a tree of ranges.
-use Rattle.std.proofs.Common.{◌≡◌, ◌∙◌, ◌≢◌, sym, refl, ap, subst, ℕ, ◌+◌, ◌*◌, ◌≤◌, ◌<◌, List, length, get_or, set, Option, Some, None}
-use Rattle.std.proofs.Common.{Bool, true, false, not, ◌&&◌, ◌==◌, nat_lt, arith, inl, inr, min, max, get_or-set_other, get_or-set_same}
+use Rattle.std.proofs.Common.{◌≡◌, ◌∙◌, ◌≢◌, sym, refl, ap, subst, ℕ, ◌+◌, ◌*◌, ◌≤◌, ◌<◌, List, length, get_or, set}
+use Rattle.std.proofs.Common.{Option, Some, None}
+use Rattle.std.proofs.Common.{Bool, true, false, not, ◌&&◌, ◌==◌, nat_lt, arith, inl, inr, min, max, get_or-set_other}
+use Rattle.std.proofs.Common.get_or-set_same
 use Rattle.std.proofs.lemmas.Bool.{cases_eq, lt-ltb, ltb-true, false_from_ne_true}
 use Rattle.std.proofs.lemmas.List.{get_or_default, length-set}
 use Rattle.std.specs.Option.{is_some}
 use Rattle.place.specs.Extents.{meet}
-use Rattle.place.specs.Hulls.{around, Around, Kept, Marked, MarkedAt, Missed, Under, Within, below, found, here, may_meet, same}
+use Rattle.place.specs.Hulls.{around, Around, Kept, Marked, MarkedAt, Missed, Under, Within, below, found, here}
+use Rattle.place.specs.Hulls.{may_meet, same}
 use Rattle.place.proofs.Apart.{both, no_zero}
 use Rattle.place.specs.declared.extent.Extent.{Extent}
 use Rattle.place.specs.declared.hull.Hull.{Hull}
@@ -54,7 +57,8 @@ under_within extents nodes firsts top _ d kept positive (below p c u low high) w
     record { low = omega (arith, above.low, next.low); end = omega (arith, above.end, next.end) }
 
 -- where the range around them does not meet it, none does
-pub missed_all : (extents : List Extent) (nodes : List Hull) (firsts : List (Option ℕ)) (node : ℕ) (d : Hull) (e : Extent)
+pub missed_all : (extents : List Extent) (nodes : List Hull) (firsts : List (Option ℕ)) (node : ℕ)
+    (d : Hull) (e : Extent)
     → length nodes ≡ 2 * length extents → 0 < node → Kept extents nodes firsts
     → may_meet (get_or nodes node d) e ≡ false → Missed extents e node firsts
 missed_all extents nodes firsts node d e lengths positive kept apart j x within under none =
@@ -63,7 +67,8 @@ missed_all extents nodes firsts node d e lengths positive kept apart j x within 
     let leaf : Around (get_or nodes (length extents + j) d) (get_or extents j x) =
     kept.leaves j d x within none met.sized in
     let top : Within (get_or nodes (length extents + j) d) (get_or nodes node d) =
-    under_within extents nodes firsts node (length extents + j) d kept positive under (omega (arith, lengths, within)) in
+    under_within extents nodes firsts node (length extents + j) d kept positive under
+    (omega (arith, lengths, within)) in
     absurd (cc (sym apart ∙ may (get_or nodes node d) e (omega (arith, top.low, leaf.low, met.before))
     (omega (arith, top.end, leaf.end, met.past)))))
 

@@ -42,7 +42,8 @@ module _ (n : Naming) (i : Input) (script : List Statement) (p : Places) (first 
     comes = whole_run k.earlier provided script ∙ (ap (placement script k.earlier) (sym e) ∙ k.placed.placed);
     sections = begins_same (map placed_of k.placed.layout.sections) i.kept.earlier.sections.now
         (a.sections ∙ k.placed.places.sections);
-    counts = begins_same (counts_of k.placed.layout.sections) i.kept.earlier.counts.now (a.counts ∙ k.placed.places.counts);
+    counts = begins_same (counts_of k.placed.layout.sections) i.kept.earlier.counts.now
+        (a.counts ∙ k.placed.places.counts);
     starts = begins_same (flat_map starts_of k.placed.layout.sections) i.kept.earlier.starts.now
         (a.starts ∙ k.placed.places.starts);
     data_commands = begins_same (data_in k.placed.layout.sections) (map data_of i.kept.earlier.data_commands.now)

@@ -194,7 +194,8 @@ module _ (n : Naming) (i : Input) (script : List Statement) (s : Layout) (items 
       let same : st.leads.layout ≡ st.after = given_is st.leads.layout st.after (sym st.leads.comes ∙ st.step) in
       let sections : at.state.sections ≡ map (section_of n) old.sections.list = sym (r.sections ∙ two.0) in
       let g = grown n script i.kept provided row (noted at.state) t.at.line o old.sections.list sections st.leads in
-      let y = section_taken n script i.kept provided row (noted at.state) t.at.line o old.sections.list sections st.leads
+      let y = section_taken n script i.kept provided row
+      (noted at.state) t.at.line o old.sections.list sections st.leads
       t.section next.data_commands t.taken (data_end t.at.line o t.at.there (row_named n row) row_is next there_next) in
       record {
         place = suc b.items;

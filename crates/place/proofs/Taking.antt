@@ -111,7 +111,8 @@ module _ (n : Naming) (script : List Statement) (k : Kept) (provided : List (Lis
       (many ∙ sym (length-map s.sections (λ (x : PlacedSection). length x.pieces))) in
       cc
 
-  pub starts_are : (m : ℕ) → m ≡ length q.pieces → part_of k.earlier.starts.now (length (starts_in before)) m ≡ starts_of q
+  pub starts_are : (m : ℕ) → m ≡ length q.pieces
+      → part_of k.earlier.starts.now (length (starts_in before)) m ≡ starts_of q
   starts_are m e =
       next_part (flat_map starts_of s.sections) (starts_of q) (flat_map starts_of t.sections) k.earlier.starts.now
       (length (starts_in before)) m

@@ -134,7 +134,8 @@ impl<'a> Here<'a> {
     /// Whether an output section of this size, with file bytes or not, may be written.
     fn is_writable(&self, size: u64, has_file_bytes: bool) -> bool
         ghost naming: { Naming }
-        ensures { result ≡ (has_flag SHF_WRITE (body_alone naming self.now) || (not (size == 0) && not has_file_bytes)) }
+        ensures { result ≡ (has_flag SHF_WRITE (body_alone naming self.now)
+            || (not (size == 0) && not has_file_bytes)) }
     {
         any_with_flag(&self.pieces, SHF_WRITE) || size != 0 && !has_file_bytes
     }

@@ -95,7 +95,8 @@ impl<'i, 'a> Input<'i, 'a> {
         ensures past { IfOk result (λ o. IfNone o (self.now.kept.first ≤ length done.now.sections.list)) }
         ensures other { IfOk result (λ o. IfSome o (λ _. self.now.kept.same_provided ≡ false)) }
         ensures starts { IfOk result (λ o. IfSome o (λ s.
-            AreStartsOf self.now.kept.earlier (length done.now.sections.list) (length (starts_in done.now.sections.list))
+            AreStartsOf self.now.kept.earlier (length done.now.sections.list)
+            (length (starts_in done.now.sections.list))
             s.now)) }
         ensures refused { IfErr result (λ f. f ≡ NoMemory) }
     {

@@ -151,7 +151,8 @@ pub fn place(
         IsPlacement script.now (rows_named naming (map (λ v. v.items) rows.now))
         (provided_names script.now provided.now) p) }
     ensures good { IfOk result (λ p.
-        IsGood script.now (rows_named naming (map (λ v. v.items) rows.now)) (provided_names script.now provided.now) p) }
+        IsGood script.now (rows_named naming (map (λ v. v.items) rows.now))
+        (provided_names script.now provided.now) p) }
     ensures faulty { IfErr result (λ f.
         IsWhy script.now (rows_named naming (map (λ v. v.items) rows.now)) (provided_names script.now provided.now) f) }
 {

@@ -99,7 +99,8 @@ impl<'i, 'a> Input<'i, 'a> {
         requires all { done.now.sections.script ≡ statements.now }
         requires kept { done.now.sections.earlier ≡ earlier_of self.now.kept.earlier }
         requires earlier { self.now.kept.same_provided ≡ true → 0 < self.now.kept.first
-            → EarlierScript naming self.now here.now.symbols.script (layout_of naming here.now done.now) statements.now }
+            → EarlierScript naming self.now here.now.symbols.script
+            (layout_of naming here.now done.now) statements.now }
         requires alongside { self.now.kept.same_provided ≡ false → 0 < self.now.kept.first
             → ScriptAlongside naming self.now here.now.symbols.script (layout_of naming here.now done.now)
             statements.now }

@@ -71,7 +71,8 @@ pub record IsKnownBeside (p : Project) (s : Layout) (a : NamingState) (y : Stays
 
 -- the new link, and the earlier one
 pub are_stays : (p : Project) (l : Laying) (y : Stays) (w : LinkView) (v : Values) (is : IsShort p l w v)
-    → AreBeside p is.placed.known.layout y → AreNamesDistinct p.objects → (old : GoodLink) → IfSome (last_of y.last) (IsLastOf old p)
+    → AreBeside p is.placed.known.layout y → AreNamesDistinct p.objects → (old : GoodLink)
+    → IfSome (last_of y.last) (IsLastOf old p)
     → AreStays y old (known_link p is.placed.known.layout is.placed.naming)
 are_stays p l y w v is beside names old last = record {
   naming = is.placed.naming;

@@ -1,5 +1,6 @@
 -- Objects that are added one after the other.
-use Rattle.std.proofs.Common.{◌≡◌, ℕ, suc, ◌+◌, List, [], ◌∷◌, Result, Ok, Err, add-one, subst, sym, ◌∙◌, length, arith, refl}
+use Rattle.std.proofs.Common.{◌≡◌, ℕ, suc, ◌+◌, List, [], ◌∷◌, Result, Ok, Err, add-one, subst, sym, ◌∙◌, length, arith}
+use Rattle.std.proofs.Common.refl
 use Rattle.ldmodel.specs.Edits.{Add, After, SetScript}
 use Rattle.ldmodel.specs.LinkCommand.{Course, ended, refused, accepted, ObjectFile, RefusedEdit, additions}
 use Rattle.ldmodel.specs.LinkCommand.{Linking, link_edits}
@@ -11,7 +12,8 @@ use Rattle.relink.specs.declared.fault.LinkFault.{LinkFault}
 use Rattle.relink.specs.declared.fault.LinkFault.TheVariants.{Refused, Memory}
 
 -- the first `n` of all objects are added, and these are left: how it goes on, it ends
-pub record Reached (old : Project) (all : List ObjectFile) (n : ℕ) (now : Project) (left : List ObjectFile) : Type 0 where
+pub record Reached (old : Project) (all : List ObjectFile) (n : ℕ) (now : Project)
+    (left : List ObjectFile) : Type 0 where
   pub on : (r : Result Project RefusedEdit) → Course (suc n) now (additions n left) r
       → Course 1 old (additions 0 all) r
 
@@ -22,10 +24,15 @@ begun old all left same =
 pub stepped : {old now next : Project} {all left more : List ObjectFile} {n : ℕ} {f : ObjectFile}
     → Reached old all n now left → left ≡ f ∷ more → After now (Add f.word n f.bytes) (Ok next)
     → Reached old all (n + 1) next more
-stepped {old = old} {now = now} {next = next} {all = all} {left = left} {more = more} {n = n} {f = f} reached same after =
-    let whole : Reached old all n now (f ∷ more) = subst (λ (xs : List ObjectFile). Reached old all n now xs) same reached in
+stepped {old = old} {now = now} {next = next} {all = all} {left = left} {more = more} {n = n} {f = f}
+    reached same after =
+    let whole : Reached old all n now (f ∷ more) = subst
+    (λ (xs : List ObjectFile). Reached old all n now xs) same reached in
     subst (λ (m : ℕ). Reached old all m next more) (sym (add-one n))
-    (record { on = λ r rest. whole.on r (accepted after (subst (λ (m : ℕ). Course (suc (suc n)) next (additions m more) r) (sym (add-one n)) rest)) })
+    (record {
+      on = λ r rest. whole.on r
+          (accepted after (subst (λ (m : ℕ). Course (suc (suc n)) next (additions m more) r) (sym (add-one n)) rest));
+    })
 
 pub ending : {old now : Project} {all left : List ObjectFile} {n : ℕ}
     → Reached old all n now left → left ≡ [] → Adds old all now (Ok tt)
@@ -36,8 +43,10 @@ ending {old = old} {now = now} {all = all} {left = left} {n = n} reached same =
 pub stopped : {old now : Project} {all left more : List ObjectFile} {n : ℕ} {f : ObjectFile} (new : Project)
     (e : LinkFault) → Reached old all n now left → left ≡ f ∷ more → EndsAt (n + 1) now (Add f.word n f.bytes) e
     → Adds old all new (Err e)
-stopped {old = old} {now = now} {all = all} {left = left} {more = more} {n = n} {f = f} new (Refused place why) reached same ends =
-    let whole : Reached old all n now (f ∷ more) = subst (λ (xs : List ObjectFile). Reached old all n now xs) same reached in
+stopped {old = old} {now = now} {all = all} {left = left} {more = more} {n = n} {f = f} new
+    (Refused place why) reached same ends =
+    let whole : Reached old all n now (f ∷ more) = subst
+    (λ (xs : List ObjectFile). Reached old all n now xs) same reached in
     let spot : place ≡ suc n = ends.0 ∙ add-one n in
     rw spot (whole.on (Err (refused_at (suc n) why)) (refused ends.1))
 stopped new Memory reached same ends = tt

@@ -1,6 +1,7 @@
 //! Numbers of names. A name keeps its number until it is forgotten.
 
-ghost use Rattle.std.specs.Prelude.{◌≡◌, ◌≢◌, ◌==◌, ℕ, List, [], IfOk, IfSome, Some, None, MatchOption, OnOk, length, take};
+ghost use Rattle.std.specs.Prelude.{◌≡◌, ◌≢◌, ◌==◌, ℕ, List, [], IfOk, IfSome, Some, None, MatchOption, OnOk, length};
+ghost use Rattle.std.specs.Prelude.take;
 ghost use Rattle.std.specs.Prelude.{map, filter, is_some, if◌then◌else◌, nat_lt, OnErr, ◌<◌, slice_index_or};
 ghost use Rattle.slab.specs.Slab.{ContainsKey, get, Updates};
 ghost use Rattle.symres.specs.Known.{AddsNames, AreApart, entry_spelled, Files, HaveSlots, IsConsistent, IsKeptWhere};
@@ -161,8 +162,8 @@ impl Known {
         }
     }
 
-    /// The number of a name, which is new where the name was not known. It is not hashed where it stands at this place in
-    /// the list of names.
+    /// The number of a name, which is new where the name was not known. It is not hashed where it stands at this place
+    /// in the list of names.
     pub fn add_at(&mut self, place: Option<usize>, name: &[u8]) -> Result<usize, AllocError>
         ensures ok { IfOk result (λ n. IsNamed self.new.slots n name.now) }
         ensures kept { KeepsNames self.old.slots self.new.slots }

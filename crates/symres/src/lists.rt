@@ -51,8 +51,8 @@ pub fn take_list(spare: &mut Vec<Vec<Numbered>>, count: usize) -> Vec<Numbered>
     list
 }
 
-/// Sets a list aside unless there is one with memory for this number of symbols. `entered` objects are entered: when all
-/// are withdrawn, their lists are set aside too.
+/// Sets a list aside unless there is one with memory for this number of symbols. `entered` objects are entered: when
+/// all are withdrawn, their lists are set aside too.
 pub fn park(spare: &mut Vec<Vec<Numbered>>, count: usize, entered: usize) -> Result<(), AllocError>
     requires { vec_len spare.old + entered ≤ vec_capacity spare.old }
     ensures lists { vec_len spare.new + entered ≤ vec_capacity spare.new }
@@ -269,8 +269,8 @@ fn numbered_seen(object: &Object, number: u32, seen: &[Numbered], at: usize) -> 
     }
 }
 
-/// Where the next symbol that other objects see stands among those, after this symbol, which stands at a place if they see
-/// it.
+/// Where the next symbol that other objects see stands among those, after this symbol, which stands at a place if they
+/// see it.
 fn place_past(symbol: &Symbol, at: usize) -> usize
     requires { at < 2 ^ 32 }
     ensures { result ≡ at + (if not (is_local symbol.now.binding) then 1 else 0) }

@@ -245,7 +245,8 @@ impl Names {
     pub fn decide_key(&self, script: &Script, name: NameKey, meter: &mut Meter) -> Decision
         requires { HasName self.now.names name.0 }
         ensures case { (bytes : List ℕ) → IsNamed self.now.names name.0 bytes → decision_of (λ key. key) result
-            ≡ decided (is_assigned script.now bytes) (is_provided script.now bytes) (entries_of bytes self.now.objects) }
+            ≡ decided (is_assigned script.now bytes) (is_provided script.now bytes)
+            (entries_of bytes self.now.objects) }
         ensures counted { meter.new ≡ raised meter.old counts.Names 1 }
     {
         meter.raise(Count::Names, 1);

@@ -10,7 +10,12 @@ use Rattle.ldwords.proofs.Stated.{stated}
 use Rattle.ldwords.proofs.words.Goals as goal
 
 pub returns-in_err-ldi_command : goal.returns-in_err-ldi_command
-returns-in_err-ldi_command c = (any_choices, refl, memory_fault (ldi any_choices) (map string_bytes c.args.args.now) _ c.from_residual.result c.from_residual.ensures.1)
+returns-in_err-ldi_command c = (
+  any_choices,
+  refl,
+  memory_fault (ldi any_choices)
+      (map string_bytes c.args.args.now) _ c.from_residual.result c.from_residual.ensures.1,
+)
 
 pub returns-in_err-matches : goal.returns-in_err-matches
 returns-in_err-matches c =
@@ -22,7 +27,8 @@ returns-in_err-matches c =
       built.1,
       refused_fault (ldi built.0) words _ _ c.in_err-matches.field-0.0 c.from_residual-in_err-matches.ensures.1
           (λ t. parse.passes (ap (λ a. takes a words) app ∙ t))
-          (subst (λ a. HasKind (fault_of a words) c.in_err-matches.field-0.0) app (parse.kinds (ap is_simple_and_free app))),
+          (subst (λ a. HasKind (fault_of a words) c.in_err-matches.field-0.0) app
+          (parse.kinds (ap is_simple_and_free app))),
     )
 
 pub call_of-requires : goal.call_of-requires

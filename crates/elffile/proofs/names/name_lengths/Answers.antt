@@ -10,6 +10,8 @@ loop-at-init c =
 pub loop-at-preserved : goal.loop-at-preserved
 loop-at-preserved c =
     let e : c.loop-at.at ≡ c.loop-at.at - 1 + 1 = omega arith in
-    lengths_step c.args.table.now c.loop-at.lengths.items (c.loop-at.at - 1) (get_or c.args.table.now (c.loop-at.at - 1) 0) c.loop-at.next c.length_before-next.result c.loop-at.is_end _
+    lengths_step c.args.table.now c.loop-at.lengths.items (c.loop-at.at - 1)
+    (get_or c.args.table.now (c.loop-at.at - 1) 0) c.loop-at.next c.length_before-next.result c.loop-at.is_end _
     (omega arith) refl c.length_before-next.ensures refl
-    (subst (λ k. AreLengthsFrom c.args.table.now c.loop-at.lengths.items k c.loop-at.next c.loop-at.is_end) e c.loop-at.invariant)
+    (subst (λ k. AreLengthsFrom c.args.table.now c.loop-at.lengths.items k c.loop-at.next c.loop-at.is_end) e
+    c.loop-at.invariant)

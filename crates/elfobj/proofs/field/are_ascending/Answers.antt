@@ -8,4 +8,5 @@ pub returns : goal.returns
 returns c =
     let e : c.loop-relocation.relocation-index ≡ length c.args.relocations.now = omega arith in
     λ h. IsNonDecreasingBy-from_all_adjacent (λ (r : Relocation). r.offset) c.args.relocations.now
-    (subst (λ n. AllAdjacentBelow (λ (x y : Relocation). x.offset ≤ y.offset) c.args.relocations.now n) e c.loop-relocation.invariant.sorted)
+    (subst (λ n. AllAdjacentBelow (λ (x y : Relocation). x.offset ≤ y.offset) c.args.relocations.now n) e
+    c.loop-relocation.invariant.sorted)

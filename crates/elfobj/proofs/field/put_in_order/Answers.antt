@@ -5,4 +5,5 @@ use Rattle.elfobj.proofs.field.put_in_order.Goals as goal
 
 pub returns-then-not-are_ascending-clause-order : goal.returns-then-not-are_ascending-clause-order
 returns-then-not-are_ascending-clause-order c =
-    IsNonDecreasingBy-from_sort_by_key (λ (r : Relocation). r.offset) _ c.sort_unstable_by_key.ensures.sorted (λ a r q k. search rules)
+    IsNonDecreasingBy-from_sort_by_key (λ (r : Relocation). r.offset) _ c.sort_unstable_by_key.ensures.sorted
+    (λ a r q k. search rules)

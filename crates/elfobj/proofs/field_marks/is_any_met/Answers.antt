@@ -16,7 +16,8 @@ loop-span-init c = record {
 
 pub returns-then-enter : goal.returns-then-enter
 returns-then-enter c =
-    sym (found_mapped (relocations_in c.args.all.now) share_bytes c.args.spans.now c.loop-span.span-index no_span c.loop-span-test.true (c.enter.ensures.shared c.if-enter.true))
+    sym (found_mapped (relocations_in c.args.all.now) share_bytes c.args.spans.now c.loop-span.span-index no_span
+    c.loop-span-test.true (c.enter.ensures.shared c.if-enter.true))
 
 pub loop-span-preserved : goal.loop-span-preserved
 loop-span-preserved c =
@@ -30,19 +31,26 @@ loop-span-preserved c =
             window = window;
             long = omega (arith, w.enter.ensures.long, c.leave.ensures.long, c.loop-span.invariant.long);
             ahead = λ j d a l. starts_up c.args.spans.now i j d c.requires.order c.loop-span-test.true (omega arith) l;
-            apart = none_more (relocations_in c.args.all.now) share_bytes c.args.spans.now i no_span c.loop-span-test.true
-                (window_apart c.args.all.now s.start s.end s.start s.end w.enter.new.marks (omega arith) (omega arith) window) c.loop-span.invariant.apart;
+            apart = none_more (relocations_in c.args.all.now) share_bytes c.args.spans.now i no_span
+                c.loop-span-test.true
+                (window_apart c.args.all.now s.start s.end s.start s.end w.enter.new.marks (omega arith)
+                (omega arith) window) c.loop-span.invariant.apart;
           })
       | else-until-span w ↦
-          let window = window_from c.args.all.now s.start c.loop-span.until c.min.result c.max-until.result c.leave.new.marks (omega (arith, c.min.ensures)) (omega (arith, c.max-until.ensures)) (omega (arith, inside.order, inside.end)) c.leave.ensures.left in
+          let window = window_from c.args.all.now s.start c.loop-span.until c.min.result c.max-until.result
+          c.leave.new.marks (omega (arith, c.min.ensures)) (omega (arith, c.max-until.ensures))
+          (omega (arith, inside.order, inside.end)) c.leave.ensures.left in
           rw (w.marks-is, w.until-is) (record {
             window = window;
             long = omega (arith, c.leave.ensures.long, c.loop-span.invariant.long);
             ahead = λ j d a l. starts_up c.args.spans.now i j d c.requires.order c.loop-span-test.true (omega arith) l;
-            apart = none_more (relocations_in c.args.all.now) share_bytes c.args.spans.now i no_span c.loop-span-test.true
-                (window_apart c.args.all.now s.start c.max-until.result s.start s.end c.leave.new.marks (omega arith) (omega (arith, w.if-until-span.false)) window) c.loop-span.invariant.apart;
+            apart = none_more (relocations_in c.args.all.now) share_bytes c.args.spans.now i no_span
+                c.loop-span-test.true
+                (window_apart c.args.all.now s.start c.max-until.result s.start s.end c.leave.new.marks (omega arith)
+                (omega (arith, w.if-until-span.false)) window) c.loop-span.invariant.apart;
           })
     ]
 
 pub returns : goal.returns
-returns c = none_met c.args.all.now c.args.spans.now c.loop-span.span-index c.loop-span-test.false c.loop-span.invariant.apart
+returns c = none_met c.args.all.now c.args.spans.now c.loop-span.span-index c.loop-span-test.false
+    c.loop-span.invariant.apart

@@ -19,17 +19,25 @@ pub placed_section-requires-clause-linkable : goal.placed_section-requires-claus
 placed_section-requires-clause-linkable c =
     let count = count_of c.args.bytes.now c.args.headers.now c.requires.headers in
     linkable c.args.bytes.now c.loop-number.number c.in-Some.kind _ c.requires.tests (omega arith)
-    (header_of c.args.bytes.now c.args.headers.now c.loop-number.number null_header c.requires.headers c.loop-number-test.true)
+    (header_of c.args.bytes.now c.args.headers.now c.loop-number.number null_header c.requires.headers
+    c.loop-number-test.true)
     (sym c.linked_kind.ensures ∙ c.in-Some.is)
 
 pub loop-number-preserved : goal.loop-number-preserved
 loop-number-preserved c =
-    let h = header_of c.args.bytes.now c.args.headers.now c.loop-number.number null_header c.requires.headers c.loop-number-test.true in
+    let h = header_of c.args.bytes.now c.args.headers.now c.loop-number.number null_header c.requires.headers
+    c.loop-number-test.true in
     elim c.match-linked_kind.branch [
-      | in-Some+in_ok-push w ↦ rw w.linked-is (read_more c.args.bytes.now c.loop-number.number (get_or c.args.headers.now c.loop-number.number null_header) w.in-Some.kind
-          c.loop-number.linked.sections.items _ c.loop-number.linked.places.items _ w.placed_section.result.0 w.placed_section.result.1
-          h (sym c.linked_kind.ensures ∙ w.in-Some.is) c.loop-number.invariant w.placed_section.ensures w.in_ok-push.ensures.sections w.in_ok-push.ensures.places)
-      | in_default w ↦ rw w.linked-is (read_same c.args.bytes.now c.loop-number.number (get_or c.args.headers.now c.loop-number.number null_header) _ _
+      | in-Some+in_ok-push w ↦ rw w.linked-is
+          (read_more c.args.bytes.now c.loop-number.number
+          (get_or c.args.headers.now c.loop-number.number null_header) w.in-Some.kind
+          c.loop-number.linked.sections.items _ c.loop-number.linked.places.items _ w.placed_section.result.0
+          w.placed_section.result.1
+          h (sym c.linked_kind.ensures ∙ w.in-Some.is) c.loop-number.invariant w.placed_section.ensures
+          w.in_ok-push.ensures.sections w.in_ok-push.ensures.places)
+      | in_default w ↦ rw w.linked-is
+          (read_same c.args.bytes.now c.loop-number.number
+          (get_or c.args.headers.now c.loop-number.number null_header) _ _
           h (sym c.linked_kind.ensures ∙ w.in_default.is) c.loop-number.invariant)
     ]
 
@@ -38,4 +46,6 @@ unfolding sections_of
 returns c =
     let count = count_of c.args.bytes.now c.args.headers.now c.requires.headers in
     let e : c.loop-number.number ≡ e_shnum c.args.bytes.now = omega arith in
-    subst (λ n. AreRead c.args.bytes.now (sections_below c.args.bytes.now n) c.loop-number.linked.sections.items c.loop-number.linked.places.items) e c.loop-number.invariant
+    subst (λ n. AreRead c.args.bytes.now
+    (sections_below c.args.bytes.now n) c.loop-number.linked.sections.items c.loop-number.linked.places.items) e
+    c.loop-number.invariant

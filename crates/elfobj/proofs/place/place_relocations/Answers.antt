@@ -14,11 +14,15 @@ no_place = record { name = no_span; bytes = no_span; relocations = no_span }
 pub loop-at-preserved : goal.loop-at-preserved
 loop-at-preserved c =
     let long : length c.loop-at.places ≡ length c.args.places.now =
-    sym (length-map c.loop-at.places (λ (p : Place). p.name)) ∙ ap length c.loop-at.invariant.names ∙ length-map c.args.places.now (λ (p : Place). p.name) in
+    sym (length-map c.loop-at.places (λ (p : Place). p.name)) ∙ ap length c.loop-at.invariant.names
+    ∙ length-map c.args.places.now (λ (p : Place). p.name) in
     let l : c.loop-at.at < length c.loop-at.places = omega (arith, long, c.loop-at-test.true) in
     let m : c.loop-at.at < length c.args.spans.now = omega (arith, l, long, c.requires) in
     record {
-      relocations = part_more (λ (p : Place). p.relocations) c.loop-at.places c.args.spans.now c.loop-at.at _ no_span l m refl c.loop-at.invariant.relocations;
-      names = part_kept (λ (p : Place). p.name) c.loop-at.places c.loop-at.at no_place _ l refl ∙ c.loop-at.invariant.names;
-      bytes = part_kept (λ (p : Place). p.bytes) c.loop-at.places c.loop-at.at no_place _ l refl ∙ c.loop-at.invariant.bytes;
+      relocations = part_more (λ (p : Place). p.relocations) c.loop-at.places c.args.spans.now c.loop-at.at _ no_span l
+          m refl c.loop-at.invariant.relocations;
+      names = part_kept (λ (p : Place). p.name) c.loop-at.places c.loop-at.at no_place _ l refl
+          ∙ c.loop-at.invariant.names;
+      bytes = part_kept (λ (p : Place). p.bytes) c.loop-at.places c.loop-at.at no_place _ l refl
+          ∙ c.loop-at.invariant.bytes;
     }

@@ -4,4 +4,7 @@ use Rattle.elffile.specs.Tables.{is_wrong_below}
 use Rattle.elfobj.proofs.relocation_table.changing_tables.Given as goal
 
 abbrev pub invariant-loop-number : goal.invariant-loop-number
-invariant-loop-number l = record { right : is_wrong_below l.bytes l.number ≡ false; tables : AreTablesBelow l.bytes l.number l.tables.items }
+invariant-loop-number l = record {
+  right : is_wrong_below l.bytes l.number ≡ false;
+  tables : AreTablesBelow l.bytes l.number l.tables.items;
+}

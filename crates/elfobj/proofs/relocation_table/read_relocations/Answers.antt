@@ -11,11 +11,16 @@ returns-in_err-changing-clause-refused c =
 pub returns-in-Ok-Some-clause-ok : goal.returns-in-Ok-Some-clause-ok
 returns-in-Ok-Some-clause-ok c =
     let r = c.in-Ok-Some.relocations in
-    ordered_none c.args.bytes.now c.args.symbols c.args.sections.now c.in-Ok.tables.items c.deref-2.result.now r.all.items r.spans.items c.in_ok-changing.ensures.right c.requires.symbols c.requires.sections
-    c.deref-2.ensures.value c.in-Ok.ensures (told _ _ r c.in-Ok-Some.field-0-is c.in-Ok-Some.ensures.passes) (told _ _ r c.in-Ok-Some.field-0-is c.in-Ok-Some.ensures.read) (told _ _ r c.in-Ok-Some.field-0-is c.in-Ok-Some.ensures.apart)
+    ordered_none c.args.bytes.now c.args.symbols c.args.sections.now c.in-Ok.tables.items c.deref-2.result.now
+    r.all.items r.spans.items c.in_ok-changing.ensures.right c.requires.symbols c.requires.sections
+    c.deref-2.ensures.value c.in-Ok.ensures (told _ _ r c.in-Ok-Some.field-0-is c.in-Ok-Some.ensures.passes)
+    (told _ _ r c.in-Ok-Some.field-0-is c.in-Ok-Some.ensures.read)
+    (told _ _ r c.in-Ok-Some.field-0-is c.in-Ok-Some.ensures.apart)
 
 pub returns-in-Ok-Some-clause-relocations : goal.returns-in-Ok-Some-clause-relocations
 returns-in-Ok-Some-clause-relocations c =
     let r = c.in-Ok-Some.relocations in
     relocated_all c.args.bytes.now c.args.sections.now r.all.items r.spans.items c.requires.sections
-    (sections_same c.args.bytes.now c.args.sections.now c.in-Ok.tables.items c.deref-2.result.now r.all.items r.spans.items c.deref-2.ensures.value c.in-Ok.ensures (told _ _ r c.in-Ok-Some.field-0-is c.in-Ok-Some.ensures.read))
+    (sections_same c.args.bytes.now c.args.sections.now c.in-Ok.tables.items c.deref-2.result.now r.all.items
+    r.spans.items c.deref-2.ensures.value c.in-Ok.ensures
+    (told _ _ r c.in-Ok-Some.field-0-is c.in-Ok-Some.ensures.read))

@@ -9,21 +9,27 @@ no_section = record { number = record { 0 = 0 }; kind = Progbits; flags = 0; siz
 
 pub bounds-tables-section : goal.bounds-tables-section
 bounds-tables-section c =
-    let below = number_below c.args.bytes.now c.args.sections.now c.loop-section.section-index no_section c.requires.sections c.loop-section-test.true in
+    let below = number_below c.args.bytes.now c.args.sections.now c.loop-section.section-index no_section
+    c.requires.sections c.loop-section-test.true in
     omega (arith, c.requires.tables.count)
 
 pub section_table-requires : goal.section_table-requires
 section_table-requires c =
     record {
-      within = table_told c.args.bytes.now (get_or c.args.sections.now c.loop-section.section-index no_section).number.0 _ c.requires.tests
+      within = table_told c.args.bytes.now
+          (get_or c.args.sections.now c.loop-section.section-index no_section).number.0 _ c.requires.tests
           (c.requires.tables.each (get_or c.args.sections.now c.loop-section.section-index no_section).number.0
-          (number_below c.args.bytes.now c.args.sections.now c.loop-section.section-index no_section c.requires.sections c.loop-section-test.true));
+          (number_below c.args.bytes.now c.args.sections.now c.loop-section.section-index no_section c.requires.sections
+          c.loop-section-test.true));
     }
 
 pub loop-section-preserved : goal.loop-section-preserved
 loop-section-preserved c =
-    tables_of_more c.args.bytes.now c.args.sections.now c.loop-section.section-index no_section c.loop-section.own.items c.push.new.self.items c.section_table.result _ c.loop-section-test.true
+    tables_of_more c.args.bytes.now c.args.sections.now c.loop-section.section-index no_section c.loop-section.own.items
+    c.push.new.self.items c.section_table.result _ c.loop-section-test.true
     c.section_table.ensures.section
     (c.requires.tables.each (get_or c.args.sections.now c.loop-section.section-index no_section).number.0
-    (number_below c.args.bytes.now c.args.sections.now c.loop-section.section-index no_section c.requires.sections c.loop-section-test.true))
-    (c.section_table.ensures.entries c.args.bytes.now) c.section_table.ensures.within c.in_ok-push.ensures.items c.loop-section.invariant
+    (number_below c.args.bytes.now c.args.sections.now c.loop-section.section-index no_section c.requires.sections
+    c.loop-section-test.true))
+    (c.section_table.ensures.entries c.args.bytes.now) c.section_table.ensures.within c.in_ok-push.ensures.items
+    c.loop-section.invariant

@@ -2,32 +2,63 @@ use Rattle.std.proofs.Common.{◌≡◌, ◌⊎◌, ◌++◌, ◌∙◌, sym, in
 use Rattle.std.proofs.lemmas.Result.{IfErr-weaker, IfOk-weaker}
 use Rattle.elffile.specs.Refusal.{header_refusals, holds, object_refusal, relocation_refusals, symbol_refusals}
 use Rattle.elffile.specs.declared.refusal.ObjectRefusal.TheVariants.{NoMemory}
-use Rattle.elfobj.proofs.Refusals.{no_memory_found, bounds_refused, passes_told, profile_refused, profile_told, refused_by_header, refused_by_sections, refused_by_tables, tables_told}
+use Rattle.elfobj.proofs.Refusals.{no_memory_found, bounds_refused, passes_told, profile_refused, profile_told}
+use Rattle.elfobj.proofs.Refusals.{refused_by_header, refused_by_sections, refused_by_tables, tables_told}
 use Rattle.elfobj.proofs.section_table.read_parts.Goals as goal
 
 pub returns-in-Some-clause-refused : goal.returns-in-Some-clause-refused
-returns-in-Some-clause-refused c = inr (refused_by_header c.args.bytes.now c.in-Some.refusal (sym c.header_refusal.ensures.value ∙ c.in-Some.is))
+returns-in-Some-clause-refused c =
+    inr (refused_by_header c.args.bytes.now c.in-Some.refusal (sym c.header_refusal.ensures.value ∙ c.in-Some.is))
 
 pub returns-then-has_wrong_bounds-clause-refused : goal.returns-then-has_wrong_bounds-clause-refused
 returns-then-has_wrong_bounds-clause-refused c =
-    inr (refused_by_sections c.args.bytes.now _ (sym c.header_refusal.ensures.value ∙ c.in_default.is) (bounds_refused c.args.bytes.now (sym c.has_wrong_bounds.ensures.value ∙ c.if-has_wrong_bounds.true)))
+    inr (refused_by_sections c.args.bytes.now _ (sym c.header_refusal.ensures.value ∙ c.in_default.is)
+    (bounds_refused c.args.bytes.now (sym c.has_wrong_bounds.ensures.value ∙ c.if-has_wrong_bounds.true)))
 
 pub returns-then-is_any_outside_profile-clause-refused : goal.returns-then-is_any_outside_profile-clause-refused
 returns-then-is_any_outside_profile-clause-refused c =
-    inr (refused_by_sections c.args.bytes.now _ (sym c.header_refusal.ensures.value ∙ c.in_default.is) (profile_refused c.args.bytes.now (sym c.has_wrong_bounds.ensures.value ∙ c.if-has_wrong_bounds.false) (profile_told c.args.bytes.now c.in-Ok-of_header.table.file.now c.in-Ok-of_header.table.header _ c.is_any_outside_profile.result true c.in-Ok-of_header.ensures.file (c.in-Ok-of_header.ensures.header ∙ c.name_table_header-names.ensures) (c.deref-3.ensures.value ∙ c.in-Ok.ensures) c.is_any_outside_profile.ensures c.if-is_any_outside_profile.true)))
+    inr (refused_by_sections c.args.bytes.now _ (sym c.header_refusal.ensures.value ∙ c.in_default.is)
+    (profile_refused c.args.bytes.now (sym c.has_wrong_bounds.ensures.value ∙ c.if-has_wrong_bounds.false)
+    (profile_told c.args.bytes.now c.in-Ok-of_header.table.file.now c.in-Ok-of_header.table.header _
+    c.is_any_outside_profile.result true c.in-Ok-of_header.ensures.file
+    (c.in-Ok-of_header.ensures.header ∙ c.name_table_header-names.ensures)
+    (c.deref-3.ensures.value ∙ c.in-Ok.ensures) c.is_any_outside_profile.ensures c.if-is_any_outside_profile.true)))
 
 pub read_tables-requires-clause-tests : goal.read_tables-requires-clause-tests
-read_tables-requires-clause-tests c = passes_told c.args.bytes.now c.in-Ok-of_header.table.file.now c.in-Ok-of_header.table.header _ c.has_wrong_bounds.result c.is_any_outside_profile.result c.has_wrong_bounds.ensures.value c.if-has_wrong_bounds.false c.in-Ok-of_header.ensures.file (c.in-Ok-of_header.ensures.header ∙ c.name_table_header-names.ensures) (c.deref-3.ensures.value ∙ c.in-Ok.ensures) c.is_any_outside_profile.ensures c.if-is_any_outside_profile.false
+read_tables-requires-clause-tests c =
+    passes_told c.args.bytes.now c.in-Ok-of_header.table.file.now c.in-Ok-of_header.table.header _
+    c.has_wrong_bounds.result c.is_any_outside_profile.result c.has_wrong_bounds.ensures.value
+    c.if-has_wrong_bounds.false c.in-Ok-of_header.ensures.file
+    (c.in-Ok-of_header.ensures.header ∙ c.name_table_header-names.ensures)
+    (c.deref-3.ensures.value ∙ c.in-Ok.ensures) c.is_any_outside_profile.ensures c.if-is_any_outside_profile.false
 
 pub returns-in-Some-clause-memory : goal.returns-in-Some-clause-memory
-returns-in-Some-clause-memory c = λ e. no_memory_found c.args.bytes.now header_refusals c.in-Some.refusal (sym c.header_refusal.ensures.value ∙ c.in-Some.is) e
+returns-in-Some-clause-memory c =
+    λ e. no_memory_found c.args.bytes.now header_refusals c.in-Some.refusal
+    (sym c.header_refusal.ensures.value ∙ c.in-Some.is) e
 
 pub returns-clause-ok : goal.returns-clause-ok
 returns-clause-ok c =
-    IfOk-weaker c.read_tables.result (λ p. find (holds c.args.bytes.now) (symbol_refusals ++ relocation_refusals) ≡ None) (λ p. object_refusal c.args.bytes.now ≡ None)
-    (λ p h. refused_by_tables c.args.bytes.now None (sym c.header_refusal.ensures.value ∙ c.in_default.is) (passes_told c.args.bytes.now c.in-Ok-of_header.table.file.now c.in-Ok-of_header.table.header _ c.has_wrong_bounds.result c.is_any_outside_profile.result c.has_wrong_bounds.ensures.value c.if-has_wrong_bounds.false c.in-Ok-of_header.ensures.file (c.in-Ok-of_header.ensures.header ∙ c.name_table_header-names.ensures) (c.deref-3.ensures.value ∙ c.in-Ok.ensures) c.is_any_outside_profile.ensures c.if-is_any_outside_profile.false) h) c.read_tables.ensures.ok
+    IfOk-weaker c.read_tables.result
+    (λ p. find (holds c.args.bytes.now) (symbol_refusals ++ relocation_refusals) ≡ None)
+    (λ p. object_refusal c.args.bytes.now ≡ None)
+    (λ p h. refused_by_tables c.args.bytes.now None (sym c.header_refusal.ensures.value ∙ c.in_default.is)
+    (passes_told c.args.bytes.now c.in-Ok-of_header.table.file.now c.in-Ok-of_header.table.header _
+    c.has_wrong_bounds.result c.is_any_outside_profile.result c.has_wrong_bounds.ensures.value
+    c.if-has_wrong_bounds.false c.in-Ok-of_header.ensures.file
+    (c.in-Ok-of_header.ensures.header ∙ c.name_table_header-names.ensures)
+    (c.deref-3.ensures.value ∙ c.in-Ok.ensures) c.is_any_outside_profile.ensures c.if-is_any_outside_profile.false)
+    h) c.read_tables.ensures.ok
 
 pub returns-clause-refused : goal.returns-clause-refused
 returns-clause-refused c =
-    IfErr-weaker c.read_tables.result (λ e. (e ≡ NoMemory) ⊎ (find (holds c.args.bytes.now) (symbol_refusals ++ relocation_refusals) ≡ Some e)) (λ e. (e ≡ NoMemory) ⊎ (object_refusal c.args.bytes.now ≡ Some e))
-    (λ e h. tables_told c.args.bytes.now e (sym c.header_refusal.ensures.value ∙ c.in_default.is) (passes_told c.args.bytes.now c.in-Ok-of_header.table.file.now c.in-Ok-of_header.table.header _ c.has_wrong_bounds.result c.is_any_outside_profile.result c.has_wrong_bounds.ensures.value c.if-has_wrong_bounds.false c.in-Ok-of_header.ensures.file (c.in-Ok-of_header.ensures.header ∙ c.name_table_header-names.ensures) (c.deref-3.ensures.value ∙ c.in-Ok.ensures) c.is_any_outside_profile.ensures c.if-is_any_outside_profile.false) h) c.read_tables.ensures.refused
+    IfErr-weaker c.read_tables.result
+    (λ e. (e ≡ NoMemory) ⊎ (find (holds c.args.bytes.now) (symbol_refusals ++ relocation_refusals) ≡ Some e))
+    (λ e. (e ≡ NoMemory) ⊎ (object_refusal c.args.bytes.now ≡ Some e))
+    (λ e h. tables_told c.args.bytes.now e (sym c.header_refusal.ensures.value ∙ c.in_default.is)
+    (passes_told c.args.bytes.now c.in-Ok-of_header.table.file.now c.in-Ok-of_header.table.header _
+    c.has_wrong_bounds.result c.is_any_outside_profile.result c.has_wrong_bounds.ensures.value
+    c.if-has_wrong_bounds.false c.in-Ok-of_header.ensures.file
+    (c.in-Ok-of_header.ensures.header ∙ c.name_table_header-names.ensures)
+    (c.deref-3.ensures.value ∙ c.in-Ok.ensures) c.is_any_outside_profile.ensures c.if-is_any_outside_profile.false)
+    h) c.read_tables.ensures.refused

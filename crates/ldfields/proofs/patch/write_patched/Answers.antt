@@ -10,16 +10,21 @@ use Rattle.ldfields.proofs.patch.write_patched.Goals as goal
 
 pub write_up_to-done-requires-clause-end : goal.write_up_to-done-requires-clause-end
 write_up_to-done-requires-clause-end c =
-    (turn_of c.args.bytes.now c.loop-patch.done (length c.args.bytes.now) c.loop-patch.patch-index c.args.patches.now c.patch-item.result c.loop-patch-test.true c.loop-patch.invariant.order c.patch-item.is).within
+    (turn_of c.args.bytes.now c.loop-patch.done
+    (length c.args.bytes.now) c.loop-patch.patch-index c.args.patches.now c.patch-item.result c.loop-patch-test.true
+    c.loop-patch.invariant.order c.patch-item.is).within
 
 pub loop-patch-preserved : goal.loop-patch-preserved
 loop-patch-preserved c =
-    let t = turn_of c.args.bytes.now c.loop-patch.done (length c.args.bytes.now) c.loop-patch.patch-index c.args.patches.now c.patch-item.result c.loop-patch-test.true c.loop-patch.invariant.order c.patch-item.is in
+    let t = turn_of c.args.bytes.now c.loop-patch.done
+    (length c.args.bytes.now) c.loop-patch.patch-index c.args.patches.now c.patch-item.result c.loop-patch-test.true
+    c.loop-patch.invariant.order c.patch-item.is in
     let w = c.write_up_to-done.ensures in
     let end : c.write_up_to-done.result ≡ patch_end c.patch-item.result = w.end in
     let above : c.loop-patch.done ≤ c.patch-item.result.offset = t.above in
     let within : patch_end c.patch-item.result ≤ length c.args.bytes.now = t.within in
-    let P : ℕ → Type 0 = λ n. AreInOrder n (length c.args.bytes.now) (drop (c.loop-patch.patch-index + 1) c.args.patches.now) in
+    let P : ℕ → Type 0 = λ n. AreInOrder n (length c.args.bytes.now)
+    (drop (c.loop-patch.patch-index + 1) c.args.patches.now) in
     let written : ℕ = patch_end c.patch-item.result - c.loop-patch.done in
     record {
       order = subst P (sym end) t.order;
@@ -49,6 +54,8 @@ pub returns-clause-written : goal.returns-clause-written
 returns-clause-written c = λ i h. elim (cases_lt i c.loop-patch.done) [
   | inl x ↦ c.write.ensures.before (c.args.at + i) (omega arith) ∙ c.loop-patch.invariant.written i x
   | inr x ↦
-      run_reads c.write.new.self.bytes c.args.bytes.now c.args.at c.loop-patch.done (length c.args.bytes.now) i c.write.ensures.written x h (omega arith)
-      ∙ sym (c.loop-patch.invariant.rest i x ∙ no_more c.args.bytes.now c.args.patches.now c.loop-patch.patch-index i c.loop-patch-test.false)
+      run_reads c.write.new.self.bytes c.args.bytes.now c.args.at c.loop-patch.done
+      (length c.args.bytes.now) i c.write.ensures.written x h (omega arith)
+      ∙ sym (c.loop-patch.invariant.rest i x
+      ∙ no_more c.args.bytes.now c.args.patches.now c.loop-patch.patch-index i c.loop-patch-test.false)
 ]

@@ -39,7 +39,8 @@ loop-k-preserved c =
 pub returns-clause-written : goal.returns-clause-written
 returns-clause-written c =
     let whole = div-add-mod c.args.n 840 in
-    let start : c.args.n - c.args.n % 840 ≡ 840 * c.loop-k.k = omega (arith, c.loop-k.auto.k-end, c.loop-k-test.false) in
+    let start : c.args.n - c.args.n % 840 ≡ 840 * c.loop-k.k = omega
+    (arith, c.loop-k.auto.k-end, c.loop-k-test.false) in
     let rest : c.args.n % 840 < 840 = mod-lt c.args.n (omega arith) in
     λ i h. elim (cases_lt i (840 * c.loop-k.k)) [
       | inl x ↦ c.write-2.ensures.before (c.args.at + i) (omega arith) ∙ c.loop-k.invariant.written i x

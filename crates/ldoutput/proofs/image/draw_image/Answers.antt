@@ -59,7 +59,8 @@ returns g c =
           (λ h s a is none. h s stays (outputs s a is) (λ k. ap is_some (none k))) c.draw_outputs.ensures.image;
       redrawn = on_ok _ _ c.draw_outputs.result
           (λ h old new a same is good_old good_new sound patches image.
-          h old new stays same (outputs new.layout a is) good_old good_new (only_said old new a range sound) patches image)
+          h old new stays same (outputs new.layout a is) good_old good_new
+          (only_said old new a range sound) patches image)
           c.draw_outputs.ensures.redrawn;
       work = on_ok _ _ c.draw_outputs.result
           (λ h old new a same is good complete few.

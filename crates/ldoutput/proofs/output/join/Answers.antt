@@ -15,4 +15,5 @@ loop-number-preserved c p s stays joined =
     (map vec_items c.args.pieces.now) (map now c.args.runs.now) c.loop-number.number _ c.in-Some.output
     c.loop-number.outputs.items _ joined (omega (arith, c.loop-number-test.true))
     (own_member c.args.placed.now c.loop-number.number _)
-    (λ q at. c.in-Some.ensures p s stays q at) c.in_ok-push-in-Some.ensures.items (c.loop-number.invariant p s stays joined)
+    (λ q at. c.in-Some.ensures p s stays q at) c.in_ok-push-in-Some.ensures.items
+    (c.loop-number.invariant p s stays joined)

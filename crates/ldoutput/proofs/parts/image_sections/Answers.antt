@@ -13,7 +13,8 @@ loop-output-preserved c p s stays outputs =
     let next = next_zip (IsOutput p s stays) s.sections c.args.outputs.now k c.output-item.result outputs
     (omega (arith, c.loop-output-test.true)) (sym c.output-item.is) in
     subst (λ qs. AreDrawnOf p s stays qs c.add_section.new.sections.items) (sym next.taken)
-    (c.in_ok-add_section.ensures p s stays next.member (take k s.sections) next.is (c.loop-output.invariant p s stays outputs))
+    (c.in_ok-add_section.ensures p s stays next.member (take k s.sections) next.is
+    (c.loop-output.invariant p s stays outputs))
 
 pub returns : goal.returns
 returns c p s stays named outputs =

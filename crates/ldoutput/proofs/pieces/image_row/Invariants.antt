@@ -10,7 +10,8 @@ use Rattle.ldoutput.specs.Pieces.{AreSources, IsRowAt, IsRowPiece}
 
 abbrev pub invariant-loop-k : goal.invariant-loop-k
 invariant-loop-k g l =
-    (link : KnownLink) (q : PlacedSection) → link.project ≡ l.project → AreSources link (λ key. is_some (g.E.Earlier.range l.earlier key)) l.firsts l.relocated
+    (link : KnownLink) (q : PlacedSection) → link.project ≡ l.project
+    → AreSources link (λ key. is_some (g.E.Earlier.range l.earlier key)) l.firsts l.relocated
     → IsRowAt l.project link.layout (map (piece_in l.project) l.row) l.starts q
     → AllZip (IsRowPiece link.project link.layout (λ key. is_some (g.E.Earlier.range l.earlier key)))
     (take l.k q.pieces) l.pieces.items

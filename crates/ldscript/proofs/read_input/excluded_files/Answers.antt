@@ -6,7 +6,9 @@ use Rattle.ldscript.proofs.read_input.excluded_files.Goals as goal
 
 pub returns-in-Some : goal.returns-in-Some
 returns-in-Some c =
-    reads_behind (mark OpenParenthesis) (λ ps. some pattern ps ▸ mark CloseParenthesis) (mark_fixed OpenParenthesis) _ _ c.in-Some.ensures (λ x. x.0) (λ x. x.1) _ c.some_patterns.ensures
+    reads_behind (mark OpenParenthesis) (λ ps. some pattern ps ▸ mark CloseParenthesis)
+    (mark_fixed OpenParenthesis) _ _ c.in-Some.ensures (λ x. x.0) (λ x. x.1) _ c.some_patterns.ensures
 
 pub returns-in-None : goal.returns-in-None
-returns-in-None c = none_front (mark OpenParenthesis) (λ ps. some pattern ps ▸ mark CloseParenthesis) _ c.in-None.ensures
+returns-in-None c = none_front (mark OpenParenthesis)
+    (λ ps. some pattern ps ▸ mark CloseParenthesis) _ c.in-None.ensures

@@ -25,7 +25,26 @@ returns-in_default-3 c =
 
 pub returns : goal.returns
 returns c = rw c.in_ok-new.ensures (record {
-  spells = (c.line-line.ensures, (_, c.in-Some.ensures.spells, (_, (rw c.in-Some-2.is at c.in_ok-origin.ensures).spells, (_, c.in-Some-region_middle.ensures.0, (rw c.in-Some-3.is at c.in_ok-extent.ensures).spells))));
-  only = λ y more d st. region_only _ _ _ _ _ _ y more c.in-Some.ensures.spells (rw c.in-Some-2.is at c.in_ok-origin.ensures).spells c.in-Some-region_middle.ensures.0 (rw c.in-Some-3.is at c.in_ok-extent.ensures).only (c.line-line.ensures ∙ sym d.0) d st;
-  shorter = omega (arith, c.in-Some.ensures.shorter, (rw c.in-Some-2.is at c.in_ok-origin.ensures).shorter, c.in-Some-region_middle.ensures.1, (rw c.in-Some-3.is at c.in_ok-extent.ensures).shorter);
+  spells = (
+    c.line-line.ensures,
+    (
+      _,
+      c.in-Some.ensures.spells,
+      (
+        _,
+        (rw c.in-Some-2.is at c.in_ok-origin.ensures).spells,
+        (_, c.in-Some-region_middle.ensures.0, (rw c.in-Some-3.is at c.in_ok-extent.ensures).spells),
+      ),
+    ),
+  );
+  only = λ y more d st. region_only _ _ _ _ _ _ y more c.in-Some.ensures.spells
+      (rw c.in-Some-2.is at c.in_ok-origin.ensures).spells c.in-Some-region_middle.ensures.0
+      (rw c.in-Some-3.is at c.in_ok-extent.ensures).only (c.line-line.ensures ∙ sym d.0) d st;
+  shorter = omega (
+    arith,
+    c.in-Some.ensures.shorter,
+    (rw c.in-Some-2.is at c.in_ok-origin.ensures).shorter,
+    c.in-Some-region_middle.ensures.1,
+    (rw c.in-Some-3.is at c.in_ok-extent.ensures).shorter,
+  );
 })

@@ -1,7 +1,8 @@
 use Rattle.std.proofs.Common.{refl, sym, subst}
 use Rattle.ldscript.specs.Steps.{name}
 use Rattle.ldscript.specs.Readings.{Takes}
-use Rattle.ldscript.proofs.Items.{section_name_none, section_head_none, section_body_none, section_tail_none, section_load_none, takes_section}
+use Rattle.ldscript.proofs.Items.{section_name_none, section_head_none, section_body_none, section_tail_none}
+use Rattle.ldscript.proofs.Items.{section_load_none, takes_section}
 use Rattle.ldscript.proofs.read_section.section.Goals as goal
 
 pub returns-in_default : goal.returns-in_default
@@ -16,14 +17,16 @@ pub returns-in_default-4 : goal.returns-in_default-4
 returns-in_default-4 c =
     let address = rw c.in-Some-2.is at c.in_ok-address.ensures in
     let head = rw c.in-Some-3.is at c.in_ok-head.ensures in
-    section_body_none _ _ _ _ _ _ _ c.in-Some.ensures.spells address.spells head.spells (rw c.in_default-4.is at c.in_ok-body.ensures)
+    section_body_none _ _ _ _ _ _ _ c.in-Some.ensures.spells address.spells head.spells
+    (rw c.in_default-4.is at c.in_ok-body.ensures)
 
 pub returns-in_default-5 : goal.returns-in_default-5
 returns-in_default-5 c =
     let address = rw c.in-Some-2.is at c.in_ok-address.ensures in
     let head = rw c.in-Some-3.is at c.in_ok-head.ensures in
     let body = rw c.in-Some-4.is at c.in_ok-body.ensures in
-    section_tail_none _ _ _ _ _ _ _ _ _ c.in-Some.ensures.spells address.spells head.spells body.spells (rw c.in_default-5.is at c.in_ok-tail.ensures)
+    section_tail_none _ _ _ _ _ _ _ _ _ c.in-Some.ensures.spells address.spells head.spells body.spells
+    (rw c.in_default-5.is at c.in_ok-tail.ensures)
 
 pub returns-in_default-load_of : goal.returns-in_default-load_of
 returns-in_default-load_of c =
@@ -31,7 +34,8 @@ returns-in_default-load_of c =
     let head = rw c.in-Some-3.is at c.in_ok-head.ensures in
     let body = rw c.in-Some-4.is at c.in_ok-body.ensures in
     let tail = rw c.in-Some-5.is at c.in_ok-tail.ensures in
-    section_load_none _ _ _ _ _ _ _ _ _ _ _ c.in-Some.ensures.spells address.spells head.spells body.spells tail c.in_default-load_of.ensures
+    section_load_none _ _ _ _ _ _ _ _ _ _ _ c.in-Some.ensures.spells address.spells head.spells body.spells tail
+    c.in_default-load_of.ensures
 
 pub returns : goal.returns
 returns c =
@@ -40,4 +44,5 @@ returns c =
     let head = rw c.in-Some-3.is at c.in_ok-head.ensures in
     let body = rw c.in-Some-4.is at c.in_ok-body.ensures in
     let tail = rw c.in-Some-5.is at c.in_ok-tail.ensures in
-    takes_section _ c.in-Some-3.head c.in-Some-5.tail _ _ _ _ _ _ named address head body tail c.in-Some-load_of.ensures.0 refl refl c.in-Some-load_of.ensures.1 refl
+    takes_section _ c.in-Some-3.head c.in-Some-5.tail _ _ _ _ _ _ named address head body tail
+    c.in-Some-load_of.ensures.0 refl refl c.in-Some-load_of.ensures.1 refl

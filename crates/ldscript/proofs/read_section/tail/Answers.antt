@@ -18,4 +18,5 @@ returns-in_default-3 c =
     tail_fill_stuck _ _ _ n.0 c.in-Some.region c.in-Some-2.load r l n.1 n.2
 
 pub returns : goal.returns
-returns c = takes_tail _ _ _ _ _ (rw c.in-Some.is at c.in_ok-region.ensures) (rw c.in-Some-2.is at c.in_ok-load.ensures) (rw c.in-Some-3.is at c.in_ok-fill.ensures)
+returns c = takes_tail _ _ _ _ _ (rw c.in-Some.is at c.in_ok-region.ensures) (rw c.in-Some-2.is at c.in_ok-load.ensures)
+    (rw c.in-Some-3.is at c.in_ok-fill.ensures)

@@ -5,7 +5,8 @@ use Rattle.ldmodel.specs.Edits.{NoMemory}
 use Rattle.ldstream.proofs.StreamReplies.{payload_unread}
 use Rattle.ldstream.proofs.serve.serve_payload.Goals as goal
 
-pub returns-in_err-write_refused-in-NoMemory-clause-stepped : goal.returns-in_err-write_refused-in-NoMemory-clause-stepped
+pub returns-in_err-write_refused-in-NoMemory-clause-stepped :
+    goal.returns-in_err-write_refused-in-NoMemory-clause-stepped
 returns-in_err-write_refused-in-NoMemory-clause-stepped g c =
     let p = err_from_is_err_and c.from_residual-in_err-write_refused-in-NoMemory.result
     c.from_residual-in_err-write_refused-in-NoMemory.ensures.1 in

@@ -6,6 +6,9 @@ use Rattle.ldterms.proofs.head.read_head.Goals as goal
 
 pub returns-else-eq : goal.returns-else-eq
 returns-else-eq c =
-    let begins : c.args.tokens.now ≡ lexeme (Punctuation c.in-Punctuation.mark) c.in-Some.field-0-2 ∷ c.in-Some.rest = sym c.copy.ensures ∙ rw c.in-Punctuation.is at c.in-Some.ensures in
-    let other : c.in-Punctuation.mark ≡ OpenParenthesis → ⊥ = λ same. (let e = rw same at c.eq.ensures in let f = c.if-eq.false in cc) in
+    let begins : c.args.tokens.now ≡ lexeme
+    (Punctuation c.in-Punctuation.mark) c.in-Some.field-0-2 ∷ c.in-Some.rest =
+    sym c.copy.ensures ∙ rw c.in-Punctuation.is at c.in-Some.ensures in
+    let other : c.in-Punctuation.mark ≡ OpenParenthesis
+    → ⊥ = λ same. (let e = rw same at c.eq.ensures in let f = c.if-eq.false in cc) in
     mark_none _ _ _ _ begins other

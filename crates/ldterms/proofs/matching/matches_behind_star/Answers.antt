@@ -16,10 +16,17 @@ loop-rest-preserved-in-Star c = λ ps s.
 
 pub returns-in-None : goal.returns-in-None
 returns-in-None c = λ ps s.
-    let h = c.loop-rest.invariant ps s in
-    (λ f. absurd (false≢true f), λ a. absurd (miss_end h.0 c.loop-rest.left.now (c.in-Missed.ensures.value h.0 h.1) c.in-None.ensures h.2 a))
+    let h = c.loop-rest.invariant ps s in (
+      λ f. absurd (false≢true f),
+      λ a. absurd
+          (miss_end h.0 c.loop-rest.left.now (c.in-Missed.ensures.value h.0 h.1) c.in-None.ensures h.2 a),
+    )
 
 pub loop-rest-preserved : goal.loop-rest-preserved
 loop-rest-preserved c = λ ps s.
-    let h = c.loop-rest.invariant ps s in
-    (h.0, h.1, miss_step h.0 c.loop-rest.left.now c.in-Some.field-0-0 c.in-Some.others.now (c.in-Missed.ensures.value h.0 h.1) c.in-Some.ensures h.2)
+    let h = c.loop-rest.invariant ps s in (
+      h.0,
+      h.1,
+      miss_step h.0 c.loop-rest.left.now c.in-Some.field-0-0 c.in-Some.others.now
+          (c.in-Missed.ensures.value h.0 h.1) c.in-Some.ensures h.2,
+    )

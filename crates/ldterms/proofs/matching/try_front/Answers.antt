@@ -7,13 +7,15 @@ pub returns-in_default-split-clause-value : goal.returns-in_default-split-clause
 returns-in_default-split-clause-value c = λ ps s.
     let h = c.loop-part.invariant.passed ps s in
     let o = c.in-Some.ensures.value.only h.0 h.1 in
-    missed_empty c.loop-part.rest.now c.in-Some.part ps h.0 o.0 c.args.name.now c.loop-part.left.now h.2 o.1 c.if-is_any_run.ensures c.in_default-split.ensures
+    missed_empty c.loop-part.rest.now c.in-Some.part ps h.0 o.0 c.args.name.now c.loop-part.left.now h.2 o.1
+    c.if-is_any_run.ensures c.in_default-split.ensures
 
 pub returns-then-not-is_met_by-clause-value : goal.returns-then-not-is_met_by-clause-value
 returns-then-not-is_met_by-clause-value c = λ ps s.
     let h = c.loop-part.invariant.passed ps s in
     let o = c.in-Some.ensures.value.only h.0 h.1 in
-    missed_byte c.loop-part.rest.now c.in-Some.part ps h.0 o.0 c.args.name.now c.loop-part.left.now c.in-Some-split.byte c.in-Some-split.others.now h.2 o.1
+    missed_byte c.loop-part.rest.now c.in-Some.part ps h.0 o.0 c.args.name.now c.loop-part.left.now c.in-Some-split.byte
+    c.in-Some-split.others.now h.2 o.1
     c.if-is_any_run.ensures c.in-Some-split.ensures (λ m. false≢true (c.if-not-is_met_by.ensures.1 m))
 
 pub loop-part-preserved : goal.loop-part-preserved
@@ -25,7 +27,8 @@ loop-part-preserved c = record {
       let o = c.in-Some.ensures.value.only h.0 h.1 in (
         o.0,
         o.2,
-        passed_more c.loop-part.rest.now c.in-Some.part ps h.0 o.0 c.args.name.now c.loop-part.left.now c.in-Some-split.byte c.in-Some-split.others.now h.2 o.1
+        passed_more c.loop-part.rest.now c.in-Some.part ps h.0 o.0 c.args.name.now c.loop-part.left.now
+            c.in-Some-split.byte c.in-Some-split.others.now h.2 o.1
             c.if-is_any_run.ensures c.in-Some-split.ensures (c.if-not-is_met_by.ensures.0 refl),
       );
 }
@@ -38,4 +41,5 @@ returns-in-None-clause-value c = λ ps s.
 pub returns-in-Some-split-2-clause-value : goal.returns-in-Some-split-2-clause-value
 returns-in-Some-split-2-clause-value c = λ ps s.
     let h = c.loop-part.invariant.passed ps s in
-    missed_at_end ps h.0 c.args.name.now c.loop-part.left.now c.in-Some-split-2.field-0.0 c.in-Some-split-2.field-0.1.now h.2 (c.in_default.ensures.value h.0 h.1) c.in-Some-split-2.ensures
+    missed_at_end ps h.0 c.args.name.now c.loop-part.left.now c.in-Some-split-2.field-0.0
+    c.in-Some-split-2.field-0.1.now h.2 (c.in_default.ensures.value h.0 h.1) c.in-Some-split-2.ensures

@@ -1,14 +1,16 @@
 use Rattle.std.proofs.Common.{◌≡◌, ◌+◌, ◌++◌, ◌∷◌, [], sym, arith, rules}
 use Rattle.ldtokens.specs.Tokens.{token_of}
 use Rattle.ldtokens.specs.Modes.{state_after}
-use Rattle.ldtokens.proofs.Cut.{cut_to_end, cut_to_nothing, cut_to_blank, cut_to_found, still_shallow, behind, line_ahead}
+use Rattle.ldtokens.proofs.Cut.{cut_to_end, cut_to_nothing, cut_to_blank, cut_to_found, still_shallow, behind}
+use Rattle.ldtokens.proofs.Cut.line_ahead
 use Rattle.ldtokens.proofs.lexer.cut.Goals as goal
 
 pub returns-in-Finished-clause-cut : goal.returns-in-Finished-clause-cut
 returns-in-Finished-clause-cut c = cut_to_end c.loop-tokens.invariant.cut (sym c.in-Finished.ensures.value)
 
 pub returns-in-Unknown-clause-refused : goal.returns-in-Unknown-clause-refused
-returns-in-Unknown-clause-refused c = (omega arith, cut_to_nothing c.loop-tokens.invariant.cut (sym c.in-Unknown.ensures.value))
+returns-in-Unknown-clause-refused c =
+    (omega arith, cut_to_nothing c.loop-tokens.invariant.cut (sym c.in-Unknown.ensures.value))
 
 pub loop-tokens-preserved-in-Space : goal.loop-tokens-preserved-in-Space
 loop-tokens-preserved-in-Space c =
@@ -33,10 +35,13 @@ loop-tokens-preserved c =
     let t = c.in-Found.piece in
     let old = c.loop-tokens.tokens.items in
     let b = behind at c.loop-tokens.line t in
-    let pushed : c.push.new.self.items ≡ old ++ b ∷ [] = rw (c.is_err.ensures.negation, c.if-is_err.false, c.behind-token.ensures) at c.push.ensures.items in
-    let after : c.after-state.result ≡ state_after c.loop-tokens.state (token_of text b) = rw (c.bytes.ensures, c.behind-token.ensures) at c.after-state.ensures.value in
+    let pushed : c.push.new.self.items ≡ old ++ b ∷ [] = rw
+    (c.is_err.ensures.negation, c.if-is_err.false, c.behind-token.ensures) at c.push.ensures.items in
+    let after : c.after-state.result ≡ state_after c.loop-tokens.state (token_of text b) = rw
+    (c.bytes.ensures, c.behind-token.ensures) at c.after-state.ensures.value in
     record {
-      cut = rw (pushed, after, c.loop-tokens.invariant.lines) (cut_to_found text old c.loop-tokens.state at n t c.loop-tokens.invariant.cut (sym c.in-Found.ensures.value));
+      cut = rw (pushed, after, c.loop-tokens.invariant.lines)
+          (cut_to_found text old c.loop-tokens.state at n t c.loop-tokens.invariant.cut (sym c.in-Found.ensures.value));
       within = search rules;
       many = search rules;
       places = rw pushed (search rules);

@@ -10,4 +10,5 @@ returns-then-are_within_limits-clause-tokens c =
 pub returns-else-are_within_limits-clause-refused : goal.returns-else-are_within_limits-clause-refused
 returns-else-are_within_limits-clause-refused c =
     let h = rw (c.deref.ensures.value, c.if-are_within_limits.false) at c.are_within_limits.ensures in
-    inr (past_limits c.args.text.now c.in_ok-tokens.tokens.items c.in_ok-tokens.ensures.cut (λ w. let z : false ≡ true = h.1 w in cc))
+    inr (past_limits c.args.text.now c.in_ok-tokens.tokens.items c.in_ok-tokens.ensures.cut
+    (λ w. let z : false ≡ true = h.1 w in cc))

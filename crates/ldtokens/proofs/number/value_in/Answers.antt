@@ -8,4 +8,5 @@ returns-in_default c =
     let i = c.loop-digit.digit-index in
     let digits = c.args.digits.now in
     let inside : i < length digits = omega arith in
-    λ small. c.in_default.ensures (omega (arith, next_digit c.args.base c.loop-digit.value digits i c.requires inside, c.loop-digit.invariant.0, small))
+    λ small. c.in_default.ensures (omega
+    (arith, next_digit c.args.base c.loop-digit.value digits i c.requires inside, c.loop-digit.invariant.0, small))

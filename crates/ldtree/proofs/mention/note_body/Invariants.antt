@@ -5,4 +5,5 @@ use Rattle.ldtree.specs.Listed.{shown}
 use Rattle.ldtree.proofs.mention.note_body.Given as goal
 
 abbrev pub invariant-loop-statement : goal.invariant-loop-statement
-invariant-loop-statement l = shown l.list.items ++ in_body (drop l.statement-index l.body) ≡ shown l.initial.list.items ++ in_body l.body
+invariant-loop-statement l = shown l.list.items ++ in_body
+    (drop l.statement-index l.body) ≡ shown l.initial.list.items ++ in_body l.body

@@ -5,4 +5,5 @@ use Rattle.ldtree.specs.Listed.{shown}
 use Rattle.ldtree.proofs.mention.note_items.Given as goal
 
 abbrev pub invariant-loop-item : goal.invariant-loop-item
-invariant-loop-item l = shown l.list.items ++ in_items (drop l.item-index l.items) ≡ shown l.initial.list.items ++ in_items l.items
+invariant-loop-item l = shown l.list.items ++ in_items
+    (drop l.item-index l.items) ≡ shown l.initial.list.items ++ in_items l.items

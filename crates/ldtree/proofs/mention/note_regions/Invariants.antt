@@ -5,4 +5,5 @@ use Rattle.ldtree.specs.Listed.{shown}
 use Rattle.ldtree.proofs.mention.note_regions.Given as goal
 
 abbrev pub invariant-loop-region : goal.invariant-loop-region
-invariant-loop-region l = shown l.list.items ++ in_regions (drop l.region-index l.regions) ≡ shown l.initial.list.items ++ in_regions l.regions
+invariant-loop-region l = shown l.list.items ++ in_regions
+    (drop l.region-index l.regions) ≡ shown l.initial.list.items ++ in_regions l.regions

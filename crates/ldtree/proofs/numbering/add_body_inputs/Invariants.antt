@@ -5,4 +5,5 @@ use Rattle.ldtree.specs.Numbered.{shown_inputs}
 use Rattle.ldtree.proofs.numbering.add_body_inputs.Given as goal
 
 abbrev pub invariant-loop-statement : goal.invariant-loop-statement
-invariant-loop-statement l = shown_inputs l.list.items ++ inputs_in l.place (drop l.statement-index l.body) ≡ shown_inputs l.initial.list.items ++ inputs_in l.place l.body
+invariant-loop-statement l = shown_inputs l.list.items ++ inputs_in l.place
+    (drop l.statement-index l.body) ≡ shown_inputs l.initial.list.items ++ inputs_in l.place l.body

@@ -5,4 +5,5 @@ use Rattle.ldtree.specs.Numbered.{shown_inputs}
 use Rattle.ldtree.proofs.numbering.add_discarded.Given as goal
 
 abbrev pub invariant-loop-statement : goal.invariant-loop-statement
-invariant-loop-statement l = shown_inputs l.list.items ++ discarded_inputs (drop l.statement-index l.inputs) ≡ shown_inputs l.initial.list.items ++ discarded_inputs l.inputs
+invariant-loop-statement l = shown_inputs l.list.items ++ discarded_inputs
+    (drop l.statement-index l.inputs) ≡ shown_inputs l.initial.list.items ++ discarded_inputs l.inputs

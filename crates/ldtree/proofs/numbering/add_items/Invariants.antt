@@ -4,4 +4,5 @@ use Rattle.ldtree.specs.Numbered.{shown_items}
 use Rattle.ldtree.proofs.numbering.add_items.Given as goal
 
 abbrev pub invariant-loop-item : goal.invariant-loop-item
-invariant-loop-item l = shown_items l.list.items ++ (drop l.item-index l.these) ≡ shown_items l.initial.list.items ++ l.these
+invariant-loop-item l = shown_items l.list.items ++ (drop l.item-index l.these) ≡ shown_items
+    l.initial.list.items ++ l.these

@@ -5,4 +5,5 @@ use Rattle.ldtree.specs.Numbered.{shown_commons}
 use Rattle.ldtree.proofs.numbering.add_items_commons.Given as goal
 
 abbrev pub invariant-loop-item : goal.invariant-loop-item
-invariant-loop-item l = shown_commons l.list.items ++ items_commons (drop l.item-index l.items) ≡ shown_commons l.initial.list.items ++ items_commons l.items
+invariant-loop-item l = shown_commons l.list.items ++ items_commons
+    (drop l.item-index l.items) ≡ shown_commons l.initial.list.items ++ items_commons l.items

@@ -5,4 +5,5 @@ use Rattle.ldtree.specs.Numbered.{shown_commons}
 use Rattle.ldtree.proofs.numbering.common_commands.Given as goal
 
 abbrev pub invariant-loop-statement : goal.invariant-loop-statement
-invariant-loop-statement l = shown_commons l.list.items ++ common_commands (drop l.statement-index l.statements) ≡ shown_commons l.initial.list.items ++ common_commands l.statements
+invariant-loop-statement l = shown_commons l.list.items ++ common_commands
+    (drop l.statement-index l.statements) ≡ shown_commons l.initial.list.items ++ common_commands l.statements

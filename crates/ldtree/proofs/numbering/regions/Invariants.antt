@@ -5,4 +5,5 @@ use Rattle.ldtree.specs.Numbered.{shown_regions}
 use Rattle.ldtree.proofs.numbering.regions.Given as goal
 
 abbrev pub invariant-loop-statement : goal.invariant-loop-statement
-invariant-loop-statement l = shown_regions l.list.items ++ regions (drop l.statement-index l.statements) ≡ shown_regions l.initial.list.items ++ regions l.statements
+invariant-loop-statement l = shown_regions l.list.items ++ regions
+    (drop l.statement-index l.statements) ≡ shown_regions l.initial.list.items ++ regions l.statements

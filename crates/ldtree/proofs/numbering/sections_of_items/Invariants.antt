@@ -5,4 +5,5 @@ use Rattle.ldtree.specs.Numbered.{shown_sections, shown_items}
 use Rattle.ldtree.proofs.numbering.sections_of_items.Given as goal
 
 abbrev pub invariant-loop-item : goal.invariant-loop-item
-invariant-loop-item l = shown_sections l.list.items ++ sections_in (shown_items (drop l.item-index l.items)) ≡ shown_sections l.initial.list.items ++ sections_in (shown_items l.items)
+invariant-loop-item l = shown_sections l.list.items ++ sections_in
+    (shown_items (drop l.item-index l.items)) ≡ shown_sections l.initial.list.items ++ sections_in (shown_items l.items)

@@ -6,7 +6,8 @@ use Rattle.ldtree.specs.NumberTables.{number_at}
 use Rattle.ldtree.proofs.tables.assigned_names.Given as goal
 
 abbrev pub invariant-loop-left : goal.invariant-loop-left
-invariant-loop-left l = (l.left ≤ length l.commons) × ((name : List ℕ) → number_at l.table name ≡ assigned_from l.left (shown_commons (drop l.left l.commons)) name)
+invariant-loop-left l = (l.left ≤ length l.commons)
+    × ((name : List ℕ) → number_at l.table name ≡ assigned_from l.left (shown_commons (drop l.left l.commons)) name)
 
 abbrev pub decreases-loop-left : goal.decreases-loop-left
 decreases-loop-left l = l.left

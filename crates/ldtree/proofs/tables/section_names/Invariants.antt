@@ -6,7 +6,8 @@ use Rattle.ldtree.specs.NumberTables.{number_at}
 use Rattle.ldtree.proofs.tables.section_names.Given as goal
 
 abbrev pub invariant-loop-left : goal.invariant-loop-left
-invariant-loop-left l = (l.left ≤ length l.sections) × ((name : List ℕ) → number_at l.table name ≡ section_from l.left (shown_sections (drop l.left l.sections)) name)
+invariant-loop-left l = (l.left ≤ length l.sections)
+    × ((name : List ℕ) → number_at l.table name ≡ section_from l.left (shown_sections (drop l.left l.sections)) name)
 
 abbrev pub decreases-loop-left : goal.decreases-loop-left
 decreases-loop-left l = l.left

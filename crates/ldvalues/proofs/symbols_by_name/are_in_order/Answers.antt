@@ -7,4 +7,5 @@ use Rattle.ldvalues.proofs.symbols_by_name.are_in_order.Goals as goal
 pub returns : goal.returns
 returns c =
     ascending c.args.symbols.now c.is_sorted_by_key.result
-    (c.is_sorted_by_key.ensures.cases (λ (x : OutputSymbol). x.name) (answers_always _ _ _ (λ f a r f' k. search rules)))
+    (c.is_sorted_by_key.ensures.cases (λ (x : OutputSymbol). x.name)
+    (answers_always _ _ _ (λ f a r f' k. search rules)))

@@ -7,7 +7,10 @@ use Rattle.ldwords.proofs.command.link_command.Goals as goal
 
 pub returns : goal.returns
 returns c =
-    let empty : IsApp (new_app (codes "link")) c.after_help.result = record { app = search rules; local = search rules } in
+    let empty : IsApp (new_app (codes "link")) c.after_help.result = record {
+      app = search rules;
+      local = search rules;
+    } in
     let one = with_arg _ _ _ _ _ empty c.script_arg.ensures.rule c.script_arg.ensures.local c.in_ok-arg.ensures in
     let two = with_arg _ _ _ _ _ one c.image_arg.ensures.rule c.image_arg.ensures.local c.in_ok-arg-2.ensures in
     let three = with_arg _ _ _ _ _ two c.map_arg.ensures.rule c.map_arg.ensures.local c.in_ok-link.ensures in

@@ -6,5 +6,8 @@ use Rattle.ldwords.proofs.command.session_command.Goals as goal
 
 pub returns : goal.returns
 returns c =
-    let empty : IsApp (new_app (codes "session")) c.after_help-session.result = record { app = search rules; local = search rules } in
+    let empty : IsApp (new_app (codes "session")) c.after_help-session.result = record {
+      app = search rules;
+      local = search rules;
+    } in
     IfOk-weaker c.add_options.result _ _ (λ new adds. adds _ empty) c.add_options.ensures

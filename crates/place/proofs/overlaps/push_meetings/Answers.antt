@@ -11,7 +11,9 @@ loop-k-preserved c =
     found_more c.args.space c.args.extents.now c.loop-k.k (record { start = 0; size = 0 }) c.loop-k.faults.items
     c.push_meeting.new.faults.items _ c.loop-k-test.true
     (c.in_ok-push_meeting.ensures
-    ∙ ap (λ o. c.loop-k.faults.items ++ fault_with c.args.space c.loop-k.k (before c.loop-k.k o)) (get_or_read c.in_ok-firsts.firsts.items c.loop-k.k c.index.result.now (omega (arith, c.loop-k-test.true, c.in_ok-firsts.ensures.count)) c.index.ensures None)
+    ∙ ap (λ o. c.loop-k.faults.items ++ fault_with c.args.space c.loop-k.k (before c.loop-k.k o))
+    (get_or_read c.in_ok-firsts.firsts.items c.loop-k.k c.index.result.now
+    (omega (arith, c.loop-k-test.true, c.in_ok-firsts.ensures.count)) c.index.ensures None)
     ∙ ap (λ l. c.loop-k.faults.items ++ l)
     (meeting_is c.args.space c.args.extents.now c.in_ok-firsts.firsts.items c.loop-k.k _ c.loop-k-test.true
     c.in_ok-firsts.ensures))

@@ -45,7 +45,8 @@ returns-clause-good c =
     let drawable = drawable_at p _ _ _ _ _ f in
     let same = drawn_image p s a _ c.in_ok-fields.fields c.args.canvas.now.bytes c.draw_image.new.canvas.bytes
     c.requires.last c.is_complete.ensures.none
-    (λ old last. c.is_complete.ensures.sound old (known_link p s a) (are_stays p _ _ _ _ f.short f.beside names old last))
+    (λ old last. c.is_complete.ensures.sound old (known_link p s a)
+    (are_stays p _ _ _ _ f.short f.beside names old last))
     f.patches (λ nothing. c.in_ok-draw_image.ensures.image s a drawable nothing)
     (λ old good sound patches before. c.in_ok-draw_image.ensures.redrawn old (new_link p s) a refl drawable good f.good
     sound (subst (ArePatchesOf old (new_link p s)) (sym c.deref-3.ensures.value) patches) before) in

@@ -45,5 +45,6 @@ returns-clause-named c = λ names p v.
     ap (λ (y : Symbol). not (is_local y.binding)) (sym is) ∙ sym c.if-not-is_visible.ensures in
     let named : IsNamed names c.name_in.result (get_or xs c.args.number no_symbol).name =
     subst (λ n. IsNamed names n (get_or xs c.args.number no_symbol).name) (sym (c.name_in.ensures nothing))
-    (seen_named names c.args.seen.now xs c.args.number c.args.at nothing no_symbol p c.requires.within seen c.requires.at) in
+    (seen_named names c.args.seen.now xs c.args.number c.args.at nothing no_symbol p c.requires.within seen
+    c.requires.at) in
     ((get_or xs c.args.number no_symbol).name, named)

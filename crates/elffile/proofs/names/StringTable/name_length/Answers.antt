@@ -4,7 +4,9 @@ use Rattle.elffile.proofs.StringTables.{told_string, told_within}
 use Rattle.elffile.proofs.names.StringTable.name_length.Goals as goal
 
 pub returns-clause-within : goal.returns-clause-within
-returns-clause-within c = told_within (table_of c.args.self.now) c.args.at c.length_at-length.result (sym c.length_at-length.ensures) (omega arith)
+returns-clause-within c = told_within (table_of c.args.self.now) c.args.at c.length_at-length.result
+    (sym c.length_at-length.ensures) (omega arith)
 
 pub returns-clause-name : goal.returns-clause-name
-returns-clause-name c = told_string (table_of c.args.self.now) c.args.at c.length_at-length.result (sym c.length_at-length.ensures) (omega arith)
+returns-clause-name c = told_string (table_of c.args.self.now) c.args.at c.length_at-length.result
+    (sym c.length_at-length.ensures) (omega arith)

@@ -7,4 +7,5 @@ use Rattle.elfobj.proofs.object.Object.relocations.Goals as goal
 
 pub returns-clause-limits : goal.returns-clause-limits
 returns-clause-limits c =
-    subst (λ (o : ObjectData). All (HasRelocationsOfProfile (length o.symbols)) o.sections) c.self.view_is (relocation_limits_of c.self.inside.bytes.items c.self.invariant.refusal)
+    subst (λ (o : ObjectData). All (HasRelocationsOfProfile (length o.symbols)) o.sections) c.self.view_is
+    (relocation_limits_of c.self.inside.bytes.items c.self.invariant.refusal)

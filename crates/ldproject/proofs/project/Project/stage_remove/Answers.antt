@@ -23,4 +23,5 @@ returns-in-Ok-clause-staged c =
     ≡ Some c.in-Ok.place) (sym c.self.view_is) c.in-Ok.ensures.place in
     let accepts = ap (λ (m : Option ℕ). with_objects (held h) (removed (held h).objects m)) (sym place) in
     subst (λ (x : Holding). Stages x change c.staged.result) c.self.view_is
-    (stages_objects h change next c.staged.result early accepts (c.staged.ensures.ok h next c.grow_remove.ensures.staged))
+    (stages_objects h change next c.staged.result early accepts
+    (c.staged.ensures.ok h next c.grow_remove.ensures.staged))

@@ -13,7 +13,8 @@ invariant_of-self-in-None c =
           c.in_ok-count.count c.self.inside.data_count c.in_ok-data_count.data_count c.self.invariant.0
           (next_number c.self.inside.script.now (earlier_of c.self.inside.earlier)
           (both c.self.inside.taken.items c.self.inside.list.items) c.args.self.now
-          c.args.section.output.now c.self.view_is c.statements-statements.ensures.sound c.requires.next) c.requires.fits
+          c.args.section.output.now c.self.view_is c.statements-statements.ensures.sound c.requires.next)
+          c.requires.fits
           (omega (arith, c.in_ok-count.ensures, c.len-2.ensures, length-map c.args.section.pieces.items keyed_piece))
           (omega (arith, c.in_ok-data_count.ensures, c.len-3.ensures))
           c.len.result c.in_ok-kept_at.kept_at (omega (arith, c.len.ensures)) c.in-None.is c.in_ok-kept_at.ensures,
@@ -28,7 +29,8 @@ invariant_of-self-in-Some c =
           c.in_ok-count.count c.self.inside.data_count c.in_ok-data_count.data_count c.self.invariant.0
           (next_number c.self.inside.script.now (earlier_of c.self.inside.earlier)
           (both c.self.inside.taken.items c.self.inside.list.items) c.args.self.now
-          c.args.section.output.now c.self.view_is c.statements-statements.ensures.sound c.requires.next) c.requires.fits
+          c.args.section.output.now c.self.view_is c.statements-statements.ensures.sound c.requires.next)
+          c.requires.fits
           (omega (arith, c.in_ok-count.ensures, c.len-2.ensures, length-map c.args.section.pieces.items keyed_piece))
           (omega (arith, c.in_ok-data_count.ensures, c.len-3.ensures))
           c.in-Some.number c.len.result c.in_ok-kept_at.kept_at (omega (arith, c.len.ensures)) c.in-Some.is

@@ -17,7 +17,8 @@ invariant_of-self-in-None c = (
       ∙ both_taken c.self.inside.taken.items c.self.inside.list.items c.in-Some-section.section
       (none_there c.self.inside.list.items (grind (arith, c.is_empty.ensures, c.if-not-is_empty.false)))))
       (pushed_elsewhere c.self.inside.script.now (both c.self.inside.taken.items c.self.inside.list.items)
-      (keyed_taken c.in-Some-section.section) c.self.inside.differences.items c.self.inside.elsewhere c.self.inside.count
+      (keyed_taken c.in-Some-section.section) c.self.inside.differences.items c.self.inside.elsewhere
+      c.self.inside.count
       c.in_ok-count.count c.self.inside.data_count c.args.data_end c.self.invariant.0
       (next_number c.self.inside.script.now (earlier_of c.self.inside.earlier)
       (both c.self.inside.taken.items c.self.inside.list.items) c.args.self.now c.in-Some-section.section.output.now
@@ -61,7 +62,8 @@ invariant_of-self-in-Some-kept_at c = (
       ∙ both_taken c.self.inside.taken.items c.self.inside.list.items c.in-Some-section.section
       (none_there c.self.inside.list.items (grind (arith, c.is_empty.ensures, c.if-not-is_empty.false)))))
       (pushed_in c.self.inside.script.now (both c.self.inside.taken.items c.self.inside.list.items)
-      (keyed_taken c.in-Some-section.section) c.self.inside.differences.items c.self.inside.elsewhere c.self.inside.count
+      (keyed_taken c.in-Some-section.section) c.self.inside.differences.items c.self.inside.elsewhere
+      c.self.inside.count
       c.in_ok-count.count c.self.inside.data_count c.args.data_end c.self.invariant.0
       (next_number c.self.inside.script.now (earlier_of c.self.inside.earlier)
       (both c.self.inside.taken.items c.self.inside.list.items) c.args.self.now c.in-Some-section.section.output.now

@@ -6,7 +6,8 @@ use Rattle.ldterms.proofs.pattern.Pattern.exact_name.Goals as goal
 
 value : goal.returns-in-Exact-clause-value
 value c =
-    sym (ap exact_name (sym (ap parts_in c.in-Exact.is) ∙ c.self.view_is)) ∙ exact_of_bytes c.in-Exact.name ∙ ap Some (sym c.as_bytes.ensures)
+    sym (ap exact_name (sym (ap parts_in c.in-Exact.is) ∙ c.self.view_is)) ∙ exact_of_bytes c.in-Exact.name
+    ∙ ap Some (sym c.as_bytes.ensures)
 
 pub returns-in-Exact-clause-value : goal.returns-in-Exact-clause-value
 returns-in-Exact-clause-value c = value c

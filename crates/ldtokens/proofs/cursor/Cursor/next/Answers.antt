@@ -7,4 +7,5 @@ use Rattle.ldtokens.proofs.cursor.Cursor.next.Goals as goal
 pub invariant_of-result : goal.invariant_of-result
 invariant_of-result c =
     let size = length c.self.inside.text.now in
-    All-tail (IsPlace size) c.in_ok-first.first c.in_ok-first.rest.now (subst (λ tokens. All (IsPlace size) tokens) c.in_ok-first.ensures c.self.invariant)
+    All-tail (IsPlace size) c.in_ok-first.first c.in_ok-first.rest.now
+    (subst (λ tokens. All (IsPlace size) tokens) c.in_ok-first.ensures c.self.invariant)

@@ -50,7 +50,8 @@ place_items-requires g c = (
             (ap (run (statement_step (rows_of g.naming c.args.self.now) c.args.self.now.provided.now)
             (layout_of g.naming c.args.here.now c.args.done.now)) (sym c.of-parts.ensures.before)
             ∙ c.in_ok-place_statements.ensures.gives)
-            (let none = ap (λ (z : Outputs). length (map (section_of g.naming) z.list)) c.place_statements.ensures.sections
+            (let none = ap (λ (z : Outputs). length (map (section_of g.naming) z.list))
+            c.place_statements.ensures.sections
             ∙ ap (λ l. length (map (section_of g.naming) l)) c.requires.0 in omega (arith, none))
             (c.requires.1.1.1.1 other some),
       ),

@@ -56,7 +56,8 @@ returns-clause-ok c =
     ∙ c.insert_reserved.ensures.updates.changed ∙ ap Some c.len-place.ensures.len in
     let others : (m : ℕ) → m ≢ n → get_or c.insert_reserved.new.self.slots m None ≡ get_or a.places.slots m None =
     λ m ne. c.insert_reserved.ensures.updates.others m (λ e. ne (e ∙ at)) ∙ ap (λ l. get_or l m None) same in
-    let takes = takes_stored a.numbers.entries c.insert.new.self.entries a.places.slots c.insert_reserved.new.self.slots n
+    let takes = takes_stored a.numbers.entries c.insert.new.self.entries a.places.slots
+    c.insert_reserved.new.self.slots n
     key c.self.invariant.within entries was now others in
     slot_spelled (stored c.insert.new.self.entries c.insert_reserved.new.self.slots) c.insert_reserved.result
     ∙ ap (λ m. spelled (get_or (stored c.insert.new.self.entries c.insert_reserved.new.self.slots) m None)) at
