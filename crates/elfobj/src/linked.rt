@@ -15,7 +15,7 @@ use std::alloc::{AllocError, Global};
 
 /// The linked sections in table order, and where the parts of each lie.
 #[derive(Drop)]
-pub struct Linked {
+pub struct LinkedSections {
     /// The sections.
     pub sections: Vec<Section>,
     /// The place of each.
@@ -46,7 +46,7 @@ fn placed_section(
     (section, place_of(names, header, kind, bytes.len()))
 }
 
-impl Linked {
+impl LinkedSections {
     fn push(&mut self, section: Section, place: Place) -> Result<(), AllocError>
         ensures sections { OnOk result (self.new.sections.items ≡ self.old.sections.items ++ section ∷ []) }
         ensures places { OnOk result (self.new.places.items ≡ self.old.places.items ++ place ∷ []) }
@@ -63,7 +63,7 @@ pub fn linked_sections(
     bytes: &[u8],
     names: &StringTable,
     headers: &[SectionHeader],
-) -> Result<Linked, AllocError>
+) -> Result<LinkedSections, AllocError>
     requires table { HasSectionTable bytes.now }
     requires names { IsNameTable bytes.now names.now.header }
     requires file { names.now.file.now ≡ bytes.now }
@@ -71,7 +71,7 @@ pub fn linked_sections(
     requires tests { PassesTests bytes.now }
     ensures { IfOk result (λ l. AreRead bytes.now (sections_of bytes.now) l.sections.items l.places.items) }
 {
-    let mut linked = Linked {
+    let mut linked = LinkedSections {
         sections: Vec::new(alloc),
         places: Vec::new(alloc),
     };

@@ -11,7 +11,7 @@ ghost use Rattle.elffile.specs.SectionTable.{HasSectionTable};
 ghost use Rattle.elffile.specs.TableOf.{table_of};
 ghost use Rattle.elffile.specs.declared.refusal.ObjectRefusal.TheVariants.{NoMemory, SectionBounds};
 
-use crate::linked::{Linked, linked_sections};
+use crate::linked::{LinkedSections, linked_sections};
 use crate::place::place_relocations;
 use crate::refusal::ObjectRefusal;
 use crate::relocation::Relocation;
@@ -63,7 +63,7 @@ fn has_wrong_bounds(bytes: &[u8], names: &SectionHeader, headers: &[SectionHeade
 #[derive(Drop)]
 pub struct Parts {
     /// Its linked sections.
-    pub linked: Linked,
+    pub linked: LinkedSections,
     /// Its symbols.
     pub symbols: Symbols,
     /// The relocations of all linked sections.

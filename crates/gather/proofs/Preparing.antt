@@ -19,13 +19,13 @@ use Rattle.gather.specs.declared.member.Member.{Member}
 use Rattle.ldmodel.specs.NameFaults.{object_name}
 use Rattle.ldmodel.specs.Project.{NamedObject, Project}
 use Rattle.ldproject.specs.Inputs.{shown_input, shown_inputs}
-use Rattle.ldproject.specs.declared.input.Input.{Input}
+use Rattle.ldproject.specs.declared.input.InputObject.{InputObject}
 use Rattle.gather.specs.ProjectMatches.{AreMatched, IsMatched}
 use Rattle.gather.specs.ProjectMembers.{AreBlocks, AreBlocksOf, IsAscending, blocks_at, by_place}
 use Rattle.gather.specs.declared.matches.Matches.{Matches}
 use Rattle.gather.proofs.Lists.{zip_at, zip_end, zip_from, zip_member, zip_more, zip_next}
 
-pub object_here : (p : Project) (inputs : List Input) (n : ℕ) (x : Input) → shown_inputs inputs ≡ p.objects
+pub object_here : (p : Project) (inputs : List InputObject) (n : ℕ) (x : InputObject) → shown_inputs inputs ≡ p.objects
     → n < length inputs → get_or inputs n x ≡ x → slice_get p.objects n ≡ Some (shown_input x)
 object_here p inputs n x are low here =
     let within : n < length (shown_inputs inputs) = omega (arith, low, length-map inputs shown_input) in
@@ -33,7 +33,7 @@ object_here p inputs n x are low here =
     ∙ (slice_get-get_or (shown_inputs inputs) n (shown_input x) within
     ∙ ap (λ (o : NamedObject). Some o) (get_or-map shown_input inputs n x (shown_input x) low ∙ ap shown_input here))
 
-pub as_many : (p : Project) (inputs : List Input) → shown_inputs inputs ≡ p.objects → length p.objects ≡ length inputs
+pub as_many : (p : Project) (inputs : List InputObject) → shown_inputs inputs ≡ p.objects → length p.objects ≡ length inputs
 as_many p inputs are = ap length (sym are) ∙ length-map inputs shown_input
 
 -- the objects so far are matched

@@ -11,14 +11,14 @@ use crate::matches::Matches;
 use crate::member::{CommonBlock, Member};
 use ldmodel::memory::NoMemory;
 use ldmodel::names::ObjectKey;
-use ldproject::input::Input;
+use ldproject::input::InputObject;
 use ldproject::view::ProjectView;
 use std::alloc::Global;
 
 /// An object under its place, with the statements that take its sections and its common blocks.
 fn member<'a>(
     place: usize,
-    input: &Input<'a>,
+    input: &InputObject<'a>,
     matches: &'a Matches,
     blocks: &'a [CommonBlock],
 ) -> Member<'a>
@@ -52,7 +52,7 @@ pub(crate) fn members<'a>(
     ensures members { IfOk result (λ all. AreMembers project.now (by_place project.now) all.items) }
     ensures ascending { IfOk result (λ all. AscendingSections project.now) }
 {
-    let inputs: &'a [Input<'a>] = project.inputs();
+    let inputs: &'a [InputObject<'a>] = project.inputs();
     let mut all = Vec::with_capacity(alloc, inputs.len())?;
     for (place, input) in inputs.iter().enumerate() {
         let own: &'a Matches = matches[place];

@@ -19,7 +19,7 @@ use std::io::{Read, Write};
 
 /// What a session leaves.
 #[derive(Drop)]
-pub struct Ended<W: Drop> {
+pub struct SessionEnd<W: Drop> {
     /// How it ended.
     pub outcome: Result<Status, RunFault>,
     /// The writer that the answers were written to.
@@ -38,7 +38,7 @@ pub fn session<R: Read + Drop, W: Write + Drop>(
     reader: R,
     writer: W,
     options: Options,
-) -> Result<Ended<W>, NoMemory>
+) -> Result<SessionEnd<W>, NoMemory>
     // The answers are those of the definition, from the empty project with these options.
     ensures answers { IfOk result (λ ended. IfOk ended.outcome (λ status. IfSome (R.remaining reader) (λ stream.
         (out : List ℕ) × (last : Project)
@@ -53,5 +53,5 @@ pub fn session<R: Read + Drop, W: Write + Drop>(
     let mut linker = Session::new(alloc, seed, options)?;
     let outcome = run(alloc, &mut source, &mut sink, &mut linker);
     let writer = sink.into_writer();
-    Ok(Ended { outcome, writer })
+    Ok(SessionEnd { outcome, writer })
 }

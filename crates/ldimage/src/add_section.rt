@@ -16,7 +16,7 @@ use ldmodel::memory::NoMemory;
 
 /// How far the parts of an output section are added.
 #[derive(Clone, Copy)]
-pub struct Cursor {
+pub struct SectionCursor {
     /// How many input sections.
     pub pieces: usize,
     /// How many data commands.
@@ -40,9 +40,9 @@ fn place(x: &ImageSection<'_>, at: u64) -> usize
 fn add_next_data<'a>(
     out: &mut Vec<Stretch<'a>>,
     x: &ImageSection<'a>,
-    cursor: Cursor,
+    cursor: SectionCursor,
     limit: u64,
-) -> Result<Cursor, NoMemory>
+) -> Result<SectionCursor, NoMemory>
     requires orderly { IsOrderly x.now }
     requires reached { IsReached x.now cursor.pieces cursor.data_commands cursor.at }
     requires stand { Stand 0 (place_of x.now cursor.at) out.old.items }
@@ -61,7 +61,7 @@ fn add_next_data<'a>(
     let from = place(x, d.start);
     add_fill(out, place(x, cursor.at), from, x.fill)?;
     add_data(out, from, place(x, end), d)?;
-    Ok(Cursor {
+    Ok(SectionCursor {
         pieces: cursor.pieces,
         data_commands: cursor.data_commands + 1,
         at: end,
@@ -72,9 +72,9 @@ fn add_next_data<'a>(
 fn add_data_before<'a>(
     out: &mut Vec<Stretch<'a>>,
     x: &ImageSection<'a>,
-    cursor: Cursor,
+    cursor: SectionCursor,
     limit: u64,
-) -> Result<Cursor, NoMemory>
+) -> Result<SectionCursor, NoMemory>
     requires orderly { IsOrderly x.now }
     requires reached { IsReached x.now cursor.pieces cursor.data_commands cursor.at }
     requires stand { Stand 0 (place_of x.now cursor.at) out.old.items }
@@ -100,8 +100,8 @@ fn add_data_before<'a>(
 fn add_full_piece<'a>(
     out: &mut Vec<Stretch<'a>>,
     x: &ImageSection<'a>,
-    cursor: Cursor,
-) -> Result<Cursor, NoMemory>
+    cursor: SectionCursor,
+) -> Result<SectionCursor, NoMemory>
     requires orderly { IsOrderly x.now }
     requires reached { IsReached x.now cursor.pieces cursor.data_commands cursor.at }
     requires stand { Stand 0 (place_of x.now cursor.at) out.old.items }
@@ -119,7 +119,7 @@ fn add_full_piece<'a>(
     let from = place(x, piece.start);
     add_fill(out, place(x, now.at), from, x.fill)?;
     add_piece(out, from, place(x, end), piece)?;
-    Ok(Cursor {
+    Ok(SectionCursor {
         pieces: now.pieces + 1,
         data_commands: now.data_commands,
         at: end,
@@ -130,8 +130,8 @@ fn add_full_piece<'a>(
 fn add_next_piece<'a>(
     out: &mut Vec<Stretch<'a>>,
     x: &ImageSection<'a>,
-    cursor: Cursor,
-) -> Result<Cursor, NoMemory>
+    cursor: SectionCursor,
+) -> Result<SectionCursor, NoMemory>
     requires orderly { IsOrderly x.now }
     requires reached { IsReached x.now cursor.pieces cursor.data_commands cursor.at }
     requires stand { Stand 0 (place_of x.now cursor.at) out.old.items }
@@ -143,7 +143,7 @@ fn add_next_piece<'a>(
         Grown out.old.items out.new.items (place_of x.now cursor.at) (place_of x.now c.at) (section_image x.now)) }
 {
     if x.pieces[cursor.pieces].size == 0 {
-        return Ok(Cursor {
+        return Ok(SectionCursor {
             pieces: cursor.pieces + 1,
             data_commands: cursor.data_commands,
             at: cursor.at,
@@ -162,7 +162,7 @@ pub(crate) fn add_section<'a>(
     ensures { OnOk result
         (Grown out.old.items out.new.items x.now.offset (x.now.offset + x.now.size) (section_image x.now)) }
 {
-    let mut cursor = Cursor {
+    let mut cursor = SectionCursor {
         pieces: 0,
         data_commands: 0,
         at: x.start,

@@ -21,12 +21,12 @@ use std::marker::Model;
 
 /// A part of the image, and where it stands.
 #[derive(Drop)]
-pub struct Part {
+pub struct TailPart {
     offset: u64,
     bytes: Vec<u8>,
 }
 
-impl Model for Part {
+impl Model for TailPart {
     ghost use Rattle.ldmodel.specs.SectionHeaders.{FilePart};
 
     ghost Value = { FilePart };
@@ -34,15 +34,15 @@ impl Model for Part {
     ghost view = { λ x. record { offset = x.offset; bytes = x.bytes.items } };
 }
 
-impl Part {
+impl TailPart {
     ghost use Rattle.std.specs.Prelude.{◌≡◌};
     ghost use Rattle.ldmodel.specs.SectionHeaders.{part_at};
 
     /// These bytes at this offset in the file.
-    pub fn new(offset: u64, bytes: Vec<u8>) -> Part
+    pub fn new(offset: u64, bytes: Vec<u8>) -> TailPart
         ensures { result ≡ part_at offset bytes.items }
     {
-        Part { offset, bytes }
+        TailPart { offset, bytes }
     }
 
     /// Where the first byte of the part stands in the file.
@@ -63,22 +63,22 @@ impl Part {
 /// The three tables, each right after the one before it.
 #[derive(Drop)]
 struct Tables {
-    symbols: Part,
-    symbol_names: Part,
-    header_names: Part,
+    symbols: TailPart,
+    symbol_names: TailPart,
+    header_names: TailPart,
 }
 
 /// The tail of an image.
 #[derive(Drop)]
 pub struct TailParts {
     /// `.symtab`.
-    pub symbols: Part,
+    pub symbols: TailPart,
     /// `.strtab`.
-    pub symbol_names: Part,
+    pub symbol_names: TailPart,
     /// `.shstrtab`.
-    pub header_names: Part,
+    pub header_names: TailPart,
     /// The section headers.
-    pub headers: Part,
+    pub headers: TailPart,
 }
 
 /// The least multiple of 8 not below `n`; no image has room for one past 2^64.
@@ -89,7 +89,7 @@ fn aligned(n: u64) -> Result<u64, NoMemory>
 }
 
 /// Where a part ends.
-fn end_of(part: &Part) -> Result<u64, NoMemory>
+fn end_of(part: &TailPart) -> Result<u64, NoMemory>
     ensures { IfOk result (λ x. x ≡ end_of_part part.now) }
 {
     part.offset()
@@ -98,15 +98,15 @@ fn end_of(part: &Part) -> Result<u64, NoMemory>
 }
 
 /// Bytes right after a part.
-fn after(part: &Part, bytes: Vec<u8>) -> Result<Part, NoMemory>
+fn after(part: &TailPart, bytes: Vec<u8>) -> Result<TailPart, NoMemory>
     ensures { IfOk result (λ x. x ≡ part_at (end_of_part part.now) bytes.items) }
 {
     let offset = end_of(part)?;
-    Ok(Part::new(offset, bytes))
+    Ok(TailPart::new(offset, bytes))
 }
 
 /// The header of the symbol table; `names` is the number of the header of its names.
-fn symbols_header(name: u64, part: &Part, names: u64) -> Header
+fn symbols_header(name: u64, part: &TailPart, names: u64) -> Header
     ensures { header_of result ≡ table_header name SHT_SYMTAB part.now names 1 8 24 }
 {
     Header {
@@ -124,7 +124,7 @@ fn symbols_header(name: u64, part: &Part, names: u64) -> Header
 }
 
 /// The header of a string table.
-fn strings_header(name: u64, part: &Part) -> Header
+fn strings_header(name: u64, part: &TailPart) -> Header
     ensures { header_of result ≡ table_header name SHT_STRTAB part.now 0 0 1 0 }
 {
     Header {
@@ -181,7 +181,7 @@ fn place_tables(end: u64, symbols: SymbolTables, header_names: Vec<u8>) -> Resul
     ensures symbol_names { IfOk result (λ t. t.symbol_names ≡ part_at (end_of_part t.symbols) symbols.names.items) }
     ensures header_names { IfOk result (λ t. t.header_names ≡ part_at (end_of_part t.symbol_names) header_names.items) }
 {
-    let entries = Part::new(aligned(end)?, symbols.entries);
+    let entries = TailPart::new(aligned(end)?, symbols.entries);
     let names = after(&entries, symbols.names)?;
     let header_names = after(&names, header_names)?;
     Ok(Tables {
@@ -222,6 +222,6 @@ pub fn tail(
         symbols: tables.symbols,
         symbol_names: tables.symbol_names,
         header_names: tables.header_names,
-        headers: Part::new(offset, headers),
+        headers: TailPart::new(offset, headers),
     })
 }

@@ -16,7 +16,7 @@ use Rattle.ldmodel.specs.Targets.{referenced_value}
 use Rattle.ldmodel.specs.declared.names.ObjectKey.{ObjectKey}
 use Rattle.ldnaming.specs.Naming.{NamingState}
 use Rattle.ldproject.specs.Inputs.{shown_input, shown_inputs}
-use Rattle.ldproject.specs.declared.input.Input.{Input}
+use Rattle.ldproject.specs.declared.input.InputObject.{InputObject}
 use Rattle.ldtargets.specs.KnownLink.{AreNameValues, IsSymbolOf, KnownLink, named_object}
 use Rattle.ldtargets.specs.Values.{value_of}
 use Rattle.ldtargets.specs.declared.value.SymbolValue.{SymbolValue}
@@ -203,7 +203,7 @@ value_found [] k v e = absurd (let none : ⊥ = cc in none)
 value_found (x ∷ xs) zero v e = same_Some _ _ e
 value_found (x ∷ xs) (suc k) v e = value_found xs k v e
 
-module _ (p : Project) (link : LinkView) (names : List SymbolValue) (inputs : List Input) where
+module _ (p : Project) (link : LinkView) (names : List SymbolValue) (inputs : List InputObject) where
   pub empty_table : TableSoFar p link names (shown_inputs inputs) 0 [] []
   unfolding total
   empty_table = record {
@@ -213,7 +213,7 @@ module _ (p : Project) (link : LinkView) (names : List SymbolValue) (inputs : Li
     values_are = λ s a view named same. refl;
   }
 
-  pub one_object_more : (n : ℕ) (starts now_starts : List ℕ) (values now : List SymbolValue) (input : Input)
+  pub one_object_more : (n : ℕ) (starts now_starts : List ℕ) (values now : List SymbolValue) (input : InputObject)
       → n < length inputs → input ≡ get_or inputs n input → now_starts ≡ starts ++ length values ∷ []
       → length now ≡ length values + length (input.object.now).symbols
       → ((l : KnownLink) (o : NamedObject) → IsLinkView l link → AreNameValues l names

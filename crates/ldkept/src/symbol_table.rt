@@ -14,7 +14,7 @@ use elfobj::object::Object;
 use elfobj::relocation::SymbolIndex;
 use ldmodel::memory::NoMemory;
 use ldmodel::names::ObjectKey;
-use ldproject::input::Input;
+use ldproject::input::InputObject;
 use ldproject::view::ProjectView;
 pub use ldtargets::symbol_table::SymbolTable;
 use ldtargets::target::referenced_value;
@@ -23,7 +23,7 @@ use ldvalues::link_view::LinkView;
 use std::alloc::{AllocError, Global};
 
 /// How many symbols these objects have. Fails where they are too many for any memory.
-fn count_symbols(inputs: &[Input<'_>]) -> Result<usize, NoMemory> {
+fn count_symbols(inputs: &[InputObject<'_>]) -> Result<usize, NoMemory> {
     let mut count: usize = 0;
     for input in inputs {
         count = count

@@ -19,7 +19,7 @@ use Rattle.ldmodel.specs.Sections.{InputSection}
 use Rattle.ldmodel.specs.Sorting.{insert_by, sort_by}
 use Rattle.ldlayout.proofs.Lists.{each_filter, each_into_map}
 use Rattle.ldproject.specs.Inputs.{shown_input, shown_inputs}
-use Rattle.ldproject.specs.declared.input.Input.{Input}
+use Rattle.ldproject.specs.declared.input.InputObject.{InputObject}
 use Rattle.ldlayout.specs.InPlace.{IsObjectName, IsOwned, has_no_name}
 use Rattle.ldlayout.proofs.Members.{Comes, any_in, each_join, here, in_map, later}
 
@@ -139,7 +139,7 @@ module _ (p : Project) (Holds : List ℕ → Type 0) (named : (o : NamedObject) 
 
 -- ---- objects with names
 
-pub all_named : (p : Project) (inputs : List Input) → shown_inputs inputs ≡ p.objects
+pub all_named : (p : Project) (inputs : List InputObject) → shown_inputs inputs ≡ p.objects
     → list_any has_no_name inputs ≡ false → (o : NamedObject) → Contains p.objects o → IsObjectName p o.name
 all_named p inputs same none o c = record {
   object = o;
@@ -155,7 +155,7 @@ all_named p inputs same none o c = record {
         go true e = absurd (true≢false (sym (any_in has_no_name inputs k.origin k.among e) ∙ none))
         go false e = let other = eqb-false (length k.origin.name.now) 0 e in omega (arith, other)
 
-pub all_owned : (p : Project) (inputs : List Input) → shown_inputs inputs ≡ p.objects
+pub all_owned : (p : Project) (inputs : List InputObject) → shown_inputs inputs ≡ p.objects
     → list_any has_no_name inputs ≡ false → (test : InputSection → Bool) × (live p ≡ filter test (candidates p))
     → Each (IsOwned p) (flat_map (λ (row : List Piece). row) (rows p))
 all_owned p inputs same none in_order = of_rows p (IsObjectName p) (all_named p inputs same none) in_order

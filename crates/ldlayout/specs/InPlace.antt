@@ -6,7 +6,7 @@ use Rattle.ldmodel.specs.Project.{NamedObject, Project}
 use Rattle.ldmodel.specs.Rows.{Piece}
 use Rattle.ldlaws.specs.PlacedOnce.{Differ}
 use Rattle.ldlaws.specs.Spread.{EachLater, IsSpread, entries_in}
-use Rattle.ldproject.specs.declared.input.Input.{Input}
+use Rattle.ldproject.specs.declared.input.InputObject.{InputObject}
 
 -- an object of the project has this name, which is not empty
 pub record IsObjectName (p : Project) (name : List ℕ) : Type 0 where
@@ -29,5 +29,5 @@ pub record AreInPlace (p : Project) (s : Layout) : Type 0 where
   pub owned : Each (IsOwned p) (entries_of s)
   pub spread : Each IsSpread s.sections
 
-abbrev pub has_no_name : Input → Bool
+abbrev pub has_no_name : InputObject → Bool
 has_no_name x = length x.name.now == 0

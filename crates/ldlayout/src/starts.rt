@@ -22,7 +22,7 @@ use ldmodel::laid::OutputIndex;
 use ldmodel::memory::NoMemory;
 use ldmodel::rows::Piece;
 use ldmodel::sections::{Part, SectionKey};
-use ldproject::input::Input;
+use ldproject::input::InputObject;
 use ldproject::view::ProjectView;
 use std::alloc::{AllocError, Global};
 
@@ -47,7 +47,7 @@ pub struct Starts {
 }
 
 /// Whether one of these objects has no name.
-fn has_unnamed(inputs: &[Input<'_>]) -> bool
+fn has_unnamed(inputs: &[InputObject<'_>]) -> bool
     ensures { result ≡ list_any has_no_name inputs.now }
 {
     inputs.iter().any(|input| input.name.is_empty())

@@ -44,7 +44,7 @@ use Rattle.ldmodel.specs.declared.names.NameKey.{NameKey}
 use Rattle.ldproject.specs.ByPlace.{faults_in}
 use Rattle.symres.specs.State.{AreDistinct, IsNamed, slot}
 use Rattle.ldproject.specs.Inputs.{shown_inputs}
-use Rattle.ldproject.specs.declared.input.Input.{Input}
+use Rattle.ldproject.specs.declared.input.InputObject.{InputObject}
 use Rattle.ldnaming.specs.Decided.{HasCase, case_at}
 use Rattle.ldnaming.specs.Entered.{tables_of}
 use Rattle.ldnaming.specs.Duplicates.{AreFound, Begins, IsDoubled, IsTableAt, by_place, declared_by, definer_before}
@@ -612,7 +612,7 @@ unfolding declarations_of
 declarations-append ts us = flat_map-append declarations_in ts us
 
 -- the table of an object of the project
-pub is_table_at : (p : Project) (a : NamingState) (inputs : List Input) (i : ℕ) (x : Input) → IsNaming p a
+pub is_table_at : (p : Project) (a : NamingState) (inputs : List InputObject) (i : ℕ) (x : InputObject) → IsNaming p a
     → shown_inputs inputs ≡ p.objects → i < length inputs → get_or inputs i x ≡ x
     → IsTableAt a.objects i x.object.now.symbols
 is_table_at p a inputs i x naming same within here =
@@ -625,7 +625,7 @@ is_table_at p a inputs i x naming same within here =
     }
 
 -- an object more
-pub object_more : (p : Project) (names : List (Option (List ℕ))) (inputs : List Input) (i : ℕ) (x : Input)
+pub object_more : (p : Project) (names : List (Option (List ℕ))) (inputs : List InputObject) (i : ℕ) (x : InputObject)
     (old new : List (Option code_names.Entry)) (faults faults' : List code.Fault)
     → shown_inputs inputs ≡ p.objects → i < length inputs → get_or inputs i x ≡ x
     → ((ds : List Declaration) → Steps p names ds old new faults faults' (declarations_in (i, symbols_of x)))
@@ -652,7 +652,7 @@ object_more p names inputs i x old new faults faults' same within here step h =
     subst (λ (ds : List Declaration). AreFound p names ds new faults') (sym first)
     (step (declarations_of (take i tables)) (declarations_of (drop (i + 1) tables), all) h)
 
-pub objects_all : (p : Project) (names : List (Option (List ℕ))) (inputs : List Input) (i : ℕ)
+pub objects_all : (p : Project) (names : List (Option (List ℕ))) (inputs : List InputObject) (i : ℕ)
     (new : List (Option code_names.Entry)) (faults : List code.Fault)
     → shown_inputs inputs ≡ p.objects → length inputs ≤ i
     → AreFound p names (declarations_of (take i (enumerate_from 0 (symbol_tables p.objects)))) new faults

@@ -18,8 +18,8 @@ use Rattle.ldmodel.specs.declared.names.Case.TheVariants as case
 use Rattle.ldproject.specs.Tables.{place_or_0}
 use Rattle.symres.specs.State as keyed
 use Rattle.symres.specs.State.{HasName, IsNamed, entries_of}
-use Rattle.ldnames.specs.Decided.{HasCase, case_at, decision_in}
-use Rattle.ldnames.specs.Decisions.{AreKept, DecisionsState, IsCaseNamed}
+use Rattle.lddecisions.specs.Decided.{HasCase, case_at, decision_in}
+use Rattle.lddecisions.specs.Decisions.{AreKept, DecisionsState, IsCaseNamed}
 use Rattle.ldnaming.specs.Keyed.{HasKey}
 use Rattle.ldnaming.specs.Naming.{IsNameAt, IsNaming, IsSeenAt, state_of}
 use Rattle.ldnaming.specs.Placed.{by_place, keys_of, place_case}

@@ -20,8 +20,8 @@ use Rattle.ldmodel.specs.Names.{names_in_objects, symbol_tables}
 use Rattle.ldmodel.specs.OutputSymbols.{is_before}
 use Rattle.ldmodel.specs.Project.{NamedObject, Project}
 use Rattle.symres.specs.State.{AreDistinct, IsListing, IsNamed}
-use Rattle.ldnames.specs.Counted.{declared_names}
-use Rattle.ldnames.specs.Decisions.{DecisionsState}
+use Rattle.lddecisions.specs.Counted.{declared_names}
+use Rattle.lddecisions.specs.Decisions.{DecisionsState}
 use Rattle.ldnaming.specs.Naming.{IsNaming, NamingState, state_of}
 use Rattle.ldnaming.specs.Sorted.{AreSorted, named_number}
 use Rattle.ldnaming.specs.declared.sorted.NamedKey.{NamedKey}

@@ -12,8 +12,8 @@ use Rattle.ldmodel.specs.declared.names.Case.{Case}
 use Rattle.ldmodel.specs.declared.names.Case.TheVariants as case
 use Rattle.ldproject.specs.Tables.{place_or_0}
 use Rattle.symres.specs.State.{HasName, IsNamed, entries_of}
-use Rattle.ldnames.specs.Decided.{HasCase, case_at, is_doubled}
-use Rattle.ldnames.specs.Decisions.{DecisionsState}
+use Rattle.lddecisions.specs.Decided.{HasCase, case_at, is_doubled}
+use Rattle.lddecisions.specs.Decisions.{DecisionsState}
 use Rattle.ldnaming.specs.Naming.{IsNaming, state_of}
 use Rattle.ldnaming.specs.Placed.{keys_of, place_case}
 use Rattle.ldnaming.proofs.Doubling.{case_duplicate, not_duplicate}

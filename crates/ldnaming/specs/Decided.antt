@@ -1,2 +1,2 @@
 -- The cases of names under their keys.
-pub use Rattle.ldnames.specs.Decided.{case_at, HasCase}
+pub use Rattle.lddecisions.specs.Decided.{case_at, HasCase}

@@ -18,7 +18,7 @@ use Rattle.ldmodel.specs.declared.fault.Fault.TheVariants as variant
 use Rattle.ldmodel.specs.declared.names.Entry as code_names
 use Rattle.ldmodel.specs.declared.names.NameKey.{NameKey}
 use Rattle.ldproject.specs.ByPlace.{faults_in}
-pub use Rattle.ldnames.specs.Decided.{is_doubled}
+pub use Rattle.lddecisions.specs.Decided.{is_doubled}
 use Rattle.symres.specs.State.{IsNamed}
 
 -- an entry, by the place of its object

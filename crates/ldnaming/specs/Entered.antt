@@ -4,7 +4,7 @@ use Rattle.std.specs.List.{enumerate_from}
 use Rattle.elfobj.specs.Symbols.{NamedSymbol}
 use Rattle.ldmodel.specs.Names.{symbol_tables}
 use Rattle.ldproject.specs.Inputs.{shown_inputs}
-use Rattle.ldproject.specs.declared.input.Input.{Input}
+use Rattle.ldproject.specs.declared.input.InputObject.{InputObject}
 
-abbrev pub tables_of : List Input → List (ℕ × List NamedSymbol)
+abbrev pub tables_of : List InputObject → List (ℕ × List NamedSymbol)
 tables_of inputs = enumerate_from 0 (symbol_tables (shown_inputs inputs))

@@ -9,8 +9,8 @@ use Rattle.ldmodel.specs.Names.{decision, is_local, symbol_tables}
 use Rattle.ldmodel.specs.Project.{Project}
 use Rattle.ldmodel.specs.declared.names.Case.{Case}
 use Rattle.symres.specs.State.{IsNamed, HasName}
-use Rattle.ldnames.specs.Decided.{case_at}
-use Rattle.ldnames.specs.Decisions.{DecisionsState}
+use Rattle.lddecisions.specs.Decided.{case_at}
+use Rattle.lddecisions.specs.Decisions.{DecisionsState}
 use Rattle.ldnaming.specs.Placed.{by_place, place_case}
 
 -- what is kept between links, where objects have keys; and what a link sees of it, where they have places: the symbol

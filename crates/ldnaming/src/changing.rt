@@ -2,17 +2,17 @@
 
 ghost use Rattle.std.specs.Prelude.{◌≡◌, ◌++◌, List, OnOk};
 ghost use Rattle.ldtree.specs.declared.statement.Statement.{Statement};
-ghost use Rattle.ldnames.specs.Change.{changed_tables, declared_by, Fits, IsReadyFor, reversed};
-ghost use Rattle.ldnames.specs.Counted.{CountsNames, declared_names};
-ghost use Rattle.ldnames.specs.Decisions.{AreKept};
-ghost use Rattle.ldnames.specs.Room.{KeepsUsed};
+ghost use Rattle.lddecisions.specs.Change.{changed_tables, declared_by, Fits, IsReadyFor, reversed};
+ghost use Rattle.lddecisions.specs.Counted.{CountsNames, declared_names};
+ghost use Rattle.lddecisions.specs.Decisions.{AreKept};
+ghost use Rattle.lddecisions.specs.Room.{KeepsUsed};
 ghost use Rattle.ldnaming.specs.Placed.{keys_of};
 ghost use Rattle.symres.specs.State.{Forgets};
 
 use crate::naming::Naming;
 use ldbase::meter::Meter;
+use lddecisions::change::ObjectChange;
 use ldmodel::memory::NoMemory;
-use ldnames::change::ObjectChange;
 use ldproject::order::Order;
 use ldscript::script::Script;
 use std::mem;

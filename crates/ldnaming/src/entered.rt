@@ -1,15 +1,15 @@
 //! The objects of a link as they are entered first.
 
 ghost use Rattle.std.specs.Prelude.{◌≡◌, IfOk, map};
-ghost use Rattle.ldnames.specs.Keyed as keyed;
-ghost use Rattle.ldnames.specs.Keyed.{AreApart};
-ghost use Rattle.ldnames.specs.declared.keyed.Keyed.{Keyed};
+ghost use Rattle.lddecisions.specs.Keyed as keyed;
+ghost use Rattle.lddecisions.specs.Keyed.{AreApart};
+ghost use Rattle.lddecisions.specs.declared.keyed.Keyed.{Keyed};
 ghost use Rattle.ldnaming.specs.Entered.{tables_of};
 
+use lddecisions::keyed::Keyed;
 use ldmodel::memory::NoMemory;
 use ldmodel::names::ObjectKey;
-use ldnames::keyed::Keyed;
-use ldproject::input::Input;
+use ldproject::input::InputObject;
 use std::alloc::Global;
 
 /// These objects, each under its place.
@@ -17,7 +17,7 @@ use std::alloc::Global;
 /// # Errors
 ///
 /// Where memory runs out.
-pub fn by_place<'a>(alloc: Global, inputs: &[Input<'a>]) -> Result<Vec<Keyed<'a>>, NoMemory>
+pub fn by_place<'a>(alloc: Global, inputs: &[InputObject<'a>]) -> Result<Vec<Keyed<'a>>, NoMemory>
     ensures tables { IfOk result (λ list. keyed.tables_of list.items ≡ tables_of inputs.now) }
     ensures apart { IfOk result (λ list. AreApart list.items) }
 {

@@ -6,8 +6,8 @@ ghost use Rattle.ldmodel.specs.HandedOver.{decision_of};
 ghost use Rattle.ldmodel.specs.Names.{decision, symbol_tables};
 ghost use Rattle.ldmodel.specs.Project.{Project};
 ghost use Rattle.ldlaws.specs.Renumbering.{renumbered_decision};
-ghost use Rattle.ldnames.specs.Decided.{case_at, decision_in, HasCase};
-ghost use Rattle.ldnames.specs.Decisions.{AreKept};
+ghost use Rattle.lddecisions.specs.Decided.{case_at, decision_in, HasCase};
+ghost use Rattle.lddecisions.specs.Decisions.{AreKept};
 ghost use Rattle.ldnaming.specs.Entered.{tables_of};
 ghost use Rattle.ldnaming.specs.Naming.{IsNameAt, IsNaming, IsSeenAt};
 ghost use Rattle.ldnaming.specs.Placed.{keys_of};
@@ -18,11 +18,11 @@ use crate::entered::{by_place, keys_of};
 use crate::placed::place_case;
 use elfobj::relocation::SymbolIndex;
 use ldbase::meter::Meter;
+use lddecisions::decisions::Decisions;
 use ldlaws::names::decision_by_keys;
 use ldmodel::memory::NoMemory;
 use ldmodel::names::{Case, NameKey};
-use ldnames::decisions::Decisions;
-use ldproject::input::Input;
+use ldproject::input::InputObject;
 use ldproject::law::tables_by_place;
 use ldproject::order::Order;
 use ldscript::script::Script;
@@ -60,7 +60,7 @@ impl Naming {
     pub fn of(
         alloc: Global,
         seed: RandomState,
-        inputs: &[Input<'_>],
+        inputs: &[InputObject<'_>],
         script: &Script,
         meter: &mut Meter,
     ) -> Result<Naming, NoMemory>

@@ -5,10 +5,10 @@ ghost use Rattle.ldnaming.specs.Sorted.{named_number, AreSorted};
 ghost use Rattle.symres.specs.State.{IsListing};
 
 use crate::naming::Naming;
+use lddecisions::decisions::Decisions;
+use lddecisions::law::names_of_objects;
 use ldmodel::memory::NoMemory;
 use ldmodel::names::NameKey;
-use ldnames::decisions::Decisions;
-use ldnames::law::names_of_objects;
 use std::alloc::Global;
 
 /// A name and its key.

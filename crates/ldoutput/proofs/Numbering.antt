@@ -19,7 +19,7 @@ use Rattle.ldmodel.specs.FileLayout.{Each}
 use Rattle.ldmodel.specs.Project.{NamedObject, Project}
 use Rattle.ldmodel.specs.declared.sections.SectionKey.{SectionKey}
 use Rattle.ldproject.specs.Inputs.{shown_input, shown_inputs}
-use Rattle.ldproject.specs.declared.input.Input.{Input}
+use Rattle.ldproject.specs.declared.input.InputObject.{InputObject}
 use Rattle.ldtargets.specs.Filled.{ObjectSection, ends_of, sections_in, sections_of}
 use Rattle.ldtargets.specs.KnownLink.{KnownLink}
 use Rattle.ldoutput.specs.Numbers.{AreFirsts, HaveNumbers}
@@ -28,7 +28,7 @@ use Rattle.ldlayout.proofs.Lists.{later_of_map}
 use Rattle.ldoutput.proofs.Lists.{each_join, get_left, get_push, get_right, mapped_at, pairs_later, take_next}
 
 -- the objects before a place have their first numbers, which differ in each, and `next` comes after them
-pub record FirstsSoFar (inputs : List Input) (place next : ℕ) (firsts : List ℕ) : Type 0 where
+pub record FirstsSoFar (inputs : List InputObject) (place next : ℕ) (firsts : List ℕ) : Type 0 where
   pub firsts_are : AreFirsts (shown_inputs inputs) place firsts
   pub next_is : next ≡ length (sections_in (take place (shown_inputs inputs)))
   pub numbered : Each (λ (o : NamedObject). HaveNumbers o.object) (take place (shown_inputs inputs))
@@ -46,7 +46,7 @@ numbers_differ o xs e h =
     apart : (m n : ℕ) → m < n → (m == n) ≡ false
     apart m n l = false_from_ne_true (m == n) (λ t. absurd (omega (arith, l, eqb-true m n t)))
 
-pub no_firsts : (inputs : List Input) → FirstsSoFar inputs 0 0 []
+pub no_firsts : (inputs : List InputObject) → FirstsSoFar inputs 0 0 []
 no_firsts inputs = record {
   firsts_are = record { long = refl; at = λ k first e. absurd (let none : ⊥ = cc in none) };
   next_is = refl;
@@ -55,7 +55,7 @@ no_firsts inputs = record {
 }
 
 -- one object more
-pub one_first : (inputs : List Input) (k next sum : ℕ) (firsts new : List ℕ) (x : Input) → k < length inputs
+pub one_first : (inputs : List InputObject) (k next sum : ℕ) (firsts new : List ℕ) (x : InputObject) → k < length inputs
     → x ≡ get_or inputs k x → HaveNumbers x.object.now → sum ≡ next + length x.object.now.sections
     → new ≡ firsts ++ next ∷ [] → FirstsSoFar inputs k next firsts → FirstsSoFar inputs (k + 1) sum new
 one_first inputs k next sum firsts new x l e numbers total pushed h =
@@ -92,13 +92,13 @@ one_first inputs k next sum firsts new x l e numbers total pushed h =
       within = omega (arith, l);
     })
 
-pub all_firsts : (inputs : List Input) (k next : ℕ) (firsts : List ℕ) → length inputs ≤ k
+pub all_firsts : (inputs : List InputObject) (k next : ℕ) (firsts : List ℕ) → length inputs ≤ k
     → FirstsSoFar inputs k next firsts → AreFirsts (shown_inputs inputs) (length inputs) firsts
 all_firsts inputs k next firsts past h =
     let end : k ≡ length inputs = omega (arith, past, h.within) in
     subst (λ n. AreFirsts (shown_inputs inputs) n firsts) end h.firsts_are
 
-pub all_numbered : (inputs : List Input) (k next : ℕ) (firsts : List ℕ) → length inputs ≤ k
+pub all_numbered : (inputs : List InputObject) (k next : ℕ) (firsts : List ℕ) → length inputs ≤ k
     → FirstsSoFar inputs k next firsts → (p : Project) → p.objects ≡ shown_inputs inputs → AreNumbered p
 all_numbered inputs k next firsts past h p same =
     let many : length (shown_inputs inputs) ≡ length inputs = length-map inputs shown_input in

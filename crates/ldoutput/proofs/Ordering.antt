@@ -9,7 +9,7 @@ use Rattle.std.proofs.lemmas.Option.{slice_get-get_or}
 use Rattle.ldmodel.specs.Project.{NamedObject}
 use Rattle.ldmodel.specs.declared.names.ObjectKey.{ObjectKey}
 use Rattle.ldproject.specs.Inputs.{shown_input, shown_inputs}
-use Rattle.ldproject.specs.declared.input.Input.{Input}
+use Rattle.ldproject.specs.declared.input.InputObject.{InputObject}
 use Rattle.ldoutput.specs.Numbered.{AreKeysOf, IsRead}
 
 one_more_key : {X : Type 0} (xs : List X) (ks : List ObjectKey) (i : ℕ) (d : X) → i < length xs
@@ -23,18 +23,18 @@ one_more_key xs ks i d l h =
 abbrev AsRead : NamedObject → Type 0
 AsRead o = IsRead o.object
 
-module _ (inputs : List Input) (i : ℕ) where
+module _ (inputs : List InputObject) (i : ℕ) where
   shown : i < length inputs → i < length (shown_inputs inputs)
   shown l = omega (arith, l, length-map inputs shown_input)
 
-  pub keys_more : (x : Input) → i < length inputs → (ks new : List ObjectKey) → new ≡ ks ++ record { 0 = i } ∷ []
+  pub keys_more : (x : InputObject) → i < length inputs → (ks new : List ObjectKey) → new ≡ ks ++ record { 0 = i } ∷ []
       → AreKeysOf (take i (shown_inputs inputs)) (shown_inputs inputs) ks
       → AreKeysOf (take (i + 1) (shown_inputs inputs)) (shown_inputs inputs) new
   keys_more x l ks new e h =
       subst (AreKeysOf (take (i + 1) (shown_inputs inputs)) (shown_inputs inputs)) (sym e)
       (one_more_key (shown_inputs inputs) ks i (shown_input x) (shown l) h)
 
-  pub read_more : (x : Input) → i < length inputs → x ≡ get_or inputs i x
+  pub read_more : (x : InputObject) → i < length inputs → x ≡ get_or inputs i x
       → All AsRead (take i (shown_inputs inputs)) → IsRead x.object.now
       → All AsRead (take (i + 1) (shown_inputs inputs))
   read_more x l is h own =

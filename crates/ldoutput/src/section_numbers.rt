@@ -15,7 +15,7 @@ use elfobj::object::Object;
 use elfobj::section::LinkedIndex;
 use ldfields::patch::Patch;
 use ldmodel::memory::NoMemory;
-use ldproject::input::Input;
+use ldproject::input::InputObject;
 use std::alloc::{AllocError, Global};
 
 /// How many sections an object has.
@@ -31,7 +31,10 @@ fn count(object: &Object) -> usize
 /// # Errors
 ///
 /// Where memory runs out.
-pub(crate) fn first_sections(alloc: Global, inputs: &[Input<'_>]) -> Result<Vec<usize>, NoMemory>
+pub(crate) fn first_sections(
+    alloc: Global,
+    inputs: &[InputObject<'_>],
+) -> Result<Vec<usize>, NoMemory>
     ensures firsts { IfOk result (λ v. AreFirsts (shown_inputs inputs.now) (length inputs.now) v.items) }
     ensures numbered { IfOk result (λ v. (p : Project) → p.objects ≡ shown_inputs inputs.now → AreNumbered p) }
 {

@@ -4,7 +4,7 @@ use elfobj::object::Object;
 
 /// An object under its name, lent for a link. Its key in that link is its place among all, from 0.
 #[derive(Clone, Copy)]
-pub struct Input<'a> {
+pub struct InputObject<'a> {
     /// The name.
     pub name: &'a [u8],
     /// The object.

@@ -11,7 +11,7 @@ mod growing;
 mod tagged;
 mod tags;
 
-use crate::input::Input;
+use crate::input::InputObject;
 use crate::kept::tagged::TaggedObjects;
 use crate::named::NamedObject;
 use crate::staged::StagedObjects;
@@ -134,7 +134,7 @@ impl Kept {
     /// # Errors
     ///
     /// Where memory runs out.
-    pub(crate) fn inputs(&self, alloc: Global) -> Result<Vec<Input<'_>>, NoMemory>
+    pub(crate) fn inputs(&self, alloc: Global) -> Result<Vec<InputObject<'_>>, NoMemory>
         ensures { IfOk result (λ v. shown_inputs v.items ≡ objects_of self.now.entries) }
     {
         let mut inputs = Vec::with_capacity(alloc, self.order.len())?;

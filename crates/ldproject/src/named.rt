@@ -3,7 +3,7 @@
 ghost use Rattle.std.specs.Prelude.{◌≡◌, IfOk};
 ghost use Rattle.ldproject.specs.Inputs.{shown_input};
 
-use crate::input::Input;
+use crate::input::InputObject;
 use elfobj::object::Object;
 use ldmodel::memory::NoMemory;
 use std::alloc::Global;
@@ -52,10 +52,10 @@ impl NamedObject {
     }
 
     /// The object under its name, lent for a link.
-    pub fn input(&self) -> Input<'_>
+    pub fn input(&self) -> InputObject<'_>
         ensures { shown_input result ≡ self.now }
     {
-        Input {
+        InputObject {
             name: &self.name,
             object: &self.object,
         }

@@ -14,7 +14,7 @@ mod lending;
 mod looking;
 mod staging;
 
-use crate::input::Input;
+use crate::input::InputObject;
 use crate::kept::Kept;
 use crate::named::NamedObject;
 use crate::staged::Staged;
@@ -168,13 +168,13 @@ impl<'a> Next<'a> {
     /// # Errors
     ///
     /// Where memory runs out.
-    pub fn inputs(&self, alloc: Global) -> Result<Vec<Input<'a>>, NoMemory>
+    pub fn inputs(&self, alloc: Global) -> Result<Vec<InputObject<'a>>, NoMemory>
         ensures { IfOk result (λ v. shown_inputs v.items ≡ objects_of self.now.entries) }
     {
         let mut inputs = Vec::with_capacity(alloc, self.len())?;
         for at in 0..self.len() {
             let (_key, named) = self.entry(at);
-            inputs.push(Input {
+            inputs.push(InputObject {
                 name: named.name(),
                 object: named.object(),
             })?;

@@ -9,7 +9,7 @@ ghost use Rattle.ldmodel.specs.Project.{NamedObject};
 ghost use Rattle.ldproject.specs.Inputs.{shown_inputs};
 ghost use Rattle.ldproject.specs.Read.{AreObjectsRead};
 
-use crate::input::Input;
+use crate::input::InputObject;
 use elfobj::object::Object;
 use ldmodel::names::ObjectKey;
 use ldmodel::options::Options;
@@ -20,7 +20,7 @@ use std::marker::Model;
 /// link is its place among all, from 0. No two objects have one name.
 #[derive(Drop)]
 pub struct ProjectView<'a> {
-    inputs: &'a [Input<'a>],
+    inputs: &'a [InputObject<'a>],
     script: &'a Script,
     options: &'a Options,
 }
@@ -47,7 +47,11 @@ impl<'a> Model for ProjectView<'a> {
 
 impl<'a> ProjectView<'a> {
     /// These objects, in this order, with a script and options.
-    pub fn new(inputs: &'a [Input<'a>], script: &'a Script, options: &'a Options) -> ProjectView<'a>
+    pub fn new(
+        inputs: &'a [InputObject<'a>],
+        script: &'a Script,
+        options: &'a Options,
+    ) -> ProjectView<'a>
         requires { AreNamesDistinct (shown_inputs inputs.now) }
         ensures { result ≡ record {
           objects = shown_inputs inputs.now;
@@ -63,7 +67,7 @@ impl<'a> ProjectView<'a> {
     }
 
     /// The objects, in their order.
-    pub fn inputs(&self) -> &'a [Input<'a>]
+    pub fn inputs(&self) -> &'a [InputObject<'a>]
         ensures same { shown_inputs result.now ≡ self.now.objects }
         ensures distinct { AreNamesDistinct self.now.objects }
     {

@@ -13,16 +13,16 @@ use Rattle.ldscope.proofs.Numbers.{regions_told}
 use Rattle.ldscope.proofs.Tabled.{found_under, freed_at, unfreed}
 use Rattle.ldscope.specs.RegionTable.{region_of, region_names}
 use Rattle.ldscope.specs.Tables.{AreInOrder}
-use Rattle.ldscope.specs.declared.regions.Region.{Region}
+use Rattle.ldscope.specs.declared.regions.RegionState.{RegionState}
 
-module _ (script : List Statement) (xs : List Region) (name : List ℕ)
+module _ (script : List Statement) (xs : List RegionState) (name : List ℕ)
     (o : AreInOrder (region_number script) (region_names (map region_of xs))) where
   region_under : region_named (map region_of xs) name
       ≡ option_and_then (λ k. slice_get (map region_of xs) k) (region_number script name)
   region_under = found_under (λ (r : MemoryRegion). r.name) (region_number script) (regions_told script) name
       (map region_of xs) o
 
-  pub region_there : (k : ℕ) (r : Region) → region_number script name ≡ Some k → k < length xs → r ≡ get_or xs k r
+  pub region_there : (k : ℕ) (r : RegionState) → region_number script name ≡ Some k → k < length xs → r ≡ get_or xs k r
       → region_named (map region_of xs) name ≡ Some (region_of r)
   region_there k r n l e =
       region_under ∙ (ap (option_and_then (λ j. slice_get (map region_of xs) j)) n
@@ -41,7 +41,7 @@ module _ (script : List Statement) (xs : List Region) (name : List ℕ)
   names_long : length (region_names (map region_of xs)) ≡ length xs
   names_long = length-map (map region_of xs) (λ (r : MemoryRegion). r.name) ∙ length-map xs region_of
 
-  pub freed_there : (k next : ℕ) (r : Region) → region_number script name ≡ Some k → k < length xs → r ≡ get_or xs k r
+  pub freed_there : (k next : ℕ) (r : RegionState) → region_number script name ≡ Some k → k < length xs → r ≡ get_or xs k r
       → map region_of (set xs k (record r { next = next })) ≡ freed_from (Some name) next (map region_of xs)
   freed_there k next r n l e =
       let long : k < length (map region_of xs) = omega (arith, length-map xs region_of) in
@@ -67,15 +67,15 @@ module _ (script : List Statement) (xs : List Region) (name : List ℕ)
       sym (unfreed name next (map region_of xs) (λ j h s. let f = ap (region_number script) s in let g = o j h in
       let no : ⊥ = cc in no))
 
-  pub freed_in_order : (k next : ℕ) (r : Region) → r ≡ get_or xs k r
+  pub freed_in_order : (k next : ℕ) (r : RegionState) → r ≡ get_or xs k r
       → AreInOrder (region_number script) (region_names (map region_of (set xs k (record r { next = next }))))
   freed_in_order k next r e =
       let same : region_names (map region_of (set xs k (record r { next = next }))) ≡ region_names (map region_of xs) =
       kept xs k r next e in
       subst (AreInOrder (region_number script)) (sym same) o
     where
-      kept : (ys : List Region) (j : ℕ) (q : Region) (n : ℕ) → q ≡ get_or ys j q
+      kept : (ys : List RegionState) (j : ℕ) (q : RegionState) (n : ℕ) → q ≡ get_or ys j q
           → region_names (map region_of (set ys j (record q { next = n }))) ≡ region_names (map region_of ys)
       kept [] j q n h = refl
-      kept (y ∷ ys) zero q n h = ap (λ (x : Region). x.name.now ∷ region_names (map region_of ys)) h
+      kept (y ∷ ys) zero q n h = ap (λ (x : RegionState). x.name.now ∷ region_names (map region_of ys)) h
       kept (y ∷ ys) (suc j) q n h = ap (λ l. y.name.now ∷ l) (kept ys j q n h)

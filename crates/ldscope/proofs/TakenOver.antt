@@ -15,7 +15,7 @@ use Rattle.ldscope.specs.Keyed.{KeyedPiece, KeyedSection, data_at_of}
 use Rattle.ldscope.specs.Outputs.{Outputs}
 use Rattle.ldscope.specs.SectionTable.{both, keyed, keyed_taken, taken_pieces, AreSectionsOf}
 use Rattle.ldscope.specs.Wholes.{counts_in, placed_in, starts_in}
-use Rattle.ldscope.specs.declared.earlier.Earlier.{Earlier}
+use Rattle.ldscope.specs.declared.earlier.EarlierLayout.{EarlierLayout}
 use Rattle.ldscope.specs.declared.earlier.Taken.{Taken}
 use Rattle.ldscope.specs.declared.sections.Closed.{Closed}
 
@@ -61,7 +61,7 @@ module _ (e : EarlierOutputs) (ts : List Taken) (count : ℕ) (a : AreTaken e ts
   starts_parts = starts_both (map keyed_taken ts) (map keyed xs) ∙ ap (λ l. l ++ starts_in (map keyed xs)) a.starts
 
 -- one more is taken over
-module _ (script : List Statement) (e : Earlier) (ts : List Taken) (xs : List Closed) (ds : List ℕ)
+module _ (script : List Statement) (e : EarlierLayout) (ts : List Taken) (xs : List Closed) (ds : List ℕ)
     (elsewhere count commands_count taken_count : ℕ) (none : xs ≡ [])
     (of : AreSectionsOf script (both ts xs) ds elsewhere count commands_count)
     (a : AreTaken (earlier_of e) ts taken_count) (number : ℕ) (o : OutputSection) (row : List Piece)

@@ -7,7 +7,7 @@ use Rattle.ldmodel.specs.declared.rows.Piece.{Piece}
 use Rattle.ldscope.specs.Keyed.{KeyedSection, data_at_of}
 use Rattle.ldscope.specs.SectionTable.{keyed_taken, taken_pieces}
 use Rattle.ldscope.specs.Wholes.{all_data_in, counts_in, placed_in, starts_in}
-use Rattle.ldscope.specs.declared.earlier.Earlier.{Earlier}
+use Rattle.ldscope.specs.declared.earlier.EarlierLayout.{EarlierLayout}
 use Rattle.ldscope.specs.declared.earlier.Taken.{Taken}
 
 -- what an earlier layout had of its output sections
@@ -17,7 +17,7 @@ pub record EarlierOutputs : Type 0 where
   pub starts : List ℕ
   pub data_commands : List PlacedData
 
-abbrev pub earlier_of : Earlier → EarlierOutputs
+abbrev pub earlier_of : EarlierLayout → EarlierOutputs
 earlier_of e = record {
   sections = e.sections.now;
   counts = e.counts.now;
@@ -30,13 +30,13 @@ abbrev pub part_of : {X : Type 0} → List X → ℕ → ℕ → List X
 part_of xs from count = take count (drop from xs)
 
 -- these are the starts of the input sections of an output section, before which this many come
-pub record AreStartsOf (e : Earlier) (number from : ℕ) (starts : List ℕ) : Type 0 where
+pub record AreStartsOf (e : EarlierLayout) (number from : ℕ) (starts : List ℕ) : Type 0 where
   pub counted : slice_get e.counts.now number ≡ Some (length starts)
   pub are : starts ≡ part_of e.starts.now from (length starts)
 
 -- it is the one of this number, its input sections are the earlier layout's from this one on, and it has these data
 -- commands
-pub record IsSectionOf (e : Earlier) (number start : ℕ) (o : OutputSection) (row : List Piece)
+pub record IsSectionOf (e : EarlierLayout) (number start : ℕ) (o : OutputSection) (row : List Piece)
     (commands : List PlacedData) (t : Taken) : Type 0 where
   pub output : t.output.now ≡ o
   pub placed : slice_get e.sections.now number ≡ Some t.placed.now

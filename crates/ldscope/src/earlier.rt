@@ -9,7 +9,7 @@ use ldscript::tree::OutputSection;
 
 /// What an earlier layout had of its output sections, in the order of the script.
 #[derive(Clone, Copy)]
-pub struct Earlier<'a> {
+pub struct EarlierLayout<'a> {
     /// The numbers of the output sections.
     pub sections: &'a [Placed],
     /// How many input sections each output section has.
@@ -56,7 +56,7 @@ fn part<T>(list: &[T], from: usize, count: usize) -> Option<&[T]>
     }
 }
 
-impl<'a> Earlier<'a> {
+impl<'a> EarlierLayout<'a> {
     /// The data commands from a number to another.
     pub(crate) fn data_between(&self, from: usize, to: usize) -> Option<&'a [PlacedData]>
         ensures part { IfSome result (λ x. x.now ≡ part_of self.now.data_commands.now from (to - from)) }

@@ -11,7 +11,7 @@ use std::marker::Model;
 
 /// A memory region.
 #[derive(Clone, Copy)]
-pub struct Region<'a> {
+pub struct RegionState<'a> {
     /// The name.
     pub name: &'a [u8],
     /// The first address.
@@ -27,7 +27,7 @@ pub struct Region<'a> {
 #[derive(Drop)]
 pub struct Regions<'a> {
     script: &'a Script,
-    list: Vec<Region<'a>>,
+    list: Vec<RegionState<'a>>,
 }
 
 impl<'a> Model for Regions<'a> {
@@ -58,7 +58,7 @@ impl<'a> Regions<'a> {
 
     /// The region of a name.
     #[tactic(auto, using(crate::proofs::Found::region_there, crate::proofs::Found::region_past, crate::proofs::Found::region_unknown))]
-    pub fn get(&self, name: &[u8]) -> Option<Region<'a>>
+    pub fn get(&self, name: &[u8]) -> Option<RegionState<'a>>
         ensures { option_map region_of result ≡ region_named self.now name.now }
     {
         match self.script.region_number(name) {
@@ -86,7 +86,7 @@ impl<'a> Regions<'a> {
             // Unreachable: a script declares each of its regions once, in the order of their numbers
             return Err(AllocError);
         }
-        self.list.push(Region {
+        self.list.push(RegionState {
             name,
             origin,
             extent,
@@ -108,7 +108,7 @@ impl<'a> Regions<'a> {
     }
 
     /// All regions, in the order of the text.
-    pub fn as_slice(&self) -> &[Region<'a>]
+    pub fn as_slice(&self) -> &[RegionState<'a>]
         ensures { map region_of result.now ≡ self.now }
     {
         &self.list

@@ -12,7 +12,7 @@ ghost use Rattle.ldscope.specs.SectionTable.{Ends, Fits, IsKeptAt};
 ghost use Rattle.ldscope.specs.Tables.{AreInOrder};
 ghost use Rattle.ldscope.specs.Wholes.{all_data_in, counts_in, placed_in, starts_in};
 
-use crate::earlier::{Earlier, Taken, first};
+use crate::earlier::{EarlierLayout, Taken, first};
 use crate::guesses::Guesses;
 use ldmodel::laid::Placed;
 use ldmodel::rows::Piece;
@@ -59,7 +59,7 @@ pub struct Closed<'a> {
 #[derive(Drop)]
 pub struct Sections<'a> {
     script: &'a Script,
-    earlier: Earlier<'a>,
+    earlier: EarlierLayout<'a>,
     /// The output sections that are taken over from the earlier layout, which come first.
     taken: Vec<Taken<'a>>,
     /// How many input sections are in those that are taken over.
@@ -98,7 +98,7 @@ impl<'a> Model for Sections<'a> {
 
 /// Output sections in their places: those that are taken over from an earlier layout, and then those that were placed.
 #[derive(Clone, Copy)]
-pub struct Parts<'s, 'a> {
+pub struct SectionParts<'s, 'a> {
     /// The numbers of the output sections that are taken over.
     pub sections: &'s [Placed],
     /// How many input sections each of these has.
@@ -181,7 +181,7 @@ impl<'a> Sections<'a> {
         alloc: Global,
         script: &'a Script,
         count: usize,
-        earlier: Earlier<'a>,
+        earlier: EarlierLayout<'a>,
         taken: usize,
     ) -> Result<Sections<'a>, AllocError>
         ensures script { IfOk result (λ s. s.script ≡ script.now) }
@@ -209,7 +209,7 @@ impl<'a> Sections<'a> {
     }
 
     /// All output sections, in parts.
-    pub fn parts(&self) -> Parts<'_, 'a>
+    pub fn parts(&self) -> SectionParts<'_, 'a>
         ensures all { both result.taken.now result.placed.now ≡ self.now.list }
         ensures sections { placed_in self.now.list
             ≡ result.sections.now ++ placed_in (map keyed result.placed.now) }
@@ -218,7 +218,7 @@ impl<'a> Sections<'a> {
         ensures ends { Ends self.now.list }
     {
         let count = self.taken.len();
-        Parts {
+        SectionParts {
             sections: first(self.earlier.sections, count),
             counts: first(self.earlier.counts, count),
             starts: first(self.earlier.starts, self.taken_count),

@@ -12,14 +12,14 @@ use std::marker::Model;
 /// The symbols that a script has given values so far, in the order of the text, under the numbers of the commands that
 /// give them. A look-up takes the time of one among the script's commands, and of one among these.
 #[derive(Drop)]
-pub struct Symbols<'a> {
+pub struct AssignedSymbols<'a> {
     commands: Commands<'a>,
     list: Vec<ScriptSymbol>,
     /// The number of the command after the one that gave a symbol its value last.
     next: usize,
 }
 
-impl<'a> Model for Symbols<'a> {
+impl<'a> Model for AssignedSymbols<'a> {
     ghost use Rattle.ldscope.specs.SymbolTable.{Numbered};
     ghost use Rattle.std.specs.Coded.{codes};
     ghost use Rattle.ldtree.specs.contracts.formula.Formula as formula;
@@ -63,15 +63,15 @@ fn after_last(symbols: &[ScriptSymbol]) -> usize
     }
 }
 
-impl<'a> Symbols<'a> {
+impl<'a> AssignedSymbols<'a> {
     /// No symbol of this script, and room in the list for all.
-    pub fn new(alloc: Global, script: &'a Script) -> Result<Symbols<'a>, AllocError>
+    pub fn new(alloc: Global, script: &'a Script) -> Result<AssignedSymbols<'a>, AllocError>
         ensures script { IfOk result (λ s. s.script ≡ script.now) }
         ensures none { IfOk result (λ s. s.list ≡ []) }
     {
         let commands = Commands::new(alloc, script)?;
         let list = Vec::with_capacity(alloc, commands.listed())?;
-        Ok(Symbols {
+        Ok(AssignedSymbols {
             commands,
             list,
             next: 0,
@@ -83,13 +83,13 @@ impl<'a> Symbols<'a> {
         alloc: Global,
         script: &'a Script,
         count: usize,
-    ) -> Result<Symbols<'a>, AllocError>
+    ) -> Result<AssignedSymbols<'a>, AllocError>
         ensures script { IfOk result (λ s. s.script ≡ script.now) }
         ensures none { IfOk result (λ s. s.list ≡ []) }
     {
         let commands = Commands::unlisted(alloc, script)?;
         let list = Vec::with_capacity(alloc, count)?;
-        Ok(Symbols {
+        Ok(AssignedSymbols {
             commands,
             list,
             next: 0,

@@ -7,13 +7,13 @@ ghost use Rattle.ldscope.specs.RegionTable.{region_of};
 ghost use Rattle.ldscope.specs.SectionTable.{both, keyed, keyed_piece};
 ghost use Rattle.ldscope.specs.Wholes.{all_data_in, counts_in, data_in, placed_in, starts_in};
 
-use crate::regions::Region;
-use crate::sections::{DataAt, Parts, PieceAt};
+use crate::regions::RegionState;
+use crate::sections::{DataAt, PieceAt, SectionParts};
 use ldmodel::laid::{OutputIndex, Placed, PlacedData, PlacedRegion};
 use std::alloc::{AllocError, Global};
 
 /// The numbers of the output sections.
-pub fn numbers_of(alloc: Global, parts: Parts<'_, '_>) -> Result<Vec<Placed>, AllocError>
+pub fn numbers_of(alloc: Global, parts: SectionParts<'_, '_>) -> Result<Vec<Placed>, AllocError>
     ensures { IfOk result (λ v. v.items ≡ parts.entry.sections.now ++ placed_in (map keyed parts.entry.placed.now)) }
 {
     let mut list = Vec::with_capacity(alloc, parts.sections.len() + parts.placed.len())?;
@@ -35,7 +35,11 @@ fn add_starts(list: &mut Vec<u64>, pieces: &[PieceAt<'_>]) -> Result<(), AllocEr
 }
 
 /// Where the input sections start, row by row, of which there are this many.
-pub fn starts_of(alloc: Global, count: usize, parts: Parts<'_, '_>) -> Result<Vec<u64>, AllocError>
+pub fn starts_of(
+    alloc: Global,
+    count: usize,
+    parts: SectionParts<'_, '_>,
+) -> Result<Vec<u64>, AllocError>
     ensures { IfOk result (λ v. v.items ≡ parts.entry.starts.now ++ starts_in (map keyed parts.entry.placed.now)) }
 {
     let mut list = Vec::with_capacity(alloc, count)?;
@@ -47,7 +51,7 @@ pub fn starts_of(alloc: Global, count: usize, parts: Parts<'_, '_>) -> Result<Ve
 }
 
 /// How many input sections each output section has.
-pub fn counts_of(alloc: Global, parts: Parts<'_, '_>) -> Result<Vec<usize>, AllocError>
+pub fn counts_of(alloc: Global, parts: SectionParts<'_, '_>) -> Result<Vec<usize>, AllocError>
     ensures { IfOk result (λ v. v.items ≡ parts.entry.counts.now ++ counts_in (map keyed parts.entry.placed.now)) }
 {
     let mut list = Vec::with_capacity(alloc, parts.counts.len() + parts.placed.len())?;
@@ -107,7 +111,10 @@ fn add_taken_data(
 }
 
 /// The data commands, section by section.
-pub fn data_commands_of(alloc: Global, parts: Parts<'_, '_>) -> Result<Vec<PlacedData>, AllocError>
+pub fn data_commands_of(
+    alloc: Global,
+    parts: SectionParts<'_, '_>,
+) -> Result<Vec<PlacedData>, AllocError>
     ensures { IfOk result (λ v.
         map data_of v.items ≡ all_data_in 0 (both parts.entry.taken.now parts.entry.placed.now)) }
 {
@@ -125,7 +132,10 @@ pub fn data_commands_of(alloc: Global, parts: Parts<'_, '_>) -> Result<Vec<Place
 }
 
 /// The numbers of the regions.
-pub fn regions_of(alloc: Global, regions: &[Region<'_>]) -> Result<Vec<PlacedRegion>, AllocError>
+pub fn regions_of(
+    alloc: Global,
+    regions: &[RegionState<'_>],
+) -> Result<Vec<PlacedRegion>, AllocError>
     ensures { IfOk result (λ v. v.items ≡ map region_numbers (map region_of regions.now)) }
 {
     let mut list = Vec::with_capacity(alloc, regions.len())?;

@@ -16,7 +16,7 @@ use Rattle.ldmodel.specs.SectionHeaders.{image_length}
 use Rattle.ldmodel.specs.SessionWork.{IsPlacingWork, IsWork, entries_from}
 use Rattle.ldmodel.specs.Stayed.{GoodLink}
 use Rattle.ldmodel.specs.WorkBound.{IsImageWork, bytes_stayed}
-use Rattle.ldnames.specs.Counted.{CountsNames}
+use Rattle.lddecisions.specs.Counted.{CountsNames}
 use Rattle.ldproject.specs.Holding.{Holding, Listing, ReadsAtMostOne, ReadsFor, StandsAsNamed, TouchesOne, held}
 use Rattle.ldproject.specs.Holding.{listing_of, next_listing, project_of}
 use Rattle.ldproject.specs.Listing.{keys_of}

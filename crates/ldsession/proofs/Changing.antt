@@ -10,11 +10,11 @@ use Rattle.elfobj.specs.Object.{ObjectData}
 use Rattle.elfobj.specs.Symbols.{NamedSymbol}
 use Rattle.ldmodel.specs.Edits.{unnamed}
 use Rattle.ldmodel.specs.Project.{NamedObject}
-use Rattle.ldnames.specs.Change.{CanCome, CanGo, Fits, Table, changed_tables, declared_by, put_in, reversed}
-use Rattle.ldnames.specs.Change.{taken_out}
-use Rattle.ldnames.specs.Counted.{declared_in}
-use Rattle.ldnames.specs.declared.change.ObjectAt.{ObjectAt}
-use Rattle.ldnames.specs.declared.change.ObjectChange.{ObjectChange}
+use Rattle.lddecisions.specs.Change.{CanCome, CanGo, Fits, Table, changed_tables, declared_by, put_in, reversed}
+use Rattle.lddecisions.specs.Change.{taken_out}
+use Rattle.lddecisions.specs.Counted.{declared_in}
+use Rattle.lddecisions.specs.declared.change.ObjectAt.{ObjectAt}
+use Rattle.lddecisions.specs.declared.change.ObjectChange.{ObjectChange}
 use Rattle.ldproject.specs.Listing.{Entry, found_under, keys_of}
 use Rattle.ldproject.specs.Next.{next_entries, touched_key}
 use Rattle.ldproject.specs.Tables.{HasTableAt, symbols_under, tables_under, without_table}

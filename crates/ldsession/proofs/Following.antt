@@ -10,10 +10,10 @@ use Rattle.gather.specs.ProjectMatches.{IsMatched}
 use Rattle.gather.specs.declared.matches.Matches.{Matches}
 use Rattle.ldmodel.specs.Names.{symbol_tables}
 use Rattle.ldmodel.specs.Project.{NamedObject, Project}
-use Rattle.ldnames.specs.Change.{CanGo, Table, changed_tables, reversed}
-use Rattle.ldnames.specs.Decisions.{AreKept}
-use Rattle.ldnames.specs.declared.change.ObjectAt.{ObjectAt}
-use Rattle.ldnames.specs.declared.change.ObjectChange.{ObjectChange}
+use Rattle.lddecisions.specs.Change.{CanGo, Table, changed_tables, reversed}
+use Rattle.lddecisions.specs.Decisions.{AreKept}
+use Rattle.lddecisions.specs.declared.change.ObjectAt.{ObjectAt}
+use Rattle.lddecisions.specs.declared.change.ObjectChange.{ObjectChange}
 use Rattle.ldnaming.specs.Naming.{NamingState}
 use Rattle.ldproject.specs.Holding.{Holding, Listing, SameHolding, TouchesOne, held, listing_of, next_listing}
 use Rattle.ldproject.specs.Listing.{Contents, Entry, found_under, keys_of, objects_of}

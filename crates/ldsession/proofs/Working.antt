@@ -16,8 +16,8 @@ use Rattle.ldmodel.specs.Edits.{early_refusal, has_name, is_in_use, named, place
 use Rattle.ldmodel.specs.Names.{distinct, names_in_objects, symbol_tables}
 use Rattle.ldmodel.specs.Project.{NamedObject, Project}
 use Rattle.ldmodel.specs.SessionWork.{names_by_script, objects_read, touched_names}
-use Rattle.ldnames.specs.Change.{Table}
-use Rattle.ldnames.specs.Counted.{CountsNames, declared_in, declared_names}
+use Rattle.lddecisions.specs.Change.{Table}
+use Rattle.lddecisions.specs.Counted.{CountsNames, declared_in, declared_names}
 use Rattle.ldproject.specs.Holding.{Holding, ReadsAtMostOne, ReadsFor, StandsAsNamed, held, next_listing, project_of}
 use Rattle.ldproject.specs.Listing.{Entry, key_count, objects_of}
 use Rattle.ldproject.specs.Next.{Fits, KeysAreStable, named_under, next_entries, touched_key}

@@ -2,10 +2,10 @@
 use Rattle.std.specs.Prelude.{◌≡◌, ℕ, ◌++◌, List, [], Option, Some, None, is_some}
 use Rattle.std.specs.Option.{option_map}
 use Rattle.elfobj.specs.Object.{ObjectData}
-use Rattle.ldnames.specs.Change.{Fits, changed_tables, declared_by, reversed}
-use Rattle.ldnames.specs.Counted.{declared_in, declared_names}
-use Rattle.ldnames.specs.declared.change.ObjectAt.{ObjectAt}
-use Rattle.ldnames.specs.declared.change.ObjectChange.{ObjectChange}
+use Rattle.lddecisions.specs.Change.{Fits, changed_tables, declared_by, reversed}
+use Rattle.lddecisions.specs.Counted.{declared_in, declared_names}
+use Rattle.lddecisions.specs.declared.change.ObjectAt.{ObjectAt}
+use Rattle.lddecisions.specs.declared.change.ObjectChange.{ObjectChange}
 use Rattle.ldproject.specs.Listing.{Entry, found_under}
 use Rattle.ldproject.specs.Next.{next_entries, touched_key}
 use Rattle.ldproject.specs.Tables.{symbols_under, tables_under}

@@ -3,7 +3,7 @@ use Rattle.std.specs.Prelude.{◌≡◌, List}
 use Rattle.std.specs.List.{AllZip}
 use Rattle.gather.specs.ProjectMatches.{IsMatched}
 use Rattle.gather.specs.declared.matches.Matches.{Matches}
-use Rattle.ldnames.specs.Decisions.{AreKept}
+use Rattle.lddecisions.specs.Decisions.{AreKept}
 use Rattle.ldnaming.specs.Naming.{NamingState}
 use Rattle.ldproject.specs.Holding.{Listing}
 use Rattle.ldproject.specs.Listing.{objects_of}

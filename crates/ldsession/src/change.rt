@@ -8,8 +8,8 @@ ghost use Rattle.ldproject.specs.Touched.{IsArranged};
 ghost use Rattle.ldsession.specs.Change.{IsChange, beside, place_at, shown_at};
 
 use elfobj::object::Object;
+use lddecisions::change::{ObjectAt, ObjectChange, undone};
 use ldmodel::names::ObjectKey;
-use ldnames::change::{ObjectAt, ObjectChange, undone};
 use ldproject::law::{found_where_placed, tables_follow};
 use ldproject::project::{Next, Project};
 use ldproject::staged::Staged;

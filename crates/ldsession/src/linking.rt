@@ -21,7 +21,7 @@ use ldkept::stays::Last;
 use ldmodel::memory::NoMemory;
 use ldmodel::meter::Meter;
 use ldnaming::naming::Naming;
-use ldproject::input::Input;
+use ldproject::input::InputObject;
 use ldproject::law::found_where_placed;
 use ldproject::order::places_of;
 use ldproject::project::{Next, Project};
@@ -30,7 +30,7 @@ use relink::again::{Ended, relink};
 use std::alloc::Global;
 
 /// The names of these objects, in their order. Fails where memory runs out.
-fn names_of(alloc: Global, inputs: &[Input<'_>]) -> Result<Vec<Vec<u8>>, NoMemory>
+fn names_of(alloc: Global, inputs: &[InputObject<'_>]) -> Result<Vec<Vec<u8>>, NoMemory>
     ensures { IfOk result (λ v. map (λ n. n.items) v.items
         ≡ map (λ (o : NamedObject). o.name) (shown_inputs inputs.now)) }
 {

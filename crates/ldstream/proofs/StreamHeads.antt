@@ -8,7 +8,7 @@ use Rattle.ldmodel.specs.Edits.{Change, Add, Replace, Move, Remove, SetScript}
 use Rattle.ldstream.specs.Heads.{query_of, edit_of, first_word, later_words, numbers, IsEdit, IsRead, IsNoEdit, Says}
 use Rattle.ldstream.specs.Heads.{SaysNothing}
 use Rattle.ldstream.specs.declared.head.EditHead.{EditHead}
-use Rattle.ldstream.specs.declared.head.Head.TheVariants as head
+use Rattle.ldstream.specs.declared.head.CommandHead.TheVariants as head
 use Rattle.ldstream.specs.declared.head.Query.{Query}
 use Rattle.ldstream.proofs.StreamBytes.{first_cut, no_cut, decimal_no, no_by_test}
 

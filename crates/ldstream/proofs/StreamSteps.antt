@@ -14,7 +14,7 @@ use Rattle.ldstream.specs.declared.fault.RunFault.TheVariants.{Read, Write, Long
 use Rattle.ldstream.specs.declared.head.Aim.TheVariants as aim
 use Rattle.ldstream.specs.declared.head.EditHead.{EditHead}
 use Rattle.ldstream.specs.declared.head.EditHead.TheVariants as edit
-use Rattle.ldstream.specs.declared.head.Head.TheVariants as head
+use Rattle.ldstream.specs.declared.head.CommandHead.TheVariants as head
 use Rattle.ldstream.specs.declared.serve.Step.{Step}
 use Rattle.ldstream.specs.declared.serve.Step.TheVariants.{Next, End}
 use Rattle.ldstream.proofs.StreamGrammar.{OneFirst, NotBegun, no_line, short_payload, bad_at_end}

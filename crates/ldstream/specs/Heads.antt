@@ -8,8 +8,8 @@ use Rattle.ldstream.specs.declared.head.Aim.{Aim}
 use Rattle.ldstream.specs.declared.head.Aim.TheVariants as aim
 use Rattle.ldstream.specs.declared.head.EditHead.{EditHead}
 use Rattle.ldstream.specs.declared.head.EditHead.TheVariants as edit
-use Rattle.ldstream.specs.declared.head.Head.{Head}
-use Rattle.ldstream.specs.declared.head.Head.TheVariants as head
+use Rattle.ldstream.specs.declared.head.CommandHead.{CommandHead}
+use Rattle.ldstream.specs.declared.head.CommandHead.TheVariants as head
 use Rattle.ldstream.specs.declared.head.Query.{Query}
 use Rattle.ldstream.specs.declared.head.Query.TheVariants as query
 
@@ -76,7 +76,7 @@ pub record HasLine (text : List ℕ) (c : Command) : Type 0 where
   pub spelled : line c ≡ text
 
 -- what a line says, whatever its payload
-abbrev pub Says : List ℕ → Head → Type 0
+abbrev pub Says : List ℕ → CommandHead → Type 0
 Says text (head.Edit h) = (payload : List ℕ) → length payload ≡ announced h → HasLine text (Edit (edit_of h payload))
 Says text (head.Ask q) = HasLine text (Ask (query_of q))
 

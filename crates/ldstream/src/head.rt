@@ -67,7 +67,7 @@ pub enum Query {
 
 /// What a command's line says.
 #[derive(Clone, Copy, Debug)]
-pub enum Head<'a> {
+pub enum CommandHead<'a> {
     /// An edit is to be made.
     Edit(EditHead<'a>),
     /// Something is asked of the link.
@@ -250,7 +250,7 @@ fn read_query(word: &[u8]) -> Option<Query>
 }
 
 /// What a command's line says, without its line feed; none where it is no command's.
-pub fn read_head(line: &[u8]) -> Option<Head<'_>>
+pub fn read_head(line: &[u8]) -> Option<CommandHead<'_>>
     ensures found { IfSome result (λ h. Says line.now h) }
     ensures none { IfNone result (SaysNothing line.now) }
 {
@@ -260,11 +260,11 @@ pub fn read_head(line: &[u8]) -> Option<Head<'_>>
     match split_word(line) {
         None => {
             let query = read_query(line)?;
-            Some(Head::Ask(query))
+            Some(CommandHead::Ask(query))
         }
         Some((first, words)) => {
             let edit = read_edit(first, words)?;
-            Some(Head::Edit(edit))
+            Some(CommandHead::Edit(edit))
         }
     }
 }

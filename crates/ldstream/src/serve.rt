@@ -14,7 +14,7 @@ use crate::Status;
 use crate::answer::{write_bytes, write_linked, write_malformed, write_refused};
 use crate::devices::{Sink, Source};
 use crate::fault::{RunFault, WriteFault};
-use crate::head::{Aim, EditHead, Head, Query, read_head};
+use crate::head::{Aim, CommandHead, EditHead, Query, read_head};
 use crate::line::{LineEnd, MAX_LINE, read_line};
 use crate::payload::{Payload, read_payload};
 use ldlaws::streams::{lines_without_feed, one_first_command};
@@ -192,11 +192,11 @@ pub fn serve_one<R: Source, W: Sink, L: Linker>(
         LineEnd::Broken => serve_bad(sink),
         LineEnd::Line(n) => match read_head(&line[..n]) {
             None => serve_bad(sink),
-            Some(Head::Ask(query)) => {
+            Some(CommandHead::Ask(query)) => {
                 write_bytes(sink, asked(linker, query))?;
                 Ok(Step::Next)
             }
-            Some(Head::Edit(head)) => serve_edit(alloc, source, sink, linker, head),
+            Some(CommandHead::Edit(head)) => serve_edit(alloc, source, sink, linker, head),
         },
     }
 }

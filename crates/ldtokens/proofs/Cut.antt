@@ -11,9 +11,9 @@ use Rattle.ldtokens.specs.Modes.{IsCutFrom, IsCut, ended, blank, token, line_fee
 use Rattle.ldtokens.specs.Modes.{at_start, IsShallow, IsShortStretch}
 use Rattle.ldtokens.specs.declared.token.LexState.{LexState}
 use Rattle.ldtokens.specs.declared.token.CodeToken.{CodeToken}
-use Rattle.ldtokens.specs.declared.front.Piece.{Piece}
-use Rattle.ldtokens.specs.declared.token.Stretch.{Stretch}
-use Rattle.ldtokens.specs.declared.token.Stretch.TheVariants.{Closed, Awaited, ToSemicolon, ToParenthesis}
+use Rattle.ldtokens.specs.declared.front.FrontToken.{FrontToken}
+use Rattle.ldtokens.specs.declared.token.ExpressionStretch.{ExpressionStretch}
+use Rattle.ldtokens.specs.declared.token.ExpressionStretch.TheVariants.{Closed, Awaited, ToSemicolon, ToParenthesis}
 use Rattle.ldtokens.specs.declared.front.Ahead.TheVariants.{Found}
 
 pub cut_end : {text : List ℕ} {at : ℕ} {p : LexState} {ls : List Lexeme} → front (mode_of p) (drop at text) ≡ End
@@ -92,7 +92,7 @@ cut_to_token {text} {done} {at} {n} {p} {t} c h =
           (k.0, o.1 ∙ ap (λ v. done ++ v) k.1 ∙ sym (append_assoc done (l ∷ []) k.0), k.2);
     }
 
-pub still_short : (n m : ℕ) (s : Stretch) → n ≤ m → IsShortStretch n s → IsShortStretch m s
+pub still_short : (n m : ℕ) (s : ExpressionStretch) → n ≤ m → IsShortStretch n s → IsShortStretch m s
 still_short n m Closed h r = tt
 still_short n m Awaited h r = tt
 still_short n m ToSemicolon h r = tt
@@ -102,7 +102,7 @@ pub still_shallow : (n m : ℕ) (p : LexState) → n ≤ m → IsShallow n p →
 still_shallow n m p h r = (omega (arith, r.0), still_short n m p.stretch h r.1)
 
 -- a token by its place in the whole text
-abbrev pub behind : ℕ → ℕ → Piece → CodeToken
+abbrev pub behind : ℕ → ℕ → FrontToken → CodeToken
 behind at n t = record { kind = t.kind; start = at + t.start; end = at + t.end; line = n }
 
 pub range_behind : (text : List ℕ) (at start end : ℕ)
@@ -111,10 +111,10 @@ range_behind text at start end =
     let e : (at + end) - (at + start) ≡ end - start = omega arith in
     rw (e, drop-drop) refl
 
-pub token_behind : (text : List ℕ) (at n : ℕ) (t : Piece) → token_of text (behind at n t) ≡ piece_of (drop at text) t
+pub token_behind : (text : List ℕ) (at n : ℕ) (t : FrontToken) → token_of text (behind at n t) ≡ piece_of (drop at text) t
 token_behind text at n t = ap (λ bytes. spelled_token t.kind bytes) (range_behind text at t.start t.end)
 
-pub cut_to_found : (text : List ℕ) (items : List CodeToken) (p : LexState) (at n : ℕ) (t : Piece)
+pub cut_to_found : (text : List ℕ) (items : List CodeToken) (p : LexState) (at n : ℕ) (t : FrontToken)
     → IsCutTo text (map (lexeme_of text) items) at p
     → front (mode_of p) (drop at text) ≡ front_of (drop at text) (Found t n)
     → IsCutTo text (map (lexeme_of text) (items ++ behind at (line_at text at) t ∷ [])) (at + n)

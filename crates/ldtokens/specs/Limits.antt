@@ -12,8 +12,8 @@ use Rattle.ldtokens.specs.declared.token.Mark.TheVariants.{OpenParenthesis, Open
 use Rattle.ldtokens.specs.declared.token.Mark.TheVariants.{Minus, Complement, Star, Slash, Percent, Plus, ShiftLeft}
 use Rattle.ldtokens.specs.declared.token.Mark.TheVariants.{ShiftRight, Less, LessOrEqual, Greater, GreaterOrEqual}
 use Rattle.ldtokens.specs.declared.token.Mark.TheVariants.{Equal, NotEqual, And, AndAnd, Or, OrOr, Question}
-use Rattle.ldtokens.specs.declared.token.Stretch.{Stretch}
-use Rattle.ldtokens.specs.declared.token.Stretch.TheVariants.{Awaited}
+use Rattle.ldtokens.specs.declared.token.ExpressionStretch.{ExpressionStretch}
+use Rattle.ldtokens.specs.declared.token.ExpressionStretch.TheVariants.{Awaited}
 use Rattle.ldtokens.specs.declared.token.LexState.{LexState}
 use Rattle.ldtokens.specs.declared.refusal.TokenRefusal.{TokenRefusal}
 use Rattle.ldtokens.specs.declared.refusal.TokenRefusal.TheVariants.{Limit, NotAToken, NoMemory}
@@ -37,7 +37,7 @@ pub record ModedToken : Type 0 where
 -- the `(` that begins a stretch belongs to it, and so counts as one of expression mode
 abbrev pub counted_mode : LexState → Token → Mode
 counted_mode p t = mode_in (mode_of p) p.stretch t where
-  mode_in : Mode → Stretch → Token → Mode
+  mode_in : Mode → ExpressionStretch → Token → Mode
   mode_in mode Awaited (Punctuation OpenParenthesis) = Expression
   mode_in mode s t = mode
 

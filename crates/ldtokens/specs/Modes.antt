@@ -7,13 +7,13 @@ use Rattle.ldtokens.specs.declared.token.Mode.{Mode}
 use Rattle.ldtokens.specs.declared.token.Mode.TheVariants.{Expression, Pattern}
 use Rattle.ldtokens.specs.declared.token.Mark.TheVariants.{OpenParenthesis, CloseParenthesis, OpenBrace, CloseBrace}
 use Rattle.ldtokens.specs.declared.token.Mark.TheVariants.{Semicolon, Assign, AddAssign}
-use Rattle.ldtokens.specs.declared.token.Stretch.{Stretch}
-use Rattle.ldtokens.specs.declared.token.Stretch.TheVariants.{Closed, Awaited, ToSemicolon, ToParenthesis}
+use Rattle.ldtokens.specs.declared.token.ExpressionStretch.{ExpressionStretch}
+use Rattle.ldtokens.specs.declared.token.ExpressionStretch.TheVariants.{Closed, Awaited, ToSemicolon, ToParenthesis}
 use Rattle.ldtokens.specs.declared.token.LexState.{LexState}
 use Rattle.ldtokens.specs.declared.token.CodeToken.{CodeToken}
 
 -- pattern mode holds at depth 2 outside stretches
-abbrev pub mode_at : ℕ → Stretch → Mode
+abbrev pub mode_at : ℕ → ExpressionStretch → Mode
 mode_at depth Closed = if depth == 2 then Pattern else Expression
 mode_at depth Awaited = if depth == 2 then Pattern else Expression
 mode_at depth ToSemicolon = Expression
@@ -38,7 +38,7 @@ is_stretch_word word = list_any (λ w. bytes_eq w word) stretch_words
 -- after a token read in pattern mode (a `(` that begins a stretch belongs to it, and is the same token in both
 -- modes): `=` and `+=` begin a stretch to the next `;`, and so does a `(` right after
 -- a word of those to the `)` that matches it
-abbrev pub opened : Stretch → Token → Stretch
+abbrev pub opened : ExpressionStretch → Token → ExpressionStretch
 opened s (Punctuation Assign) = ToSemicolon
 opened s (Punctuation AddAssign) = ToSemicolon
 opened Awaited (Punctuation OpenParenthesis) = ToParenthesis 1
@@ -46,7 +46,7 @@ opened s (Word w) = if is_stretch_word w then Awaited else Closed
 opened s _ = Closed
 
 -- after a token read in expression mode
-abbrev pub closed : Stretch → Token → Stretch
+abbrev pub closed : ExpressionStretch → Token → ExpressionStretch
 closed ToSemicolon (Punctuation Semicolon) = Closed
 closed ToSemicolon _ = ToSemicolon
 closed (ToParenthesis n) (Punctuation OpenParenthesis) = ToParenthesis (n + 1)
@@ -55,7 +55,7 @@ closed (ToParenthesis n) _ = ToParenthesis n
 closed Closed _ = Closed
 closed Awaited _ = Closed
 
-abbrev pub stretch_after : Mode → Stretch → Token → Stretch
+abbrev pub stretch_after : Mode → ExpressionStretch → Token → ExpressionStretch
 stretch_after Expression s t = closed s t
 stretch_after Pattern s t = opened s t
 
@@ -67,7 +67,7 @@ abbrev pub at_start : LexState
 at_start = record { depth = 0; stretch = Closed }
 
 -- so many parentheses at most are open in a stretch
-abbrev pub IsShortStretch : ℕ → Stretch → Type 0
+abbrev pub IsShortStretch : ℕ → ExpressionStretch → Type 0
 IsShortStretch n Closed = Unit {0}
 IsShortStretch n Awaited = Unit {0}
 IsShortStretch n ToSemicolon = Unit {0}

@@ -13,7 +13,7 @@ use Rattle.ldtokens.specs.declared.token.Mark.{Mark}
 use Rattle.ldtokens.specs.declared.token.TokenKind.{TokenKind}
 use Rattle.ldtokens.specs.declared.token.TokenKind.TheVariants as kind
 use Rattle.ldtokens.specs.declared.token.CodeToken.{CodeToken}
-use Rattle.ldtokens.specs.declared.front.Piece.{Piece}
+use Rattle.ldtokens.specs.declared.front.FrontToken.{FrontToken}
 use Rattle.ldtokens.specs.declared.front.Ahead.{Ahead}
 use Rattle.ldtokens.specs.declared.front.Ahead.TheVariants.{Finished, Space, Found, Unknown}
 
@@ -63,7 +63,7 @@ token_of text t = spelled_token t.kind (slice_range text t.start t.end)
 abbrev pub lexeme_of : List ℕ → CodeToken → Lexeme
 lexeme_of text t = lexeme (token_of text t) t.line
 
-abbrev pub piece_of : List ℕ → Piece → Token
+abbrev pub piece_of : List ℕ → FrontToken → Token
 piece_of text t = spelled_token t.kind (slice_range text t.start t.end)
 
 abbrev pub front_of : List ℕ → Ahead → Front

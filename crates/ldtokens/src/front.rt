@@ -19,7 +19,7 @@ const DISCARD: &[u8] = b"/DISCARD/";
 
 /// A token at the front of a text. Places are counted from there.
 #[derive(Clone, Copy, Debug, PartialEq, Eq)]
-pub struct Piece {
+pub struct FrontToken {
     /// What it is.
     pub kind: TokenKind,
     /// The index of its first byte; of a text in double quotes, of the first byte between them.
@@ -36,7 +36,7 @@ pub enum Ahead {
     /// This number of bytes of white space or comment.
     Space(usize),
     /// A token, and how many bytes it takes with its quotes.
-    Found(Piece, usize),
+    Found(FrontToken, usize),
     /// Bytes that begin no token.
     Unknown,
 }
@@ -46,7 +46,7 @@ fn whole(kind: TokenKind, length: usize) -> Ahead
     ensures { result ≡ Ahead.Found (record { kind = kind; start = 0; end = length }) length }
 {
     Ahead::Found(
-        Piece {
+        FrontToken {
             kind,
             start: 0,
             end: length,
@@ -182,7 +182,7 @@ fn text_front(text: &[u8]) -> Ahead
 {
     let length = text_run(&text[1..]);
     if byte_at(text, length + 1) == b'"' {
-        let content = Piece {
+        let content = FrontToken {
             kind: TokenKind::Text,
             start: 1,
             end: length + 1,

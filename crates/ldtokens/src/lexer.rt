@@ -5,7 +5,7 @@ ghost use Rattle.ldtokens.specs.Tokens.{lexeme_of, front_of, front, IsAdvance};
 ghost use Rattle.ldtokens.specs.Modes.{mode_of, line_feeds, IsCut, IsPlace};
 ghost use Rattle.ldtokens.specs.Limits.{IsTokens, IsTokenRefusal};
 
-use super::front::{Ahead, Piece, front};
+use super::front::{Ahead, FrontToken, front};
 use super::limits::are_within_limits;
 use super::refusal::TokenRefusal;
 use super::token::{CodeToken, LexState};
@@ -14,7 +14,7 @@ use std::alloc::Global;
 /// The greatest length of a text, in bytes.
 pub const MAX_TEXT: usize = 1 << 20;
 
-impl Piece {
+impl FrontToken {
     /// The token in a text that has `before` more bytes before it, on this line.
     fn behind(self, before: usize, line: u32) -> CodeToken
         requires room { before + self.end ≤ 2 ^ 20 }

@@ -7,7 +7,7 @@ ghost use Rattle.ldtokens.specs.Limits.{HasShortSpelling, is_open_brace, counted
 ghost use Rattle.ldtokens.specs.Limits.{is_sign_mark, HasShortRuns, IsWithinLimits};
 
 use super::number::number_value;
-use super::token::{CodeToken, LexState, Mark, Mode, Stretch, TokenKind};
+use super::token::{CodeToken, ExpressionStretch, LexState, Mark, Mode, TokenKind};
 
 /// The greatest length of a name or word, in bytes.
 const MAX_WORD: usize = 255;
@@ -60,7 +60,8 @@ fn counted_mode(state: LexState, kind: TokenKind, spelled: &[u8]) -> Mode
     ensures { result ≡ counted_mode state (spelled_token kind spelled.now) }
 {
     match (state.stretch, kind) {
-        (Stretch::Awaited, TokenKind::Punctuation(Mark::OpenParenthesis)) => Mode::Expression,
+        (ExpressionStretch::Awaited, TokenKind::Punctuation(Mark::OpenParenthesis)) =>
+            Mode::Expression,
         _ => state.mode(),
     }
 }

@@ -5,7 +5,7 @@ ghost use Rattle.ldtokens.specs.Tokens.{spelled_token};
 ghost use Rattle.ldtokens.specs.Modes.{mode_of, is_stretch_word, depth_after, opened, closed, state_after, at_start};
 ghost use Rattle.ldtokens.specs.Modes.{IsShallow, IsShortStretch};
 
-use super::token::{LexState, Mark, Mode, Stretch, TokenKind};
+use super::token::{ExpressionStretch, LexState, Mark, Mode, TokenKind};
 use super::words::is_one_of;
 
 /// The words whose parentheses hold an expression.
@@ -20,45 +20,46 @@ fn is_stretch_word(word: &[u8]) -> bool
 }
 
 /// The stretch after a token that was read in pattern mode.
-fn opened(stretch: Stretch, kind: TokenKind, spelled: &[u8]) -> Stretch
+fn opened(stretch: ExpressionStretch, kind: TokenKind, spelled: &[u8]) -> ExpressionStretch
     ensures value { result ≡ opened stretch (spelled_token kind spelled.now) }
     ensures short { (m : ℕ) → 0 < m → IsShortStretch m result }
 {
     match kind {
-        TokenKind::Punctuation(Mark::Assign) => Stretch::ToSemicolon,
-        TokenKind::Punctuation(Mark::AddAssign) => Stretch::ToSemicolon,
+        TokenKind::Punctuation(Mark::Assign) => ExpressionStretch::ToSemicolon,
+        TokenKind::Punctuation(Mark::AddAssign) => ExpressionStretch::ToSemicolon,
         TokenKind::Punctuation(Mark::OpenParenthesis) => match stretch {
-            Stretch::Awaited => Stretch::ToParenthesis(1),
-            _ => Stretch::Closed,
+            ExpressionStretch::Awaited => ExpressionStretch::ToParenthesis(1),
+            _ => ExpressionStretch::Closed,
         },
         TokenKind::Word => {
             if is_stretch_word(spelled) {
-                Stretch::Awaited
+                ExpressionStretch::Awaited
             } else {
-                Stretch::Closed
+                ExpressionStretch::Closed
             }
         }
-        _ => Stretch::Closed,
+        _ => ExpressionStretch::Closed,
     }
 }
 
 /// The stretch after a token that was read in expression mode.
-fn closed(stretch: Stretch, kind: TokenKind, spelled: &[u8]) -> Stretch
+fn closed(stretch: ExpressionStretch, kind: TokenKind, spelled: &[u8]) -> ExpressionStretch
     requires { IsShortStretch (2 ^ 32) stretch }
     ensures value { result ≡ closed stretch (spelled_token kind spelled.now) }
     ensures short { (n m : ℕ) → IsShortStretch n stretch → n < m → IsShortStretch m result }
 {
     match (stretch, kind) {
-        (Stretch::ToSemicolon, TokenKind::Punctuation(Mark::Semicolon)) => Stretch::Closed,
-        (Stretch::ToSemicolon, _) => Stretch::ToSemicolon,
-        (Stretch::ToParenthesis(n), TokenKind::Punctuation(Mark::OpenParenthesis)) =>
-            Stretch::ToParenthesis(n + 1),
-        (Stretch::ToParenthesis(1), TokenKind::Punctuation(Mark::CloseParenthesis)) =>
-            Stretch::Closed,
-        (Stretch::ToParenthesis(n), TokenKind::Punctuation(Mark::CloseParenthesis)) =>
-            Stretch::ToParenthesis(n.saturating_sub(1)),
-        (Stretch::ToParenthesis(n), _) => Stretch::ToParenthesis(n),
-        _ => Stretch::Closed,
+        (ExpressionStretch::ToSemicolon, TokenKind::Punctuation(Mark::Semicolon)) =>
+            ExpressionStretch::Closed,
+        (ExpressionStretch::ToSemicolon, _) => ExpressionStretch::ToSemicolon,
+        (ExpressionStretch::ToParenthesis(n), TokenKind::Punctuation(Mark::OpenParenthesis)) =>
+            ExpressionStretch::ToParenthesis(n + 1),
+        (ExpressionStretch::ToParenthesis(1), TokenKind::Punctuation(Mark::CloseParenthesis)) =>
+            ExpressionStretch::Closed,
+        (ExpressionStretch::ToParenthesis(n), TokenKind::Punctuation(Mark::CloseParenthesis)) =>
+            ExpressionStretch::ToParenthesis(n.saturating_sub(1)),
+        (ExpressionStretch::ToParenthesis(n), _) => ExpressionStretch::ToParenthesis(n),
+        _ => ExpressionStretch::Closed,
     }
 }
 
@@ -82,7 +83,7 @@ impl LexState {
     {
         LexState {
             depth: 0,
-            stretch: Stretch::Closed,
+            stretch: ExpressionStretch::Closed,
         }
     }
 
@@ -91,7 +92,8 @@ impl LexState {
         ensures { result ≡ mode_of self }
     {
         match self.stretch {
-            Stretch::Closed | Stretch::Awaited if self.depth == 2 => Mode::Pattern,
+            ExpressionStretch::Closed | ExpressionStretch::Awaited if self.depth == 2 =>
+                Mode::Pattern,
             _ => Mode::Expression,
         }
     }

@@ -117,7 +117,7 @@ impl CodeToken {
 
 /// A stretch of an output section's body that is read as an expression.
 #[derive(Clone, Copy, Debug, PartialEq, Eq)]
-pub enum Stretch {
+pub enum ExpressionStretch {
     /// None.
     Closed,
     /// None yet, but a `(` right here begins one.
@@ -134,5 +134,5 @@ pub struct LexState {
     /// `{` less `}` so far; a `}` at 0 leaves it at 0.
     pub depth: usize,
     /// The stretch that is open here.
-    pub stretch: Stretch,
+    pub stretch: ExpressionStretch,
 }

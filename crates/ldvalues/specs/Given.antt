@@ -6,9 +6,9 @@ use Rattle.ldmodel.specs.Project.{Project}
 use Rattle.ldnaming.specs.Naming.{NamingState}
 use Rattle.ldnaming.specs.Sorted.{AreSorted}
 use Rattle.ldvalues.specs.ScriptValues.{AreScriptValues}
-use Rattle.ldvalues.specs.declared.given.Given.{Given}
+use Rattle.ldvalues.specs.declared.given.GivenValues.{GivenValues}
 
 -- the values are those of the layout, and the names are all in byte order
-pub record IsGiven (p : Project) (a : NamingState) (l : Laying) (g : Given) : Type 0 where
+pub record IsGiven (p : Project) (a : NamingState) (l : Laying) (g : GivenValues) : Type 0 where
   pub values : (s : Layout) → IsLaying p s l → AreScriptValues s g.values
   pub sorted : AreSorted a g.sorted.items

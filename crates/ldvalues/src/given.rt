@@ -13,12 +13,12 @@ use std::alloc::Global;
 
 /// The values that the script gives names, and all names that objects declare in byte order.
 #[derive(Drop)]
-pub struct Given<'a> {
+pub struct GivenValues<'a> {
     pub(crate) values: ScriptValues<'a>,
     pub(crate) sorted: Vec<NamedKey<'a>>,
 }
 
-impl<'a> Given<'a> {
+impl<'a> GivenValues<'a> {
     ghost use Rattle.ldvalues.specs.Given.{IsGiven};
 
     /// Those of a project with these names and this layout. An error says that memory ran out.
@@ -27,12 +27,12 @@ impl<'a> Given<'a> {
         project: &'a ProjectView<'_>,
         naming: &'a Naming,
         laying: &Laying,
-    ) -> Result<Given<'a>, NoMemory>
+    ) -> Result<GivenValues<'a>, NoMemory>
         ensures { IfOk result (IsGiven project.now naming.now laying.now) }
     {
         let script = project.script();
         let values = ScriptValues::of(alloc, script, &laying.placement)?;
         let sorted = naming.sorted(alloc)?;
-        Ok(Given { values, sorted })
+        Ok(GivenValues { values, sorted })
     }
 }

@@ -6,7 +6,7 @@ ghost use Rattle.ldnaming.specs.Naming.{IsNaming};
 ghost use Rattle.ldlayout.specs.Starts.{AreStarts};
 ghost use Rattle.ldvalues.specs.Seen.{AreSeen};
 
-use crate::given::Given;
+use crate::given::GivenValues;
 use crate::given_table::given_table;
 use ldlayout::starts::Starts;
 use ldmodel::memory::NoMemory;
@@ -40,7 +40,7 @@ impl<'a, 'p> LinkView<'a, 'p> {
         project: &'a ProjectView<'p>,
         naming: &'a Naming,
         starts: &'a Starts,
-        given: &Given<'_>,
+        given: &GivenValues<'_>,
     ) -> Result<LinkView<'a, 'p>, NoMemory>
         requires naming { IsNaming project.now naming.now }
         requires sorted { AreSorted naming.now given.now.sorted.items }

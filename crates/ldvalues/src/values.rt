@@ -11,7 +11,7 @@ ghost use Rattle.ldvalues.specs.ScriptValues.{AreScriptValues};
 ghost use Rattle.ldvalues.specs.Values.{AreValues};
 
 use crate::candidate::candidates;
-use crate::given::Given;
+use crate::given::GivenValues;
 use crate::link_view::LinkView;
 use crate::script_values::ScriptValues;
 use crate::symbols::{Sources, symbols_of};
@@ -73,7 +73,7 @@ impl<'a> Values<'a> {
         project: &'a ProjectView<'_>,
         naming: &'a Naming,
         link: &LinkView<'_, '_>,
-        given: &Given<'a>,
+        given: &GivenValues<'a>,
     ) -> Result<Values<'a>, NoMemory>
         requires naming { IsNaming project.now naming.now }
         requires sorted { AreSorted naming.now given.now.sorted.items }

@@ -20,7 +20,7 @@ use crate::stop::Stop;
 use elffile::constants::{SHF_EXECINSTR, SHF_WRITE};
 use ldmodel::laid::Placed;
 use ldscope::pieces::{any_in_file, any_with_flag};
-use ldscope::regions::{Region, Regions};
+use ldscope::regions::{RegionState, Regions};
 use ldscope::sections::Closed;
 use ldscript::tree::{Load, OutputSection};
 use std::alloc::Global;
@@ -36,7 +36,7 @@ pub(crate) fn load_region_name(section: &OutputSection) -> Option<&[u8]>
 }
 
 /// Whether a range of addresses lies in a region.
-fn is_within(region: &Region<'_>, at: u64, size: u64) -> bool
+fn is_within(region: &RegionState<'_>, at: u64, size: u64) -> bool
     ensures { result ≡ is_within (region_of region.now) at size }
 {
     let end = u128::from(at) + u128::from(size);

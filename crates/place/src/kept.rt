@@ -6,13 +6,13 @@ ghost use Rattle.place.specs.Leads.{Keeps};
 use crate::boundary::Boundary;
 use crate::placement::Placement;
 use ldmodel::script_symbol::{CommonIndex, ScriptSymbol};
-use ldscope::earlier::Earlier;
+use ldscope::earlier::EarlierLayout;
 
 /// What is kept of an earlier layout, and how far it holds.
 #[derive(Clone, Copy)]
 pub(crate) struct Kept<'k> {
     /// The output sections.
-    pub earlier: Earlier<'k>,
+    pub earlier: EarlierLayout<'k>,
     /// `.` before each statement.
     pub dots: &'k [u64],
     /// The symbols.
@@ -34,7 +34,7 @@ impl<'k> Kept<'k> {
         match kept {
             Some((placement, first)) => placement.kept(first, provided),
             None => Kept {
-                earlier: Earlier {
+                earlier: EarlierLayout {
                     sections: &[],
                     counts: &[],
                     starts: &[],

@@ -22,7 +22,7 @@ use ldmodel::script_symbol::CommonIndex;
 use ldscope::provided::Provided;
 use ldscope::regions::Regions;
 use ldscope::sections::Sections;
-use ldscope::symbols::Symbols;
+use ldscope::symbols::AssignedSymbols;
 use ldscript::script::Script;
 use std::alloc::{AllocError, Global};
 
@@ -33,14 +33,14 @@ fn no_symbols<'a>(
     script: &'a Script,
     kept: Kept<'_>,
     sections: usize,
-) -> Result<Symbols<'a>, AllocError>
+) -> Result<AssignedSymbols<'a>, AllocError>
     ensures script { IfOk result (λ s. s.script ≡ script.now) }
     ensures none { IfOk result (λ s. s.list ≡ []) }
 {
     if kept.count().unwrap_or(0) > sections / 2 {
-        Symbols::taken_over(alloc, script, kept.symbols.len())
+        AssignedSymbols::taken_over(alloc, script, kept.symbols.len())
     } else {
-        Symbols::new(alloc, script)
+        AssignedSymbols::new(alloc, script)
     }
 }
 

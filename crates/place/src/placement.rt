@@ -11,7 +11,7 @@ use crate::boundary::Boundary;
 use crate::kept::Kept;
 use ldmodel::laid::{Laid, Placed, PlacedData, PlacedRegion};
 use ldmodel::script_symbol::{CommonIndex, ScriptSymbol};
-use ldscope::earlier::Earlier;
+use ldscope::earlier::EarlierLayout;
 use std::marker::Model;
 
 /// Where everything of a script stands: its output sections, their input sections and data commands, `.` before its
@@ -86,7 +86,7 @@ impl Placement {
         ensures { Keeps self.now first provided.now result }
     {
         Kept {
-            earlier: Earlier {
+            earlier: EarlierLayout {
                 sections: &self.sections,
                 counts: &self.counts,
                 starts: &self.starts,

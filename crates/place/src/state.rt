@@ -4,7 +4,7 @@ use ldmodel::rows::Piece;
 use ldscope::provided::Provided;
 use ldscope::regions::Regions;
 use ldscope::sections::{DataAt, PieceAt, Sections};
-use ldscope::symbols::Symbols;
+use ldscope::symbols::AssignedSymbols;
 
 /// Where a layout has come to: what changes from statement to statement, in the body of an output section too.
 #[derive(Drop)]
@@ -16,7 +16,7 @@ pub(crate) struct Here<'a> {
     /// The number of the next input statement.
     pub inputs: u64,
     /// The symbols that have values.
-    pub symbols: Symbols<'a>,
+    pub symbols: AssignedSymbols<'a>,
     /// The input sections of the present output section that have their places.
     pub pieces: Vec<PieceAt<'a>>,
     /// The data commands of the present output section so far.

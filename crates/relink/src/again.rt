@@ -31,7 +31,7 @@ use ldnaming::naming::Naming;
 use ldoutput::image::draw_image;
 use ldoutput::map::map_text;
 use ldproject::view::ProjectView;
-use ldvalues::given::Given;
+use ldvalues::given::GivenValues;
 use ldvalues::link_view::LinkView;
 use ldvalues::values::Values;
 use std::alloc::{AllocError, Global};
@@ -126,7 +126,7 @@ fn linked_over(
     ensures unchanged { OnErr result (canvas.new.bytes ≡ canvas.old.bytes) }
 {
     let laying = &arranged.laying;
-    let given = Given::of(alloc, &*project, &*naming, laying)?;
+    let given = GivenValues::of(alloc, &*project, &*naming, laying)?;
     let view = LinkView::new(alloc, &*project, &*naming, &arranged.starts, &given)?;
     let values = valued(alloc, &*project, &*naming, laying, &view, &given)?;
     let symbols = symbol_values(alloc, project, &view, &values.names)?;

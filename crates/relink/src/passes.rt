@@ -38,7 +38,7 @@ use ldoutput::length::image_length;
 use ldoutput::relocated::Relocated;
 use ldproject::view::ProjectView;
 use ldvalues::asserting::assertion_faults;
-use ldvalues::given::Given;
+use ldvalues::given::GivenValues;
 use ldvalues::link_view::LinkView;
 use ldvalues::values::Values;
 use std::alloc::Global;
@@ -188,7 +188,7 @@ pub(crate) fn valued<'a>(
     naming: &'a Naming,
     laying: &Laying,
     view: &LinkView<'_, '_>,
-    given: &Given<'a>,
+    given: &GivenValues<'a>,
 ) -> Result<Values<'a>, Stop>
     requires naming { IsNaming project.now naming.now }
     requires given { IsGiven project.now naming.now laying.now given.now }

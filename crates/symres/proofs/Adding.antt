@@ -9,7 +9,7 @@ use Rattle.std.proofs.lemmas.List.Elements.{filter-append, All-map, All-append, 
 use Rattle.symres.specs.declared.symbol.Declared.{Declared}
 use Rattle.symres.specs.declared.symbol.Numbered.{Numbered}
 use Rattle.ldmodel.specs.Names.{is_local}
-use Rattle.symres.specs.declared.places.Place.{Place}
+use Rattle.symres.specs.declared.places.PlacedKey.{PlacedKey}
 use Rattle.symres.specs.Numbers.{Entered, declared, own, entries, before, is_named, IsPlace, IsSplit, named}
 use Rattle.symres.specs.Numbers.{HasRoom, Grows}
 use Rattle.symres.proofs.Naming.{named_yes, named_push}
@@ -29,7 +29,7 @@ all_entries P k (x ∷ xs) h = All-append P _ _
     (all_entries P k xs (All-tail (λ (o : Entered). (s : Numbered) → P (declared o.key s)) x xs h))
 
 -- the place is right behind what is before
-pub place_is : (place : List Place) (at key : ℕ) (F B : List Declared) (n : ℕ) (x : Declared)
+pub place_is : (place : List PlacedKey) (at key : ℕ) (F B : List Declared) (n : ℕ) (x : Declared)
     → IsPlace place at key (F ++ B) n
     → All (λ d. before place at key d ≡ true) F → All (λ d. before place at key d ≡ false) B → n ≡ length F
 place_is place at key F B n x p f b = ⊎_elim
@@ -43,7 +43,7 @@ place_is place at key F B n x p f b = ⊎_elim
     (cases_lt (length F) n))
     (cases_lt n (length F))
 
-pub front_before : (place : List Place) (at key k : ℕ) (xs ys : List Entered) → IsSplit place at key xs ys
+pub front_before : (place : List PlacedKey) (at key k : ℕ) (xs ys : List Entered) → IsSplit place at key xs ys
     → All (λ d. before place at key d ≡ true) (entries k xs)
 front_before place at key k xs ys s =
     all_entries (λ d. before place at key d ≡ true) k xs (λ j o h t.
@@ -53,7 +53,7 @@ front_before place at key k xs ys s =
     either true e = refl
     either false e = e
 
-pub behind_not_before : (place : List Place) (at key k : ℕ) (xs ys : List Entered) → IsSplit place at key xs ys
+pub behind_not_before : (place : List PlacedKey) (at key k : ℕ) (xs ys : List Entered) → IsSplit place at key xs ys
     → All (λ d. before place at key d ≡ false) (entries k ys)
 behind_not_before place at key k xs ys s =
     all_entries (λ d. before place at key d ≡ false) k ys (λ j o h t. rw (s.other j o h) (s.behind j o h))

@@ -10,7 +10,7 @@ use Rattle.std.proofs.lemmas.List.Elements.{All-head, All-tail}
 use Rattle.symres.specs.declared.symbol.Declared.{Declared}
 use Rattle.symres.specs.declared.symbol.Numbered.{Numbered}
 use Rattle.symres.specs.Numbers.{Entered, declared, own, is_named, named, entries, HasRoom, HasRow, RowsGrow}
-use Rattle.symres.specs.declared.places.Place.{Place}
+use Rattle.symres.specs.declared.places.PlacedKey.{PlacedKey}
 use Rattle.symres.specs.Objects.{IsKept, CanEnter}
 use Rattle.symres.proofs.Naming.{named_past}
 
@@ -63,7 +63,7 @@ grow_push old mid new row g e r = subst (RowsGrow old) (sym e) record {
       (cases_lt k (length mid));
 }
 
-pub kept_grown : (os : List Entered) (rows rows' : List (Vec Declared Global)) (place : List Place)
+pub kept_grown : (os : List Entered) (rows rows' : List (Vec Declared Global)) (place : List PlacedKey)
     → IsKept os rows place → RowsGrow rows rows' → IsKept os rows' place
 kept_grown os rows rows' place k g = record {
   table = record {
@@ -98,7 +98,7 @@ all_ok (Ok x) a b c f = f a b c
 all_ok (Err e) a b c f = tt
 
 -- what the rows say of the room, the state says
-pub can_enter : (os : List Entered) (rows : List (Vec Declared Global)) (place : List Place) (left free : ℕ)
+pub can_enter : (os : List Entered) (rows : List (Vec Declared Global)) (place : List PlacedKey) (left free : ℕ)
     (symbols : List Numbered) → IsKept os rows place → ((v : Vec Declared Global) → vec_len v ≡ length v.items)
     → HasRoom rows symbols → All (HasRow (length rows)) symbols → 0 < left → 0 < free
     → CanEnter (record {
@@ -153,7 +153,7 @@ entries_removed k (x ∷ os) (suc n) o h e =
       length-append (own k x.key x.symbols) (entries k (remove os n)),
     )
 
-pub again : (os : List Entered) (rows : List (Vec Declared Global)) (place : List Place) (left free at : ℕ)
+pub again : (os : List Entered) (rows : List (Vec Declared Global)) (place : List PlacedKey) (left free at : ℕ)
     (o : Entered) → IsKept os rows place
     → ((v : Vec Declared Global) → (vec_len v ≡ length v.items) × (vec_len v ≤ vec_capacity v))
     → at < length os → ((d : Entered) → get_or os at d ≡ o) → 0 < left → 0 < free

@@ -13,7 +13,7 @@ use Rattle.std.proofs.lemmas.List.{take-append-drop}
 use Rattle.std.proofs.lemmas.List.Edits.{length-remove, get_or-remove_below, get_or-remove_above, length-insert}
 use Rattle.std.proofs.lemmas.List.Edits.{get_or-insert_below, get_or-insert_at, get_or-insert_above}
 use Rattle.std.proofs.lemmas.List.Elements.{All-append, All-cons, All-take, All-drop}
-use Rattle.symres.specs.declared.places.Place.{Place}
+use Rattle.symres.specs.declared.places.PlacedKey.{PlacedKey}
 use Rattle.symres.specs.declared.symbol.Declared.{Declared}
 use Rattle.symres.specs.Places.{place_of, AreSorted, IsBelow, is_below, up, down, AreMoved}
 use Rattle.symres.specs.Numbers.{Entered, HasRow, IsSplit, IsTable, HasSymbols, without}
@@ -25,7 +25,7 @@ abbrev or : Option ℕ → Option ℕ → Option ℕ
 or (Some n) m = Some n
 or None m = m
 
-place_append : (xs ys : List Place) (key : ℕ) → place_of (xs ++ ys) key ≡ or (place_of xs key) (place_of ys key)
+place_append : (xs ys : List PlacedKey) (key : ℕ) → place_of (xs ++ ys) key ≡ or (place_of xs key) (place_of ys key)
 place_append [] ys key = refl
 place_append (x ∷ xs) ys key = go (eqb x.key key) (place_append xs ys key)
   where
@@ -35,7 +35,7 @@ place_append (x ∷ xs) ys key = go (eqb x.key key) (place_append xs ys key)
     go false e = e
 
 -- another key that is put in
-insert_other : (ps : List Place) (n : ℕ) (p : Place) (key : ℕ) → p.key ≢ key → place_of (insert ps n p) key
+insert_other : (ps : List PlacedKey) (n : ℕ) (p : PlacedKey) (key : ℕ) → p.key ≢ key → place_of (insert ps n p) key
     ≡ place_of ps key
 insert_other ps n p key h =
     place_append (take n ps) (p ∷ drop n ps) key
@@ -47,7 +47,7 @@ or_none : (a b : Option ℕ) → or a b ≡ None → a ≡ None
 or_none None b h = refl
 or_none (Some n) b h = absurd (cc)
 
-insert_same : (ps : List Place) (n : ℕ) (p : Place) → place_of ps p.key ≡ None → place_of (insert ps n p) p.key
+insert_same : (ps : List PlacedKey) (n : ℕ) (p : PlacedKey) → place_of ps p.key ≡ None → place_of (insert ps n p) p.key
     ≡ Some p.at
 insert_same ps n p h =
     let parts : or (place_of (take n ps) p.key) (place_of (drop n ps) p.key) ≡ None =
@@ -57,7 +57,7 @@ insert_same ps n p h =
     ∙ ap (λ b. cond b (Some p.at) (place_of (drop n ps) p.key)) (eq-eqb p.key p.key refl)
 
 -- a moved place is found where it moved
-pub place_moved : (move : ℕ → ℕ) (old new : List Place) (key : ℕ) → AreMoved move old new → place_of new key
+pub place_moved : (move : ℕ → ℕ) (old new : List PlacedKey) (key : ℕ) → AreMoved move old new → place_of new key
     ≡ option_map move (place_of old key)
 place_moved move [] [] key m = refl
 place_moved move [] (y ∷ new) key m = absurd (omega (arith, m.long))
@@ -82,12 +82,12 @@ place_moved move (x ∷ old) (y ∷ new) key m =
     go true = refl
     go false = refl
 
-pub sorted_moved : (move : ℕ → ℕ) (old new : List Place) → AreMoved move old new → AreSorted old → AreSorted new
+pub sorted_moved : (move : ℕ → ℕ) (old new : List PlacedKey) → AreMoved move old new → AreSorted old → AreSorted new
 sorted_moved move old new m s = λ i j d h l.
     let lt = s i j d h (omega (arith, m.long)) in
     omega (arith, lt, m.key i d (omega (arith, m.long)), m.key j d (omega (arith, m.long)))
 
-pub below_moved : (move : ℕ → ℕ) (old new : List Place) (key n : ℕ) → AreMoved move old new → IsBelow old key n
+pub below_moved : (move : ℕ → ℕ) (old new : List PlacedKey) (key n : ℕ) → AreMoved move old new → IsBelow old key n
     → IsBelow new key n
 below_moved move old new key n m b = record {
   within = omega (arith, b.within, m.long);
@@ -97,20 +97,20 @@ below_moved move old new key n m b = record {
 }
 
 -- each place in a sorted list is the one found
-pub found_at : (ps : List Place) (k : ℕ) (d : Place) → AreSorted ps → k < length ps → place_of ps (get_or ps k d).key
+pub found_at : (ps : List PlacedKey) (k : ℕ) (d : PlacedKey) → AreSorted ps → k < length ps → place_of ps (get_or ps k d).key
     ≡ Some (get_or ps k d).at
 found_at ps k d s h = place_at ps (get_or ps k d).key k (get_or ps k d)
     (λ j e l same. let lt = s j k e l h in let is = get_or_default ps k d e h in
-    omega (arith, lt, same, ap (λ (p : Place). p.key) is))
+    omega (arith, lt, same, ap (λ (p : PlacedKey). p.key) is))
     h (get_or_default ps k (get_or ps k d) d h) refl
 
 -- no key stands in a list that is the one sought
-apart : (ps : List Place) (key : ℕ) → place_of ps key ≡ None → AreSorted ps → (k : ℕ) (d : Place) → k < length ps
+apart : (ps : List PlacedKey) (key : ℕ) → place_of ps key ≡ None → AreSorted ps → (k : ℕ) (d : PlacedKey) → k < length ps
     → (get_or ps k d).key ≢ key
 apart ps key n s k d h same = let f = found_at ps k d s h in let g : place_of ps key ≡ Some (get_or ps k d).at =
     ap (place_of ps) (sym same) ∙ f in absurd (cc)
 
-pub sorted_insert : (ps : List Place) (n : ℕ) (p : Place) → AreSorted ps → IsBelow ps p.key n → place_of ps p.key
+pub sorted_insert : (ps : List PlacedKey) (n : ℕ) (p : PlacedKey) → AreSorted ps → IsBelow ps p.key n → place_of ps p.key
     ≡ None → AreSorted (insert ps n p)
 sorted_insert ps n p s b none = λ i j d h l.
     let l' : j < length ps + 1 = omega (arith, l, length-insert ps n p b.within) in
@@ -145,19 +145,19 @@ sorted_insert ps n p s b none = λ i j d h l.
     (cases_eq i n))
     (cases_lt i n)
   where
-    at_low : (k : ℕ) (d : Place) → k < n → (get_or (insert ps n p) k d).key ≡ (get_or ps k d).key
-    at_low k d h = ap (λ (q : Place). q.key) (get_or-insert_below ps n p d k h b.within)
+    at_low : (k : ℕ) (d : PlacedKey) → k < n → (get_or (insert ps n p) k d).key ≡ (get_or ps k d).key
+    at_low k d h = ap (λ (q : PlacedKey). q.key) (get_or-insert_below ps n p d k h b.within)
 
-    at_same : (k : ℕ) (d : Place) → k ≡ n → (get_or (insert ps n p) k d).key ≡ p.key
-    at_same k d e = ap (λ (q : Place). q.key) (ap (λ q. get_or (insert ps n p) q d) e
+    at_same : (k : ℕ) (d : PlacedKey) → k ≡ n → (get_or (insert ps n p) k d).key ≡ p.key
+    at_same k d e = ap (λ (q : PlacedKey). q.key) (ap (λ q. get_or (insert ps n p) q d) e
         ∙ get_or-insert_at ps n p d b.within)
 
-    at_high : (k : ℕ) (d : Place) → n ≤ k → k ≢ n → (get_or (insert ps n p) k d).key ≡ (get_or ps (k - 1) d).key
+    at_high : (k : ℕ) (d : PlacedKey) → n ≤ k → k ≢ n → (get_or (insert ps n p) k d).key ≡ (get_or ps (k - 1) d).key
     at_high k d h ne = let e : k ≡ (k - 1) + 1 = omega (arith, h, ne) in
-        ap (λ (q : Place). q.key) (ap (λ q. get_or (insert ps n p) q d) e
+        ap (λ (q : PlacedKey). q.key) (ap (λ q. get_or (insert ps n p) q d) e
         ∙ get_or-insert_above ps n p d (k - 1) (omega (arith, h, ne)) b.within)
 
-pub sorted_remove : (ps : List Place) (n : ℕ) → AreSorted ps → n < length ps → AreSorted (remove ps n)
+pub sorted_remove : (ps : List PlacedKey) (n : ℕ) → AreSorted ps → n < length ps → AreSorted (remove ps n)
 sorted_remove ps n s w = λ i j d h l.
     let l' : j + 1 < length ps = omega (arith, l, length-remove ps n w) in
     ⊎_elim
@@ -169,23 +169,23 @@ sorted_remove ps n s w = λ i j d h l.
     omega (arith, lt, high i d i_high, high j d (omega (arith, h, i_high))))
     (cases_lt i n)
   where
-    low : (k : ℕ) (d : Place) → k < n → (get_or (remove ps n) k d).key ≡ (get_or ps k d).key
-    low k d h = ap (λ (q : Place). q.key) (get_or-remove_below ps n d k h w)
+    low : (k : ℕ) (d : PlacedKey) → k < n → (get_or (remove ps n) k d).key ≡ (get_or ps k d).key
+    low k d h = ap (λ (q : PlacedKey). q.key) (get_or-remove_below ps n d k h w)
 
-    high : (k : ℕ) (d : Place) → n ≤ k → (get_or (remove ps n) k d).key ≡ (get_or ps (k + 1) d).key
-    high k d h = ap (λ (q : Place). q.key) (get_or-remove_above ps n d k h w)
+    high : (k : ℕ) (d : PlacedKey) → n ≤ k → (get_or (remove ps n) k d).key ≡ (get_or ps (k + 1) d).key
+    high k d h = ap (λ (q : PlacedKey). q.key) (get_or-remove_above ps n d k h w)
 
 -- what is found once the place of a key was taken out
-pub remove_other : (ps : List Place) (n key : ℕ) (p : Place) → n < length ps → p ≡ get_or ps n p → p.key ≢ key
+pub remove_other : (ps : List PlacedKey) (n key : ℕ) (p : PlacedKey) → n < length ps → p ≡ get_or ps n p → p.key ≢ key
     → place_of (remove ps n) key ≡ place_of ps key
 remove_other [] n key p h e ne = absurd (omega (arith, h))
 remove_other (x ∷ ps) zero key p h e ne =
     sym (ap (λ b. cond b (Some x.at) (place_of ps key))
-    (ne_eqb x.key key (λ same. ne (ap (λ (q : Place). q.key) e ∙ same))))
+    (ne_eqb x.key key (λ same. ne (ap (λ (q : PlacedKey). q.key) e ∙ same))))
 remove_other (x ∷ ps) (suc n) key p h e ne =
     ap (λ o. cond (eqb x.key key) (Some x.at) o) (remove_other ps n key p (omega (arith, h)) e ne)
 
-pub remove_same : (ps : List Place) (n : ℕ) (p : Place) → AreSorted ps → n < length ps → p ≡ get_or ps n p
+pub remove_same : (ps : List PlacedKey) (n : ℕ) (p : PlacedKey) → AreSorted ps → n < length ps → p ≡ get_or ps n p
     → place_of (remove ps n) p.key ≡ None
 remove_same ps n p s w e = place_none (remove ps n) p.key (λ k d l same. ⊎_elim
     (λ low. let lt = s k n d low w in
@@ -193,21 +193,21 @@ remove_same ps n p s w e = place_none (remove ps n) p.key (λ k d l same. ⊎_el
       arith,
       lt,
       same,
-      ap (λ (q : Place). q.key) (get_or-remove_below ps n d k low w),
-      ap (λ (q : Place). q.key) (e ∙ get_or_default ps n p d w),
+      ap (λ (q : PlacedKey). q.key) (get_or-remove_below ps n d k low w),
+      ap (λ (q : PlacedKey). q.key) (e ∙ get_or_default ps n p d w),
     )))
     (λ high. let lt = s n (k + 1) d (omega (arith, high)) (omega (arith, l, length-remove ps n w)) in
     absurd (omega (
       arith,
       lt,
       same,
-      ap (λ (q : Place). q.key) (get_or-remove_above ps n d k high w),
-      ap (λ (q : Place). q.key) (e ∙ get_or_default ps n p d w),
+      ap (λ (q : PlacedKey). q.key) (get_or-remove_above ps n d k high w),
+      ap (λ (q : PlacedKey). q.key) (e ∙ get_or_default ps n p d w),
     )))
     (cases_lt k n))
 
 -- a key that no object has isn't found
-pub fresh_place : (ps : List Place) (os : List Entered) (key : ℕ) → IsNumbered ps os
+pub fresh_place : (ps : List PlacedKey) (os : List Entered) (key : ℕ) → IsNumbered ps os
     → All (λ (o : Entered). eqb o.key key ≡ false) os → place_of ps key ≡ None
 fresh_place ps os key n f = go (place_of ps key) refl
   where
@@ -218,7 +218,7 @@ fresh_place ps os key n f = go (place_of ps key) refl
     go None e = e
     go (Some j) e = let o = n.only key j e in absurd (eqb-false _ _ (f j nobody o.0) (o.1 nobody))
 
-pub split_at : (ps : List Place) (at key : ℕ) (os : List Entered) → IsNumbered ps os → at ≤ length os
+pub split_at : (ps : List PlacedKey) (at key : ℕ) (os : List Entered) → IsNumbered ps os → at ≤ length os
     → All (λ (o : Entered). eqb o.key key ≡ false) os → IsSplit ps at key (take at os) (drop at os)
 split_at ps at key os n h f = record {
   front = λ j o l.
@@ -237,7 +237,7 @@ up_low : (at j : ℕ) → j < at → up at j ≡ j
 up_low at j h = ap (λ b. cond b j (j + 1)) (lt-ltb j at h)
 
 -- where all places are in front none moves
-pub none_moved : (at : ℕ) (places : List Place) → ((k : ℕ) (d : Place) → k < length places
+pub none_moved : (at : ℕ) (places : List PlacedKey) → ((k : ℕ) (d : PlacedKey) → k < length places
     → (get_or places k d).at < at) → AreMoved (up at) places places
 none_moved at places low = record {
   long = refl;
@@ -260,7 +260,7 @@ was move None j h = absurd (cc)
 was move (Some m) j h = (m, refl, cc)
 
 -- the new object stands in the gap
-pub numbered_after : (old mid : List Place) (number at : ℕ) (new : Entered) (os : List Entered) → IsNumbered old os
+pub numbered_after : (old mid : List PlacedKey) (number at : ℕ) (new : Entered) (os : List Entered) → IsNumbered old os
     → AreMoved (up at) old mid → IsBelow old new.key number → at ≤ length os
     → All (λ (o : Entered). eqb o.key new.key ≡ false) os
     → IsNumbered (insert mid number (record { key = new.key; at = at })) (insert os at new)
@@ -316,10 +316,10 @@ numbered_after old mid number at new os n m b h f =
           (cases_eq key new.key);
     }
   where
-    here : Place
+    here : PlacedKey
     here = record { key = new.key; at = at }
 
-    new_places : List Place
+    new_places : List PlacedKey
     new_places = insert mid number here
 
     found : (key j : ℕ) → (new.key ≡ key → ⊥) → place_of old key ≡ Some j → place_of new_places key ≡ Some (up at j)
@@ -334,19 +334,19 @@ numbered_after old mid number at new os n m b h f =
         ap (λ q. get_or (insert os at new) q o) e ∙ get_or-insert_above os at new o (j - 1) (omega (arith, high, ne)) h
 
 -- where a sorted list has the place of a key
-pub record At (ps : List Place) (key n j : ℕ) : Type 0 where
+pub record At (ps : List PlacedKey) (key n j : ℕ) : Type 0 where
   pub within : n < length ps
-  pub key_is : (d : Place) → (get_or ps n d).key ≡ key
-  pub at_is : (d : Place) → (get_or ps n d).at ≡ j
+  pub key_is : (d : PlacedKey) → (get_or ps n d).key ≡ key
+  pub at_is : (d : PlacedKey) → (get_or ps n d).at ≡ j
 
-pub at_number : (ps : List Place) (key n j : ℕ) → AreSorted ps → IsBelow ps key n → place_of ps key ≡ Some j
+pub at_number : (ps : List PlacedKey) (key n j : ℕ) → AreSorted ps → IsBelow ps key n → place_of ps key ≡ Some j
     → At ps key n j
 at_number ps key n j s b e = ⊎_elim
     (λ w. ⊎_elim
     (λ same. record {
       within = w;
-      key_is = λ d. ap (λ (p : Place). p.key) (get_or_default ps n d nowhere w) ∙ same;
-      at_is = λ d. ap (λ (p : Place). p.at) (get_or_default ps n d nowhere w)
+      key_is = λ d. ap (λ (p : PlacedKey). p.key) (get_or_default ps n d nowhere w) ∙ same;
+      at_is = λ d. ap (λ (p : PlacedKey). p.at) (get_or_default ps n d nowhere w)
           ∙ some (get_or ps n nowhere).at
           (found_here ps key n (get_or ps n nowhere) b w (get_or_default ps n nowhere (get_or ps n nowhere) w) same
           ∙ e);
@@ -357,19 +357,19 @@ at_number ps key n j s b e = ⊎_elim
     (λ past. let none = found_past ps key n b past ∙ e in absurd (cc))
     (cases_lt n (length ps))
   where
-    nowhere : Place
+    nowhere : PlacedKey
     nowhere = record { key = 0; at = 0 }
 
     some : (a : ℕ) → Some a ≡ Some j → a ≡ j
     some a h = cc
 
 -- the object of a key
-pub record Here (places : List Place) (os : List Entered) (key at : ℕ) : Type 0 where
+pub record Here (places : List PlacedKey) (os : List Entered) (key at : ℕ) : Type 0 where
   pub place_is : place_of places key ≡ Some at
   pub within : at < length os
   pub key_is : (o : Entered) → (get_or os at o).key ≡ key
 
-pub here_at : (places : List Place) (os : List Entered) (key : ℕ) → IsNumbered places os → (h : HasKey key os)
+pub here_at : (places : List PlacedKey) (os : List Entered) (key : ℕ) → IsNumbered places os → (h : HasKey key os)
     → Here places os key h.0
 here_at places os key n h = record {
   place_is = ap (place_of places) (sym (h.2 nobody)) ∙ n.at h.0 nobody h.1;
@@ -385,13 +385,13 @@ is_found None j h = absurd (cc)
 is_found (Some n) j h = refl
 
 -- each other object has another key
-other_key : (places : List Place) (os : List Entered) (key at j : ℕ) (o : Entered) → IsNumbered places os
+other_key : (places : List PlacedKey) (os : List Entered) (key at j : ℕ) (o : Entered) → IsNumbered places os
     → place_of places key ≡ Some at → j < length os → j ≢ at → (get_or os j o).key ≢ key
 other_key places os key at j o n p h ne e = let is : Some j ≡ Some at = sym (n.at j o h) ∙ ap (place_of places) e
     ∙ p in let same : j ≡ at = cc in ne same
 
 -- the object of a key has left
-pub numbered_without : (places mid new : List Place) (number key at : ℕ) (p : Place) (os : List Entered)
+pub numbered_without : (places mid new : List PlacedKey) (number key at : ℕ) (p : PlacedKey) (os : List Entered)
     → IsNumbered places os → Here places os key at → number < length places → p ≡ get_or places number p → p.key ≡ key
     → mid ≡ remove places number → AreMoved (down at) mid new → IsNumbered new (remove os at)
 numbered_without places mid new number key at p os n h w is k e m = record {
@@ -468,13 +468,13 @@ one_out p (x ∷ xs) (suc n) h f t = ap (λ b. cond b (x ∷ filter p xs) (filte
     ∙ ap (λ l. x ∷ l) (one_out p xs n (omega (arith, h)) f (λ j d l ne.
     t (suc j) d (omega (arith, l)) (omega (arith, ne))))
 
-pub without_is : (places : List Place) (os : List Entered) (key at : ℕ) → IsNumbered places os → Here places os key at
+pub without_is : (places : List PlacedKey) (os : List Entered) (key at : ℕ) → IsNumbered places os → Here places os key at
     → without key os ≡ remove os at
 without_is places os key at n h = one_out (λ (o : Entered). not (eqb o.key key)) os at h.within
     (λ d. ap not (eq-eqb _ _ (h.key_is d)))
     (λ j d l ne. ap not (ne_eqb _ _ (other_key places os key at j d n h.place_is l ne)))
 
-pub has_symbols : (places : List Place) (os : List Entered) (key at : ℕ) (o : Entered) → IsNumbered places os
+pub has_symbols : (places : List PlacedKey) (os : List Entered) (key at : ℕ) (o : Entered) → IsNumbered places os
     → Here places os key at → o ≡ get_or os at o → HasSymbols key o.symbols os
 has_symbols places os key at o n h e = λ j d l q. ⊎_elim
     (λ same. ap (λ (x : Entered). x.symbols) (ap (λ i. get_or os i d) same ∙ get_or_default os at d o h.within ∙ sym e))
@@ -494,7 +494,7 @@ rooms (x ∷ old) (y ∷ new) e h =
     let rest = rooms old new (omega (arith, e)) (λ k d l. h (suc k) d (omega (arith, l))) in
     ap (λ c. c ∷ map (λ (row : Vec Declared Global). vec_capacity row) new) here ∙ ap (λ l. vec_capacity x ∷ l) rest
 
-pub kept_after : (old mid : List Place) (number at : ℕ) (new : Entered) (os : List Entered)
+pub kept_after : (old mid : List PlacedKey) (number at : ℕ) (new : Entered) (os : List Entered)
     (table rows : List (Vec Declared Global)) → IsKept os table old → AreMoved (up at) old mid
     → IsBelow old new.key number → at ≤ length os
     → All (λ (o : Entered). eqb o.key new.key ≡ false) os → All (HasRow (length table)) new.symbols → length rows
@@ -514,7 +514,7 @@ kept_after old mid number at new os table rows k m b h f n r t = record {
 pub all_removed : (P : Entered → Type 0) (os : List Entered) (at : ℕ) → All P os → All P (remove os at)
 all_removed P os at h = All-append P _ _ (All-take P at os h) (All-drop P (suc at) os h)
 
-pub kept_without : (places new : List Place) (os : List Entered) (key at : ℕ) (table rows : List (Vec Declared Global))
+pub kept_without : (places new : List PlacedKey) (os : List Entered) (key at : ℕ) (table rows : List (Vec Declared Global))
     → IsKept os table places → Here places os key at
     → length rows ≡ length table → IsTable rows (without key os) → IsNumbered new (remove os at)
     → IsKept (remove os at) rows new
@@ -525,29 +525,29 @@ kept_without places new os key at table rows k h r t n = record {
   numbered = n;
 }
 
-drop_all : (n : ℕ) (xs : List Place) → length xs ≡ n → drop n xs ≡ []
+drop_all : (n : ℕ) (xs : List PlacedKey) → length xs ≡ n → drop n xs ≡ []
 drop_all zero [] h = refl
 drop_all (suc n) [] h = refl
 drop_all zero (x ∷ xs) h = absurd (omega (arith, h))
 drop_all (suc n) (x ∷ xs) h = drop_all n xs (omega (arith, h))
 
 -- a list whose whole was written over
-pub written : (n : ℕ) (xs items : List Place) → length xs ≡ n → length items ≡ n
+pub written : (n : ℕ) (xs items : List PlacedKey) → length xs ≡ n → length items ≡ n
     → take n (xs ++ drop (length xs) items) ≡ xs
 written n xs items h k =
     ap (λ m. take n (xs ++ drop m items)) h ∙ ap (λ l. take n (xs ++ l)) (drop_all n items k)
     ∙ ap (take n) (append-nil xs) ∙ take_all n xs (omega (arith, h))
 
 -- no place is too great to grow
-pub places_fit : (places : List Place) (os : List Entered) (bound : ℕ) → IsNumbered places os → length os ≤ bound
-    → (k : ℕ) (d : Place) → k < length places → (get_or places k d).at < bound
+pub places_fit : (places : List PlacedKey) (os : List Entered) (bound : ℕ) → IsNumbered places os → length os ≤ bound
+    → (k : ℕ) (d : PlacedKey) → k < length places → (get_or places k d).at < bound
 places_fit places os bound n h k d l = let o = n.only _ _ (found_at places k d n.sorted l) in omega (arith, o.0, h)
 
-pub is_fresh : (places : List Place) (os : List Entered) (key : ℕ) → IsNumbered places os → place_of places key ≡ None
+pub is_fresh : (places : List PlacedKey) (os : List Entered) (key : ℕ) → IsNumbered places os → place_of places key ≡ None
     → All (λ (o : Entered). eqb o.key key ≡ false) os
 is_fresh places os key n e j o l =
     ne_eqb _ _ (λ same. let there : Some j ≡ None = sym (n.at j o l) ∙ ap (place_of places) same ∙ e in absurd (cc))
 
-pub is_entered : (places : List Place) (os : List Entered) (key j : ℕ) → IsNumbered places os → place_of places key
+pub is_entered : (places : List PlacedKey) (os : List Entered) (key j : ℕ) → IsNumbered places os → place_of places key
     ≡ Some j → HasKey key os
 is_entered places os key j n e = let o = n.only key j e in (j, o.0, o.1)

@@ -16,7 +16,7 @@ use Rattle.std.proofs.lemmas.Option.{slice_get-get_or}
 use Rattle.symres.specs.declared.symbol.Declared.{Declared}
 use Rattle.symres.specs.declared.symbol.Numbered.{Numbered}
 use Rattle.ldmodel.specs.Names.{is_local}
-use Rattle.symres.specs.declared.places.Place.{Place}
+use Rattle.symres.specs.declared.places.PlacedKey.{PlacedKey}
 use Rattle.symres.specs.Numbers.{Entered, declared, own, entries, before, is_named, IsPlace, IsTable, IsSplit, named}
 use Rattle.symres.specs.Numbers.{Grows}
 use Rattle.symres.specs.Steps.{Appended, AreParts, ends_with, is_entry, IsOwnStart, IsSettling, Settling}
@@ -113,7 +113,7 @@ or_left true b e = absurd (false≢true (sym e))
 or_left false b e = refl
 
 -- what does not stand before the place is of another key
-other_key : (place : List Place) (at key : ℕ) (d : Declared) → before place at key d ≡ false
+other_key : (place : List PlacedKey) (at key : ℕ) (d : Declared) → before place at key d ≡ false
     → eqb d.entry.key key ≡ false
 other_key place at key d h = or_left (eqb d.entry.key key) _ h
 
@@ -131,7 +131,7 @@ own_start_ge key row xs os n e o s = ⊎_elim
     (λ more. omega arith)
     (cases_lt n (length xs))
 
-settle_none : (place : List Place) (at key : ℕ) (row fs os : List Declared) (n j : ℕ)
+settle_none : (place : List PlacedKey) (at key : ℕ) (row fs os : List Declared) (n j : ℕ)
     → AreParts place at key fs [] os → row ≡ fs ++ os → IsOwnStart key row n
     → IsPlace place at key (take n row) j → insert_slice (take n row) j (drop n row) ≡ row
 settle_none place at key row fs os n j a e s p =
@@ -147,7 +147,7 @@ settle_none place at key row fs os n j a e s p =
     ∙ ap (λ l. (take n row ++ drop n row) ++ l) (drop_all j (take n row) (omega arith))
     ∙ append-nil (take n row ++ drop n row) ∙ take-append-drop n row
 
-pub settle_is : (place : List Place) (at key : ℕ) (row fs bs os : List Declared) (n j : ℕ)
+pub settle_is : (place : List PlacedKey) (at key : ℕ) (row fs bs os : List Declared) (n j : ℕ)
     → AreParts place at key fs bs os → row ≡ fs ++ (bs ++ os) → IsOwnStart key row n
     → IsPlace place at key (take n row) j → insert_slice (take n row) j (drop n row) ≡ fs ++ (os ++ bs)
 settle_is place at key row fs [] os n j a e s p =
@@ -205,7 +205,7 @@ and_left true b e = absurd (false≢true (sym e))
 and_left false b e = refl
 
 -- a row in order stays
-pub settled_same : (place : List Place) (at key number : ℕ) (row row' fs bs os : List Declared)
+pub settled_same : (place : List PlacedKey) (at key number : ℕ) (row row' fs bs os : List Declared)
     → AreParts place at key fs bs os → row ≡ fs ++ (os ++ bs) → ends_with key number row ≡ true
     → ((fs bs os : List Declared) → AreParts place at key fs bs os → row ≡ fs ++ (bs ++ os) → row' ≡ fs ++ (os ++ bs))
     → row' ≡ row
@@ -218,7 +218,7 @@ settled_same place at key number row row' fs (b ∷ bs) os a e h f =
     let other : eqb d.entry.key key ≡ false = other_key place at key d (a.behind (length bs) nobody (omega arith)) in
     absurd (false≢true (sym (ap (is_entry key number) last ∙ and_left (eqb d.entry.key key) _ other) ∙ h))
 
-pub settling_start : (place : List Place) (at key : ℕ) (ss : List Numbered) (table : List Row)
+pub settling_start : (place : List PlacedKey) (at key : ℕ) (ss : List Numbered) (table : List Row)
     → Settling place at key ss ss table table
 settling_start place at key ss table = record {
   long = refl;
@@ -235,7 +235,7 @@ settling_start place at key ss table = record {
     go k fs bs l (n ∷ ns) is e = inl ((λ q. absurd (cc)), e)
 
 -- a row's clauses of a step
-pub record Step (place : List Place) (at key : ℕ) (s : Numbered) (v l : Row) : Type 0 where
+pub record Step (place : List PlacedKey) (at key : ℕ) (s : Numbered) (v l : Row) : Type 0 where
   pub last : (fs bs os : List Declared) → AreParts place at key fs bs (os ++ declared key s ∷ [])
       → v.items ≡ fs ++ (bs ++ (os ++ declared key s ∷ [])) → l.items ≡ fs ++ ((os ++ declared key s ∷ []) ++ bs)
   pub either : (fs bs os : List Declared) → AreParts place at key fs bs os → v.items ≡ fs ++ (bs ++ os)
@@ -245,7 +245,7 @@ pub record Step (place : List Place) (at key : ℕ) (s : Numbered) (v l : Row) :
   pub len : vec_len l ≡ vec_len v
   pub room : vec_capacity l ≡ vec_capacity v
 
-row_step : (place : List Place) (at key k : ℕ) (ss left : List Numbered) (s : Numbered) (v l : Row)
+row_step : (place : List PlacedKey) (at key k : ℕ) (ss left : List Numbered) (s : Numbered) (v l : Row)
     (fs bs : List Declared)
     → is_named k s ≡ true → Step place at key s v l → AreParts place at key fs bs (own k key (ss ++ s ∷ left))
     → IsSettling (named k (s ∷ left)) fs bs (own k key (ss ++ s ∷ left)) v.items
@@ -261,7 +261,7 @@ row_step place at key k ss left s v l fs bs is t a (inl p) [] e =
 row_step place at key k ss left s v l fs bs is t a (inl p) (n ∷ ns) e = ⊎_elim
     (λ same. inl ((λ q. absurd (cc)), same ∙ p.1)) (λ settled. inr settled) (t.either fs bs _ a p.1)
 
-pub settling_step : (place : List Place) (at key : ℕ) (ss left : List Numbered) (s : Numbered) (old mid : List Row)
+pub settling_step : (place : List PlacedKey) (at key : ℕ) (ss left : List Numbered) (s : Numbered) (old mid : List Row)
     (v l : Row)
     → is_local s.symbol.binding ≡ false → s.name < length mid → v ≡ get_or mid s.name v → Step place at key s v l
     → Settling place at key (ss ++ s ∷ left) (s ∷ left) old mid
@@ -295,7 +295,7 @@ settling_step place at key ss left s old mid v l vis w i t r = record {
       (cases_eq k s.name);
 }
 
-pub settling_local : (place : List Place) (at key : ℕ) (ss left : List Numbered) (s : Numbered) (old new : List Row)
+pub settling_local : (place : List PlacedKey) (at key : ℕ) (ss left : List Numbered) (s : Numbered) (old new : List Row)
     → is_local s.symbol.binding ≡ true → Settling place at key ss (s ∷ left) old new
     → Settling place at key ss left old new
 settling_local place at key ss left s old new h r = record {
@@ -315,7 +315,7 @@ settled_is : (fs bs os l : List Declared) → IsSettling [] fs bs os l → l ≡
 settled_is fs bs os l (inl p) = absurd (p.0 refl)
 settled_is fs bs os l (inr e) = e
 
-pub table_added : (place : List Place) (at key : ℕ) (ss : List Numbered) (old mid new : List Row)
+pub table_added : (place : List PlacedKey) (at key : ℕ) (ss : List Numbered) (old mid new : List Row)
     → Appended key ss old mid → Settling place at key ss [] mid new
     → (xs ys : List Entered) → IsSplit place at key xs ys → IsTable old (xs ++ ys) → (room : ℕ)
     → IsTable new (xs ++ record { key = key; symbols = ss; room = room } ∷ ys)
@@ -349,7 +349,7 @@ table_last key ss old new a xs ys none t room = record {
       ∙ sym (entries-append k xs (record { key = key; symbols = ss; room = room } ∷ ys));
 }
 
-pub all_grow : (place : List Place) (at key : ℕ) (ss : List Numbered) (old mid new : List Row) → Appended key ss old mid
+pub all_grow : (place : List PlacedKey) (at key : ℕ) (ss : List Numbered) (old mid new : List Row) → Appended key ss old mid
     → Settling place at key ss [] mid new → Grows old new ss
 all_grow place at key ss old mid new a r = record {
   long = r.long ∙ a.long;

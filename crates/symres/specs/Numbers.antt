@@ -5,7 +5,7 @@ use Rattle.std.specs.List.{filter, All}
 use Rattle.std.specs.Vec.{vec_len, vec_capacity}
 use Rattle.std.proofs.Common.{Vec, Global}
 use Rattle.ldmodel.specs.Names.{is_local}
-use Rattle.symres.specs.declared.places.Place.{Place}
+use Rattle.symres.specs.declared.places.PlacedKey.{PlacedKey}
 use Rattle.symres.specs.declared.symbol.Declared.{Declared}
 use Rattle.symres.specs.declared.symbol.Numbered.{Numbered}
 use Rattle.symres.specs.Places.{place_of, is_below}
@@ -41,11 +41,11 @@ abbrev pub HasRow : ℕ → Numbered → Type 0
 HasRow n s = is_local s.symbol.binding ≡ false → s.name < n
 
 -- the declaration is of the object `key`, or of one that stands in front of `at`
-abbrev pub before : List Place → ℕ → ℕ → Declared → Bool
+abbrev pub before : List PlacedKey → ℕ → ℕ → Declared → Bool
 before places at key d = (d.entry.key == key) || is_below at (place_of places d.entry.key)
 
 -- where a declaration of `key` goes: those from there on are not before it, and the one in front is
-pub record IsPlace (places : List Place) (at key : ℕ) (ds : List Declared) (n : ℕ) : Type 0 where
+pub record IsPlace (places : List PlacedKey) (at key : ℕ) (ds : List Declared) (n : ℕ) : Type 0 where
   pub within : n ≤ length ds
   pub behind : (k : ℕ) (d : Declared) → n ≤ k → k < length ds → before places at key (slice_index_or ds k d) ≡ false
   pub front : (d : Declared) → 0 < n → before places at key (slice_index_or ds (n - 1) d) ≡ true
@@ -55,7 +55,7 @@ pub record IsTable (table : List (Vec Declared Global)) (objects : List Entered)
   pub row : (k : ℕ) (d : Vec Declared Global) → k < length table → (slice_index_or table k d).items ≡ entries k objects
 
 -- the objects in front stand before `at`, and those after do not and have another key
-pub record IsSplit (places : List Place) (at key : ℕ) (xs ys : List Entered) : Type 0 where
+pub record IsSplit (places : List PlacedKey) (at key : ℕ) (xs ys : List Entered) : Type 0 where
   pub front : All (λ (o : Entered). is_below at (place_of places o.key) ≡ true) xs
   pub behind : All (λ (o : Entered). is_below at (place_of places o.key) ≡ false) ys
   pub other : All (λ (o : Entered). (o.key == key) ≡ false) ys

@@ -2,7 +2,7 @@
 use Rattle.std.specs.Prelude.{ℕ, ◌≡◌, ◌+◌, ◌<◌, ◌≤◌, List, Some, length, slice_index_or}
 use Rattle.std.specs.List.{All}
 use Rattle.std.proofs.Common.{Vec, Global}
-use Rattle.symres.specs.declared.places.Place.{Place}
+use Rattle.symres.specs.declared.places.PlacedKey.{PlacedKey}
 use Rattle.symres.specs.declared.symbol.Declared.{Declared}
 use Rattle.symres.specs.declared.symbol.Numbered.{Numbered}
 use Rattle.symres.specs.Numbers.{Entered, HasRow, entries, named, IsTable}
@@ -24,13 +24,13 @@ pub record CanEnter (s : ObjectsState) (symbols : List Numbered) : Type 0 where
   pub places : 0 < s.place_room
 
 -- the places are those of the objects
-pub record IsNumbered (places : List Place) (os : List Entered) : Type 0 where
+pub record IsNumbered (places : List PlacedKey) (os : List Entered) : Type 0 where
   pub sorted : AreSorted places
   pub at : (j : ℕ) (o : Entered) → j < length os → place_of places (slice_index_or os j o).key ≡ Some j
   pub only : (key j : ℕ) → place_of places key ≡ Some j → (j < length os)
       × ((o : Entered) → (slice_index_or os j o).key ≡ key)
 
-pub record IsKept (os : List Entered) (rows : List (Vec Declared Global)) (places : List Place) : Type 0 where
+pub record IsKept (os : List Entered) (rows : List (Vec Declared Global)) (places : List PlacedKey) : Type 0 where
   pub table : IsTable rows os
   pub known : All (λ (o : Entered). All (HasRow (length rows)) o.symbols) os
   pub numbered : IsNumbered places os

@@ -5,7 +5,7 @@ use Rattle.std.specs.List.{list_any, All}
 use Rattle.std.specs.Vec.{vec_len, vec_capacity}
 use Rattle.std.proofs.Common.{Vec, Global}
 use Rattle.ldmodel.specs.Names.{is_local}
-use Rattle.symres.specs.declared.places.Place.{Place}
+use Rattle.symres.specs.declared.places.PlacedKey.{PlacedKey}
 use Rattle.symres.specs.declared.symbol.Declared.{Declared}
 use Rattle.symres.specs.declared.symbol.Numbered.{Numbered}
 use Rattle.symres.specs.Numbers.{before, KeepsRoom, is_named, named, others, own}
@@ -33,7 +33,7 @@ pub record Holds (ss : List Numbered) (old new : List (Vec Declared Global)) : T
       → HoldsMore (length (named k ss)) (slice_index_or old k d) (slice_index_or new k d)
 
 -- the declarations of the objects in front, of those behind, and of the object of the key
-pub record AreParts (places : List Place) (at key : ℕ) (fs bs os : List Declared) : Type 0 where
+pub record AreParts (places : List PlacedKey) (at key : ℕ) (fs bs os : List Declared) : Type 0 where
   pub front : All (λ (d : Declared). before places at key d ≡ true) fs
   pub behind : All (λ (d : Declared). before places at key d ≡ false) bs
   pub own : All (λ (d : Declared). (d.entry.key == key) ≡ true) os
@@ -57,7 +57,7 @@ abbrev pub IsSettling : List Numbered → List Declared → List Declared → Li
 IsSettling left fs bs os l = ((left ≡ [] → ⊥) × (l ≡ fs ++ (bs ++ os))) ⊎ (l ≡ fs ++ (os ++ bs))
 
 -- where some of an object's symbols are left, the rows of those are as they were or in order, and the others in order
-pub record Settling (places : List Place) (at key : ℕ) (ss left : List Numbered) (old new : List (Vec Declared Global))
+pub record Settling (places : List PlacedKey) (at key : ℕ) (ss left : List Numbered) (old new : List (Vec Declared Global))
     : Type 0 where
   pub long : length new ≡ length old
   pub len : (k : ℕ) (d : Vec Declared Global) → k < length old → vec_len (slice_index_or new k d)

@@ -22,12 +22,12 @@ use std::marker::Model;
 /// Two tables that tell each other's contents: the number of a name, and under each number the place of its name in the
 /// first table.
 #[derive(Drop)]
-pub struct Known {
+pub struct NameTable {
     numbers: IndexMap<Vec<u8>, usize, WordState>,
     places: Slab<usize>,
 }
 
-impl Model for Known {
+impl Model for NameTable {
     ghost use Rattle.std.specs.Prelude.{map};
     ghost use Rattle.symres.specs.Known.{entry_spelled, spelled, stored, IsFiled, KnownNames};
 
@@ -90,12 +90,12 @@ fn file_all(places: &mut Slab<usize>, numbers: &IndexMap<Vec<u8>, usize, WordSta
     }
 }
 
-impl Known {
+impl NameTable {
     /// A table that hashes by `seed`, so that whoever picks names cannot tell which of them collide.
-    pub fn new(alloc: Global, seed: RandomState) -> Known
+    pub fn new(alloc: Global, seed: RandomState) -> NameTable
         ensures { result ≡ record { slots = []; order = [] } }
     {
-        Known {
+        NameTable {
             numbers: IndexMap::with_hasher(alloc, WordState::new(seed)),
             places: Slab::new(alloc),
         }

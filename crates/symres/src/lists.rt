@@ -14,7 +14,7 @@ ghost use Rattle.symres.specs.State.{slot, AreDistinct, HasList, IsNamed, KeepsN
 ghost use Rattle.symres.specs.declared.symbol.Numbered.{Numbered};
 
 use crate::hints::Hints;
-use crate::known::Known;
+use crate::known::NameTable;
 use crate::repeats::Repeats;
 use crate::symbol::{Numbered, is_visible};
 use elfobj::object::Object;
@@ -71,7 +71,7 @@ pub fn park(spare: &mut Vec<Vec<Numbered>>, count: usize, entered: usize) -> Res
 }
 
 /// The number of a name. The name is not hashed where it has the number that is guessed.
-fn number_of(known: &Known, guess: Option<usize>, name: &[u8]) -> Option<usize>
+fn number_of(known: &NameTable, guess: Option<usize>, name: &[u8]) -> Option<usize>
     ensures number { MatchOption result ((n : ℕ) → slot known.now.slots n ≢ Some name.now) (λ n.
         IsNamed known.now.slots n name.now) }
     ensures distinct { AreDistinct known.now.slots }
@@ -167,7 +167,7 @@ fn number_guessed(
 
 /// A symbol of an object, by the number of its name, which may be told or guessed.
 fn numbered(
-    known: &Known,
+    known: &NameTable,
     object: &Object,
     number: u32,
     told: Option<usize>,
@@ -212,7 +212,7 @@ fn numbered(
 /// their table, with the numbers that their names may have: a name that has the number guessed is not hashed. `repeats`
 /// has places in the list of guesses.
 pub fn number_all(
-    known: &Known,
+    known: &NameTable,
     object: &Object,
     guesses: &[Numbered],
     repeats: &Repeats,
@@ -297,7 +297,7 @@ pub fn number_seen(object: &Object, seen: &[Numbered], list: &mut Vec<Numbered>)
 }
 
 /// Notes the place of the name of a symbol, if it became known after this number of names.
-fn note_new(known: &Known, count: usize, hints: &mut Hints, symbol: usize) {
+fn note_new(known: &NameTable, count: usize, hints: &mut Hints, symbol: usize) {
     if known.len() > count {
         hints.note(symbol, count);
     }
@@ -305,7 +305,7 @@ fn note_new(known: &Known, count: usize, hints: &mut Hints, symbol: usize) {
 
 /// The number of the name of a symbol. It becomes known if it isn't.
 fn add_name(
-    known: &mut Known,
+    known: &mut NameTable,
     object: &Object,
     number: u32,
     list: &[Numbered],
@@ -331,7 +331,7 @@ fn add_name(
 
 /// Writes one symbol, if it isn't local, by the number of its name, which becomes known if it isn't.
 fn add_seen(
-    known: &mut Known,
+    known: &mut NameTable,
     object: &Object,
     number: u32,
     list: &mut Vec<Numbered>,
@@ -362,7 +362,7 @@ fn add_seen(
 /// Writes the symbols of an object that aren't local, where names that are not known become so. `repeats` is left with
 /// places in this list.
 pub fn number_new(
-    known: &mut Known,
+    known: &mut NameTable,
     object: &Object,
     list: &mut Vec<Numbered>,
     repeats: &mut Repeats,

@@ -24,7 +24,7 @@ ghost use Rattle.symres.specs.declared.symbol.Numbered.{Numbered};
 ghost use Rattle.symres.specs.Tally.{declaration_of};
 
 use crate::hints::Hints;
-use crate::known::Known;
+use crate::known::NameTable;
 use crate::lists::{number_all, number_new, number_seen, park, take_list};
 use crate::objects::Objects;
 use crate::repeats::Repeats;
@@ -68,7 +68,7 @@ impl Decision {
 /// decision is one pass over them.
 #[derive(Drop)]
 pub struct Names {
-    known: Known,
+    known: NameTable,
     objects: Objects,
     spare: Vec<Vec<Numbered>>,
     // the symbols of the object that was reserved last, as others see them: it is likely to be entered next
@@ -116,7 +116,7 @@ fn grow_rows(objects: &mut Objects, symbols: &[Numbered]) -> Result<(), NoMemory
 /// Makes the names of an object known, and room for its entries. `list` is left with its symbols that others see.
 #[tactic(auto, using(crate::proofs::Ready::grows_refl, crate::proofs::Ready::grows_trans))]
 fn make_ready(
-    known: &mut Known,
+    known: &mut NameTable,
     objects: &mut Objects,
     object: &Object,
     list: &mut Vec<Numbered>,
@@ -139,7 +139,7 @@ fn make_ready(
 /// The same, where names that it made known are dropped again if memory is refused.
 #[tactic(auto, using(crate::proofs::Ready::grows_refl))]
 fn make_ready_or_not(
-    known: &mut Known,
+    known: &mut NameTable,
     objects: &mut Objects,
     object: &Object,
     list: &mut Vec<Numbered>,
@@ -167,7 +167,7 @@ fn make_ready_or_not(
 
 #[tactic(auto, using(crate::proofs::Ready::grows_refl))]
 fn reserve_fields(
-    known: &mut Known,
+    known: &mut NameTable,
     objects: &mut Objects,
     spare: &mut Vec<Vec<Numbered>>,
     object: &Object,
@@ -198,7 +198,7 @@ impl Names {
         ensures names { result.names ≡ [] }
     {
         Names {
-            known: Known::new(alloc, seed),
+            known: NameTable::new(alloc, seed),
             objects: Objects::new(alloc),
             spare: Vec::new(alloc),
             guesses: Vec::new(alloc),

@@ -11,7 +11,7 @@ ghost use Rattle.symres.specs.Numbers.{without};
 ghost use Rattle.symres.specs.declared.symbol.Declared.{Declared};
 ghost use Rattle.symres.specs.declared.symbol.Numbered.{Numbered};
 
-use crate::places::{Place, count_below, find, make_gap, move_down};
+use crate::places::{PlacedKey, count_below, find, make_gap, move_down};
 use crate::rows::{add_all, grow_to, remove_all, reserve_all};
 use crate::symbol::{Declared, Numbered};
 use std::alloc::{AllocError, Global};
@@ -37,7 +37,7 @@ impl Model for Placed {
 pub struct Objects {
     order: Vec<Placed>,
     rows: Vec<Vec<Declared>>,
-    places: Vec<Place>,
+    places: Vec<PlacedKey>,
 }
 
 impl Model for Objects {
@@ -59,7 +59,7 @@ impl Model for Objects {
 fn reserve_fields(
     rows: &mut Vec<Vec<Declared>>,
     order: &mut Vec<Placed>,
-    places: &mut Vec<Place>,
+    places: &mut Vec<PlacedKey>,
     symbols: &[Numbered],
 ) -> Result<(), AllocError>
     requires visible { All (λ (s : Numbered). not (is_local s.symbol.binding) ≡ true) symbols.now }
@@ -186,7 +186,7 @@ impl Objects {
         add_all(&mut self.rows, &self.places, at, count, key, &symbols);
         let number = count_below(&self.places, key);
         make_gap(&mut self.places, at, count);
-        self.places.insert(number, Place { key, at }).unwrap();
+        self.places.insert(number, PlacedKey { key, at }).unwrap();
         self.order.insert(at, Placed { key, symbols }).unwrap();
     }
 

@@ -5,16 +5,16 @@ ghost use Rattle.std.specs.List.{All};
 
 /// The key of an entered object, and its place in the project, from 0.
 #[derive(Clone, Copy, Debug, PartialEq, Eq)]
-pub struct Place {
+pub struct PlacedKey {
     pub key: usize,
     pub at: usize,
 }
 
 ghost use Rattle.symres.specs.Places.{AreSorted, IsBelow, place_of, is_below, up, down, AreMoved};
-ghost use Rattle.symres.specs.declared.places.Place.{Place};
+ghost use Rattle.symres.specs.declared.places.PlacedKey.{PlacedKey};
 
 /// The number of places whose key is below this one.
-pub fn count_below(places: &[Place], key: usize) -> usize
+pub fn count_below(places: &[PlacedKey], key: usize) -> usize
     requires { AreSorted places.now }
     ensures { IsBelow places.now key result }
 {
@@ -32,7 +32,7 @@ pub fn count_below(places: &[Place], key: usize) -> usize
 }
 
 /// The place of the object of a key.
-pub fn find(places: &[Place], key: usize) -> Option<usize>
+pub fn find(places: &[PlacedKey], key: usize) -> Option<usize>
     requires { AreSorted places.now }
     ensures { result ≡ place_of places.now key }
 {
@@ -50,7 +50,7 @@ pub fn find(places: &[Place], key: usize) -> Option<usize>
 }
 
 /// Whether the object of a key stands in front of `at`.
-pub fn is_in_front(places: &[Place], at: usize, key: usize) -> bool
+pub fn is_in_front(places: &[PlacedKey], at: usize, key: usize) -> bool
     requires { AreSorted places.now }
     ensures { result ≡ is_below at (place_of places.now key) }
 {
@@ -61,8 +61,8 @@ pub fn is_in_front(places: &[Place], at: usize, key: usize) -> bool
 }
 
 /// Makes a gap at `at` in the places of objects.
-fn move_up(places: &mut [Place], at: usize)
-    requires { All (λ (p : Place). p.at < 2 ^ 64 - 1) places.old }
+fn move_up(places: &mut [PlacedKey], at: usize)
+    requires { All (λ (p : PlacedKey). p.at < 2 ^ 64 - 1) places.old }
     ensures { AreMoved (up at) places.old places.new }
 {
     for place in places.iter_mut() {
@@ -73,9 +73,9 @@ fn move_up(places: &mut [Place], at: usize)
 }
 
 /// The same in the places of this number of objects: a gap after the last of them moves none.
-pub fn make_gap(places: &mut [Place], at: usize, count: usize)
-    requires fits { All (λ (p : Place). p.at < 2 ^ 64 - 1) places.old }
-    requires within { All (λ (p : Place). p.at < count) places.old }
+pub fn make_gap(places: &mut [PlacedKey], at: usize, count: usize)
+    requires fits { All (λ (p : PlacedKey). p.at < 2 ^ 64 - 1) places.old }
+    requires within { All (λ (p : PlacedKey). p.at < count) places.old }
     ensures { AreMoved (up at) places.old places.new }
 {
     if at < count {
@@ -84,7 +84,7 @@ pub fn make_gap(places: &mut [Place], at: usize, count: usize)
 }
 
 /// Closes the gap at `at`.
-pub fn move_down(places: &mut [Place], at: usize)
+pub fn move_down(places: &mut [PlacedKey], at: usize)
     ensures { AreMoved (down at) places.old places.new }
 {
     for place in places.iter_mut() {

@@ -13,19 +13,19 @@ ghost use Rattle.symres.specs.Places.{AreSorted};
 ghost use Rattle.symres.specs.Steps.{AllGathered, Appended, AreParts, ClearedWhere, ends_in, ends_with, Gathered};
 ghost use Rattle.symres.specs.Steps.{HasRoomForOne, Holds, IsGathered, IsOwnStart, Settling};
 
-use crate::places::{Place, is_in_front};
+use crate::places::{PlacedKey, is_in_front};
 use crate::symbol::{Declared, Numbered, is_visible};
 use ldmodel::names::Entry;
 use std::alloc::AllocError;
 
-fn is_before(places: &[Place], at: usize, key: usize, declared: &Declared) -> bool
+fn is_before(places: &[PlacedKey], at: usize, key: usize, declared: &Declared) -> bool
     requires { AreSorted places.now }
     ensures { result ≡ before places.now at key declared.now }
 {
     declared.entry.key == key || is_in_front(places, at, declared.entry.key)
 }
 
-fn place_for(row: &[Declared], places: &[Place], at: usize, key: usize) -> usize
+fn place_for(row: &[Declared], places: &[PlacedKey], at: usize, key: usize) -> usize
     requires { AreSorted places.now }
     ensures { IsPlace places.now at key row.now result }
 {
@@ -93,7 +93,7 @@ fn move_tail_to(row: &mut [Declared], tail: usize, at: usize)
 }
 
 /// Moves the declarations of a key from the end of a row to those of the objects in front, in one rotation.
-fn settle(row: &mut [Declared], places: &[Place], at: usize, key: usize)
+fn settle(row: &mut [Declared], places: &[PlacedKey], at: usize, key: usize)
     requires { AreSorted places.now }
     ensures { (fs bs os : List Declared) → AreParts places.now at key fs bs os → row.old ≡ fs ++ (bs ++ os)
         → row.new ≡ fs ++ (os ++ bs) }
@@ -114,7 +114,7 @@ fn ends_with(row: &[Declared], key: usize, symbol: Numbered) -> bool
 
 /// Settles a row if it ends with the declaration of this symbol. Of the symbols of a name only the last one finds
 /// that, so that a row is gone through once.
-fn settle_last(row: &mut [Declared], places: &[Place], at: usize, key: usize, symbol: Numbered)
+fn settle_last(row: &mut [Declared], places: &[PlacedKey], at: usize, key: usize, symbol: Numbered)
     requires { AreSorted places.now }
     ensures last { (fs bs os : List Declared) → AreParts places.now at key fs bs (os ++ declared key symbol ∷ [])
         → row.old ≡ fs ++ (bs ++ (os ++ declared key symbol ∷ []))
@@ -132,7 +132,7 @@ fn settle_last(row: &mut [Declared], places: &[Place], at: usize, key: usize, sy
 /// The same for a symbol of any binding.
 fn settle_visible(
     table: &mut Vec<Vec<Declared>>,
-    places: &[Place],
+    places: &[PlacedKey],
     at: usize,
     key: usize,
     symbol: Numbered,
@@ -151,7 +151,7 @@ fn settle_visible(
 /// Moves what an object declares from the ends of the rows to its place. It takes no memory.
 fn settle_all(
     table: &mut Vec<Vec<Declared>>,
-    places: &[Place],
+    places: &[PlacedKey],
     at: usize,
     key: usize,
     symbols: &[Numbered],
@@ -169,7 +169,7 @@ fn settle_all(
 /// many of the symbols have its name, and not at all where the object comes after all `count` that are there.
 pub fn add_all(
     table: &mut Vec<Vec<Declared>>,
-    places: &[Place],
+    places: &[PlacedKey],
     at: usize,
     count: usize,
     key: usize,

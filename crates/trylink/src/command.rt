@@ -1,7 +1,7 @@
 //! The commands of a stream, cut from its bytes.
 
 use ldmodel::edit::Edit;
-use ldstream::head::{Aim, EditHead, Head, Query, read_head};
+use ldstream::head::{Aim, CommandHead, EditHead, Query, read_head};
 use std::alloc::{AllocError, Global};
 
 /// A command.
@@ -39,14 +39,14 @@ pub fn split_command(
     let (line, rest) = (&stream[..end], &stream[end + 1..]);
     match read_head(line) {
         None => Ok(None),
-        Some(Head::Ask(query)) => Ok(Some((Command::Ask(query), rest))),
-        Some(Head::Edit(EditHead::Move { name, to })) => {
+        Some(CommandHead::Ask(query)) => Ok(Some((Command::Ask(query), rest))),
+        Some(CommandHead::Edit(EditHead::Move { name, to })) => {
             Ok(Some((Command::Make(Edit::Move { name, to }), rest)))
         }
-        Some(Head::Edit(EditHead::Remove { name })) => {
+        Some(CommandHead::Edit(EditHead::Remove { name })) => {
             Ok(Some((Command::Make(Edit::Remove { name }), rest)))
         }
-        Some(Head::Edit(EditHead::WithPayload { aim, count })) => {
+        Some(CommandHead::Edit(EditHead::WithPayload { aim, count })) => {
             let Some((payload, rest)) = rest.split_at_checked(count) else {
                 return Ok(None);
             };

@@ -5,7 +5,7 @@ ghost use Rattle.ldproject.specs.Holding.{held, project_of};
 ghost use Rattle.ldproject.specs.Inputs.{shown_inputs};
 ghost use Rattle.ldproject.specs.Listing.{objects_of};
 
-use crate::input::Input;
+use crate::input::InputObject;
 use crate::project::{Next, Project};
 use crate::view::ProjectView;
 use ldmodel::memory::NoMemory;
@@ -13,7 +13,7 @@ use std::alloc::Global;
 
 impl<'a> Next<'a> {
     /// The whole project, lent for a link over its objects, which `inputs` gives.
-    pub fn view(&self, inputs: &'a [Input<'a>]) -> ProjectView<'a>
+    pub fn view(&self, inputs: &'a [InputObject<'a>]) -> ProjectView<'a>
         requires { shown_inputs inputs.now ≡ objects_of self.now.entries }
         ensures { result ≡ project_of self.now }
     {
@@ -28,14 +28,14 @@ impl Project {
     /// # Errors
     ///
     /// Where memory runs out.
-    pub fn inputs(&self, alloc: Global) -> Result<Vec<Input<'_>>, NoMemory>
+    pub fn inputs(&self, alloc: Global) -> Result<Vec<InputObject<'_>>, NoMemory>
         ensures { IfOk result (λ v. shown_inputs v.items ≡ objects_of self.now.contents.entries) }
     {
         self.kept.inputs(alloc)
     }
 
     /// The whole project, lent for a link over its objects, which `inputs` gives.
-    pub fn view<'a>(&'a self, inputs: &'a [Input<'a>]) -> ProjectView<'a>
+    pub fn view<'a>(&'a self, inputs: &'a [InputObject<'a>]) -> ProjectView<'a>
         requires { shown_inputs inputs.now ≡ objects_of self.now.contents.entries }
         ensures { result ≡ held self.now }
     {

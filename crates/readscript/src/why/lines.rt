@@ -5,7 +5,7 @@ use crate::why::front::{Ahead, front};
 use crate::why::reason::Explanation;
 use ldtokens::number::number_value;
 use ldtokens::refusal::TokenRefusal;
-use ldtokens::token::{LexState, Mark, Mode, Stretch, TokenKind};
+use ldtokens::token::{ExpressionStretch, LexState, Mark, Mode, TokenKind};
 
 /// The greatest length of a name or word, in bytes.
 const MAX_WORD: usize = 255;
@@ -43,7 +43,7 @@ fn is_sign(mark: Mark) -> bool {
 
 /// Whether a token belongs to a run of signs: the `(` after `BYTE` and the like does.
 fn is_in_run(state: LexState, kind: TokenKind) -> bool {
-    let is_first = state.stretch == Stretch::Awaited
+    let is_first = state.stretch == ExpressionStretch::Awaited
         && kind == TokenKind::Punctuation(Mark::OpenParenthesis);
     let ends = matches!(
         kind,
@@ -90,7 +90,9 @@ impl Counts {
 /// What the mode depends on after a token.
 fn after(state: LexState, kind: TokenKind, spelled: &[u8]) -> LexState {
     let stretch = match state.stretch {
-        Stretch::ToParenthesis(open) => Stretch::ToParenthesis(open.min(MOST_OPEN)),
+        ExpressionStretch::ToParenthesis(open) => ExpressionStretch::ToParenthesis(open.min(
+            MOST_OPEN,
+        )),
         other => other,
     };
     let depth = state.depth.min(MOST_OPEN);

@@ -5,7 +5,7 @@ use Rattle.ldlaws.specs.Spread.{EachLater}
 use Rattle.ldmodel.specs.FileLayout.{Each}
 use Rattle.ldmodel.specs.Project.{NamedObject}
 use Rattle.ldproject.specs.Inputs.{shown_input}
-use Rattle.ldproject.specs.declared.input.Input.{Input}
+use Rattle.ldproject.specs.declared.input.InputObject.{InputObject}
 use Rattle.ldlayout.proofs.Ascending.{each_more}
 use Rattle.ldlayout.proofs.Lists.{each_into_map}
 use Rattle.ldlayout.proofs.numbered.are_numbered.Goals as goal
@@ -17,8 +17,8 @@ pub loop-input-preserved : goal.loop-input-preserved
 loop-input-preserved c =
     let xs = c.inputs-input-items.result.now in
     let n = c.loop-input.input-index in
-    subst (λ k. Each (λ (x : Input). HasNumbers (shown_input x)) (take k xs)) (sym (add-one n))
-    (each_more (λ (x : Input). HasNumbers (shown_input x)) xs n c.input-item.result c.loop-input-test.true
+    subst (λ k. Each (λ (x : InputObject). HasNumbers (shown_input x)) (take k xs)) (sym (add-one n))
+    (each_more (λ (x : InputObject). HasNumbers (shown_input x)) xs n c.input-item.result c.loop-input-test.true
     c.input-item.is c.loop-input.invariant c.sections_differ.ensures)
 
 pub returns : goal.returns
@@ -27,4 +27,4 @@ returns c =
     let all : take c.loop-input.input-index xs ≡ xs = take_all _ xs (omega (arith, c.loop-input-test.false)) in
     subst (Each HasNumbers) c.inputs-input-items.ensures.same
     (each_into_map HasNumbers shown_input xs
-    (subst (Each (λ (x : Input). HasNumbers (shown_input x))) all c.loop-input.invariant))
+    (subst (Each (λ (x : InputObject). HasNumbers (shown_input x))) all c.loop-input.invariant))

@@ -1,5 +1,5 @@
 use Rattle.std.proofs.Common.{◌≡◌, take}
-use Rattle.ldnames.specs.Keyed as keyed
+use Rattle.lddecisions.specs.Keyed as keyed
 use Rattle.ldnaming.specs.Entered.{tables_of}
 use Rattle.ldnaming.proofs.entered.by_place.Given as goal
 

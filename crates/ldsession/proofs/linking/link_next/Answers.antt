@@ -1,6 +1,6 @@
 use Rattle.std.proofs.Common.{◌∙◌, ap, map, subst, sym}
 use Rattle.ldmodel.specs.Project.{Project}
-use Rattle.ldnames.specs.Change.{Table}
+use Rattle.lddecisions.specs.Change.{Table}
 use Rattle.ldnaming.specs.Naming.{IsNaming}
 use Rattle.ldproject.specs.Holding.{project_of}
 use Rattle.ldsession.proofs.Following.{tables_of_objects}

@@ -1,6 +1,6 @@
 use Rattle.std.proofs.Common.{List, subst, sym}
 use Rattle.gather.specs.declared.matches.Matches.{Matches}
-use Rattle.ldnames.specs.Decisions.{AreKept}
+use Rattle.lddecisions.specs.Decisions.{AreKept}
 use Rattle.ldproject.specs.Holding.{listing_of}
 use Rattle.ldtree.specs.declared.statement.Statement.{Statement}
 use Rattle.ldsession.specs.Kept.{IsKept}

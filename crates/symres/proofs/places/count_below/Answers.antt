@@ -1,10 +1,10 @@
 use Rattle.std.proofs.Common.{◌<◌, ◌+◌, ◌-◌, ◌/◌, ℕ, length, arith, ap}
 use Rattle.std.proofs.lemmas.List.{get_or_default}
-use Rattle.symres.specs.declared.places.Place.{Place}
+use Rattle.symres.specs.declared.places.PlacedKey.{PlacedKey}
 use Rattle.symres.proofs.Finding.{below_middle, above_middle}
 use Rattle.symres.proofs.places.count_below.Goals as goal
 
-abbrev nowhere : Place
+abbrev nowhere : PlacedKey
 nowhere = record { key = 0; at = 0 }
 
 pub loop-low-preserved-then-places-middle : goal.loop-low-preserved-then-places-middle
@@ -19,7 +19,7 @@ loop-low-preserved-then-places-middle c =
       ordered = omega (arith, lt);
       within = i.within;
       below = below_middle ps c.args.key m c.requires in_list (λ d.
-          omega (arith, ap (λ (p : Place). p.key) (get_or_default ps m d nowhere in_list), c.if-places-middle.true));
+          omega (arith, ap (λ (p : PlacedKey). p.key) (get_or_default ps m d nowhere in_list), c.if-places-middle.true));
       rest = i.rest;
     }
 
@@ -35,5 +35,5 @@ loop-low-preserved c =
       within = omega (arith, lt, i.within);
       below = i.below;
       rest = above_middle ps c.args.key m c.requires (λ d h.
-          omega (arith, ap (λ (p : Place). p.key) (get_or_default ps m d nowhere h), c.if-places-middle.false));
+          omega (arith, ap (λ (p : PlacedKey). p.key) (get_or_default ps m d nowhere h), c.if-places-middle.false));
     }

@@ -1,13 +1,13 @@
 use Rattle.std.proofs.Common.{◌<◌, ◌≤◌, ◌-◌, ℕ, length, get_or}
-use Rattle.symres.specs.declared.places.Place.{Place}
+use Rattle.symres.specs.declared.places.PlacedKey.{PlacedKey}
 use Rattle.symres.proofs.places.count_below.Given as goal
 
 abbrev pub invariant-loop-low : goal.invariant-loop-low
 invariant-loop-low l = record {
   ordered : l.low ≤ l.high;
   within : l.high ≤ length l.places;
-  below : (k : ℕ) (d : Place) → k < l.low → (get_or l.places k d).key < l.key;
-  rest : (k : ℕ) (d : Place) → l.high ≤ k → k < length l.places → l.key ≤ (get_or l.places k d).key;
+  below : (k : ℕ) (d : PlacedKey) → k < l.low → (get_or l.places k d).key < l.key;
+  rest : (k : ℕ) (d : PlacedKey) → l.high ≤ k → k < length l.places → l.key ≤ (get_or l.places k d).key;
 }
 
 abbrev pub decreases-loop-low : goal.decreases-loop-low

@@ -3,9 +3,9 @@ use Rattle.ldtree.specs.declared.statement.Statement.{Statement}
 use Rattle.ldmodel.specs.Names.{symbol_tables}
 use Rattle.ldproject.specs.Inputs.{shown_inputs}
 use Rattle.ldproject.specs.Listing.{AreKeysDistinct}
-use Rattle.ldnames.specs.Decisions.{AreKept}
-use Rattle.ldnames.specs.Keyed.{tables_of}
-use Rattle.ldnames.specs.declared.keyed.Keyed.{Keyed}
+use Rattle.lddecisions.specs.Decisions.{AreKept}
+use Rattle.lddecisions.specs.Keyed.{tables_of}
+use Rattle.lddecisions.specs.declared.keyed.Keyed.{Keyed}
 use Rattle.ldnaming.specs.Entered as entered
 use Rattle.ldnaming.specs.Placed.{keys_of}
 use Rattle.ldnaming.proofs.Entering.{Table, keys_are, places_distinct, seconds}

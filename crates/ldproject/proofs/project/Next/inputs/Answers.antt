@@ -4,13 +4,13 @@ use Rattle.elfobj.specs.Object.{ObjectData}
 use Rattle.ldmodel.specs.Project.{NamedObject}
 use Rattle.ldproject.specs.Inputs.{shown_input, shown_inputs}
 use Rattle.ldproject.specs.Listing.{objects_of}
-use Rattle.ldproject.specs.declared.input.Input.{Input}
+use Rattle.ldproject.specs.declared.input.InputObject.{InputObject}
 use Rattle.ldproject.proofs.Shown.{take_entry}
 use Rattle.ldproject.proofs.project.Next.inputs.Goals as goal
 
 pub loop-at-preserved : goal.loop-at-preserved
 loop-at-preserved c =
-    let input : Input = record { name = c.name.result; object = c.object.result } in
+    let input : InputObject = record { name = c.name.result; object = c.object.result } in
     let o : NamedObject = c.entry.result.1.now in
     let shown : shown_input input ≡ o =
     ap (λ (n : List ℕ). let x : NamedObject = record { name = n; object = c.object.result.now } in x) c.name.ensures

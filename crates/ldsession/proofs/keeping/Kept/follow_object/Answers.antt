@@ -2,8 +2,8 @@ use Rattle.std.proofs.Common.{◌∙◌, ℕ, List, Option, ap, arith, length, m
 use Rattle.std.specs.Vec.{vec_len}
 use Rattle.gather.specs.declared.matches.Matches.{Matches}
 use Rattle.ldkept.specs.Stays.{last_of}
-use Rattle.ldnames.specs.Change.{Table, changed_tables}
-use Rattle.ldnames.specs.Decisions.{AreKept}
+use Rattle.lddecisions.specs.Change.{Table, changed_tables}
+use Rattle.lddecisions.specs.Decisions.{AreKept}
 use Rattle.ldproject.specs.Holding.{Listing, next_listing, project_of}
 use Rattle.ldproject.specs.Listing.{keys_of}
 use Rattle.ldproject.specs.Next.{next_entries}

@@ -2,7 +2,7 @@ use Rattle.std.proofs.Common.{◌≡◌, ◌∙◌, ap, sym, subst, length, arit
 use Rattle.std.specs.Vec.{vec_capacity, vec_len}
 use Rattle.std.proofs.lemmas.List.{get_or_default}
 use Rattle.std.specs.List.{All, remove}
-use Rattle.symres.specs.declared.places.Place.{Place}
+use Rattle.symres.specs.declared.places.PlacedKey.{PlacedKey}
 use Rattle.symres.specs.declared.symbol.Numbered.{Numbered}
 use Rattle.symres.specs.Numbers.{Entered, HasRow, IsTable, HasSymbols, without}
 use Rattle.symres.specs.Objects.{ObjectsState, HasKey, IsNumbered}
@@ -33,7 +33,7 @@ remove-placed-requires c =
     at_number a.places.items c.args.key c.count_below-number.result h.0 c.self.invariant.numbered.sorted
     (rw c.deref.ensures.value at c.count_below-number.ensures) f.place_is in
     let p = c.remove-place.result in
-    let at : p.at ≡ h.0 = ap (λ (q : Place). q.at) c.remove-place.ensures.value ∙ t.at_is p in
+    let at : p.at ≡ h.0 = ap (λ (q : PlacedKey). q.at) c.remove-place.ensures.value ∙ t.at_is p in
     omega (arith, f.within, at, a.order.ok.0)
 
 pub remove_all-requires : goal.remove_all-requires
@@ -46,7 +46,7 @@ remove_all-requires c =
     at_number a.places.items c.args.key c.count_below-number.result h.0 c.self.invariant.numbered.sorted
     (rw c.deref.ensures.value at c.count_below-number.ensures) f.place_is in
     let p = c.remove-place.result in
-    let at : p.at ≡ h.0 = ap (λ (q : Place). q.at) c.remove-place.ensures.value ∙ t.at_is p in
+    let at : p.at ≡ h.0 = ap (λ (q : PlacedKey). q.at) c.remove-place.ensures.value ∙ t.at_is p in
     let r = c.remove-placed.result in
     let here : r ≡ get_or a.order.items h.0 r = c.remove-placed.ensures.value ∙ ap (λ j. get_or a.order.items j r) at in
     let left : c.remove-placed.new.self.items ≡ remove a.order.items h.0 = c.remove-placed.ensures.items
@@ -70,7 +70,7 @@ invariant_of-self c =
     at_number a.places.items c.args.key c.count_below-number.result h.0 c.self.invariant.numbered.sorted
     (rw c.deref.ensures.value at c.count_below-number.ensures) f.place_is in
     let p = c.remove-place.result in
-    let at : p.at ≡ h.0 = ap (λ (q : Place). q.at) c.remove-place.ensures.value ∙ t.at_is p in
+    let at : p.at ≡ h.0 = ap (λ (q : PlacedKey). q.at) c.remove-place.ensures.value ∙ t.at_is p in
     let r = c.remove-placed.result in
     let here : r ≡ get_or a.order.items h.0 r = c.remove-placed.ensures.value ∙ ap (λ j. get_or a.order.items j r) at in
     let left : c.remove-placed.new.self.items ≡ remove a.order.items h.0 = c.remove-placed.ensures.items
@@ -87,7 +87,7 @@ invariant_of-self c =
     let numbered : IsNumbered c.move_down.new.places (remove a.order.items h.0) =
     numbered_without a.places.items c.remove-place.new.self.items c.move_down.new.places
     c.count_below-number.result c.args.key h.0 p a.order.items c.self.invariant.numbered f t.within
-    c.remove-place.ensures.value (ap (λ (q : Place). q.key) c.remove-place.ensures.value
+    c.remove-place.ensures.value (ap (λ (q : PlacedKey). q.key) c.remove-place.ensures.value
     ∙ t.key_is p) c.remove-place.ensures.items moved in
     let rest = c.remove-place.new.self in
     let written' = written rest.len c.move_down.new.places rest.items
@@ -106,7 +106,7 @@ returns-clause-objects c =
     at_number a.places.items c.args.key c.count_below-number.result h.0 c.self.invariant.numbered.sorted
     (rw c.deref.ensures.value at c.count_below-number.ensures) f.place_is in
     let p = c.remove-place.result in
-    let at : p.at ≡ h.0 = ap (λ (q : Place). q.at) c.remove-place.ensures.value ∙ t.at_is p in
+    let at : p.at ≡ h.0 = ap (λ (q : PlacedKey). q.at) c.remove-place.ensures.value ∙ t.at_is p in
     let r = c.remove-placed.result in
     let here : r ≡ get_or a.order.items h.0 r = c.remove-placed.ensures.value ∙ ap (λ j. get_or a.order.items j r) at in
     let left : c.remove-placed.new.self.items ≡ remove a.order.items h.0 = c.remove-placed.ensures.items
@@ -133,7 +133,7 @@ returns-clause-leaves c =
     at_number a.places.items c.args.key c.count_below-number.result h.0 c.self.invariant.numbered.sorted
     (rw c.deref.ensures.value at c.count_below-number.ensures) f.place_is in
     let p = c.remove-place.result in
-    let at : p.at ≡ h.0 = ap (λ (q : Place). q.at) c.remove-place.ensures.value ∙ t.at_is p in
+    let at : p.at ≡ h.0 = ap (λ (q : PlacedKey). q.at) c.remove-place.ensures.value ∙ t.at_is p in
     let r = c.remove-placed.result in
     let here : r ≡ get_or a.order.items h.0 r = c.remove-placed.ensures.value ∙ ap (λ j. get_or a.order.items j r) at in
     let left : c.remove-placed.new.self.items ≡ remove a.order.items h.0 = c.remove-placed.ensures.items
@@ -158,7 +158,7 @@ returns-clause-symbols c =
     at_number a.places.items c.args.key c.count_below-number.result h.0 c.self.invariant.numbered.sorted
     (rw c.deref.ensures.value at c.count_below-number.ensures) f.place_is in
     let p = c.remove-place.result in
-    let at : p.at ≡ h.0 = ap (λ (q : Place). q.at) c.remove-place.ensures.value ∙ t.at_is p in
+    let at : p.at ≡ h.0 = ap (λ (q : PlacedKey). q.at) c.remove-place.ensures.value ∙ t.at_is p in
     let r = c.remove-placed.result in
     let here : r ≡ get_or a.order.items h.0 r = c.remove-placed.ensures.value ∙ ap (λ j. get_or a.order.items j r) at in
     let left : c.remove-placed.new.self.items ≡ remove a.order.items h.0 = c.remove-placed.ensures.items
@@ -177,7 +177,7 @@ returns-clause-again c =
     at_number a.places.items c.args.key c.count_below-number.result h.0 c.self.invariant.numbered.sorted
     (rw c.deref.ensures.value at c.count_below-number.ensures) f.place_is in
     let p = c.remove-place.result in
-    let at : p.at ≡ h.0 = ap (λ (q : Place). q.at) c.remove-place.ensures.value ∙ t.at_is p in
+    let at : p.at ≡ h.0 = ap (λ (q : PlacedKey). q.at) c.remove-place.ensures.value ∙ t.at_is p in
     let r = c.remove-placed.result in
     let here : r ≡ get_or a.order.items h.0 r = c.remove-placed.ensures.value ∙ ap (λ j. get_or a.order.items j r) at in
     let left : c.remove-placed.new.self.items ≡ remove a.order.items h.0 = c.remove-placed.ensures.items

@@ -1,0 +1,140 @@
+//! A change of one object, and the cases of the names that it touches.
+
+ghost use Rattle.std.specs.Prelude.{◌≡◌, ◌++◌, ℕ, List, length};
+ghost use Rattle.lddecisions.specs.Change.{AreThere, changed_tables, declared_by, IsReadyFor, reversed, symbols_or};
+ghost use Rattle.lddecisions.specs.Counted.{CountsNames};
+ghost use Rattle.lddecisions.specs.Decided.{AreCases};
+ghost use Rattle.lddecisions.specs.Decisions.{AreKept};
+ghost use Rattle.lddecisions.specs.Texts.{AreDone, AreKnown, AreNoted, DecidedFor, HasPlaces, IsCleared};
+ghost use Rattle.symres.specs.State.{AreDistinct};
+
+use crate::cases::Cases;
+use crate::change::{ObjectAt, ObjectChange, reverse};
+use crate::decisions::Decisions;
+use crate::exchange::{put_in, take_out};
+use crate::noted::note_keys;
+use crate::texts::{KeySource, clear_names, decide_names};
+use ldbase::meter::Meter;
+use ldmodel::names::NameKey;
+use ldscript::script::Script;
+use symres::law::entered_again;
+use symres::names::Names;
+
+/// Clears the cases of the names that an object declares, if there is one.
+fn clear_names_of(names: &Names, at: Option<ObjectAt<'_>>, cases: &mut Cases)
+    requires place { AreThere names.now at }
+    requires distinct { AreDistinct names.now.names }
+    requires room { HasPlaces names.now.names cases.old }
+    ensures { IsCleared names.now.names (symbols_or at.entry) cases.old cases.new }
+{
+    match at {
+        Some(at) => clear_names(names, KeySource::Entered(at.place), at.object, cases),
+        None => {}
+    }
+}
+
+/// Decides the names that an object declared that went, if one went. `noted` are keys of them.
+fn decide_gone(
+    names: &Names,
+    script: &Script,
+    out: Option<ObjectAt<'_>>,
+    noted: &[NameKey],
+    cases: &mut Cases,
+    meter: &mut Meter,
+)
+    requires known { AreKnown names.now.names (symbols_or out) }
+    requires noted { AreNoted names.now.names (symbols_or out) noted.now }
+    requires distinct { AreDistinct names.now.names }
+    requires room { HasPlaces names.now.names cases.old }
+    ensures long { length cases.new ≡ length cases.old }
+    ensures decided { (seen : List (List ℕ)) → AreCases script.now names.now cases.old
+        → AreDone names.now.names cases.old seen
+        → DecidedFor script.now names.now cases.old cases.new meter.old meter.new seen (symbols_or out.entry) }
+{
+    let _names = meter.names();
+    match out {
+        Some(at) => decide_names(
+            names,
+            script,
+            KeySource::Noted(noted),
+            at.object,
+            cases,
+            meter,
+        ),
+        None => {}
+    }
+}
+
+/// Decides the names that an object declares that came, if one came.
+fn decide_come(
+    names: &Names,
+    script: &Script,
+    into: Option<ObjectAt<'_>>,
+    cases: &mut Cases,
+    meter: &mut Meter,
+)
+    requires place { AreThere names.now into }
+    requires distinct { AreDistinct names.now.names }
+    requires room { HasPlaces names.now.names cases.old }
+    ensures long { length cases.new ≡ length cases.old }
+    ensures decided { (seen : List (List ℕ)) → AreCases script.now names.now cases.old
+        → AreDone names.now.names cases.old seen
+        → DecidedFor script.now names.now cases.old cases.new meter.old meter.new seen (symbols_or into.entry) }
+{
+    let _names = meter.names();
+    match into {
+        Some(at) => decide_names(
+            names,
+            script,
+            KeySource::Entered(at.place),
+            at.object,
+            cases,
+            meter,
+        ),
+        None => {}
+    }
+}
+
+impl Decisions {
+    /// Makes a change that there is room for. Each name that the object declared or declares is decided anew, once. It
+    /// takes no memory.
+    pub fn change(&mut self, script: &Script, change: &ObjectChange<'_>, meter: &mut Meter)
+        requires ready { IsReadyFor self.old change.now }
+        requires kept { AreKept script.now self.old }
+        ensures objects { self.new.names.objects ≡ changed_tables self.old.names.objects change.now }
+        ensures names { self.new.names.names ≡ self.old.names.names }
+        ensures kept { AreKept script.now self.new }
+        ensures counted { CountsNames meter.old meter.new (declared_by change.now.out ++ declared_by change.now.into) }
+        ensures back { IsReadyFor self.new (reversed change.now) }
+    {
+        entered_again();
+        let _known = self.names.known();
+        clear_names_of(&self.names, change.out, &mut self.cases);
+        note_keys(&self.names, change.out, &mut self.noted);
+        take_out(&mut self.names, change.key, change.out);
+        put_in(&mut self.names, change.key, change.into);
+        clear_names_of(&self.names, change.into, &mut self.cases);
+        decide_gone(
+            &self.names,
+            script,
+            change.out,
+            &self.noted,
+            &mut self.cases,
+            meter,
+        );
+        decide_come(&self.names, script, change.into, &mut self.cases, meter);
+    }
+
+    /// Makes the change back, after a change was made: the objects are as they were before it. It takes no memory.
+    pub fn undo(&mut self, script: &Script, change: &ObjectChange<'_>, meter: &mut Meter)
+        requires ready { IsReadyFor self.old (reversed change.now) }
+        requires kept { AreKept script.now self.old }
+        ensures objects { self.new.names.objects ≡ changed_tables self.old.names.objects (reversed change.now) }
+        ensures names { self.new.names.names ≡ self.old.names.names }
+        ensures kept { AreKept script.now self.new }
+        ensures counted { CountsNames meter.old meter.new (declared_by change.now.into ++ declared_by change.now.out) }
+        ensures again { IsReadyFor self.new change.now }
+    {
+        self.change(script, &reverse(change), meter);
+    }
+}

@@ -1,0 +1,25 @@
+//! A table of names over objects under their keys.
+
+ghost use Rattle.std.specs.Prelude.{◌≡◌, IfOk};
+ghost use Rattle.lddecisions.specs.Keyed.{AreApart, tables_of};
+ghost use Rattle.symres.specs.State.{IsInByteOrder};
+
+use crate::keyed::Keyed;
+use ldbase::memory::NoMemory;
+use std::alloc::Global;
+use std::hash::RandomState;
+use symres::names::Names;
+
+/// The names of these objects, in byte order. An error says that memory ran out.
+pub fn enter_all(alloc: Global, seed: RandomState, objects: &[Keyed<'_>]) -> Result<Names, NoMemory>
+    requires { AreApart objects.now }
+    ensures objects { IfOk result (λ names. names.objects ≡ tables_of objects.now) }
+    ensures order { IfOk result (λ names. IsInByteOrder names.order) }
+{
+    let mut names = Names::new(alloc, seed);
+    for (place, keyed) in objects.iter().enumerate() {
+        names.add(keyed.key, place, keyed.object)?;
+    }
+    names.sort_names()?;
+    Ok(names)
+}
