@@ -1,5 +1,5 @@
 use Rattle.std.proofs.Common.{◌≡◌, ℕ, ◌+◌, ◌-◌, ◌≤◌, List, [], length, take, drop, ap, sym, ◌∙◌, subst, arith, Option}
-use Rattle.std.proofs.Common.Some
+use Rattle.std.proofs.Common.{Some}
 use Rattle.std.specs.List.{slice_range}
 use Rattle.std.specs.Option.{unwrap_or, IfSome}
 use Rattle.std.proofs.lemmas.Option.{MatchOption-at_some}

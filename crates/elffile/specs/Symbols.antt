@@ -1,6 +1,6 @@
 -- The symbols of an object (gABI, "Symbol Table").
 use Rattle.std.specs.Prelude.{ℕ, ◌/◌, List, [], ◌∷◌, map, position, find, Option, Some, None, Bool, ◌==◌, if◌then◌else◌}
-use Rattle.std.specs.Prelude.unwrap_or
+use Rattle.std.specs.Prelude.{unwrap_or}
 use Rattle.elffile.specs.SymbolKinds.{binding_of, symbol_kind_of}
 use Rattle.elffile.specs.Names.{string_at}
 use Rattle.elffile.specs.SectionHeaders.{header, headers, file_bytes}

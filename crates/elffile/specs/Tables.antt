@@ -11,11 +11,11 @@ use Rattle.elffile.specs.LinkedKinds.{linked_kind}
 use Rattle.elffile.specs.Names.{string_at, is_name}
 use Rattle.elffile.specs.SymbolEntries.{st_bind, st_type}
 use Rattle.elffile.specs.Symbols.{is_symbol_table, symbol_table_number, symbol_table, entries_of, strings_of}
-use Rattle.elffile.specs.Symbols.symbols_of
+use Rattle.elffile.specs.Symbols.{symbols_of}
 use Rattle.elffile.specs.RelocationEntries.{r_sym, r_type}
 use Rattle.elffile.specs.RelocationKinds.{relocation_kind}
 use Rattle.elffile.specs.Relocations.{is_relocation_section, changes, relocation_entries, relocations_at, share_bytes}
-use Rattle.elffile.specs.Relocations.field_end
+use Rattle.elffile.specs.Relocations.{field_end}
 use Rattle.elffile.specs.Sections.{section_of, sections_of}
 use Rattle.elffile.specs.declared.constants.TheConstants.{SHT_STRTAB, SHT_REL, STB_LOCAL, STB_GLOBAL, STB_WEAK}
 use Rattle.elffile.specs.declared.constants.TheConstants.{STT_SECTION, STT_FILE, STT_COMMON, SHN_UNDEF, SHN_ABS}

@@ -5,7 +5,7 @@ ghost use Rattle.elffile.specs.ElfHeader.{e_shoff, e_shnum, e_shstrndx};
 ghost use Rattle.elffile.specs.Refusal.{holds, header_refusals};
 ghost use Rattle.elffile.specs.SectionTable.{IsTableWithin, IsCountRight, HasSectionTable};
 ghost use Rattle.elffile.specs.declared.refusal.ObjectRefusal.TheVariants.{Short, NotElf, Machine, SectionTable};
-ghost use Rattle.elffile.specs.declared.refusal.ObjectRefusal.TheVariants.SectionCount;
+ghost use Rattle.elffile.specs.declared.refusal.ObjectRefusal.TheVariants.{SectionCount};
 
 use crate::constants::{
     EHDR_SIZE, ELFCLASS64, ELFDATA2LSB, EM_X86_64, ET_REL, EV_CURRENT, MAX_SECTION_HEADERS,

@@ -39,7 +39,7 @@ impl SymbolEntry {
     ghost use Rattle.elffile.specs.Spans.{IsInside, bytes_at};
     ghost use Rattle.elffile.specs.TableOf.{table_of};
     ghost use Rattle.elffile.specs.Tables.{is_local, is_nowhere, is_wrong_local, is_wrong_non_local, is_wrong_common};
-    ghost use Rattle.elffile.specs.Tables.is_wrong_symbol;
+    ghost use Rattle.elffile.specs.Tables.{is_wrong_symbol};
 
     /// `ELF64_ST_BIND` of `st_info`.
     pub fn bind(&self) -> u8

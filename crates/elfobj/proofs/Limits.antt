@@ -22,7 +22,7 @@ use Rattle.elffile.specs.declared.refusal.ObjectRefusal.{ObjectRefusal}
 use Rattle.elffile.specs.declared.refusal.ObjectRefusal.TheVariants.{Short, NotElf, Machine, SectionTable, SectionCount}
 use Rattle.elffile.specs.declared.refusal.ObjectRefusal.TheVariants.{SectionBounds, SectionProfile, SymbolTable, Symbol}
 use Rattle.elffile.specs.declared.refusal.ObjectRefusal.TheVariants.{RelocationSection, RelocationType, FieldBounds}
-use Rattle.elffile.specs.declared.refusal.ObjectRefusal.TheVariants.FieldOverlap
+use Rattle.elffile.specs.declared.refusal.ObjectRefusal.TheVariants.{FieldOverlap}
 use Rattle.elffile.specs.declared.section.SectionKind.{SectionKind}
 use Rattle.elffile.specs.declared.section.SectionKind.TheVariants.{Progbits, Nobits, Note, InitArray, FiniArray}
 use Rattle.elffile.specs.declared.section.SectionKind.TheVariants.{PreinitArray, Unwind}

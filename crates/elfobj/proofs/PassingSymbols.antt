@@ -1,7 +1,7 @@
 -- Symbols that one pass reads: all of their entries are within the profile.
 use Rattle.std.proofs.Common.{◌≡◌, ℕ, zero, suc, ◌+◌, ◌-◌, ◌*◌, ◌/◌, ◌<◌, ◌≤◌, List, [], ◌∷◌, ◌++◌, Bool, true, false}
 use Rattle.std.proofs.Common.{not, get_or, length, drop, nat_lt, find, Some, None, refl, ap, sym, ◌∙◌, subst, arith}
-use Rattle.std.proofs.Common.⊎_elim
+use Rattle.std.proofs.Common.{⊎_elim}
 use Rattle.std.specs.List.{count_by, list_all, list_any, slice_range}
 use Rattle.std.proofs.Math.Bool.{beq}
 use Rattle.std.proofs.lemmas.Bool.{and_from, cases_lt, false≢true, le-ltb, lt-ltb, or_from}
@@ -22,7 +22,7 @@ use Rattle.elffile.specs.declared.symbol.Symbol.{Symbol}
 use Rattle.elffile.specs.declared.symbol_entry.SymbolEntry.{SymbolEntry}
 use Rattle.elfobj.specs.Places.{AreNamed}
 use Rattle.elfobj.proofs.SymbolTables.{entries_length, entry_told, named_push, right_table, symbols_pass, wrong_symbol}
-use Rattle.elfobj.proofs.SymbolTables.wrong_table
+use Rattle.elfobj.proofs.SymbolTables.{wrong_table}
 
 pub same_by : (a b : Bool) → not (beq a b) ≡ false → a ≡ b
 same_by true true h = refl

@@ -16,7 +16,7 @@ use Rattle.elffile.specs.Symbols.{NamedSymbol, entries_of, is_symbol_table, name
 use Rattle.elffile.specs.Symbols.{symbol_name, symbol_of, symbol_table, symbols_from, symbols_in, symbols_of}
 use Rattle.elffile.specs.Tables.{has_misplaced_entry, has_wrong_entry, has_wrong_header, has_wrong_symbol}
 use Rattle.elffile.specs.Tables.{has_wrong_symbol_table, is_string_table, is_wrong_non_local, is_wrong_symbol}
-use Rattle.elffile.specs.Tables.is_wrong_symbol_table
+use Rattle.elffile.specs.Tables.{is_wrong_symbol_table}
 use Rattle.elffile.specs.declared.span.Span.{Span}
 use Rattle.elffile.specs.declared.refusal.ObjectRefusal.TheVariants.{SymbolTable, Symbol as WrongSymbol}
 use Rattle.elffile.specs.declared.section_header.SectionHeader.{SectionHeader}

@@ -50,7 +50,7 @@ impl Object {
     ghost use Rattle.elfobj.specs.Numbering.{IsNumberedAt};
     ghost use Rattle.elfobj.specs.Object.{object_of};
     ghost use Rattle.elfobj.specs.Profile.{HasRelocationsOfProfile, IsSectionBelow, IsSectionOfProfile};
-    ghost use Rattle.elfobj.specs.Profile.IsSymbolOfProfile;
+    ghost use Rattle.elfobj.specs.Profile.{IsSymbolOfProfile};
     ghost use Rattle.elffile.specs.Refusal.{header_refusals, holds, object_refusal};
     ghost use Rattle.elffile.specs.Sections.{section_of};
     ghost use Rattle.elffile.specs.Spans.{bytes_at};

@@ -11,7 +11,7 @@ ghost use Rattle.elffile.specs.SectionTable.{HasSectionTable};
 ghost use Rattle.elffile.specs.ElfHeader.{e_shstrndx};
 ghost use Rattle.elfobj.specs.Linkable.{IsNameTable, PassesTests};
 ghost use Rattle.elffile.specs.Symbols.{entries_of, is_symbol_table, symbol_name, symbol_table, symbols_from};
-ghost use Rattle.elffile.specs.Symbols.symbols_of;
+ghost use Rattle.elffile.specs.Symbols.{symbols_of};
 ghost use Rattle.elffile.specs.TableOf.{table_of};
 ghost use Rattle.elffile.specs.Tables.{has_misplaced_entry, has_wrong_header, is_local, is_string_table};
 ghost use Rattle.elffile.specs.Tables.{is_wrong_non_local, is_wrong_symbol};

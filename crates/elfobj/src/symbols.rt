@@ -2,7 +2,7 @@
 //! other symbols it finds only that they are not such.
 
 ghost use Rattle.std.specs.Prelude.{◌≡◌, ℕ, ◌≤◌, ◌+◌, ◌/◌, ◌++◌, ◌∷◌, [], IfOk, IfSome, List, OnOk, drop, false};
-ghost use Rattle.std.specs.Prelude.length;
+ghost use Rattle.std.specs.Prelude.{length};
 ghost use Rattle.std.specs.List.{list_any};
 ghost use Rattle.elffile.specs.SectionHeaders.{file_bytes};
 ghost use Rattle.elffile.specs.Symbols.{entries_of, null_symbol, symbols_from};

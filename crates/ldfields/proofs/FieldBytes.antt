@@ -1,6 +1,6 @@
 -- The bytes of a field among the eight bytes of its value.
 use Rattle.std.proofs.Common.{◌≡◌, ◌≤◌, ℕ, arith, List, Bool, true, false, Ok, Err, take, refl, sym, ap, ◌∙◌}
-use Rattle.std.proofs.Common.if◌then◌else◌
+use Rattle.std.proofs.Common.{if◌then◌else◌}
 use Rattle.byteorder.specs.Endian.{little_bytes}
 use Rattle.elfobj.specs.declared.relocation.Relocation.{Relocation}
 use Rattle.elfobj.specs.declared.relocation.RelocationKind.{RelocationKind}

@@ -1,6 +1,6 @@
 -- Values in scopes that agree.
 use Rattle.std.proofs.Common.{◌≡◌, ℕ, ◌∙◌, sym, ap, Bool, true, false, cond, List, Option, Some, None, Result, Ok, Err}
-use Rattle.std.proofs.Common.refl
+use Rattle.std.proofs.Common.{refl}
 use Rattle.std.proofs.Common.{subst}
 use Rattle.std.specs.Option.{option_map}
 use Rattle.ldterms.specs.Expressions as expression

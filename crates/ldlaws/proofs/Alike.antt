@@ -1,6 +1,6 @@
 -- Statements lead to layouts that differ in symbols alone from layouts that do.
 use Rattle.std.proofs.Common.{◌≡◌, ℕ, ◌+◌, ◌==◌, nat_lt, List, [], ◌∷◌, ◌++◌, Bool, true, false, cond, Option, Some}
-use Rattle.std.proofs.Common.None
+use Rattle.std.proofs.Common.{None}
 use Rattle.std.proofs.Common.{Result, Ok, Err, refl, sym, ap, subst, ◌∙◌, bytes_eq}
 use Rattle.std.proofs.lemmas.List.{append-nil}
 use Rattle.std.specs.List.{list_any}
@@ -26,7 +26,7 @@ use Rattle.ldtree.specs.declared.section.BodyStatement.{BodyStatement}
 use Rattle.ldtree.specs.declared.section.Width.{Width}
 use Rattle.ldmodel.specs.Assigning.{assigned, common_step}
 use Rattle.ldmodel.specs.Body.{Body, piece_placed, piece_start, pieces_placed, input_step, with_dot, with_data}
-use Rattle.ldmodel.specs.Body.data_step
+use Rattle.ldmodel.specs.Body.{data_step}
 use Rattle.ldmodel.specs.Body.{moved, advanced, set_to, dot_step, body_command_step, body_step}
 use Rattle.ldmodel.specs.Chain.{and_then}
 use Rattle.ldmodel.specs.Fault.{Fault, MovedBack}

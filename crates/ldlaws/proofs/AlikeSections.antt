@@ -24,7 +24,7 @@ use Rattle.ldmodel.specs.Placement.{free_dot_step, item_command_step, item_step,
 use Rattle.ldmodel.specs.Rows.{Piece}
 use Rattle.ldmodel.specs.SectionEnd.{find_region, load_region, placed_section, section_end, with_room, with_section}
 use Rattle.ldmodel.specs.SectionHead.{Given, Head, first_free, given, given_alignment, given_load, head_of}
-use Rattle.ldmodel.specs.SectionHead.load_address
+use Rattle.ldmodel.specs.SectionHead.{load_address}
 use Rattle.ldmodel.specs.SectionHead.{number_if_given, start_of, widest}
 use Rattle.ldlaws.specs.Alike.{AreAlike, AreBodiesAlike, AreSameBefore, AreSymbolsAlike, given_names, names_given}
 use Rattle.ldlaws.specs.Alike.{with_symbols}

@@ -1,6 +1,6 @@
 -- Objects whose sections have different numbers.
 use Rattle.std.proofs.Common.{◌≡◌, ◌<◌, ◌==◌, ℕ, zero, suc, false, List, [], ◌∷◌, map, arith, get_or, length, subst}
-use Rattle.std.proofs.Common.take
+use Rattle.std.proofs.Common.{take}
 use Rattle.std.specs.List.{All, AllPairs}
 use Rattle.std.proofs.lemmas.Bool.{ne_eqb}
 use Rattle.std.proofs.lemmas.List.Elements.{All-head, All-tail}

@@ -1,6 +1,6 @@
 -- Lists whose members differ from one another, and what is found in them.
 use Rattle.std.proofs.Common.{◌≡◌, ◌∙◌, refl, ap, subst, ℕ, zero, suc, List, [], ◌∷◌, ◌++◌, map, filter, find, Some}
-use Rattle.std.proofs.Common.None
+use Rattle.std.proofs.Common.{None}
 use Rattle.std.proofs.Common.{Bool, true, false, cond, slice_get}
 use Rattle.std.proofs.lemmas.Option.{same_Some}
 use Rattle.ldlaws.specs.Spread.{EachLater}

@@ -2,7 +2,7 @@
 use Rattle.std.proofs.Common.{List, ℕ}
 use Rattle.ldtokens.specs.Tokens.{Lexeme}
 use Rattle.ldtokens.specs.declared.token.Mark.TheVariants.{OpenParenthesis, CloseParenthesis, Semicolon, Comma, Assign}
-use Rattle.ldtokens.specs.declared.token.Mark.TheVariants.AddAssign
+use Rattle.ldtokens.specs.declared.token.Mark.TheVariants.{AddAssign}
 use Rattle.ldtokens.specs.declared.token.Mode.{Mode}
 use Rattle.ldterms.specs.Expressions.{Expr}
 use Rattle.ldscript.specs.Steps.{◌▸◌, mark, name_in, string}
@@ -12,7 +12,7 @@ use Rattle.ldscript.specs.Readings.{NoneAt}
 use Rattle.ldtree.specs.declared.common.Common.TheVariants as commons
 use Rattle.ldtree.specs.declared.common.DotCommand.TheVariants.{Set, Add}
 use Rattle.ldscript.proofs.Singles.{mark_fixed, marks_differ, behind, behind_tree, ended_single, name_single}
-use Rattle.ldscript.proofs.Singles.provided_name_single
+use Rattle.ldscript.proofs.Singles.{provided_name_single}
 
 pub add_none : (ts us : List Lexeme) → mark AddAssign ts us → NoneAt (ended Semicolon) us → NoneAt dot_change ts
 add_none ts us h n (Set e) more d = marks_differ AddAssign Assign ts us d.0 (λ q. cc) h d.1

@@ -32,7 +32,7 @@ use Rattle.ldtree.specs.declared.statement.Item.{Item}
 use Rattle.ldscript.proofs.Singles.{Fixed, Single, SingleUntil, tokens_same, words_same, mark_fixed, key_fixed}
 use Rattle.ldscript.proofs.Singles.{token_fixed, then_fixed, skip_single, behind, behind_tree, keys_differ, name_no_key}
 use Rattle.ldscript.proofs.Singles.{name_single, ended_single, in_parentheses_single, common_single, dot_command_single}
-use Rattle.ldscript.proofs.Singles.marks_differ
+use Rattle.ldscript.proofs.Singles.{marks_differ}
 use Rattle.ldscript.proofs.Starts.{starts}
 use Rattle.ldscript.proofs.Tails.{NoTail, tails_same, tails_single}
 use Rattle.ldscript.proofs.Inputs.{closed_inputs_single}

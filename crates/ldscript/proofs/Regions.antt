@@ -12,7 +12,7 @@ use Rattle.ldscript.specs.Grammar.{ended, region_head, region_middle, region}
 use Rattle.ldtree.specs.declared.statement.Region.{Region}
 use Rattle.ldscript.proofs.Singles.{Fixed, Single, SingleUntil, tokens_same, mark_fixed, key_fixed, then_fixed}
 use Rattle.ldscript.proofs.Singles.{end_single, behind, behind_tree, name_single, expression_single, ended_single}
-use Rattle.ldscript.proofs.Singles.stops_at
+use Rattle.ldscript.proofs.Singles.{stops_at}
 use Rattle.ldscript.proofs.Each.{EachListed, each_single}
 
 pub region_head_single : Single region_head

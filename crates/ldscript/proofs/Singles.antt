@@ -6,7 +6,7 @@ use Rattle.ldtokens.specs.Tokens.{Token, Lexeme, lexeme, Text, Punctuation}
 use Rattle.ldtokens.specs.Words.{is_free_name, is_reserved}
 use Rattle.ldtokens.specs.declared.token.Mark.{Mark}
 use Rattle.ldtokens.specs.declared.token.Mark.TheVariants.{OpenParenthesis, CloseParenthesis, Semicolon, Comma, Assign}
-use Rattle.ldtokens.specs.declared.token.Mark.TheVariants.AddAssign
+use Rattle.ldtokens.specs.declared.token.Mark.TheVariants.{AddAssign}
 use Rattle.ldtokens.specs.declared.token.Mode.{Mode}
 use Rattle.ldtokens.specs.declared.token.Mode.TheVariants.{Expression, Pattern}
 use Rattle.ldterms.specs.Expressions.{Expr}

@@ -5,11 +5,11 @@ use Rattle.ldtokens.specs.Tokens.{Lexeme, lexeme, first_line, Name, Punctuation}
 use Rattle.ldtokens.specs.Words.{is_free_name, is_reserved}
 use Rattle.ldtokens.specs.Modes.{IsCut}
 use Rattle.ldtokens.specs.declared.token.Mark.TheVariants.{OpenParenthesis, CloseParenthesis, OpenBrace, CloseBrace}
-use Rattle.ldtokens.specs.declared.token.Mark.TheVariants.Semicolon
+use Rattle.ldtokens.specs.declared.token.Mark.TheVariants.{Semicolon}
 use Rattle.ldtokens.specs.declared.token.Mode.TheVariants.{Expression}
 use Rattle.ldscript.specs.Steps.{Part, ◌▸◌, mark, token, key, name, each, statements, Semicolons, none}
 use Rattle.ldscript.specs.Grammar.{common, region, item_statement, entry, memory, sections, top_command, top_statement}
-use Rattle.ldscript.specs.Grammar.script
+use Rattle.ldscript.specs.Grammar.{script}
 use Rattle.ldscript.specs.Readings.{NoneAt}
 use Rattle.ldscript.specs.Script.{IsTree}
 use Rattle.ldtree.specs.declared.common.Common.{Common}

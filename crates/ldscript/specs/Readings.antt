@@ -2,7 +2,7 @@
 use Rattle.std.specs.Prelude.{◌≡◌, ◌<◌, ◌≤◌, List, codes, length, Bool, true, false, Option, Some, None, IfOk, Result}
 use Rattle.ldtokens.specs.Tokens.{Lexeme, Discard}
 use Rattle.ldtokens.specs.declared.token.Mark.TheVariants.{OpenParenthesis, CloseParenthesis, OpenBrace, Colon, Greater}
-use Rattle.ldtokens.specs.declared.token.Mark.TheVariants.Assign
+use Rattle.ldtokens.specs.declared.token.Mark.TheVariants.{Assign}
 use Rattle.ldtokens.specs.declared.token.Mode.TheVariants.{Expression, Pattern}
 use Rattle.ldterms.specs.Expressions.{Expr}
 use Rattle.ldterms.specs.Parts as patterns

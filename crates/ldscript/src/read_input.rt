@@ -4,7 +4,7 @@ ghost use Rattle.std.specs.Prelude.{◌≡◌, ◌<◌, ℕ, List, IfOk, IfSome,
 ghost use Rattle.ldtokens.specs.Tokens.{Lexeme};
 ghost use Rattle.ldscript.specs.Steps.{◌▸◌, each, some, mark, statements, pattern as pattern_part};
 ghost use Rattle.ldscript.specs.Grammar.{bare, one, sort as sort_part, plain as plain_part, input as input_part};
-ghost use Rattle.ldscript.specs.Grammar.input_statement;
+ghost use Rattle.ldscript.specs.Grammar.{input_statement};
 ghost use Rattle.ldscript.specs.Readings.{Reads, Finds, excluded_files as excluded_files_part, selected, word_part};
 
 use crate::steps::{after, after_key};

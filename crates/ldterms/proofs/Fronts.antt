@@ -5,7 +5,7 @@ use Rattle.std.proofs.Common.{append_assoc, length-append, arith}
 use Rattle.std.specs.List.{take_while, list_all, slice_range, prefix_len}
 use Rattle.std.proofs.Math.Seq.{take-append_seam, get_or-append_seam}
 use Rattle.std.proofs.lemmas.Bool.{false≢true, eqb-true, eq-eqb, lt-ltb, ltb-true, and_parts, and_from, cond-true}
-use Rattle.std.proofs.lemmas.Bool.cond-false
+use Rattle.std.proofs.lemmas.Bool.{cond-false}
 use Rattle.std.proofs.lemmas.List.{take_more, length-take-le}
 use Rattle.std.proofs.lemmas.List.Sums.{take_while-cons, prefix_len-le-length}
 use Rattle.ldterms.specs.Parts.{Part, AnyRun, AnyByte, Byte, OneOf, ranges_of}

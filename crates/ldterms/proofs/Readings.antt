@@ -10,7 +10,7 @@ use Rattle.ldterms.specs.declared.expression.RegionQuery.{RegionQuery}
 use Rattle.ldterms.specs.declared.expression.SectionQuery.{SectionQuery}
 use Rattle.ldterms.specs.Operators.{unary_of, binary_of, level_of}
 use Rattle.ldterms.specs.Expressions.{Expr, Number, Dot, Name, Unary, Binary, Choice, OfRegion, OfSection, AlignDot}
-use Rattle.ldterms.specs.Expressions.Align
+use Rattle.ldterms.specs.Expressions.{Align}
 use Rattle.ldterms.specs.Grammar.{Point, AsksRegion, AsksSection, Aligns, Free, Reserved, Terminal, Numeral, Worded}
 use Rattle.ldterms.specs.Grammar.{Sign, Other, terminal_of, Begins, BeginsUnary, BeginsBinary, BeginsNamed, Primary}
 use Rattle.ldterms.specs.Grammar.{Arguments, Within, Whole, Spells, number, dot, name, group, of_region, of_section}

@@ -16,7 +16,7 @@ use Rattle.ldterms.specs.Grammar.{primary, unary, operators, choice, Stops, Read
 use Rattle.ldterms.proofs.Readings.{Lacks, begins_same, Shape, primary_shape, primary_begins_no_unary, primary_reading}
 use Rattle.ldterms.proofs.Readings.{align_reading, unary_same, binary_same, level_tail, tail_stops, Tail, done, longer}
 use Rattle.ldterms.proofs.Readings.{SoFar, operator_goes_on, whole_stops, whole_stops_before, within_stops_at}
-use Rattle.ldterms.proofs.Readings.question_goes_on
+use Rattle.ldterms.proofs.Readings.{question_goes_on}
 
 -- PRIMARY
 pub begins_of : {t : Token} {n : ℕ} {ts rest : List Lexeme} → ts ≡ lexeme t n ∷ rest → Begins ts (terminal_of t) rest

@@ -5,7 +5,7 @@ use Rattle.std.proofs.Math.Dec.{eqb}
 use Rattle.std.proofs.lemmas.Bool.{or_cases, eqb-true, eq-eqb}
 use Rattle.ldterms.specs.Parts.{Part, AnyRun, AnyByte, Byte, OneOf, is_in_any}
 use Rattle.ldterms.specs.Matching.{Meets, Matches, nothing, part, passes_some_end, passes_after_one, passes_after}
-use Rattle.ldterms.specs.Matching.is_match
+use Rattle.ldterms.specs.Matching.{is_match}
 use Rattle.ldterms.proofs.Stars.{nothing_left}
 
 and_left : (x y : Bool) → (x && y) ≡ true → x ≡ true

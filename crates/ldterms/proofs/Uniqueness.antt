@@ -11,7 +11,7 @@ use Rattle.ldterms.proofs.Readings.{group_reading, of_region_reading, of_section
 use Rattle.ldterms.proofs.Readings.{two_reading, unary_reading, primary_reading, lower_stops, operator_stops}
 use Rattle.ldterms.proofs.Readings.{operator_goes_on, level_start, level_end, level_step, within_stops_at}
 use Rattle.ldterms.proofs.Readings.{whole_stops_before, whole_stops, question_goes_on, operators_reading}
-use Rattle.ldterms.proofs.Readings.choice_reading
+use Rattle.ldterms.proofs.Readings.{choice_reading}
 
 -- what a derivation says beside itself
 abbrev Known : Level → Expr → List Lexeme → List Lexeme → Type 0

@@ -23,7 +23,7 @@ use Rattle.ldterms.specs.declared.expression.SectionQuery.{SectionQuery}
 use Rattle.ldterms.specs.declared.expression.SectionQuery.TheVariants.{Address, LoadAddress, Size}
 use Rattle.ldterms.specs.Operators.{unary_of, binary_of, level_of}
 use Rattle.ldterms.specs.Expressions.{Expr, Number, Dot, Name, Unary, Binary, Choice, OfRegion, OfSection, AlignDot}
-use Rattle.ldterms.specs.Expressions.Align
+use Rattle.ldterms.specs.Expressions.{Align}
 
 -- what a name is to an expression: `.`, a word that asks something of a memory region or of an output section, ALIGN, a
 -- NAME, or another reserved word

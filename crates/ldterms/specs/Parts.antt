@@ -1,6 +1,6 @@
 -- The parts of a name pattern of a linker script (GNU ld manual, "Input Section Wildcard Patterns").
 use Rattle.std.specs.Prelude.{ℕ, ◌≤◌, Bool, ◌&&◌, ◌==◌, nat_le, List, [], ◌∷◌, Option, Some, None, if◌then◌else◌}
-use Rattle.std.specs.Prelude.slice_range
+use Rattle.std.specs.Prelude.{slice_range}
 use Rattle.std.specs.List.{list_any}
 use Rattle.ldterms.specs.declared.set.ByteRange.{ByteRange}
 use Rattle.ldterms.specs.declared.part.CodePart.{CodePart}

@@ -4,7 +4,7 @@ ghost use Rattle.std.specs.Prelude.{ℕ, List, []};
 ghost use Rattle.ldtokens.specs.Tokens.{Lexeme, Name, Number, Text, Discard, Word, Punctuation};
 ghost use Rattle.ldtokens.specs.declared.token.Mark.TheVariants.{OpenParenthesis, CloseParenthesis, OpenBrace};
 ghost use Rattle.ldtokens.specs.declared.token.Mark.TheVariants.{CloseBrace, Semicolon, Colon, Comma, Assign};
-ghost use Rattle.ldtokens.specs.declared.token.Mark.TheVariants.AddAssign;
+ghost use Rattle.ldtokens.specs.declared.token.Mark.TheVariants.{AddAssign};
 ghost use Rattle.ldterms.specs.Grammar.{OneTree, OneReading, Stops, Whole, EndsAt};
 
 /// No tokens are two expressions: a tree whose rest can't go on it is the only one, and so is that rest.

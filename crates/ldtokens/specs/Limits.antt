@@ -1,6 +1,6 @@
 -- The limits on the tokens of a script, and the refusals of a text.
 use Rattle.std.specs.Prelude.{◌≡◌, ℕ, ◌<◌, ◌≤◌, ◌^◌, List, [], ◌∷◌, ◌++◌, length, map, All, count_by, Bool, true, false}
-use Rattle.std.specs.Prelude.◌⊎◌
+use Rattle.std.specs.Prelude.{◌⊎◌}
 use Rattle.std.specs.List.{list_any}
 use Rattle.ldtokens.specs.Tokens.{Token, Lexeme, Name, Number, Word, Punctuation}
 use Rattle.ldtokens.specs.Numbers.{number_value}

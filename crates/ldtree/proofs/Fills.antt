@@ -1,6 +1,6 @@
 -- Pairs of hex digits.
 use Rattle.std.proofs.Common.{◌≡◌, ◌∙◌, ap, ℕ, zero, suc, ◌+◌, ◌≤◌, ◌-◌, ◌++◌, ◌∷◌, [], List, Some, None, sym, subst}
-use Rattle.std.proofs.Common.arith
+use Rattle.std.proofs.Common.{arith}
 use Rattle.ldtree.specs.Fill.{hex_bytes, hex_pair, with_pair}
 use Rattle.std.specs.Prelude.{slice_index, ◌*◌}
 

@@ -6,7 +6,7 @@ use Rattle.ldterms.specs.declared.operator.BinaryOperator.{BinaryOperator}
 use Rattle.ldterms.specs.declared.expression.RegionQuery.{RegionQuery}
 use Rattle.ldterms.specs.declared.expression.SectionQuery.{SectionQuery}
 use Rattle.ldterms.specs.Expressions.{Expr, Number, Dot, Name, Unary, Binary, Choice, OfRegion, OfSection, AlignDot}
-use Rattle.ldterms.specs.Expressions.Align
+use Rattle.ldterms.specs.Expressions.{Align}
 
 pub data Instruction : Type 0 where
   PushNumber : (value : ℕ) → Instruction

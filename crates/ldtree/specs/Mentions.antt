@@ -2,7 +2,7 @@
 use Rattle.std.specs.Prelude.{◌≡◌, ℕ, List, [], ◌∷◌, ◌++◌, Option, Some, None}
 use Rattle.std.specs.List.{Contains}
 use Rattle.ldterms.specs.Expressions.{Expr, Number, Dot, Name, Unary, Binary, Choice, OfRegion, OfSection, AlignDot}
-use Rattle.ldterms.specs.Expressions.Align
+use Rattle.ldterms.specs.Expressions.{Align}
 use Rattle.ldtree.specs.declared.section.BodyCommand.{BodyCommand}
 use Rattle.ldtree.specs.declared.section.BodyCommand.TheVariants as body
 use Rattle.ldtree.specs.declared.section.BodyStatement.{BodyStatement}

@@ -1,6 +1,6 @@
 -- A name that stands for something is declared.
 use Rattle.std.proofs.Common.{◌≡◌, ◌∙◌, ◌⊎◌, ℕ, suc, Bool, true, false, cond, List, [], ◌∷◌, ◌++◌, filter, map, refl}
-use Rattle.std.proofs.Common.ap
+use Rattle.std.proofs.Common.{ap}
 use Rattle.std.proofs.Common.{inl, inr}
 use Rattle.std.specs.Prelude.{Option, Some, None, bytes_eq}
 use Rattle.std.proofs.lemmas.Bool.{true≢false}

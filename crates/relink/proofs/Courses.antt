@@ -1,6 +1,6 @@
 -- Objects that are added one after the other.
 use Rattle.std.proofs.Common.{◌≡◌, ℕ, suc, ◌+◌, List, [], ◌∷◌, Result, Ok, Err, add-one, subst, sym, ◌∙◌, length, arith}
-use Rattle.std.proofs.Common.refl
+use Rattle.std.proofs.Common.{refl}
 use Rattle.ldmodel.specs.Edits.{Add, After, SetScript}
 use Rattle.ldmodel.specs.LinkCommand.{Course, ended, refused, accepted, ObjectFile, RefusedEdit, additions}
 use Rattle.ldmodel.specs.LinkCommand.{Linking, link_edits}

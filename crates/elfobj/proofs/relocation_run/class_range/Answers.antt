@@ -3,8 +3,8 @@ use Rattle.std.proofs.Math.Nat.{div-add-mod}
 use Rattle.elfobj.proofs.Runs.{cover_all, cover_more, cover_weaker, no_table}
 use Rattle.elfobj.proofs.relocation_run.class_range.Goals as goal
 use Rattle.elfobj.proofs.relocation_run.class_range.Goals.{then-table-gt0+then-table-class, else-table-gt0}
-use Rattle.elfobj.proofs.relocation_run.class_range.Goals.else-table-gt0-via-then-table-gt0+else-table-class
-use Rattle.elfobj.proofs.relocation_run.class_range.Goals.else-table-gt0-via-else-table-gt0
+use Rattle.elfobj.proofs.relocation_run.class_range.Goals.{else-table-gt0-via-then-table-gt0+else-table-class}
+use Rattle.elfobj.proofs.relocation_run.class_range.Goals.{else-table-gt0-via-else-table-gt0}
 
 pub loop-table-preserved : goal.loop-table-preserved
 loop-table-preserved c =

@@ -2,7 +2,7 @@ use Rattle.std.proofs.Common.{◌≡◌, ◌+◌, ◌++◌, ◌∷◌, [], sym, 
 use Rattle.ldtokens.specs.Tokens.{token_of}
 use Rattle.ldtokens.specs.Modes.{state_after}
 use Rattle.ldtokens.proofs.Cut.{cut_to_end, cut_to_nothing, cut_to_blank, cut_to_found, still_shallow, behind}
-use Rattle.ldtokens.proofs.Cut.line_ahead
+use Rattle.ldtokens.proofs.Cut.{line_ahead}
 use Rattle.ldtokens.proofs.lexer.cut.Goals as goal
 
 pub returns-in-Finished-clause-cut : goal.returns-in-Finished-clause-cut
