@@ -34,7 +34,7 @@ use ldfields::patch::Patch;
 use ldimage::law::{drawing_is_image, drawing_stands, placement_is_in_memory};
 use ldimage::redraw::redraw;
 use ldimage::section::{Drawing, ImagePart, ImagePiece};
-use ldimage::tail::{Part, TailParts};
+use ldimage::tail::{TailPart, TailParts};
 use ldlaws::segments::sections_in_file;
 use ldlaws::stayed::stayed_in_both;
 use ldlayout::laying::Laying;
@@ -47,7 +47,7 @@ use ldvalues::values::Values;
 use std::alloc::Global;
 
 /// A part of the tail, lent.
-fn image_part(part: &Part) -> ImagePart<'_>
+fn image_part(part: &TailPart) -> ImagePart<'_>
     ensures { IsImagePart part.now result }
 {
     ImagePart {

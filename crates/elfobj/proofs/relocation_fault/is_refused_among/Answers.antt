@@ -8,8 +8,8 @@ use Rattle.elfobj.proofs.EntryTests.{ends_up, passed_larger, passed_none, passes
 use Rattle.elfobj.proofs.RelocationReads.{found_mapped}
 use Rattle.elfobj.proofs.Runs.{no_table}
 use Rattle.elfobj.proofs.relocation_fault.is_refused_among.Goals as goal
-use Rattle.elfobj.proofs.relocation_fault.is_refused_among.Goals.then-is_of_class+else-is_table_refused
-use Rattle.elfobj.proofs.relocation_fault.is_refused_among.Goals.else-is_of_class
+use Rattle.elfobj.proofs.relocation_fault.is_refused_among.Goals.{then-is_of_class+else-is_table_refused}
+use Rattle.elfobj.proofs.relocation_fault.is_refused_among.Goals.{else-is_of_class}
 
 pub loop-table-init : goal.loop-table-init
 loop-table-init c = record {

@@ -8,8 +8,8 @@ use Rattle.elffile.proofs.Headers.{count_of, header_of, headers_length}
 use Rattle.elfobj.proofs.RelocationTables.{after_told, changed_below, right_more, right_same, tables_all, tables_more}
 use Rattle.elfobj.proofs.RelocationTables.{tables_none, tables_same, wrong_found}
 use Rattle.elfobj.proofs.relocation_table.changing_tables.Goals as goal
-use Rattle.elfobj.proofs.relocation_table.changing_tables.Goals.then-is_relocation_section+else-is_wrong_section
-use Rattle.elfobj.proofs.relocation_table.changing_tables.Goals.else-is_relocation_section
+use Rattle.elfobj.proofs.relocation_table.changing_tables.Goals.{then-is_relocation_section+else-is_wrong_section}
+use Rattle.elfobj.proofs.relocation_table.changing_tables.Goals.{else-is_relocation_section}
 
 pub loop-number-init : goal.loop-number-init
 loop-number-init c = record {
