@@ -89,7 +89,7 @@ find_passes : (p : ObjectRefusal → Bool) (rs : List ObjectRefusal) (r : Object
 find_passes p [] r h = absurd (none-some r h)
 find_passes p (q ∷ rs) r h = found_or_later (p q) q (find p rs) r p refl h (find_passes p rs r)
 
--- want of memory is no refusal of the bytes
+-- out of memory is no refusal of the bytes
 pub no_memory_found : (bytes : List ℕ) (rs : List ObjectRefusal) (r : ObjectRefusal) → find (holds bytes) rs ≡ Some r
     → r ≡ NoMemory → find (holds bytes) rs ≡ None
 unfolding holds

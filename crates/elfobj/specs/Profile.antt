@@ -18,7 +18,7 @@ use Rattle.elffile.specs.declared.symbol.SymbolPlace.{SymbolPlace}
 use Rattle.elffile.specs.declared.symbol.SymbolPlace.{SymbolPlace}
 use Rattle.elffile.specs.declared.symbol.SymbolPlace.TheVariants.{Common, Section}
 
--- how many bytes of the file a section of so many bytes has
+-- how many bytes of the file a section of this number of bytes has
 abbrev pub size_in_file : SectionKind → ℕ → ℕ
 size_in_file Nobits size = 0
 size_in_file _ size = size
@@ -49,12 +49,12 @@ pub record IsSymbolOfProfile (s : NamedSymbol) : Type 0 where
   pub name : IsNameOf s.symbol.binding s.name
   pub common : s.symbol.place ≡ Common → IsCommonBlock s.symbol
 
--- a section that a symbol lies in has the number of one of so many headers
+-- a section that a symbol lies in has the number of one of this number of headers
 abbrev pub IsSectionBelow : ℕ → SymbolPlace → Type 0
 IsSectionBelow n (Section k) = k.0 < n
 IsSectionBelow n _ = Unit {0}
 
--- it names one of so many symbols, and its field lies in a section of so many bytes
+-- it names one of this number of symbols, and its field lies in a section of this number of bytes
 pub record IsRelocationOfProfile (symbols size : ℕ) (r : Relocation) : Type 0 where
   pub symbol : r.symbol.0 < symbols
   pub field : field_end r ≤ size
@@ -63,7 +63,7 @@ pub record IsRelocationOfProfile (symbols size : ℕ) (r : Relocation) : Type 0 
 abbrev pub AreApart : List Relocation → Type 0
 AreApart = AllPairs (λ r q. meets r q ≡ false)
 
--- the relocations of a section of an object of so many symbols
+-- the relocations of a section of an object of this number of symbols
 pub record HasRelocationsOfProfile (symbols : ℕ) (s : LinkedSection) : Type 0 where
   pub each : All (IsRelocationOfProfile symbols s.size) s.relocations
   pub apart : AreApart s.relocations

@@ -186,7 +186,11 @@ impl Object {
     /// another order; where it has this one, as assemblers write it, they are copied.
     ///
     /// No second order is kept: tables may overlap in the file, so that the orders of all could take far more memory
-    /// than the object. An error says that there was no memory for the copy.
+    /// than the object.
+    ///
+    /// # Errors
+    ///
+    /// Where there is no memory for the copy.
     pub fn relocations_by_offset(
         &self,
         section: LinkedIndex,

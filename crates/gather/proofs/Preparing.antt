@@ -33,7 +33,8 @@ object_here p inputs n x are low here =
     ∙ (slice_get-get_or (shown_inputs inputs) n (shown_input x) within
     ∙ ap (λ (o : NamedObject). Some o) (get_or-map shown_input inputs n x (shown_input x) low ∙ ap shown_input here))
 
-pub as_many : (p : Project) (inputs : List InputObject) → shown_inputs inputs ≡ p.objects → length p.objects ≡ length inputs
+pub as_many : (p : Project) (inputs : List InputObject) → shown_inputs inputs ≡ p.objects
+    → length p.objects ≡ length inputs
 as_many p inputs are = ap length (sym are) ∙ length-map inputs shown_input
 
 -- the objects so far are matched

@@ -47,7 +47,7 @@ fn add_block(all: &mut Vec<Vec<CommonBlock>>, case: Case) -> Result<(), NoMemory
     }
 }
 
-/// The same where a key has a name.
+/// Adds the block of a name's case, where the key has a name.
 fn add_if_named(all: &mut Vec<Vec<CommonBlock>>, case: Option<Case>) -> Result<(), NoMemory>
     ensures len { length all.new.items ≡ length all.old.items }
     ensures added { OnOk result ((i : ℕ) → i < length all.old.items → blocks_at all.new.items i
@@ -83,7 +83,7 @@ fn sort(blocks: &mut Vec<CommonBlock>)
     blocks.sort_unstable_by_key(|block| block.symbol.0);
 }
 
-/// The same for each object.
+/// Puts the blocks of each object in the order of its symbol table.
 fn sort_all(all: &mut Vec<Vec<CommonBlock>>)
     ensures len { length all.new.items ≡ length all.old.items }
     ensures sorted { (i : ℕ) → i < length all.old.items
@@ -95,7 +95,10 @@ fn sort_all(all: &mut Vec<Vec<CommonBlock>>)
 }
 
 /// The common blocks of each object of a project, by what its names stand for. The time grows with the number of names.
-/// An error says that memory ran out.
+///
+/// # Errors
+///
+/// Where memory runs out.
 pub(crate) fn common_blocks(
     alloc: Global,
     project: &ProjectView<'_>,

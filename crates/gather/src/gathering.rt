@@ -58,7 +58,11 @@ fn sorted_out(
 
 impl Gathering {
     /// Gathers the input sections of a project whose names are decided. `matches` has the statements that take the
-    /// sections of each object, in object order. An error says that memory ran out.
+    /// sections of each object, in object order.
+    ///
+    /// # Errors
+    ///
+    /// Where memory runs out.
     pub fn of(
         alloc: Global,
         project: &ProjectView<'_>,

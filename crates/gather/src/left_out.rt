@@ -51,8 +51,11 @@ fn each_out(
     Ok(out)
 }
 
-/// Whether each of these sections is left out of the link of this script, before references are followed. An error says
-/// that memory ran out.
+/// Whether each of these sections is left out of the link of this script, before references are followed.
+///
+/// # Errors
+///
+/// Where memory runs out.
 pub fn left_out(
     alloc: Global,
     script: &Script,

@@ -50,7 +50,11 @@ fn mark_needed(
     mark(alloc, out, &roots, &references)
 }
 
-/// Marks the live sections. `out` says of each whether it is left out. An error says that memory ran out.
+/// Marks the live sections. `out` says of each whether it is left out.
+///
+/// # Errors
+///
+/// Where memory runs out.
 pub(crate) fn mark_live(
     alloc: Global,
     project: &ProjectView<'_>,

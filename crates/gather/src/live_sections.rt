@@ -19,8 +19,11 @@ use ldmodel::memory::NoMemory;
 use ldmodel::sections::SectionKey;
 use std::alloc::Global;
 
-/// The sections without those that are left out: the live ones where nothing is collected. An error says that memory
-/// ran out.
+/// The sections without those that are left out: the live ones where nothing is collected.
+///
+/// # Errors
+///
+/// Where memory runs out.
 pub fn not_out(alloc: Global, out: &[bool]) -> Result<Vec<bool>, NoMemory>
     ensures marks { IfOk result (λ marks. marks.items ≡ map not out.now) }
     ensures live { IfOk result (λ marks. (p : Project) → p.options.gc ≡ false → out.now
@@ -77,8 +80,12 @@ fn add_untaken(
     }
 }
 
-/// The live sections that statements take, as pieces of these, in their order. `marks` says of each section whether
-/// it is live. An error says that memory ran out.
+/// The live sections that statements take, as pieces of these, in their order. `marks` says of each section whether it
+/// is live.
+///
+/// # Errors
+///
+/// Where memory runs out.
 pub fn taken<'a>(
     alloc: Global,
     sections: &[Gathered<'a>],
@@ -95,7 +102,11 @@ pub fn taken<'a>(
 }
 
 /// The live sections that no statement takes, each of them a fault, in their order. `marks` says of each section
-/// whether it is live. An error says that memory ran out.
+/// whether it is live.
+///
+/// # Errors
+///
+/// Where memory runs out.
 pub fn orphans(
     alloc: Global,
     sections: &[Gathered<'_>],

@@ -63,8 +63,11 @@ fn table_of<'a>(
 }
 
 impl<'a> Matcher<'a> {
-    /// Prepares a script. An error says that memory ran out, or that it has more than 2^32 input statements, which no
-    /// script that was read has.
+    /// Prepares a script.
+    ///
+    /// # Errors
+    ///
+    /// Where memory runs out, or where it has more than 2^32 input statements, which no script that was read has.
     pub fn new(alloc: Global, script: &'a Script) -> Result<Matcher<'a>, NoMemory>
         ensures { IfOk result (λ m. m ≡ script.now) }
     {
@@ -105,7 +108,11 @@ impl<'a> Matcher<'a> {
     }
 
     /// The input statements that take the sections of an object, in their order. A long name is matched once, however
-    /// many sections have it where it lies. An error says that memory ran out.
+    /// many sections have it where it lies.
+    ///
+    /// # Errors
+    ///
+    /// Where memory runs out.
     pub fn matches_of(
         &self,
         alloc: Global,

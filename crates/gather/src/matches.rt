@@ -14,13 +14,17 @@ use std::alloc::Global;
 /// alone, so that it may be kept while these stay.
 #[derive(Drop)]
 pub struct Matches {
-    /// Those that take its linked sections, in their order.
+    /// The statements that take its linked sections, in their order.
     pub linked: Vec<Option<InputIndex>>,
-    /// That which takes its common blocks.
+    /// The statement that takes its common blocks.
     pub common: Option<InputIndex>,
 }
 
-/// Finds the statements that take the input sections of an object of this name. An error says that memory ran out.
+/// Finds the statements that take the input sections of an object of this name.
+///
+/// # Errors
+///
+/// Where memory runs out.
 pub fn match_object(
     alloc: Global,
     matcher: &Matcher<'_>,
@@ -34,7 +38,11 @@ pub fn match_object(
     Ok(Matches { linked, common })
 }
 
-/// The same for all objects of a project, in their order. An error says that memory ran out.
+/// The matches of all objects of a project, in their order.
+///
+/// # Errors
+///
+/// Where memory runs out.
 pub fn match_all(alloc: Global, project: &ProjectView<'_>) -> Result<Vec<Matches>, NoMemory>
     ensures { IfOk result (λ all. AreMatched project.now all.items) }
 {
@@ -47,7 +55,11 @@ pub fn match_all(alloc: Global, project: &ProjectView<'_>) -> Result<Vec<Matches
     Ok(all)
 }
 
-/// Each of these, lent. An error says that memory ran out.
+/// Each of these, lent.
+///
+/// # Errors
+///
+/// Where memory runs out.
 pub fn lend_all(alloc: Global, all: &[Matches]) -> Result<Vec<&Matches>, NoMemory>
     ensures { IfOk result (λ lent. map (λ x. x.now) lent.items ≡ all.now) }
 {

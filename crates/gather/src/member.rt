@@ -119,7 +119,11 @@ fn count_sections(members: &[Member<'_>]) -> Result<usize, NoMemory> {
 }
 
 /// The input sections of a project, of which these are the objects in their order: of each object its linked sections
-/// and then the common blocks that it owns. An error says that memory ran out.
+/// and then the common blocks that it owns.
+///
+/// # Errors
+///
+/// Where memory runs out.
 pub fn input_sections<'a>(
     alloc: Global,
     members: &[Member<'a>],

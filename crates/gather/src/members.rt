@@ -39,8 +39,11 @@ fn member<'a>(
     }
 }
 
-/// The objects of a project, each with the statements that take its sections and its common blocks. An error says that
-/// memory ran out.
+/// The objects of a project, each with the statements that take its sections and its common blocks.
+///
+/// # Errors
+///
+/// Where memory runs out.
 pub(crate) fn members<'a>(
     alloc: Global,
     project: &'a ProjectView<'_>,

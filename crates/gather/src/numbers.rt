@@ -21,9 +21,9 @@ use std::alloc::Global;
 /// The numbers of the input sections of an object.
 #[derive(Drop)]
 pub(crate) struct PartNumbers {
-    /// Those of its sections, under the numbers of their headers.
+    /// The numbers of its linked sections, under the numbers of their headers.
     linked: Vec<Option<usize>>,
-    /// Those of its common blocks, under the numbers of the entries that own them.
+    /// The numbers of its common blocks, under the numbers of the symbols that own them.
     blocks: Vec<Option<usize>>,
 }
 
@@ -115,7 +115,11 @@ impl Numbers {
         Ok(numbers)
     }
 
-    /// The numbers of the input sections of a project. An error says that memory ran out.
+    /// The numbers of the input sections of a project.
+    ///
+    /// # Errors
+    ///
+    /// Where memory runs out.
     pub(crate) fn of(alloc: Global, sections: &[Gathered<'_>]) -> Result<Numbers, NoMemory>
         ensures { IfOk result (λ t. (p : Project) → AscendingSections p → AreGathered p (by_place p) sections.now
             → AreProjectNumbers p t) }

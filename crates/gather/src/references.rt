@@ -16,7 +16,11 @@ pub trait References {
     ghost refers: { Self → ℕ → ℕ → Type 0 };
 
     /// Makes `targets` the numbers of the sections that a section refers to, in any order. A number may stand there
-    /// twice, and one that is not below the count is that of no section. An error says that memory ran out.
+    /// twice, and one that is not below the count is that of no section.
+    ///
+    /// # Errors
+    ///
+    /// Where memory runs out.
     fn find_targets(&self, section: usize, targets: &mut Vec<usize>) -> Result<(), NoMemory>
         requires can { can_find self.now }
         requires within { section < count self.now }

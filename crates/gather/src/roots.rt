@@ -72,7 +72,11 @@ fn add_entry(found: &mut Vec<usize>, entry: Option<usize>) -> Result<(), NoMemor
 }
 
 /// The roots of garbage collection: the numbers of the sections that statements under KEEP take, and that of the
-/// section of the entry symbol, if there is one. An error says that memory ran out.
+/// section of the entry symbol, if there is one.
+///
+/// # Errors
+///
+/// Where memory runs out.
 pub fn roots(
     alloc: Global,
     script: &Script,

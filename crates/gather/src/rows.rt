@@ -80,8 +80,11 @@ fn empty_rows(alloc: Global, count: usize) -> Result<Vec<Vec<Piece>>, NoMemory>
 
 /// The row of each output section, in the order of the script: statement by statement the pieces that the statement
 /// takes, which are those of `pieces` in their order or, where the statement has a sort, as this orders them.
-/// `pieces` are the live sections that statements take, in object order and then section order. An error says that
-/// memory ran out.
+/// `pieces` are the live sections that statements take, in object order and then section order.
+///
+/// # Errors
+///
+/// Where memory runs out.
 pub fn rows(
     alloc: Global,
     script: &Script,

@@ -18,7 +18,8 @@ use Rattle.lddecisions.specs.declared.change.ObjectAt.{ObjectAt}
 use Rattle.lddecisions.specs.declared.change.ObjectChange.{ObjectChange}
 use Rattle.lddecisions.specs.declared.texts.KeySource.TheVariants as sources
 use Rattle.lddecisions.proofs.Clearing.{none_cleared}
-use Rattle.lddecisions.proofs.Exchanging.{Law, in_names, in_objects, in_order, out_names, out_objects, out_order, room_back}
+use Rattle.lddecisions.proofs.Exchanging.{Law, in_names, in_objects, in_order, out_names, out_objects, out_order}
+use Rattle.lddecisions.proofs.Exchanging.{room_back}
 use Rattle.lddecisions.proofs.OneName.{raised_twice}
 use Rattle.lddecisions.proofs.Tables.{fits_back}
 use Rattle.lddecisions.proofs.Touched.{case_within, complete_after, entries_same, sound_after}

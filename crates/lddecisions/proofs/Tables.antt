@@ -11,7 +11,8 @@ use Rattle.std.proofs.lemmas.List.Edits.{length-remove}
 use Rattle.std.proofs.lemmas.List.Elements.{All-head, All-tail, filter-append, filter_passes}
 use Rattle.elfobj.specs.Symbols.{NamedSymbol}
 use Rattle.symres.specs.State.{IsFresh, without}
-use Rattle.lddecisions.specs.Change.{CanCome, CanGo, Fits, StandsAt, Table, changed_tables, put_in, reversed, symbols_at}
+use Rattle.lddecisions.specs.Change.{CanCome, CanGo, Fits, StandsAt, Table, changed_tables, put_in, reversed}
+use Rattle.lddecisions.specs.Change.{symbols_at}
 use Rattle.lddecisions.specs.Change.{taken_out}
 use Rattle.lddecisions.specs.declared.change.ObjectAt.{ObjectAt}
 use Rattle.lddecisions.specs.declared.change.ObjectChange.{ObjectChange}

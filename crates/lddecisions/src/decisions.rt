@@ -55,7 +55,11 @@ impl Model for Decisions {
 }
 
 impl Decisions {
-    /// Decides the names of these objects, each once. No two objects have one key. An error says that memory ran out.
+    /// Decides the names of these objects, each once. No two objects have one key.
+    ///
+    /// # Errors
+    ///
+    /// Where memory runs out.
     pub fn of(
         alloc: Global,
         seed: RandomState,

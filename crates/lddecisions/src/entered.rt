@@ -10,7 +10,11 @@ use std::alloc::Global;
 use std::hash::RandomState;
 use symres::names::Names;
 
-/// The names of these objects, in byte order. An error says that memory ran out.
+/// The names of these objects, in byte order.
+///
+/// # Errors
+///
+/// Where memory runs out.
 pub fn enter_all(alloc: Global, seed: RandomState, objects: &[Keyed<'_>]) -> Result<Names, NoMemory>
     requires { AreApart objects.now }
     ensures objects { IfOk result (λ names. names.objects ≡ tables_of objects.now) }

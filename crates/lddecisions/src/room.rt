@@ -39,7 +39,7 @@ fn add_given(
     Ok(())
 }
 
-/// The same for the names that stand from a place on in the list.
+/// Adds what the script gives the names that stand from a place on in the list.
 fn add_all_given(
     names: &Names,
     script: &Script,
@@ -89,7 +89,7 @@ fn clear_if_unnamed(names: &Names, key: usize, cases: &mut Cases)
     }
 }
 
-/// The same for all keys.
+/// Takes the case from each key without a name.
 fn clear_unnamed(names: &Names, cases: &mut Cases)
     ensures { AreKeptWhere names.now.names cases.old cases.new }
 {
@@ -112,7 +112,11 @@ fn drop_unused(names: &mut Names, cases: &mut Cases)
     clear_unnamed(names, cases);
 }
 
-/// Makes room for an object that comes. An error says that memory ran out.
+/// Makes room for an object that comes.
+///
+/// # Errors
+///
+/// Where memory runs out.
 fn make_room(
     names: &mut Names,
     script: &Script,

@@ -133,7 +133,7 @@ fn decide_once(names: &Names, script: &Script, key: NameKey, cases: &mut Cases, 
     cases.set(key.0, Some(*decision.case()));
 }
 
-/// The same for the name of a symbol that isn't local.
+/// Decides the name of a symbol that isn't local, unless it has a case.
 fn decide_name(
     names: &Names,
     script: &Script,

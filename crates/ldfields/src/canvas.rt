@@ -10,7 +10,7 @@ use std::marker::Model;
 /// Why a canvas can't have more room: there is no memory.
 pub type NoMemory = AllocError;
 
-/// A list of bytes, and room for so many of them: up to that length it grows without more memory. Its
+/// A list of bytes, and room for a number of them: up to that length it grows without more memory. Its
 /// bytes change by [`Canvas::resize_reserved`] and [`Canvas::write`] alone.
 #[derive(Drop)]
 pub struct Canvas {

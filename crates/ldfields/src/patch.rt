@@ -34,7 +34,9 @@ fn is_ascending(patches: &[Patch]) -> bool
 /// Puts the fields of one piece, no two of which share a byte, into the order of their offsets. One pass, and no
 /// memory, where they are in that order already, as assemblers write them; else they are sorted.
 ///
-/// An error says that there was no memory for the sort.
+/// # Errors
+///
+/// Where there is no memory for the sort.
 pub fn in_order(mut patches: Vec<Patch>) -> Result<Vec<Patch>, AllocError>
     requires { AreApart patches.items }
     ensures order { IfOk result (λ v. (n : ℕ) → All (IsWithin n) patches.items → AreInOrder 0 n v.items) }

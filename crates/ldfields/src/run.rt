@@ -42,7 +42,7 @@ fn short_run_of(pattern: &[u8], count: usize) -> [u8; SHORT]
     short
 }
 
-/// The same as `write_run`, for a run that is written at once.
+/// Writes a run of at most 32 bytes at once, as `write_run` does.
 fn write_short_run(canvas: &mut Canvas, at: usize, n: usize, pattern: &[u8], meter: &mut Meter)
     requires within { at + n ≤ length canvas.old.bytes }
     requires some { 0 < length pattern.now }
@@ -60,7 +60,7 @@ fn write_short_run(canvas: &mut Canvas, at: usize, n: usize, pattern: &[u8], met
     canvas.write(at, &short[..n], meter);
 }
 
-/// The same as `write_run`, by whole chunks and a rest.
+/// Writes a run by whole chunks and a rest, as `write_run` does.
 fn write_chunks(canvas: &mut Canvas, at: usize, n: usize, pattern: &[u8], meter: &mut Meter)
     requires within { at + n ≤ length canvas.old.bytes }
     requires some { 0 < length pattern.now }

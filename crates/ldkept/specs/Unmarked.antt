@@ -4,7 +4,7 @@ use Rattle.ldkept.specs.Stays.{LastState, last_place}
 use Rattle.ldkept.specs.SymbolTable.{value_at}
 use Rattle.ldtargets.specs.declared.symbol_table.SymbolTable.{SymbolTable}
 
--- it stood in the earlier link, and its first symbols, so many, had the same values there
+-- it stood in the earlier link, and this number of its first symbols had the same values there
 abbrev pub IsUnmarked : Option LastState → SymbolTable → (place count : ℕ) → Type 0
 IsUnmarked None symbols place count = ⊥
 IsUnmarked (Some x) symbols place count =

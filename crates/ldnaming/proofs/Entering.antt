@@ -33,7 +33,8 @@ length-tables inputs =
     ∙ (length-map (shown_inputs inputs) (λ (o : NamedObject). o.object.symbols) ∙ length-map inputs shown_input)
 
 -- the table of an object
-pub table_at : (inputs : List InputObject) (i : ℕ) (x : InputObject) (d : Table) → i < length inputs → get_or inputs i x ≡ x
+pub table_at : (inputs : List InputObject) (i : ℕ) (x : InputObject) (d : Table) → i < length inputs
+    → get_or inputs i x ≡ x
     → get_or (tables_of inputs) i d ≡ (i, symbols_of x)
 table_at inputs i x d within here =
     let shown : get_or (shown_inputs inputs) i (shown_input x) ≡ shown_input x =
@@ -51,7 +52,8 @@ table_at inputs i x d within here =
     ∙ ap (λ (ss : List NamedSymbol). let t : Table = (i, ss) in t) symbols)
 
 -- one more object
-pub one_keyed : (inputs : List InputObject) (i : ℕ) (x : InputObject) (old new : List Keyed) (k : Keyed) → i < length inputs
+pub one_keyed : (inputs : List InputObject) (i : ℕ) (x : InputObject) (old new : List Keyed) (k : Keyed)
+    → i < length inputs
     → get_or inputs i x ≡ x → new ≡ old ++ k ∷ [] → table_of k ≡ (i, symbols_of x)
     → keyed.tables_of old ≡ take i (tables_of inputs) → keyed.tables_of new ≡ take (i + 1) (tables_of inputs)
 one_keyed inputs i x old new k within here pushed is h =

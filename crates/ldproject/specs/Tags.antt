@@ -13,7 +13,7 @@ mixed hash byte = (hash + byte) % 2 ^ 64 * 11400714819323198485 % 2 ^ 64
 unfoldable pub hash_of : List ℕ → ℕ
 hash_of name = fold mixed 0 name
 
--- which one of so many marks is that of a name
+-- which of this number of marks is that of a name
 unfoldable pub place_in : ℕ → List ℕ → ℕ
 place_in count name = hash_of name / 2 ^ 32 % count
 

@@ -41,7 +41,8 @@ module _ (script : List Statement) (xs : List RegionState) (name : List ℕ)
   names_long : length (region_names (map region_of xs)) ≡ length xs
   names_long = length-map (map region_of xs) (λ (r : MemoryRegion). r.name) ∙ length-map xs region_of
 
-  pub freed_there : (k next : ℕ) (r : RegionState) → region_number script name ≡ Some k → k < length xs → r ≡ get_or xs k r
+  pub freed_there : (k next : ℕ) (r : RegionState) → region_number script name ≡ Some k → k < length xs
+      → r ≡ get_or xs k r
       → map region_of (set xs k (record r { next = next })) ≡ freed_from (Some name) next (map region_of xs)
   freed_there k next r n l e =
       let long : k < length (map region_of xs) = omega (arith, length-map xs region_of) in

@@ -47,7 +47,7 @@ pub record IsMisplacing (text : List ℕ) : Type 0 where
   pub no_clash : HasClash statements → ⊥
   pub misplaced : has_misplaced_dot statements ≡ true
 
--- the refusal of a text, the first that applies; want of memory says nothing of it
+-- the refusal of a text, the first that applies; out of memory says nothing of it
 abbrev pub IsRefusal : List ℕ → ScriptRefusal → Type 0
 IsRefusal text NotTokens = IsTokenRefusal text tokens.NotAToken
 IsRefusal text NotAScript = IsNoTree text

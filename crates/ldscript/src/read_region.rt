@@ -3,7 +3,7 @@
 ghost use Rattle.std.specs.Prelude.{◌≡◌, ◌<◌, ℕ, List, IsTrue, length};
 ghost use Rattle.ldscript.specs.Steps.{◌▸◌, each, expression, mark};
 ghost use Rattle.ldscript.specs.Grammar.{region as region_part, region_head as region_head_part};
-ghost use Rattle.ldscript.specs.Grammar.region_middle as region_middle_part;
+ghost use Rattle.ldscript.specs.Grammar.{region_middle as region_middle_part};
 ghost use Rattle.ldscript.specs.Readings.{Reads, ReadsOnly, Finds, Follows};
 ghost use Rattle.ldterms.specs.Grammar.{Stops, Whole};
 

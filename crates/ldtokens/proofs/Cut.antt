@@ -111,7 +111,8 @@ range_behind text at start end =
     let e : (at + end) - (at + start) ≡ end - start = omega arith in
     rw (e, drop-drop) refl
 
-pub token_behind : (text : List ℕ) (at n : ℕ) (t : FrontToken) → token_of text (behind at n t) ≡ piece_of (drop at text) t
+pub token_behind : (text : List ℕ) (at n : ℕ) (t : FrontToken)
+    → token_of text (behind at n t) ≡ piece_of (drop at text) t
 token_behind text at n t = ap (λ bytes. spelled_token t.kind bytes) (range_behind text at t.start t.end)
 
 pub cut_to_found : (text : List ℕ) (items : List CodeToken) (p : LexState) (at n : ℕ) (t : FrontToken)

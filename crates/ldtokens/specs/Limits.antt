@@ -111,7 +111,7 @@ pub record IsPastLimits (text : List ℕ) : Type 0 where
   pub cut : IsCut text lexemes
   pub past : IsWithinLimits (tokens_of lexemes) → ⊥
 
--- why a text has no tokens of a script; want of memory says nothing of it
+-- why a text has no tokens of a script; out of memory says nothing of it
 abbrev pub IsTokenRefusal : List ℕ → TokenRefusal → Type 0
 IsTokenRefusal text Limit = (2 ^ 20 < length text) ⊎ IsPastLimits text
 IsTokenRefusal text NotAToken = (length text ≤ 2 ^ 20) × ((ls : List Lexeme) → IsCut text ls → ⊥)

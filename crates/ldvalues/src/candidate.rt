@@ -54,7 +54,7 @@ fn add_given<'a>(list: &mut Vec<Candidate<'a>>, command: &'a Common) -> Result<(
     }
 }
 
-/// The same for each of these commands.
+/// Adds the candidate of each of these commands.
 fn add_all_given<'a>(
     list: &mut Vec<Candidate<'a>>,
     commands: &[CommonAt<'a>],
@@ -70,7 +70,11 @@ fn add_all_given<'a>(
 }
 
 /// All names that objects declare or that the script gives values to, in byte order. Of those that are alike, one with
-/// a key is the first. `sorted` are all names that objects declare, in byte order. An error says that memory ran out.
+/// a key is the first. `sorted` are all names that objects declare, in byte order.
+///
+/// # Errors
+///
+/// Where memory runs out.
 pub(crate) fn candidates<'a>(
     alloc: Global,
     naming: &Naming,

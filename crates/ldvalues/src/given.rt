@@ -21,7 +21,11 @@ pub struct GivenValues<'a> {
 impl<'a> GivenValues<'a> {
     ghost use Rattle.ldvalues.specs.Given.{IsGiven};
 
-    /// Those of a project with these names and this layout. An error says that memory ran out.
+    /// The values and the names of a project with these names and this layout.
+    ///
+    /// # Errors
+    ///
+    /// Where memory runs out.
     pub fn of(
         alloc: Global,
         project: &'a ProjectView<'_>,

@@ -24,7 +24,7 @@ fn note_given(
     ensures within { OnOk result (key.0 < length table.old.items) }
     ensures noted { OnOk result (table.new.items ≡ slice_set table.old.items key.0 value) }
 {
-    // it does not come to this: each key of a name has a case
+    // Unreachable: each key of a name has a case
     if naming.case_of(key).is_none() {
         return Err(AllocError);
     }
@@ -35,7 +35,11 @@ fn note_given(
     Ok(())
 }
 
-/// The table of all names. An error says that memory ran out.
+/// The table of all names.
+///
+/// # Errors
+///
+/// Where memory runs out.
 pub(crate) fn given_table(
     alloc: Global,
     naming: &Naming,

@@ -60,7 +60,7 @@ fn note_value(
         → AreValuesOf script.now values.new.items (xs ++ record { name = name.now; value = value } ∷ [])) }
 {
     let Some(number) = command_number(script, name) else {
-        // it does not come to this: each name of a layout is one that its script gives a value
+        // Unreachable: each name of a layout is one that its script gives a value
         return Err(AllocError);
     };
     if number >= values.len() {
@@ -76,7 +76,11 @@ fn note_value(
 }
 
 impl<'a> ScriptValues<'a> {
-    /// The values of the names of a layout of this script. An error says that memory ran out.
+    /// The values of the names of a layout of this script.
+    ///
+    /// # Errors
+    ///
+    /// Where memory runs out.
     pub fn of(
         alloc: Global,
         script: &'a Script,

@@ -87,7 +87,7 @@ fn add_named<'a>(
         → IsNamed sources.now.naming.now.names key.0 name.now
         → AddsSymbols p s (name.now ∷ []) list.old.items list.new.items) }
 {
-    // it does not come to either error: each key of a name has a case and a value
+    // Both errors are unreachable: each key of a name has a case and a value
     let naming = sources.naming;
     let Some(case) = naming.case_of(key) else {
         return Err(AllocError);
@@ -118,7 +118,7 @@ fn add_unnamed<'a>(
     let given = sources.given;
     let case = naming.case_named(sources.script, name);
     let Some(value) = value_by_script(case, given.value(name)) else {
-        // it does not come to this: a name that an object defines has a key
+        // Unreachable: a name that an object defines has a key
         return Err(AllocError);
     };
     add_if_defined(list, OutputSymbol { name, case, value })
@@ -169,7 +169,11 @@ fn add_unless_repeat<'a>(
     add_symbol(sources, &candidates[place], list)
 }
 
-/// The symbols of the output. An error says that memory ran out.
+/// The symbols of the output.
+///
+/// # Errors
+///
+/// Where memory runs out.
 pub(crate) fn symbols_of<'a>(
     alloc: Global,
     sources: &Sources<'_>,

@@ -66,8 +66,11 @@ fn entry_value(
 }
 
 impl<'a> Values<'a> {
-    /// The values of the symbols of a link. The names that the script alone gives, and the entry symbol, are
-    /// looked up. An error says that memory ran out.
+    /// The values of the symbols of a link. The names that the script alone gives, and the entry symbol, are looked up.
+    ///
+    /// # Errors
+    ///
+    /// Where memory runs out.
     pub fn of(
         alloc: Global,
         project: &'a ProjectView<'_>,

@@ -14,8 +14,11 @@ use ldproject::view::ProjectView;
 use std::alloc::{AllocError, Global};
 use std::hash::RandomState;
 
-/// Links a project from scratch: over names and matches of its own, and no earlier link. An error says that memory ran
-/// out.
+/// Links a project from scratch: over names and matches of its own, and no earlier link.
+///
+/// # Errors
+///
+/// Where memory runs out.
 pub(crate) fn link(
     alloc: Global,
     seed: RandomState,

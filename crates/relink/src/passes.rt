@@ -58,7 +58,11 @@ pub(crate) fn named(alloc: Global, project: &ProjectView<'_>, naming: &Naming) -
     }
 }
 
-/// Orphans as faults. An error says that memory ran out.
+/// Orphans as faults.
+///
+/// # Errors
+///
+/// Where memory runs out.
 fn orphan_faults(alloc: Global, orphans: &[SectionKey]) -> Result<Vec<Fault>, NoMemory>
     ensures { IfOk result (λ v. v.items ≡ map Orphan orphans.now) }
 {

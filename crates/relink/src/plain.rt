@@ -47,7 +47,11 @@ impl Model for Plain {
     ghost invariant = { λ s. s.output ≡ link (held s.project) };
 }
 
-/// The link of a project that is kept. An error says that memory ran out.
+/// The link of a project that is kept.
+///
+/// # Errors
+///
+/// Where memory runs out.
 fn link_kept(alloc: Global, seed: RandomState, project: &Project) -> Result<Output, NoMemory>
     ensures { IfOk result (λ o. o ≡ link (held project.now)) }
 {
@@ -55,7 +59,11 @@ fn link_kept(alloc: Global, seed: RandomState, project: &Project) -> Result<Outp
     Output::of(alloc, seed, &project.view(&inputs), &mut Meter::new())
 }
 
-/// The link of the project that a staged edit leads to. An error says that memory ran out.
+/// The link of the project that a staged edit leads to.
+///
+/// # Errors
+///
+/// Where memory runs out.
 fn link_next(
     alloc: Global,
     seed: RandomState,

@@ -14,7 +14,8 @@ place_none (p ∷ ps) key h = ap (λ b. cond b (Some p.at) (place_of ps key)) (n
     ∙ place_none ps key (λ k d l. h (suc k) d (omega (arith, l)))
 
 -- the first that has it
-pub place_at : (ps : List PlacedKey) (key n : ℕ) (p : PlacedKey) → ((k : ℕ) (d : PlacedKey) → k < n → (get_or ps k d).key ≢ key)
+pub place_at : (ps : List PlacedKey) (key n : ℕ) (p : PlacedKey)
+    → ((k : ℕ) (d : PlacedKey) → k < n → (get_or ps k d).key ≢ key)
     → n < length ps → get_or ps n p ≡ p → p.key ≡ key → place_of ps key ≡ Some p.at
 place_at [] key n p h l e q = absurd (omega (arith, l))
 place_at (x ∷ ps) key zero p h l e q =
@@ -24,17 +25,20 @@ place_at (x ∷ ps) key (suc n) p h l e q =
     ap (λ b. cond b (Some x.at) (place_of ps key)) (ne_eqb x.key key (h 0 x (omega arith)))
     ∙ place_at ps key n p (λ k d m. h (suc k) d (omega (arith, m))) (omega (arith, l)) e q
 
-pub found_here : (ps : List PlacedKey) (key n : ℕ) (p : PlacedKey) → IsBelow ps key n → n < length ps → p ≡ get_or ps n p
+pub found_here : (ps : List PlacedKey) (key n : ℕ) (p : PlacedKey) → IsBelow ps key n → n < length ps
+    → p ≡ get_or ps n p
     → p.key ≡ key → Some p.at ≡ place_of ps key
 found_here ps key n p b l e q =
     sym (place_at ps key n p (λ k d h s. let lt = b.below k d h in omega (arith, lt, s)) l (sym e) q)
 
-pub found_other : (ps : List PlacedKey) (key n : ℕ) (p : PlacedKey) → AreSorted ps → IsBelow ps key n → n < length ps → p
+pub found_other : (ps : List PlacedKey) (key n : ℕ) (p : PlacedKey) → AreSorted ps → IsBelow ps key n
+    → n < length ps → p
     ≡ get_or ps n p → p.key ≢ key → None ≡ place_of ps key
 found_other ps key n p so b l e q = sym (place_none ps key (λ k d h. ⊎_elim
     (λ low same. let lt = b.below k d low in absurd (omega (arith, lt, same)))
     (λ high. ⊎_elim
-    (λ at same. q (ap (λ (y : PlacedKey). y.key) (e ∙ get_or_default ps n p d l ∙ ap (λ j. get_or ps j d) (sym at)) ∙ same))
+    (λ at same. q (ap (λ (y : PlacedKey). y.key) (e ∙ get_or_default ps n p d l ∙ ap (λ j. get_or ps j d) (sym at))
+    ∙ same))
     (λ ne same.
     let lt : (get_or ps n d).key < (get_or ps k d).key = so n k d (omega (arith, high, ne)) h in
     let le = b.rest n d (omega arith) l in absurd (omega (arith, lt, le, same)))

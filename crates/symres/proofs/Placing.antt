@@ -97,7 +97,8 @@ below_moved move old new key n m b = record {
 }
 
 -- each place in a sorted list is the one found
-pub found_at : (ps : List PlacedKey) (k : ℕ) (d : PlacedKey) → AreSorted ps → k < length ps → place_of ps (get_or ps k d).key
+pub found_at : (ps : List PlacedKey) (k : ℕ) (d : PlacedKey) → AreSorted ps → k < length ps
+    → place_of ps (get_or ps k d).key
     ≡ Some (get_or ps k d).at
 found_at ps k d s h = place_at ps (get_or ps k d).key k (get_or ps k d)
     (λ j e l same. let lt = s j k e l h in let is = get_or_default ps k d e h in
@@ -105,12 +106,14 @@ found_at ps k d s h = place_at ps (get_or ps k d).key k (get_or ps k d)
     h (get_or_default ps k (get_or ps k d) d h) refl
 
 -- no key stands in a list that is the one sought
-apart : (ps : List PlacedKey) (key : ℕ) → place_of ps key ≡ None → AreSorted ps → (k : ℕ) (d : PlacedKey) → k < length ps
+apart : (ps : List PlacedKey) (key : ℕ) → place_of ps key ≡ None → AreSorted ps → (k : ℕ) (d : PlacedKey)
+    → k < length ps
     → (get_or ps k d).key ≢ key
 apart ps key n s k d h same = let f = found_at ps k d s h in let g : place_of ps key ≡ Some (get_or ps k d).at =
     ap (place_of ps) (sym same) ∙ f in absurd (cc)
 
-pub sorted_insert : (ps : List PlacedKey) (n : ℕ) (p : PlacedKey) → AreSorted ps → IsBelow ps p.key n → place_of ps p.key
+pub sorted_insert : (ps : List PlacedKey) (n : ℕ) (p : PlacedKey) → AreSorted ps → IsBelow ps p.key n
+    → place_of ps p.key
     ≡ None → AreSorted (insert ps n p)
 sorted_insert ps n p s b none = λ i j d h l.
     let l' : j < length ps + 1 = omega (arith, l, length-insert ps n p b.within) in
@@ -468,7 +471,8 @@ one_out p (x ∷ xs) (suc n) h f t = ap (λ b. cond b (x ∷ filter p xs) (filte
     ∙ ap (λ l. x ∷ l) (one_out p xs n (omega (arith, h)) f (λ j d l ne.
     t (suc j) d (omega (arith, l)) (omega (arith, ne))))
 
-pub without_is : (places : List PlacedKey) (os : List Entered) (key at : ℕ) → IsNumbered places os → Here places os key at
+pub without_is : (places : List PlacedKey) (os : List Entered) (key at : ℕ) → IsNumbered places os
+    → Here places os key at
     → without key os ≡ remove os at
 without_is places os key at n h = one_out (λ (o : Entered). not (eqb o.key key)) os at h.within
     (λ d. ap not (eq-eqb _ _ (h.key_is d)))
@@ -514,7 +518,8 @@ kept_after old mid number at new os table rows k m b h f n r t = record {
 pub all_removed : (P : Entered → Type 0) (os : List Entered) (at : ℕ) → All P os → All P (remove os at)
 all_removed P os at h = All-append P _ _ (All-take P at os h) (All-drop P (suc at) os h)
 
-pub kept_without : (places new : List PlacedKey) (os : List Entered) (key at : ℕ) (table rows : List (Vec Declared Global))
+pub kept_without : (places new : List PlacedKey) (os : List Entered) (key at : ℕ)
+    (table rows : List (Vec Declared Global))
     → IsKept os table places → Here places os key at
     → length rows ≡ length table → IsTable rows (without key os) → IsNumbered new (remove os at)
     → IsKept (remove os at) rows new
@@ -543,7 +548,8 @@ pub places_fit : (places : List PlacedKey) (os : List Entered) (bound : ℕ) →
     → (k : ℕ) (d : PlacedKey) → k < length places → (get_or places k d).at < bound
 places_fit places os bound n h k d l = let o = n.only _ _ (found_at places k d n.sorted l) in omega (arith, o.0, h)
 
-pub is_fresh : (places : List PlacedKey) (os : List Entered) (key : ℕ) → IsNumbered places os → place_of places key ≡ None
+pub is_fresh : (places : List PlacedKey) (os : List Entered) (key : ℕ) → IsNumbered places os
+    → place_of places key ≡ None
     → All (λ (o : Entered). eqb o.key key ≡ false) os
 is_fresh places os key n e j o l =
     ne_eqb _ _ (λ same. let there : Some j ≡ None = sym (n.at j o l) ∙ ap (place_of places) same ∙ e in absurd (cc))

@@ -349,7 +349,8 @@ table_last key ss old new a xs ys none t room = record {
       ∙ sym (entries-append k xs (record { key = key; symbols = ss; room = room } ∷ ys));
 }
 
-pub all_grow : (place : List PlacedKey) (at key : ℕ) (ss : List Numbered) (old mid new : List Row) → Appended key ss old mid
+pub all_grow : (place : List PlacedKey) (at key : ℕ) (ss : List Numbered) (old mid new : List Row)
+    → Appended key ss old mid
     → Settling place at key ss [] mid new → Grows old new ss
 all_grow place at key ss old mid new a r = record {
   long = r.long ∙ a.long;

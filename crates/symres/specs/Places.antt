@@ -10,7 +10,8 @@ place_of (p ∷ ps) key = if p.key == key then Some p.at else place_of ps key
 
 -- in the order of the keys, each of them once
 abbrev pub AreSorted : List PlacedKey → Type 0
-AreSorted ps = (i j : ℕ) (d : PlacedKey) → i < j → j < length ps → (slice_index_or ps i d).key < (slice_index_or ps j d).key
+AreSorted ps = (i j : ℕ) (d : PlacedKey) → i < j → j < length ps
+    → (slice_index_or ps i d).key < (slice_index_or ps j d).key
 
 -- where the keys below this one end
 pub record IsBelow (ps : List PlacedKey) (key n : ℕ) : Type 0 where

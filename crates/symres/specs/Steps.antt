@@ -57,7 +57,8 @@ abbrev pub IsSettling : List Numbered → List Declared → List Declared → Li
 IsSettling left fs bs os l = ((left ≡ [] → ⊥) × (l ≡ fs ++ (bs ++ os))) ⊎ (l ≡ fs ++ (os ++ bs))
 
 -- where some of an object's symbols are left, the rows of those are as they were or in order, and the others in order
-pub record Settling (places : List PlacedKey) (at key : ℕ) (ss left : List Numbered) (old new : List (Vec Declared Global))
+pub record Settling (places : List PlacedKey) (at key : ℕ) (ss left : List Numbered)
+    (old new : List (Vec Declared Global))
     : Type 0 where
   pub long : length new ≡ length old
   pub len : (k : ℕ) (d : Vec Declared Global) → k < length old → vec_len (slice_index_or new k d)

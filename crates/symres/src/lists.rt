@@ -128,7 +128,7 @@ fn number_at(object: &Object, number: u32, list: &[Numbered], at: usize) -> Opti
     None
 }
 
-/// The same for a symbol that was noted with the list in which it stands.
+/// The number of a symbol's name by the symbol that was noted for the same place of the string table, in its list.
 fn number_noted(object: &Object, number: u32, list: &[Numbered], repeats: &Repeats) -> Option<usize>
     requires within { number < length object.now.symbols }
     requires list { All (λ (s : Numbered). s.number < length object.now.symbols) list.now }
@@ -141,7 +141,7 @@ fn number_noted(object: &Object, number: u32, list: &[Numbered], repeats: &Repea
     }
 }
 
-/// The same in a list of all symbols so far, where the guesses are the list of those that were noted.
+/// The number of a symbol's name in a list of all symbols so far, where the guesses are the list of those noted.
 fn number_guessed(
     object: &Object,
     number: u32,

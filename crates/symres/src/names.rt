@@ -136,7 +136,7 @@ fn make_ready(
     objects.reserve(list)
 }
 
-/// The same, where names that it made known are dropped again if memory is refused.
+/// Makes ready for an object; names that it made known are dropped again if memory is refused.
 #[tactic(auto, using(crate::proofs::Ready::grows_refl))]
 fn make_ready_or_not(
     known: &mut NameTable,
@@ -241,7 +241,7 @@ impl Names {
         }
     }
 
-    /// The same by the key of the name, without hashing.
+    /// Decides the name of a key, without hashing.
     pub fn decide_key(&self, script: &Script, name: NameKey, meter: &mut Meter) -> Decision
         requires { HasName self.now.names name.0 }
         ensures case { (bytes : List ℕ) → IsNamed self.now.names name.0 bytes → decision_of (λ key. key) result
@@ -304,8 +304,11 @@ impl Names {
         self.known.name_of(name.0)
     }
 
-    /// Puts the names into byte order: those that became known since the last call are put in among the others. An
-    /// error says that there was no memory for it; then the names stand as before.
+    /// Puts the names into byte order: those that became known since the last call are put in among the others.
+    ///
+    /// # Errors
+    ///
+    /// Where there is no memory for it; then the names stand as before.
     pub fn sort_names(&mut self) -> Result<(), NoMemory>
         ensures sorted { OnOk result (IsInByteOrder self.new.order) }
         ensures same { self.new ≡ record self.old { order = self.new.order } }
@@ -323,7 +326,7 @@ impl Names {
         self.known.iter()
     }
 
-    /// The same, in byte order.
+    /// The names and their keys, in byte order.
     pub fn in_byte_order(&self) -> Iter<'_, Vec<u8>, usize>
         requires { IsInByteOrder self.now.order }
         ensures names { map entry_spelled result ≡ self.now.order }
@@ -345,7 +348,7 @@ impl Names {
         }
     }
 
-    /// The same of the object at a place among the entered ones, from 0. The time is constant.
+    /// The key of a symbol's name, of the object at a place among the entered ones, from 0. The time is constant.
     pub fn key_at(&self, place: usize, symbol: SymbolIndex) -> NameKey
         requires { IsSeenAt self.now.objects place symbol.0 }
         ensures { IsNameAt self.now.names self.now.objects place symbol.0 result.0 }
@@ -406,8 +409,11 @@ impl Names {
     }
 
     /// Enters an object at a place among the entered ones, from 0. It does what `reserve` and `enter` do one after the
-    /// other, in about half the time: each name is looked at once. An error says that memory ran out. Then the objects
-    /// are as before, and names that it made known are dropped again.
+    /// other, in about half the time: each name is looked at once.
+    ///
+    /// # Errors
+    ///
+    /// Where memory runs out. Then the objects are as before, and names that it made known are dropped again.
     pub fn add(&mut self, key: ObjectKey, at: usize, object: &Object) -> Result<(), NoMemory>
         requires at { at ≤ length self.old.objects }
         requires fresh { IsFresh key.0 self.old.objects }

@@ -72,7 +72,7 @@ fn move_up(places: &mut [PlacedKey], at: usize)
     }
 }
 
-/// The same in the places of this number of objects: a gap after the last of them moves none.
+/// Makes a gap at a place among this number of objects: a gap after the last of them moves none.
 pub fn make_gap(places: &mut [PlacedKey], at: usize, count: usize)
     requires fits { All (λ (p : PlacedKey). p.at < 2 ^ 64 - 1) places.old }
     requires within { All (λ (p : PlacedKey). p.at < count) places.old }

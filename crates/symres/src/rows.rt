@@ -129,7 +129,7 @@ fn settle_last(row: &mut [Declared], places: &[PlacedKey], at: usize, key: usize
     }
 }
 
-/// The same for a symbol of any binding.
+/// Settles the row of a symbol of any binding: a local one has none.
 fn settle_visible(
     table: &mut Vec<Vec<Declared>>,
     places: &[PlacedKey],

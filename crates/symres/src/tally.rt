@@ -59,7 +59,7 @@ impl Tally {
         }
     }
 
-    /// The same for a definition that isn't common.
+    /// Counts a definition that isn't common.
     fn add_definition(&mut self, declared: &Declared)
         requires { is_placed declared.now.symbol.place ≡ true }
         ensures { (name : List ℕ) (seen : List Declaration) → self.old ≡ tally_of seen → self.new

@@ -45,7 +45,7 @@ struct Tally {
     written: usize,
 }
 
-/// The same options once more.
+/// A copy of the options.
 fn copy_of(alloc: Global, options: &Options) -> Result<Options, AllocError> {
     let entry = match options.entry() {
         Some(name) => Some(Vec::from_slice(alloc, name)?),

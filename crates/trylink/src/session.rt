@@ -37,7 +37,7 @@ fn answer_by<L: Linker>(
     Ok(Answered { answers, status })
 }
 
-/// Those of a session.
+/// The answers of a session to a stream.
 pub fn answer_by_session(
     alloc: Global,
     seed: RandomState,
@@ -48,7 +48,7 @@ pub fn answer_by_session(
     answer_by(alloc, &mut linker, stream)
 }
 
-/// Those of the plain linker.
+/// The answers of the plain linker to a stream.
 pub fn answer_by_plain(
     alloc: Global,
     seed: RandomState,

@@ -45,7 +45,7 @@ fn hash_of(name: &[u8]) -> u64
     hash
 }
 
-/// Which mark of so many is that of a name.
+/// Which mark of this number is that of a name.
 fn place_in(count: usize, name: &[u8]) -> usize
     requires { 0 < count }
     ensures value { result ≡ place_in count name.now }
@@ -70,7 +70,7 @@ impl Tags {
         })
     }
 
-    /// Whether there are too few marks for so many names to tell most of them apart.
+    /// Whether there are too few marks to tell most of this number of names apart.
     pub(crate) fn are_few(&self, count: usize) -> bool {
         self.marks.len() / MARKS <= count
     }

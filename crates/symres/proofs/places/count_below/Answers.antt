@@ -19,7 +19,11 @@ loop-low-preserved-then-places-middle c =
       ordered = omega (arith, lt);
       within = i.within;
       below = below_middle ps c.args.key m c.requires in_list (λ d.
-          omega (arith, ap (λ (p : PlacedKey). p.key) (get_or_default ps m d nowhere in_list), c.if-places-middle.true));
+          omega (
+            arith,
+            ap (λ (p : PlacedKey). p.key) (get_or_default ps m d nowhere in_list),
+            c.if-places-middle.true,
+          ));
       rest = i.rest;
     }
 

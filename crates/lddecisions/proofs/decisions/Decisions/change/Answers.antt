@@ -1,6 +1,7 @@
 use Rattle.std.proofs.Common.{◌∙◌, refl, subst, sym}
 use Rattle.symres.specs.State.{AreDistinct, IsFresh}
-use Rattle.lddecisions.proofs.Changed.{Steps, back_after, counted_after, kept_after, noted_after, places_after, whole_after}
+use Rattle.lddecisions.proofs.Changed.{Steps, back_after, counted_after, kept_after, noted_after, places_after}
+use Rattle.lddecisions.proofs.Changed.{whole_after}
 use Rattle.lddecisions.proofs.Clearing.{listed_apart}
 use Rattle.lddecisions.proofs.Exchanging.{in_names, out_known, out_names, out_objects}
 use Rattle.lddecisions.proofs.Tables.{out_fresh}
