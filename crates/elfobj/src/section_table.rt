@@ -83,7 +83,8 @@ fn read_tables<'a>(
     requires headers { headers.now ≡ headers_of bytes.now }
     requires tests { PassesTests bytes.now }
     ensures ok { IfOk result (λ p. find (holds bytes.now) (symbol_refusals ++ relocation_refusals) ≡ None) }
-    ensures read { IfOk result (λ p. ArePartsOf bytes.now p.linked.sections.items p.linked.places.items p.symbols.symbols.items
+    ensures read { IfOk result
+        (λ p. ArePartsOf bytes.now p.linked.sections.items p.linked.places.items p.symbols.symbols.items
         p.symbols.names.items p.relocations.items) }
     ensures refused { IfErr result
         (λ e. (e ≡ NoMemory) ⊎ (find (holds bytes.now) (symbol_refusals ++ relocation_refusals) ≡ Some e)) }
@@ -111,7 +112,8 @@ fn read_tables<'a>(
 /// Reads the parts of a file, or tells why it is no object.
 pub fn read_parts(alloc: Global, bytes: &[u8]) -> Result<Parts, ObjectRefusal>
     ensures ok { IfOk result (λ p. object_refusal bytes.now ≡ None) }
-    ensures read { IfOk result (λ p. ArePartsOf bytes.now p.linked.sections.items p.linked.places.items p.symbols.symbols.items
+    ensures read { IfOk result
+        (λ p. ArePartsOf bytes.now p.linked.sections.items p.linked.places.items p.symbols.symbols.items
         p.symbols.names.items p.relocations.items) }
     ensures refused { IfErr result (λ e. (e ≡ NoMemory) ⊎ (object_refusal bytes.now ≡ Some e)) }
     ensures memory { IfErr result (λ e. e ≡ NoMemory → find (holds bytes.now) header_refusals ≡ None) }

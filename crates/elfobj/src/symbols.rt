@@ -73,7 +73,8 @@ pub fn read_passing(
     requires high { table.now.sh_info ≤ table.now.sh_size / 24 }
     requires within { table.now.sh_offset + table.now.sh_size ≤ length bytes.now }
     requires strings { strings.now.sh_offset + strings.now.sh_size ≤ length bytes.now }
-    ensures placed { IfOk result (λ o. IfSome o (λ s. has_misplaced_entry table.now (entries_of bytes.now table.now) ≡ false)) }
+    ensures placed { IfOk result
+        (λ o. IfSome o (λ s. has_misplaced_entry table.now (entries_of bytes.now table.now) ≡ false)) }
     ensures right { IfOk result
         (λ o. IfSome o (λ s. list_any (is_wrong_symbol sections (file_bytes bytes.now strings.now))
         (drop 1 (entries_of bytes.now table.now)) ≡ false)) }

@@ -32,7 +32,8 @@ impl Model for Meter {
 
     ghost Value = { Counts };
 
-    ghost view = { λ m. record { objects = m.objects; names = m.names; pieces = m.pieces; fields = m.fields; bytes = m.bytes } };
+    ghost view = { λ m.
+        record { objects = m.objects; names = m.names; pieces = m.pieces; fields = m.fields; bytes = m.bytes } };
 }
 
 impl Meter {
