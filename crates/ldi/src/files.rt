@@ -17,6 +17,10 @@ pub const MAP_MODE: u32 = 0o644;
 /// long is seen to be, and one without an end is not read for ever.
 const MOST: usize = MAX_PAYLOAD + 1;
 
+/// The longest buffer that one read is to fill. A buffer is zeros before it is read into: those of a longer one would
+/// have left the processor's cache by then, so a longer file is read piece by piece.
+const AT_ONCE: usize = 131_072;
+
 /// The first bytes of a file, as many as one read gives into this buffer. Gives whether it did read: a signal may
 /// interrupt it.
 fn read_once(file: &mut File, buffer: &mut Vec<u8>) -> io::Result<bool> {
@@ -43,14 +47,16 @@ pub fn read_file(rt: &HostRuntime, name: &str) -> io::Result<Vec<u8>> {
     let mut file = File::open(rt, name)?;
     let size = usize::try_from(file.metadata()?.len()).unwrap_or(MOST);
     let room = size.saturating_add(1).min(MOST);
-    let mut bytes = vec![in rt.alloc(); 0; room]?;
-    let has_read = read_once(&mut file, &mut bytes)?;
-    let count = bytes.len();
-    if has_read && count == size && count < room {
-        return Ok(bytes);
+    let mut bytes = Vec::with_capacity(rt.alloc(), room)?;
+    if room <= AT_ONCE {
+        bytes.resize(room, 0)?;
+        let has_read = read_once(&mut file, &mut bytes)?;
+        if has_read && bytes.len() == size && size < room {
+            return Ok(bytes);
+        }
     }
-    file.take(MOST.saturating_sub(count) as u64)
-        .read_to_end(&mut bytes)?;
+    let rest = MOST.saturating_sub(bytes.len()) as u64;
+    file.take(rest).read_to_end(&mut bytes)?;
     Ok(bytes)
 }
 

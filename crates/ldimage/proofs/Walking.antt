@@ -56,14 +56,21 @@ turn_of done end k xs x l h e = let P : Stretch → Type 0 = λ y. Turn done end
     subst P (sym e) (turn done end k xs x l h)
 
 -- the bytes of the canvas after the first stretches
-pub record Walked (xs : List Stretch) (k done : ℕ) (old new : List ℕ) (m n : Counts) : Type 0 where
-  pub order : Stand done (length old) (drop k xs)
+pub record Walked (xs : List Stretch) (k done end : ℕ) (old new : List ℕ) (m n : Counts) : Type 0 where
+  pub order : Stand done end (drop k xs)
   pub rest : (o : ℕ) → done ≤ o → stretch_at 0 xs o ≡ stretch_at done (drop k xs) o
   pub right : (o : ℕ) → o < done → stays_at xs o ≡ false → get_or new o 0 ≡ drawn_byte xs o
   pub kept : (o : ℕ) → o < done → stays_at xs o ≡ true → get_or new o 0 ≡ get_or old o 0
   pub same : (o : ℕ) → done ≤ o → get_or new o 0 ≡ get_or old o 0
-  pub len : length new ≡ length old
+  pub reached : done ≤ length new
+  pub short : length new ≤ end
   pub counted : (i : ℕ) → raised n Bytes (written done (drop k xs) + i) ≡ raised m Bytes (written 0 xs + i)
+
+-- the canvas grew by zeros, which is what a byte past its end counts as
+pub record Grew (least most : ℕ) (old new : List ℕ) : Type 0 where
+  pub reached : least ≤ length new
+  pub short : length new ≤ most
+  pub same : (o : ℕ) → get_or new o 0 ≡ get_or old o 0
 
 -- what the writing of a stretch leaves
 pub record Wrote (from : ℕ) (x : Stretch) (old new : List ℕ) (m n : Counts) : Type 0 where
@@ -74,8 +81,9 @@ pub record Wrote (from : ℕ) (x : Stretch) (old new : List ℕ) (m n : Counts) 
   pub len : length new ≡ length old
   pub counted : (i : ℕ) → raised n Bytes i ≡ raised m Bytes (written_in from x + i)
 
-module _ (xs : List Stretch) (k done : ℕ) (x : Stretch) (old now new : List ℕ) (m n q : Counts)
-    (w : Walked xs k done old now m n) (t : Turn done (length old) k xs x) (r : Wrote done x now new n q) where
+module _ (xs : List Stretch) (k done end : ℕ) (x : Stretch) (old now grown new : List ℕ) (m n q : Counts)
+    (w : Walked xs k done end old now m n) (t : Turn done end k xs x) (g : Grew x.end end now grown)
+    (r : Wrote done x grown new n q) where
   at : (o : ℕ) → done ≤ o → o < x.end → stretch_at 0 xs o ≡ Some (record { from = done; stretch = x })
   at o a b = w.rest o a ∙ t.here o b
 
@@ -83,7 +91,7 @@ module _ (xs : List Stretch) (k done : ℕ) (x : Stretch) (old now new : List �
   as_own o a b = ap stays_in (at o a b)
 
   right_stays : (o : ℕ) → done ≤ o → o < x.end → stays_at xs o ≡ true → get_or new o 0 ≡ get_or old o 0
-  right_stays o a b e = ap (λ bs. get_or bs o 0) (r.kept (sym (as_own o a b) ∙ e)) ∙ w.same o a
+  right_stays o a b e = ap (λ bs. get_or bs o 0) (r.kept (sym (as_own o a b) ∙ e)) ∙ g.same o ∙ w.same o a
 
   right_written : (o : ℕ) → done ≤ o → o < x.end → stays_at xs o ≡ false → get_or new o 0 ≡ drawn_byte xs o
   right_written o a b e =
@@ -91,14 +99,21 @@ module _ (xs : List Stretch) (k done : ℕ) (x : Stretch) (old now new : List �
       ap (λ j. get_or new j 0) (sym back) ∙ r.own (sym (as_own o a b) ∙ e) (o - done) (omega arith)
       ∙ sym (ap (byte_in o) (at o a b))
 
-  pub walk_on : Walked xs (k + 1) x.end old new m q
+  pub walk_on : Walked xs (k + 1) x.end end old new m q
   walk_on = record {
     order = t.order;
     rest = λ o a. w.rest o (omega (arith, t.above)) ∙ t.later o a;
-    right = λ o a e. elim (cases_lt o done) [ inl b ↦ r.before o b ∙ w.right o b e | inr b ↦ right_written o b a e ];
-    kept = λ o a e. elim (cases_lt o done) [ inl b ↦ r.before o b ∙ w.kept o b e | inr b ↦ right_stays o b a e ];
-    same = λ o a. r.after o a ∙ w.same o (omega (arith, t.above));
-    len = r.len ∙ w.len;
+    right = λ o a e. elim (cases_lt o done) [
+      | inl b ↦ r.before o b ∙ g.same o ∙ w.right o b e
+      | inr b ↦ right_written o b a e
+    ];
+    kept = λ o a e. elim (cases_lt o done) [
+      | inl b ↦ r.before o b ∙ g.same o ∙ w.kept o b e
+      | inr b ↦ right_stays o b a e
+    ];
+    same = λ o a. r.after o a ∙ g.same o ∙ w.same o (omega (arith, t.above));
+    reached = omega (arith, r.len, g.reached);
+    short = omega (arith, r.len, g.short);
     counted = λ i. (
         let rest : ℕ = written x.end (drop (k + 1) xs) in
         r.counted (rest + i)
@@ -109,24 +124,26 @@ module _ (xs : List Stretch) (k done : ℕ) (x : Stretch) (old now new : List �
   }
 
 -- past the last stretch
-pub done_all : (xs : List Stretch) (k done : ℕ) (old new : List ℕ) (m n : Counts) → length xs ≤ k
-    → Walked xs k done old new m n → done ≡ length old
-done_all xs k done old new m n l w = subst (Stand done (length old)) (drop_all k xs l) w.order
+pub done_all : (xs : List Stretch) (k done end : ℕ) (old new : List ℕ) (m n : Counts) → length xs ≤ k
+    → Walked xs k done end old new m n → done ≡ end
+done_all xs k done end old new m n l w = subst (Stand done end) (drop_all k xs l) w.order
 
-pub counted_all : (xs : List Stretch) (k done : ℕ) (old new : List ℕ) (m n : Counts) → length xs ≤ k
-    → Walked xs k done old new m n
+pub counted_all : (xs : List Stretch) (k done end : ℕ) (old new : List ℕ) (m n : Counts) → length xs ≤ k
+    → Walked xs k done end old new m n
     → (i : ℕ) → raised n Bytes i ≡ raised m Bytes (written 0 xs + i)
-counted_all xs k done old new m n l w i =
+counted_all xs k done end old new m n l w i =
     ap (λ j. raised n Bytes j) (let e : i ≡ written done (drop k xs) + i =
     sym (ap (λ ys. written done ys + i) (drop_all k xs l) ∙ zero-add i) in e) ∙ w.counted i
 
-pub walked_none : (xs : List Stretch) (old : List ℕ) (m : Counts) → Stand 0 (length old) xs → Walked xs 0 0 old old m m
-walked_none xs old m h = record {
+pub walked_none : (xs : List Stretch) (end : ℕ) (old : List ℕ) (m : Counts) → length old ≤ end → Stand 0 end xs
+    → Walked xs 0 0 end old old m m
+walked_none xs end old m l h = record {
   order = h;
   rest = λ o a. refl;
   right = λ o a e. absurd (omega arith);
   kept = λ o a e. absurd (omega arith);
   same = λ o a. refl;
-  len = refl;
+  reached = omega arith;
+  short = l;
   counted = λ i. refl;
 }

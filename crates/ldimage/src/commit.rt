@@ -60,47 +60,73 @@ fn write_stretch(canvas: &mut Canvas, from: usize, x: &Stretch<'_>, meter: &mut 
     write_content(canvas, from, x.end, &x.content, meter);
 }
 
-/// Writes all stretches but those that stay, each byte once.
-fn write_stretches(canvas: &mut Canvas, stretches: &[Stretch<'_>], meter: &mut Meter)
-    requires { Stand 0 (length canvas.old.bytes) stretches.now }
-    ensures written { (o : ℕ) → o < length canvas.old.bytes → stays_at stretches.now o ≡ false
+/// How far the canvas grows at a time. Its new bytes are zeros at first; a block of them is still in the processor's
+/// cache when the bytes of the image are written over it.
+const BLOCK: usize = 65_536;
+
+/// Makes a canvas of at most `most` bytes at least `least` long, by zeros.
+fn grow_to(canvas: &mut Canvas, least: usize, most: usize)
+    requires order { least ≤ most }
+    requires short { length canvas.old.bytes ≤ most }
+    requires room { most ≤ canvas.old.room }
+    ensures reached { least ≤ length canvas.new.bytes }
+    ensures grown { length canvas.old.bytes ≤ length canvas.new.bytes }
+    ensures short { length canvas.new.bytes ≤ most }
+    ensures same { (o : ℕ) → slice_index canvas.new.bytes o ≡ slice_index canvas.old.bytes o }
+    ensures room { canvas.old.room ≤ canvas.new.room }
+{
+    let len = canvas.len();
+    if len < least {
+        canvas.resize_reserved(len.saturating_add(BLOCK).max(least).min(most));
+    }
+}
+
+/// Writes all stretches but those that stay, each byte once; the canvas grows with them up to `end`.
+fn write_stretches(canvas: &mut Canvas, stretches: &[Stretch<'_>], end: usize, meter: &mut Meter)
+    requires order { Stand 0 end stretches.now }
+    requires short { length canvas.old.bytes ≤ end }
+    requires room { end ≤ canvas.old.room }
+    ensures written { (o : ℕ) → o < end → stays_at stretches.now o ≡ false
         → slice_index canvas.new.bytes o ≡ drawn_byte stretches.now o }
-    ensures kept { (o : ℕ) → o < length canvas.old.bytes → stays_at stretches.now o ≡ true
+    ensures kept { (o : ℕ) → o < end → stays_at stretches.now o ≡ true
         → slice_index canvas.new.bytes o ≡ slice_index canvas.old.bytes o }
-    ensures len { length canvas.new.bytes ≡ length canvas.old.bytes }
-    ensures room { canvas.new.room ≡ canvas.old.room }
+    ensures len { length canvas.new.bytes ≡ end }
     ensures counted { (n : ℕ) → raised meter.new Count.Bytes n
         ≡ raised meter.old Count.Bytes (written 0 stretches.now + n) }
 {
-    let _len = canvas.len();
     let mut done = 0;
     for x in stretches {
+        grow_to(canvas, x.end, end);
         write_stretch(canvas, done, x, meter);
         done = x.end;
     }
 }
 
-/// Writes patches at their places in the file. Where the patches have the bytes of an image, bytes of the canvas that
-/// were right for that image stay right, and the patched bytes become right.
-fn write_patches(canvas: &mut Canvas, patches: &[Patch], meter: &mut Meter)
-    requires { All (EndsBy (length canvas.old.bytes)) patches.now }
+/// Writes patches at their places in the file; the canvas grows where they lie past it. Where the patches have the bytes
+/// of an image, bytes of the canvas that were right for that image stay right, and the patched bytes become right.
+fn write_patches(canvas: &mut Canvas, patches: &[Patch], end: usize, meter: &mut Meter)
+    requires within { All (EndsBy end) patches.now }
+    requires short { length canvas.old.bytes ≤ end }
+    requires room { end ≤ canvas.old.room }
     ensures grows { (image : ℕ → ℕ) → All (IsPatchOf image) patches.now → (o : ℕ) → slice_index canvas.old.bytes o
         ≡ image o → slice_index canvas.new.bytes o ≡ image o }
     ensures settled { (image : ℕ → ℕ) → All (IsPatchOf image) patches.now → (o : ℕ) → is_patched patches.now o ≡ true
         → slice_index canvas.new.bytes o ≡ image o }
-    ensures len { length canvas.new.bytes ≡ length canvas.old.bytes }
-    ensures room { canvas.new.room ≡ canvas.old.room }
+    ensures short { length canvas.new.bytes ≤ end }
+    ensures room { end ≤ canvas.new.room }
     ensures counted { (n : ℕ) → raised meter.new Count.Bytes n
         ≡ raised meter.old Count.Bytes (patch_bytes patches.now + n) }
 {
     let _len = canvas.len();
     for patch in patches {
-        canvas.write(patch.offset, patch.field.bytes(), meter);
+        let field = patch.field.bytes();
+        grow_to(canvas, patch.offset + field.len(), end);
+        canvas.write(patch.offset, field, meter);
     }
 }
 
-/// Brings the canvas to the image that the stretches, up to `end`, and the patches are a plan for: sets the length,
-/// writes the patches, and then the stretches that don't stay. It takes no memory.
+/// Brings the canvas to the image that the stretches, up to `end`, and the patches are a plan for: cuts off what lies past
+/// it, writes the patches, and then the stretches that don't stay. It takes no memory.
 pub(crate) fn write_image(
     canvas: &mut Canvas,
     stretches: &[Stretch<'_>],
@@ -118,9 +144,9 @@ pub(crate) fn write_image(
         → o < end → slice_index canvas.new.bytes o ≡ image o }
     ensures counted { meter.new ≡ raised meter.old Count.Bytes (patch_bytes patches.now + written 0 stretches.now) }
 {
-    canvas.resize_reserved(end);
-    write_patches(canvas, patches, meter);
-    write_stretches(canvas, stretches, meter);
+    canvas.resize_reserved(canvas.len().min(end));
+    write_patches(canvas, patches, end, meter);
+    write_stretches(canvas, stretches, end, meter);
     // adds nothing: so the count is known exactly where nothing was written, too
     meter.raise(Count::Bytes, 0);
 }

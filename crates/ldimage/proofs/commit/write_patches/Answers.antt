@@ -1,4 +1,4 @@
-use Rattle.std.proofs.Common.{◌∙◌, ap}
+use Rattle.std.proofs.Common.{◌∙◌, ap, arith}
 use Rattle.std.proofs.lemmas.List.{take_all}
 use Rattle.ldimage.specs.Stretches.{is_patched}
 use Rattle.ldimage.proofs.Patching.{count_on, patch_on_as}
@@ -7,17 +7,22 @@ use Rattle.ldimage.proofs.commit.write_patches.Goals as goal
 pub loop-patch-preserved : goal.loop-patch-preserved
 loop-patch-preserved c =
     let w = c.write.ensures in
+    let g = c.grow_to.ensures in
     record {
       patched = λ image all.
           patch_on_as image c.args.patches.now c.loop-patch.patch-index c.args.canvas.now.bytes
           c.loop-patch.canvas.bytes c.write.new.self.bytes
           c.patch-item.result c.loop-patch-test.true c.patch-item.is all (c.loop-patch.invariant.patched image all)
-          (record { own = rw c.bytes.ensures at w.written; before = w.before; after = rw c.bytes.ensures at w.after });
-      len = w.len ∙ c.loop-patch.invariant.len;
-      room = w.room ∙ c.loop-patch.invariant.room;
+          (record {
+            own = rw c.bytes-field.ensures at w.written;
+            before = λ o a. w.before o a ∙ g.same o;
+            after = λ o a. (rw c.bytes-field.ensures at w.after) o a ∙ g.same o;
+          });
+      short = omega (arith, w.len, g.short);
+      room = omega (arith, w.room, g.room, c.loop-patch.invariant.room);
       counted = count_on c.args.patches.now c.loop-patch.patch-index c.args.meter.now c.loop-patch.meter
           c.write.new.meter c.patch-item.result c.loop-patch-test.true c.patch-item.is
-          c.loop-patch.invariant.counted (rw c.bytes.ensures at w.counted);
+          c.loop-patch.invariant.counted (rw c.bytes-field.ensures at w.counted);
     }
 
 pub returns-clause-grows : goal.returns-clause-grows

@@ -1,4 +1,4 @@
-use Rattle.std.proofs.Common.{◌≡◌, ◌+◌, ℕ, length, take}
+use Rattle.std.proofs.Common.{◌≡◌, ◌+◌, ◌≤◌, ℕ, length, take}
 use Rattle.std.specs.List.{All}
 use Rattle.ldbase.specs.Raised.{raised}
 use Rattle.ldbase.specs.declared.meter.Count.TheVariants.{Bytes}
@@ -10,7 +10,7 @@ abbrev pub invariant-loop-patch : goal.invariant-loop-patch
 invariant-loop-patch l = record {
   patched : (image : ℕ → ℕ) → All (IsPatchOf image) l.patches
       → Patched image l.patches l.patch-index l.fn.canvas.bytes l.canvas.bytes;
-  len : length l.canvas.bytes ≡ length l.fn.canvas.bytes;
-  room : l.canvas.room ≡ l.fn.canvas.room;
+  short : length l.canvas.bytes ≤ l.end;
+  room : l.end ≤ l.canvas.room;
   counted : (i : ℕ) → raised l.meter Bytes i ≡ raised l.fn.meter Bytes (patch_bytes (take l.patch-index l.patches) + i);
 }
