@@ -1,7 +1,6 @@
 pub mod Entries
 pub mod HeaderNames
 pub mod TailOfLink
-pub mod Ordering
 pub mod ProgramHeaders
 pub mod Sorts
 pub mod Adding

@@ -21,5 +21,4 @@ mod Staying
 mod OfSizes
 mod OfSymbols
 -- Lemmas of the crate.
-pub mod ByteOrder
 pub mod Mapped

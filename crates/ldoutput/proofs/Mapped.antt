@@ -31,8 +31,8 @@ use Rattle.ldvalues.specs.Values.{AreValues, shown_symbol}
 use Rattle.ldvalues.specs.declared.values.OutputSymbol.{OutputSymbol}
 use Rattle.ldvalues.specs.declared.values.Values.{Values}
 use Rattle.ldoutput.specs.Listed.{map_symbol, number_of}
-use Rattle.ldoutput.proofs.ByteOrder.{Asc, Below, In, Lt, Name, contained_in, distinct_once, filtered_asc, filtered_in}
-use Rattle.ldoutput.proofs.ByteOrder.{in_contained, in_sorted, sorted_asc, sorted_in}
+use Rattle.ldtext.proofs.ByteOrder.{Asc, Below, In, Lt, Name, contained_in, distinct_once, filtered_asc, filtered_in}
+use Rattle.ldtext.proofs.ByteOrder.{in_contained, in_sorted, sorted_asc, sorted_in}
 
 abbrev stands : Project → Name → Bool
 stands p z = is_defined (decision p z)

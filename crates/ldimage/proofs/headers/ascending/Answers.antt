@@ -4,7 +4,7 @@ use Rattle.std.proofs.lemmas.List.Sorted.{ranks_by, answers_always}
 use Rattle.ldmodel.specs.Sorting.{sort_by}
 use Rattle.ldmodel.specs.declared.segment.Segment.{Segment}
 use Rattle.ldimage.specs.SegmentBytes.{starts_before}
-use Rattle.ldimage.proofs.Ordering.{ordered_once}
+use Rattle.ldlaws.proofs.Ordering.{ordered_once}
 use Rattle.ldimage.proofs.headers.ascending.Goals as goal
 
 pub returns : goal.returns
