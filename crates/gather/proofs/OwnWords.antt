@@ -58,6 +58,7 @@ module _ (old new : FileTables) (n : ℕ) (i : Input) where
       its : (q : List ℕ) → filter (is_for q) words ≡ cond (bytes_eq file q) words []
       its q = of_statement (is_for q) (bytes_eq file q) n i i.sections
           (λ w. ap (λ o. option_map_or (λ own. bytes_eq own q) o false) exact)
+
       none : filter is_for_more words ≡ []
       none = of_statement is_for_more false n i i.sections (λ w. ap (λ o. is_none o) exact)
 
@@ -79,5 +80,6 @@ module _ (old new : FileTables) (n : ℕ) (i : Input) where
       none : (q : List ℕ) → filter (is_for q) words ≡ []
       none q = of_statement (is_for q) false n i i.sections
           (λ w. ap (λ o. option_map_or (λ own. bytes_eq own q) o false) exact)
+
       all : filter is_for_more words ≡ words
       all = of_statement is_for_more true n i i.sections (λ w. ap (λ o. is_none o) exact)

@@ -2,7 +2,8 @@
 
 ghost use Rattle.std.specs.Prelude.{◌≡◌, ◌<◌, IfOk, Some, length, map, slice_get, take};
 ghost use Rattle.elfobj.specs.Sections.{LinkedSection};
-ghost use Rattle.gather.specs.FileSearches.{GoesOn, IsSearch, first_in, matches_by};
+ghost use Rattle.gather.specs.FileSearches.{GoesOn, IsSearch, matches_by};
+ghost use Rattle.gather.specs.FileTables.{first_in};
 ghost use Rattle.gather.specs.Matches.{number_of};
 
 use crate::file_tables::FileTables;

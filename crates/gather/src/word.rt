@@ -1,11 +1,11 @@
 //! A word of an input statement.
 
-ghost use Rattle.std.specs.Prelude.{◌≡◌, ◌<◌, length, slice_get, Some};
+ghost use Rattle.std.specs.Prelude.{◌≡◌, ◌<◌, length};
 ghost use Rattle.ldmodel.specs.FirstMatch.{is_any_match};
 ghost use Rattle.ldterms.specs.Matching.{is_match};
-ghost use Rattle.gather.specs.Known.{AreKnown};
+ghost use Rattle.gather.specs.Known.{AreKnown, SaysFrom, SaysTaken};
 ghost use Rattle.gather.specs.Matches.{number_of};
-ghost use Rattle.gather.specs.Words.{WordAt, first_taker, shown_word, shown_words, takes_by, takes_from};
+ghost use Rattle.gather.specs.Words.{first_taker, shown_word, shown_words, takes_from};
 
 use ldmodel::rows::InputIndex;
 use ldscript::tree::{Input, Pattern, SectionWord, matches};
@@ -50,7 +50,7 @@ impl WordAt<'_> {
 fn find_out(words: &[WordAt<'_>], known: &mut [Option<bool>], place: usize, file: &[u8]) -> bool
     requires place { place < length words.now }
     requires known { AreKnown file.now words.now known.old }
-    ensures found { (w : WordAt) → slice_get (shown_words words.now) place ≡ Some w → result ≡ takes_from file.now w }
+    ensures found { SaysFrom file.now words.now place result }
     ensures known { AreKnown file.now words.now known.new }
 {
     let found = words[place].takes_from(file);
@@ -70,14 +70,14 @@ fn takes(
 ) -> bool
     requires place { place < length words.now }
     requires known { AreKnown file.now words.now known.old }
-    ensures taken { (w : WordAt) → slice_get (shown_words words.now) place ≡ Some w
-        → result ≡ takes_by file.now section.now w }
+    ensures taken { SaysTaken file.now section.now words.now place result }
     ensures known { AreKnown file.now words.now known.new }
 {
-    let pattern = &words[place].word.pattern;
+    let word: &SectionWord = words[place].word;
     match known.get(place) {
-        Some(Some(found)) => *found && is_match(pattern, section),
-        Some(None) | None => is_match(pattern, section) && find_out(words, known, place, file),
+        Some(Some(found)) => *found && is_match(&word.pattern, section),
+        Some(None) | None => is_match(&word.pattern, section)
+            && find_out(words, known, place, file),
     }
 }
 
