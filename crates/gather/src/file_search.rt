@@ -52,7 +52,7 @@ impl<'t, 'a> FileSearch<'t, 'a> {
     fn match_at(
         &mut self,
         object: &Object,
-        places: &NamePlaces,
+        places: &NamePlaces<'_>,
         found: &[Option<InputIndex>],
         place: usize,
     ) -> Option<InputIndex>
@@ -82,7 +82,7 @@ pub fn matches_by(
 {
     let count = object.sections().len();
     let mut found = Vec::with_capacity(alloc, count)?;
-    let mut places = NamePlaces::new(alloc);
+    let mut places = NamePlaces::new(alloc, words.excludes_many(file));
     let mut search = FileSearch::new(alloc, words, file)?;
     for place in 0..count {
         let statement = search.match_at(object, &places, &found, place);

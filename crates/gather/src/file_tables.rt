@@ -82,6 +82,15 @@ impl<'a> FileTables<'a> {
         self.others.nothing_known(alloc)
     }
 
+    /// Whether a word that can take sections of the file of this name, and matches one name, leaves out many patterns for
+    /// files.
+    pub fn excludes_many(&self, file: &[u8]) -> bool {
+        match self.own.get(file) {
+            Some(own) => own.excludes_many() || self.others.excludes_many(),
+            None => self.others.excludes_many(),
+        }
+    }
+
     /// The first statement that takes the sections of this name in the file of this name. `known` is `nothing_known` or
     /// what an earlier call for the same file left of it, or empty.
     pub fn first_taker(

@@ -14,11 +14,17 @@ use ldscript::tree::{Input, SectionWord};
 use std::alloc::Global;
 use std::collections::BTreeMap;
 
+/// With this many patterns for files that it leaves out, a word costs more than a look for an earlier section of the
+/// same name.
+const MANY: usize = 16;
+
 /// The words of a script in the order of the text: those that match one name under that name, and the others in a list.
 #[derive(Drop)]
 pub struct WordTable<'a> {
     named: BTreeMap<&'a [u8], Vec<WordAt<'a>>>,
     wild: Vec<WordAt<'a>>,
+    /// The greatest number of patterns for files that a word under a name leaves out.
+    excluded: usize,
 }
 
 /// The one of two statements that comes first.
@@ -40,6 +46,7 @@ impl<'a> WordTable<'a> {
         WordTable {
             named: BTreeMap::new(alloc),
             wild: Vec::new(alloc),
+            excluded: 0,
         }
     }
 
@@ -68,7 +75,10 @@ impl<'a> WordTable<'a> {
         ensures { OnOk result (AddsWords self.old self.new (shown_word word.entry ∷ [])) }
     {
         match word.word.pattern.exact_name() {
-            Some(name) => self.add_named(alloc, name, word),
+            Some(name) => {
+                self.excluded = self.excluded.max(word.word.excluded.as_slice().len());
+                self.add_named(alloc, name, word)
+            }
             None => {
                 self.wild.push(word)?;
                 Ok(())
@@ -104,6 +114,11 @@ impl<'a> WordTable<'a> {
         ensures { IfOk result (λ known. (file : List ℕ) → AreKnown file self.now.wild.items known.items) }
     {
         vec![in alloc; None; self.wild.len()]
+    }
+
+    /// Whether a word under a name leaves out many patterns for files.
+    pub fn excludes_many(&self) -> bool {
+        self.excluded >= MANY
     }
 
     /// The first statement that takes the sections of this name in the file of this name, by a word of the table.

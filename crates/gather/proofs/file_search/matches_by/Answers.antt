@@ -1,4 +1,4 @@
-use Rattle.std.proofs.Common.{◌≡◌, ◌∙◌, List, Some, subst}
+use Rattle.std.proofs.Common.{◌≡◌, ◌∙◌, Some, subst}
 use Rattle.std.specs.Prelude.{slice_get}
 use Rattle.gather.specs.FileSearches.{matches_by}
 use Rattle.gather.specs.Matches.{number_of}

@@ -1,4 +1,4 @@
-use Rattle.std.proofs.Common.{◌++◌, [], ℕ, List, ap, ◌∙◌, filter, subst, rules, Some, Option, Bor}
+use Rattle.std.proofs.Common.{◌++◌, [], ℕ, List, ap, ◌∙◌, filter, subst, rules, Some, Bor}
 use Rattle.std.specs.Ordering.{nat_cmp}
 use Rattle.std.specs.Cmp.Lexicographic.{slice_cmp}
 use Rattle.std.specs.BTreeMap.{get_by, UpdatesBy}
