@@ -16,10 +16,10 @@ use ldscript::tree::InputStatementAt;
 use std::alloc::{AllocError, Global};
 use std::marker::Model;
 
-/// A script, prepared for finding the statements that take sections. Of the words of statements whose pattern for the
-/// file has pattern signs, and of those of statements for this very file, the time for one section grows with the number
+/// A script, prepared for finding the statements that take sections. Statements for other files, by their names, cost
+/// the logarithm of the number of such files. Of the words of all others the time for one section grows with the number
 /// of those that have pattern signs, with that of those that are its very name, and with the logarithm of the number of
-/// all others. It grows with the logarithm of the number of files that have statements of their own.
+/// the rest.
 #[derive(Drop)]
 pub struct Matcher<'a> {
     script: &'a Script,
@@ -86,9 +86,9 @@ impl<'a> Matcher<'a> {
     }
 
     /// The input statements that take the sections of an object, in their order. A long name is matched once, however
-    /// many sections have it where it lies, and so is a short one, where a word that is one name leaves out many patterns
-    /// for files. In statements for more than one file the patterns for files of a word that has pattern signs are matched
-    /// at most once. An error says that memory ran out.
+    /// many sections have it where it lies, and so is a short one, where a word that is one name leaves out many
+    /// patterns for files. In statements for more than one file the patterns for files of a word that has pattern signs
+    /// are matched at most once. An error says that memory ran out.
     pub fn matches_of(
         &self,
         alloc: Global,
