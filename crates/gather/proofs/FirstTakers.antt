@@ -176,8 +176,10 @@ module _ (file section : List ℕ) where
   -- and by those of files before
   by_files : (ws : List WordAt) → Ascends 0 ws
       → lesser
-      (lesser (first (filter (is_named section) (filter (is_for file) ws))) (first (filter is_wild (filter (is_for file) ws))))
-      (lesser (first (filter (is_named section) (filter is_for_more ws))) (first (filter is_wild (filter is_for_more ws))))
+      (lesser (first (filter (is_named section) (filter (is_for file) ws)))
+      (first (filter is_wild (filter (is_for file) ws))))
+      (lesser (first (filter (is_named section) (filter is_for_more ws)))
+      (first (filter is_wild (filter is_for_more ws))))
       ≡ first ws
   by_files ws a =
       ap (λ o. lesser o (lesser (first (filter (is_named section) (filter is_for_more ws)))

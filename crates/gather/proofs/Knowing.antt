@@ -75,7 +75,8 @@ pub known_more : (file : List ℕ) (words : List code.WordAt) (known : List (Opt
     → AreKnown file words known → AreKnown file words (set known place (Some found))
 known_more file words known place found here are k w b at is =
     elim (at_place known place k (Some found) (Some b) is) as (λ s. b ≡ takes_from file w) [
-      | inl both ↦ sym (same_Some found b both.1) ∙ here w (subst (λ n. slice_get (shown_words words) n ≡ Some w) both.0 at)
+      | inl both ↦ sym (same_Some found b both.1)
+          ∙ here w (subst (λ n. slice_get (shown_words words) n ≡ Some w) both.0 at)
       | inr same ↦ are k w b at same
     ]
 

@@ -23,11 +23,13 @@ of_statement : (p : WordAt → Bool) (b : Bool) (n : ℕ) (i : Input) (ws : List
 of_statement p true n i [] all = refl
 of_statement p false n i [] all = refl
 of_statement p true n i (w ∷ ws) all =
-    ap (λ b. cond b (record { statement = n; input = i; word = w } ∷ filter p (words_of n i ws)) (filter p (words_of n i ws)))
-    (all w) ∙ ap (λ (l : List WordAt). record { statement = n; input = i; word = w } ∷ l) (of_statement p true n i ws all)
+    ap (λ b. cond b (record { statement = n; input = i; word = w } ∷ filter p (words_of n i ws))
+    (filter p (words_of n i ws))) (all w)
+    ∙ ap (λ (l : List WordAt). record { statement = n; input = i; word = w } ∷ l) (of_statement p true n i ws all)
 of_statement p false n i (w ∷ ws) all =
-    ap (λ b. cond b (record { statement = n; input = i; word = w } ∷ filter p (words_of n i ws)) (filter p (words_of n i ws)))
-    (all w) ∙ of_statement p false n i ws all
+    ap (λ b. cond b (record { statement = n; input = i; word = w } ∷ filter p (words_of n i ws))
+    (filter p (words_of n i ws))) (all w)
+    ∙ of_statement p false n i ws all
 
 -- what is added if it is so
 if_so : {X : Type 0} (p : X → Bool) (b : Bool) (old ws : List X) → cond b (old ++ filter p ws) old

@@ -1,6 +1,6 @@
 -- The words of the input statements of a script, one by one, and how a section's first match is found among them.
-use Rattle.std.specs.Prelude.{ℕ, ◌+◌, List, [], ◌∷◌, ◌++◌, map, Option, Some, None, Bool, false, not, ◌&&◌, if◌then◌else◌}
-use Rattle.std.specs.Prelude.{bytes_eq, is_none, min}
+use Rattle.std.specs.Prelude.{ℕ, ◌+◌, List, [], ◌∷◌, ◌++◌, map, Option, Some, None, Bool, false, not, ◌&&◌}
+use Rattle.std.specs.Prelude.{bytes_eq, if◌then◌else◌, is_none, min}
 use Rattle.std.specs.Option.{option_map_or}
 use Rattle.ldterms.specs.Matching.{is_match, exact_name}
 use Rattle.ldtree.specs.Numbering.{InputStatementAt}

@@ -82,8 +82,8 @@ impl<'a> FileTables<'a> {
         self.others.nothing_known(alloc)
     }
 
-    /// Whether a word that can take sections of the file of this name, and matches one name, leaves out many patterns for
-    /// files.
+    /// Whether a word that can take sections of the file of this name, and that matches one name, leaves out many
+    /// patterns for files.
     pub fn excludes_many(&self, file: &[u8]) -> bool {
         match self.own.get(file) {
             Some(own) => own.excludes_many() || self.others.excludes_many(),
