@@ -1,5 +1,5 @@
--- The first statement that takes a section is the lesser of the first one by a word of this name and the first one by a
--- word that has pattern signs.
+-- Where each word that takes a section passes one of two tests, the first statement that takes it is the lesser of the
+-- first ones by the words of each.
 use Rattle.std.proofs.Common.{◌≡◌, ◌≤◌, ◌+◌, ℕ, Bool, true, false, cond, ◌&&◌, ◌||◌, List, [], ◌∷◌, ◌++◌, filter, min}
 use Rattle.std.proofs.Common.{refl, ap, sym, ◌∙◌, subst, arith, Option, Some, None, eqb}
 use Rattle.std.specs.Prelude.{bytes_eq}
@@ -16,7 +16,14 @@ use Rattle.ldtree.specs.declared.input.Input.{Input}
 use Rattle.ldtree.specs.declared.input.SectionWord.{SectionWord}
 use Rattle.ldtree.specs.declared.statement.Statement.{Statement}
 use Rattle.ldmodel.specs.FirstMatch.{first_match, word_takes, takes}
-use Rattle.gather.specs.Words.{WordAt, takes_by, first_taker, is_named, is_wild, words_of, words_from, lesser}
+use Rattle.elfobj.specs.Sections.{LinkedSection}
+use Rattle.gather.specs.FileSearches.{matches_by}
+use Rattle.gather.specs.FileTables.{AreTablesOf, first_in, own_wild}
+use Rattle.gather.specs.Matches.{matches_of}
+use Rattle.gather.specs.Words.{WordAt, takes_by, first_taker, is_for, is_for_more, is_named, is_wild, lesser}
+use Rattle.gather.specs.Words.{shown_words, words_of, words_from}
+use Rattle.gather.specs.WordTables.{shown_listed}
+use Rattle.gather.specs.declared.file_tables.FileTables.{FileTables}
 
 equal_numbers : (a b : ℕ) → eqb a b ≡ true → a ≡ b
 equal_numbers a b h = grind (arith, nat_tests)
@@ -61,6 +68,14 @@ all_ascend : (k : ℕ) (is : List InputStatementAt) → Ascends k (words_from k 
 all_ascend k [] = tt
 all_ascend k (i ∷ is) = words_ascend k i.input i.input.sections (words_from (k + 1) is) (all_ascend (k + 1) is)
 
+kept_ascend : (p : WordAt → Bool) (n : ℕ) (ws : List WordAt) → Ascends n ws → Ascends n (filter p ws)
+kept_ascend p n [] a = tt
+kept_ascend p n (w ∷ ws) a = go (p w) (kept_ascend p w.statement ws a.1)
+  where
+    go : (b : Bool) → Ascends w.statement (filter p ws) → Ascends n (cond b (w ∷ filter p ws) (filter p ws))
+    go true later = (a.0, later)
+    go false later = from_below n w.statement (filter p ws) a.0 later
+
 lesser_left : (n : ℕ) (o : Option ℕ) → IfSome o (λ m. n ≤ m) → lesser (Some n) o ≡ Some n
 lesser_left n None h = refl
 lesser_left n (Some m) h = let e : min n m ≡ n = omega (arith, h) in ap (λ k. Some k) e
@@ -101,7 +116,11 @@ module _ (file section : List ℕ) where
       ∙ lesser_left w.statement (Some w.statement) (omega arith)
   stays_left false w ws h l = lesser_left w.statement (first ws) l
 
-  named_or_wild : (w : WordAt) → taken w ≡ true → is_named section w ≡ false → is_wild w ≡ false → ⊥
+  -- each word that takes the section passes one of these tests
+  abbrev Covers : (p q : WordAt → Bool) → Type 0
+  Covers p q = (w : WordAt) → taken w ≡ true → p w ≡ false → q w ≡ false → ⊥
+
+  named_or_wild : Covers (is_named section) is_wild
   named_or_wild w h = go (exact_name w.word.pattern) refl
     where
       go : (o : Option (List ℕ)) → exact_name w.word.pattern ≡ o → option_map_or (λ own. bytes_eq own section) o false
@@ -113,32 +132,62 @@ module _ (file section : List ℕ) where
           let is : section ≡ q = exact_only w.word.pattern section q e of_word.0 in
           false≢true (sym n ∙ ap (bytes_eq q) is ∙ same_bytes q)
 
-  pub first_of_both : (n : ℕ) (ws : List WordAt) → Ascends n ws
-      → lesser (first (filter (is_named section) ws)) (first (filter is_wild ws)) ≡ first ws
-  first_of_both n [] a = refl
-  first_of_both n (w ∷ ws) a =
-      go (is_named section w) (is_wild w) (taken w) refl refl refl (first_of_both w.statement ws a.1)
-      (first_above (is_named section) w.statement ws a.1) (first_above is_wild w.statement ws a.1)
+  for_one_or_more : Covers (is_for file) is_for_more
+  for_one_or_more w h = go (exact_name w.input.file) refl
     where
-      go : (b d t : Bool) → is_named section w ≡ b → is_wild w ≡ d → taken w ≡ t
-          → lesser (first (filter (is_named section) ws)) (first (filter is_wild ws)) ≡ first ws
-          → IfSome (first (filter (is_named section) ws)) (λ m. w.statement ≤ m)
-          → IfSome (first (filter is_wild ws)) (λ m. w.statement ≤ m)
-          → lesser (first (cond b (w ∷ filter (is_named section) ws) (filter (is_named section) ws)))
-          (first (cond d (w ∷ filter is_wild ws) (filter is_wild ws))) ≡ first (w ∷ ws)
+      go : (o : Option (List ℕ)) → exact_name w.input.file ≡ o → option_map_or (λ own. bytes_eq own file) o false
+          ≡ false → is_none o ≡ false → ⊥
+      go None e n l = false≢true (sym l)
+      go (Some q) e n l =
+          let both = and_parts (is_match w.input.file file) (word_takes file section w.word) h in
+          let is : file ≡ q = exact_only w.input.file file q e both.0 in
+          false≢true (sym n ∙ ap (bytes_eq q) is ∙ same_bytes q)
+
+  first_of_both : (p q : WordAt → Bool) → Covers p q → (n : ℕ) (ws : List WordAt) → Ascends n ws
+      → lesser (first (filter p ws)) (first (filter q ws)) ≡ first ws
+  first_of_both p q covers n [] a = refl
+  first_of_both p q covers n (w ∷ ws) a =
+      go (p w) (q w) (taken w) refl refl refl (first_of_both p q covers w.statement ws a.1)
+      (first_above p w.statement ws a.1) (first_above q w.statement ws a.1)
+    where
+      go : (b d t : Bool) → p w ≡ b → q w ≡ d → taken w ≡ t
+          → lesser (first (filter p ws)) (first (filter q ws)) ≡ first ws
+          → IfSome (first (filter p ws)) (λ m. w.statement ≤ m)
+          → IfSome (first (filter q ws)) (λ m. w.statement ≤ m)
+          → lesser (first (cond b (w ∷ filter p ws) (filter p ws)))
+          (first (cond d (w ∷ filter q ws) (filter q ws))) ≡ first (w ∷ ws)
       go b d false eb ed et rest l r =
-          ap (λ o. lesser o (first (cond d (w ∷ filter is_wild ws) (filter is_wild ws))))
-          (passed b w (filter (is_named section) ws) et)
-          ∙ ap (lesser (first (filter (is_named section) ws))) (passed d w (filter is_wild ws) et)
+          ap (λ o. lesser o (first (cond d (w ∷ filter q ws) (filter q ws)))) (passed b w (filter p ws) et)
+          ∙ ap (lesser (first (filter p ws))) (passed d w (filter q ws) et)
           ∙ rest ∙ sym (passed true w ws et)
       go true d true eb ed et rest l r =
-          ap (λ o. lesser o (first (cond d (w ∷ filter is_wild ws) (filter is_wild ws))))
-          (at_once w (filter (is_named section) ws) et)
-          ∙ stays_left d w (filter is_wild ws) et r ∙ sym (at_once w ws et)
+          ap (λ o. lesser o (first (cond d (w ∷ filter q ws) (filter q ws)))) (at_once w (filter p ws) et)
+          ∙ stays_left d w (filter q ws) et r ∙ sym (at_once w ws et)
       go false true true eb ed et rest l r =
-          ap (lesser (first (filter (is_named section) ws))) (at_once w (filter is_wild ws) et)
-          ∙ lesser_right w.statement (first (filter (is_named section) ws)) l ∙ sym (at_once w ws et)
-      go false false true eb ed et rest l r = absurd (named_or_wild w et eb ed)
+          ap (lesser (first (filter p ws))) (at_once w (filter q ws) et)
+          ∙ lesser_right w.statement (first (filter p ws)) l ∙ sym (at_once w ws et)
+      go false false true eb ed et rest l r = absurd (covers w et eb ed)
+
+  -- by the names of sections
+  by_names : (ws : List WordAt) → Ascends 0 ws
+      → lesser (first (filter (is_named section) ws)) (first (filter is_wild ws)) ≡ first ws
+  by_names ws a = first_of_both (is_named section) is_wild named_or_wild 0 ws a
+
+  -- and by those of files before
+  by_files : (ws : List WordAt) → Ascends 0 ws
+      → lesser
+      (lesser (first (filter (is_named section) (filter (is_for file) ws)))
+      (first (filter is_wild (filter (is_for file) ws))))
+      (lesser (first (filter (is_named section) (filter is_for_more ws)))
+      (first (filter is_wild (filter is_for_more ws))))
+      ≡ first ws
+  by_files ws a =
+      ap (λ o. lesser o (lesser (first (filter (is_named section) (filter is_for_more ws)))
+      (first (filter is_wild (filter is_for_more ws)))))
+      (by_names (filter (is_for file) ws) (kept_ascend (is_for file) 0 ws a))
+      ∙ ap (lesser (first (filter (is_for file) ws)))
+      (by_names (filter is_for_more ws) (kept_ascend is_for_more 0 ws a))
+      ∙ first_of_both (is_for file) is_for_more for_one_or_more 0 ws a
 
   one_more : (m t a : Bool) (k : ℕ) (o : Option ℕ) → cond (m && t) (Some k) (cond (m && a) (Some k) o)
       ≡ cond (m && (t || a)) (Some k) o
@@ -166,11 +215,35 @@ module _ (file section : List ℕ) where
       ap (cond (takes file section i.input) (Some k)) (first_from (k + 1) is)
       ∙ sym (first_of_words k i.input i.input.sections (words_from (k + 1) is))
 
-  pub first_match_by_words : (script : List Statement)
-      → lesser (first (filter (is_named section) (words_from 0 (input_statements script))))
-      (first (filter is_wild (words_from 0 (input_statements script)))) ≡ first_match script file section
+  first_of_script : (script : List Statement) → first (words_from 0 (input_statements script))
+      ≡ first_match script file section
   unfolding first_match
-  first_match_by_words script =
-      first_of_both 0 (words_from 0 (input_statements script)) (all_ascend 0 (input_statements script))
-      ∙ sym (position_from-zero (λ (i : InputStatementAt). takes file section i.input) (input_statements script)
+  first_of_script script =
+      sym (position_from-zero (λ (i : InputStatementAt). takes file section i.input) (input_statements script)
       ∙ first_from 0 (input_statements script))
+
+  -- tables of its words find the first match
+  pub first_in_tables : (t : FileTables) (script : List Statement) → AreTablesOf t (input_statements script)
+      → first_in t file section ≡ first_match script file section
+  first_in_tables t script are =
+      let ws = words_from 0 (input_statements script) in
+      ap (λ l. lesser (lesser (first l) (first (own_wild t file))) (lesser (first (shown_listed t.others section))
+      (first (shown_words t.others.wild.items)))) (are.named file section)
+      ∙ ap (λ l. lesser (lesser (first (filter (is_named section) (filter (is_for file) ws))) (first l))
+      (lesser (first (shown_listed t.others section)) (first (shown_words t.others.wild.items)))) (are.wild file)
+      ∙ ap (λ l. lesser (lesser (first (filter (is_named section) (filter (is_for file) ws)))
+      (first (filter is_wild (filter (is_for file) ws)))) (lesser (first l)
+      (first (shown_words t.others.wild.items)))) (are.others_named section)
+      ∙ ap (λ l. lesser (lesser (first (filter (is_named section) (filter (is_for file) ws)))
+      (first (filter is_wild (filter (is_for file) ws))))
+      (lesser (first (filter (is_named section) (filter is_for_more ws))) (first l))) are.others_wild
+      ∙ by_files ws (all_ascend 0 (input_statements script))
+      ∙ first_of_script script
+
+-- so do they for all sections of an object
+pub matches_by_tables : (t : FileTables) (script : List Statement) → AreTablesOf t (input_statements script)
+    → (file : List ℕ) (sections : List LinkedSection) → matches_by t file sections ≡ matches_of script file sections
+matches_by_tables t script are file [] = refl
+matches_by_tables t script are file (s ∷ ss) =
+    ap (λ n. n ∷ matches_by t file ss) (first_in_tables file s.name t script are)
+    ∙ ap (λ ns. first_match script file s.name ∷ ns) (matches_by_tables t script are file ss)

@@ -23,3 +23,5 @@ pub mod Tables
 pub mod Keyed
 pub mod Refers
 pub mod Starting
+pub mod OwnWords
+pub mod Knowing

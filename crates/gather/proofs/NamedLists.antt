@@ -10,18 +10,18 @@ use Rattle.std.proofs.lemmas.Slice.Eq.{bytes_eq-Decides}
 equal_names : (a b : List ℕ) → bytes_eq a b ≡ true → a ≡ b
 equal_names a b h = grind (arith, bytes_eq-Decides)
 
--- the list under a name, one more under a name put in
+-- the list under a name, some more under a name put in
 pub listed_more : {V W : Type 0} (items : V → List W) (from : List ℕ → Option V) (name q : List ℕ) (new : Option V)
-    (v : V) (x : W)
-    → new ≡ cond (bytes_eq name q) (Some v) (from q) → items v ≡ option_map_or items (from name) [] ++ x ∷ []
+    (v : V) (xs : List W)
+    → new ≡ cond (bytes_eq name q) (Some v) (from q) → items v ≡ option_map_or items (from name) [] ++ xs
     → option_map_or items new []
-    ≡ cond (bytes_eq name q) (option_map_or items (from q) [] ++ x ∷ []) (option_map_or items (from q) [])
-listed_more {W = W} items from name q new v x is has = go (bytes_eq name q) refl is
+    ≡ cond (bytes_eq name q) (option_map_or items (from q) [] ++ xs) (option_map_or items (from q) [])
+listed_more {W = W} items from name q new v xs is has = go (bytes_eq name q) refl is
   where
     go : (b : Bool) → bytes_eq name q ≡ b → new ≡ cond b (Some v) (from q) → option_map_or items new []
-        ≡ cond b (option_map_or items (from q) [] ++ x ∷ []) (option_map_or items (from q) [])
+        ≡ cond b (option_map_or items (from q) [] ++ xs) (option_map_or items (from q) [])
     go true e i = ap (λ o. option_map_or items o []) i ∙ has
-        ∙ ap (λ n. option_map_or items (from n) [] ++ x ∷ []) (equal_names name q e)
+        ∙ ap (λ n. option_map_or items (from n) [] ++ xs) (equal_names name q e)
     go false e i = ap (λ o. option_map_or items o []) i
 
 -- one more of what is so in a list

@@ -1,5 +1,8 @@
 pub mod Words
 pub mod WordTables
+pub mod Known
+pub mod FileTables
+pub mod FileSearches
 pub mod Matches
 pub mod Graphs
 pub mod LiveMarks

@@ -7,8 +7,7 @@ use Rattle.std.specs.Cmp.Lexicographic.{slice_cmp}
 use Rattle.std.specs.List.{filter}
 use Rattle.std.specs.Option.{option_map_or}
 use Rattle.std.specs.Ordering.{nat_cmp}
-use Rattle.gather.specs.Words.{WordAt, is_named, is_wild, shown_words, words_from}
-use Rattle.ldtree.specs.Numbering.{InputStatementAt}
+use Rattle.gather.specs.Words.{WordAt, is_named, is_wild, shown_words}
 use Rattle.gather.specs.declared.word.WordAt as code
 use Rattle.gather.specs.declared.word_table.WordTable.{WordTable}
 
@@ -24,8 +23,3 @@ shown_listed t name = shown_words (listed t name)
 pub record AddsWords (old new : WordTable) (ws : List WordAt) : Type 0 where
   pub named : (name : List ℕ) → shown_listed new name ≡ shown_listed old name ++ filter (is_named name) ws
   pub wild : shown_words new.wild.items ≡ shown_words old.wild.items ++ filter is_wild ws
-
--- it has the words of these statements
-pub record IsTableOf (t : WordTable) (statements : List InputStatementAt) : Type 0 where
-  pub named : (name : List ℕ) → shown_listed t name ≡ filter (is_named name) (words_from 0 statements)
-  pub wild : shown_words t.wild.items ≡ filter is_wild (words_from 0 statements)

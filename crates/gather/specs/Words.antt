@@ -1,12 +1,12 @@
 -- The words of the input statements of a script, one by one, and how a section's first match is found among them.
-use Rattle.std.specs.Prelude.{ℕ, ◌+◌, List, [], ◌∷◌, ◌++◌, map, Option, Some, None, Bool, false, ◌&&◌, if◌then◌else◌}
-use Rattle.std.specs.Prelude.{bytes_eq, is_none, min}
+use Rattle.std.specs.Prelude.{ℕ, ◌+◌, List, [], ◌∷◌, ◌++◌, map, Option, Some, None, Bool, false, not, ◌&&◌}
+use Rattle.std.specs.Prelude.{bytes_eq, if◌then◌else◌, is_none, min}
 use Rattle.std.specs.Option.{option_map_or}
 use Rattle.ldterms.specs.Matching.{is_match, exact_name}
 use Rattle.ldtree.specs.Numbering.{InputStatementAt}
 use Rattle.ldtree.specs.declared.input.Input.{Input}
 use Rattle.ldtree.specs.declared.input.SectionWord.{SectionWord}
-use Rattle.ldmodel.specs.FirstMatch.{word_takes}
+use Rattle.ldmodel.specs.FirstMatch.{is_any_match, word_takes}
 use Rattle.gather.specs.declared.word.WordAt as code
 
 -- a word of an input statement, with the statement and its number
@@ -26,6 +26,10 @@ shown_words ws = map shown_word ws
 abbrev pub takes_by : (file section : List ℕ) → WordAt → Bool
 takes_by file section w = is_match w.input.file file && word_takes file section w.word
 
+-- it takes sections of an object of this name by this word, those whose names match the word
+abbrev pub takes_from : (file : List ℕ) → WordAt → Bool
+takes_from file w = is_match w.input.file file && not (is_any_match w.word.excluded file)
+
 -- the number of the statement of the first word that takes the section
 abbrev pub first_taker : (file section : List ℕ) → List WordAt → Option ℕ
 first_taker file section [] = None
@@ -38,6 +42,14 @@ is_named name w = option_map_or (λ own. bytes_eq own name) (exact_name w.word.p
 -- the pattern of a word has signs, so that it can match several names
 abbrev pub is_wild : WordAt → Bool
 is_wild w = is_none (exact_name w.word.pattern)
+
+-- the one file that the statement of a word is for has this name
+abbrev pub is_for : List ℕ → WordAt → Bool
+is_for file w = option_map_or (λ own. bytes_eq own file) (exact_name w.input.file) false
+
+-- the pattern for the file has signs, so that the statement can be for several files
+abbrev pub is_for_more : WordAt → Bool
+is_for_more w = is_none (exact_name w.input.file)
 
 -- the words of statement number n
 abbrev pub words_of : ℕ → Input → List SectionWord → List WordAt

@@ -1,7 +1,8 @@
 //! Which input sections are in a link, and in which order they stand. Takes objects, the script and what names stand
 //! for; gives for each object the statements that take its sections, and of a project its rows and orphans.
 //!
-//! - `matcher` over `word_table`, `word`, `name_places`: first match; `matches`: of one object, and of all;
+//! - `matcher` over `file_search`, `file_tables`, `word_table`, `word`, `name_places`: first match; `matches`: of one
+//!   object, and of all;
 //! - `member`, `members`, `gathered`, `blocks`, `cases`: the input sections, common blocks among them; `left_out`;
 //! - `roots`, `marking`, `references`, and of a project `live`, `referring`, `targets`, `numbers`: which sections are
 //!   live;
@@ -10,6 +11,8 @@
 
 mod blocks;
 mod cases;
+mod file_search;
+mod file_tables;
 pub mod gathered;
 pub mod gathering;
 pub mod law;

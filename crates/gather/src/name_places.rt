@@ -1,4 +1,4 @@
-//! Long names that sections of an object share.
+//! Names that sections of an object share.
 
 ghost use Rattle.std.specs.Prelude.{◌≡◌, ◌<◌, IfSome, IsTrue, length, map, slice_get};
 
@@ -12,11 +12,14 @@ use std::collections::BTreeMap;
 /// From this many bytes on a name is long.
 const LONG: usize = 64;
 
-/// Sections of an object that have long names, by where these begin. A table of names can lend one name to many
-/// sections. Nothing need hold of the map: `earlier` looks at the section that it gives.
+/// Sections of an object by their names: those that have long names by where these begin, as a table of names can lend
+/// one name to many sections; and the others by their names, if so it was asked for. Nothing need hold of the maps:
+/// `earlier` looks at the section that it gives.
 #[derive(Drop)]
-pub struct NamePlaces {
-    sections: BTreeMap<usize, usize>,
+pub struct NamePlaces<'o> {
+    long: BTreeMap<usize, usize>,
+    short: BTreeMap<&'o [u8], usize>,
+    has_short: bool,
 }
 
 /// Whether the name that lies there is long.
@@ -31,38 +34,46 @@ fn is_same(left: Span, right: Span) -> bool
     left == right
 }
 
-impl NamePlaces {
-    /// No sections.
-    pub fn new(alloc: Global) -> NamePlaces {
+/// Whether these are the same name.
+fn is_same_name(left: &[u8], right: &[u8]) -> bool
+    ensures { IsTrue result → left.now ≡ right.now }
+{
+    left == right
+}
+
+impl<'o> NamePlaces<'o> {
+    /// No sections. `has_short` says whether sections that have short names are to be found too.
+    pub fn new(alloc: Global, has_short: bool) -> NamePlaces<'o> {
         NamePlaces {
-            sections: BTreeMap::new(alloc),
+            long: BTreeMap::new(alloc),
+            short: BTreeMap::new(alloc),
+            has_short,
         }
     }
 
-    /// Adds a section, if its name is long.
-    pub fn add(&mut self, object: &Object, place: usize) -> Result<(), NoMemory>
+    /// Adds a section, if it is to be found.
+    pub fn add(&mut self, object: &'o Object, place: usize) -> Result<(), NoMemory>
         requires { place < length object.now.sections }
     {
         let name = object.section_name_place(LinkedIndex(place));
         if is_long(name) {
-            self.sections.insert(name.start, place)?;
+            self.long.insert(name.start, place)?;
+        } else if self.has_short {
+            self.short
+                .insert(object.section_name(LinkedIndex(place)), place)?;
         }
         Ok(())
     }
 
-    /// A section before this one that has the same long name, as its name lies at the same place. The time grows with
-    /// the logarithm of the number of sections.
-    pub fn earlier(&self, object: &Object, place: usize) -> Option<usize>
+    /// A section before this one, which has a long name, that has the same name at the same place.
+    fn earlier_long(&self, object: &Object, place: usize) -> Option<usize>
         requires { place < length object.now.sections }
         ensures before { IfSome result (λ other. other < place) }
         ensures same { IfSome result (λ other. slice_get (map (λ s. s.name) object.now.sections) other
             ≡ slice_get (map (λ s. s.name) object.now.sections) place) }
     {
         let name = object.section_name_place(LinkedIndex(place));
-        if !is_long(name) {
-            return None;
-        }
-        match self.sections.get(&name.start) {
+        match self.long.get(&name.start) {
             Some(other) if *other < place => {
                 let found = object.section_name_place(LinkedIndex(*other));
                 if is_same(found, name) {
@@ -72,6 +83,45 @@ impl NamePlaces {
                 }
             }
             _ => None,
+        }
+    }
+
+    /// A section before this one, which has a short name, that has the same name.
+    fn earlier_short(&self, object: &Object, place: usize) -> Option<usize>
+        requires { place < length object.now.sections }
+        ensures before { IfSome result (λ other. other < place) }
+        ensures same { IfSome result (λ other. slice_get (map (λ s. s.name) object.now.sections) other
+            ≡ slice_get (map (λ s. s.name) object.now.sections) place) }
+    {
+        if !self.has_short {
+            return None;
+        }
+        let name = object.section_name(LinkedIndex(place));
+        match self.short.get(name) {
+            Some(other) if *other < place => {
+                let found = object.section_name(LinkedIndex(*other));
+                if is_same_name(found, name) {
+                    Some(*other)
+                } else {
+                    None
+                }
+            }
+            _ => None,
+        }
+    }
+
+    /// A section before this one that has the same name, if sections that have such names are to be found. The time
+    /// grows with the logarithm of the number of sections.
+    pub fn earlier(&self, object: &Object, place: usize) -> Option<usize>
+        requires { place < length object.now.sections }
+        ensures before { IfSome result (λ other. other < place) }
+        ensures same { IfSome result (λ other. slice_get (map (λ s. s.name) object.now.sections) other
+            ≡ slice_get (map (λ s. s.name) object.now.sections) place) }
+    {
+        if is_long(object.section_name_place(LinkedIndex(place))) {
+            self.earlier_long(object, place)
+        } else {
+            self.earlier_short(object, place)
         }
     }
 }

@@ -1,10 +1,11 @@
 //! A word of an input statement.
 
-ghost use Rattle.std.specs.Prelude.{◌≡◌};
-ghost use Rattle.ldmodel.specs.FirstMatch.{is_any_match, word_takes};
+ghost use Rattle.std.specs.Prelude.{◌≡◌, ◌<◌, length};
+ghost use Rattle.ldmodel.specs.FirstMatch.{is_any_match};
 ghost use Rattle.ldterms.specs.Matching.{is_match};
+ghost use Rattle.gather.specs.Known.{AreKnown, SaysFrom, SaysTaken};
 ghost use Rattle.gather.specs.Matches.{number_of};
-ghost use Rattle.gather.specs.Words.{first_taker, shown_word, shown_words, takes_by};
+ghost use Rattle.gather.specs.Words.{first_taker, shown_word, shown_words, takes_from};
 
 use ldmodel::rows::InputIndex;
 use ldscript::tree::{Input, Pattern, SectionWord, matches};
@@ -36,28 +37,64 @@ fn is_any_match(patterns: &[Pattern], name: &[u8]) -> bool
     patterns.iter().any(|pattern| is_match(pattern, name))
 }
 
-/// Whether a word takes the sections of this name in the file of this name.
-fn word_takes(word: &SectionWord, file: &[u8], section: &[u8]) -> bool
-    ensures { result ≡ word_takes file.now section.now word.now }
-{
-    is_match(&word.pattern, section) && !is_any_match(word.excluded.as_slice(), file)
-}
-
 impl WordAt<'_> {
-    /// Whether its statement takes, by this word, the sections of this name in the file of this name.
-    pub fn takes(&self, file: &[u8], section: &[u8]) -> bool
-        ensures { result ≡ takes_by file.now section.now (shown_word self.now) }
+    /// Whether its statement takes sections from the file of this name by this word, those whose names match it.
+    fn takes_from(&self, file: &[u8]) -> bool
+        ensures { result ≡ takes_from file.now (shown_word self.now) }
     {
-        is_match(&self.input.file, file) && word_takes(self.word, file, section)
+        is_match(&self.input.file, file) && !is_any_match(self.word.excluded.as_slice(), file)
     }
 }
 
-/// The statement of the first of these words that takes the section.
-pub fn first_taker(words: &[WordAt<'_>], file: &[u8], section: &[u8]) -> Option<InputIndex>
-    ensures { number_of result ≡ first_taker file.now section.now (shown_words words.now) }
+/// Whether the word at this place takes sections from the file of this name, and from then on this is known.
+fn find_out(words: &[WordAt<'_>], known: &mut [Option<bool>], place: usize, file: &[u8]) -> bool
+    requires place { place < length words.now }
+    requires known { AreKnown file.now words.now known.old }
+    ensures found { SaysFrom file.now words.now place result }
+    ensures known { AreKnown file.now words.now known.new }
 {
-    for word in words {
-        if word.takes(file, section) {
+    let found = words[place].takes_from(file);
+    if place < known.len() {
+        known[place] = Some(found);
+    }
+    found
+}
+
+/// Whether the word at this place takes the sections of this name in the file of this name.
+fn takes(
+    words: &[WordAt<'_>],
+    known: &mut [Option<bool>],
+    place: usize,
+    file: &[u8],
+    section: &[u8],
+) -> bool
+    requires place { place < length words.now }
+    requires known { AreKnown file.now words.now known.old }
+    ensures taken { SaysTaken file.now section.now words.now place result }
+    ensures known { AreKnown file.now words.now known.new }
+{
+    let word: &SectionWord = words[place].word;
+    match known.get(place) {
+        Some(Some(found)) => *found && is_match(&word.pattern, section),
+        Some(None) | None => is_match(&word.pattern, section)
+            && find_out(words, known, place, file),
+    }
+}
+
+/// The statement of the first of these words that takes the section. `known` says of the first of them, as many as it
+/// has places, which are known to take sections from the file, and which not.
+pub fn first_taker(
+    words: &[WordAt<'_>],
+    known: &mut [Option<bool>],
+    file: &[u8],
+    section: &[u8],
+) -> Option<InputIndex>
+    requires { AreKnown file.now words.now known.old }
+    ensures taker { number_of result ≡ first_taker file.now section.now (shown_words words.now) }
+    ensures known { AreKnown file.now words.now known.new }
+{
+    for (place, word) in words.iter().enumerate() {
+        if takes(words, known, place, file, section) {
             return Some(word.statement);
         }
     }

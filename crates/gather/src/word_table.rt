@@ -2,6 +2,7 @@
 
 ghost use Rattle.std.specs.Prelude.{◌≡◌, ◌++◌, ◌∷◌, [], ℕ, List, Option, IfOk, OnOk, bytes_eq, if◌then◌else◌};
 ghost use Rattle.std.specs.List.{filter};
+ghost use Rattle.gather.specs.Known.{AreKnown};
 ghost use Rattle.gather.specs.Matches.{number_of};
 ghost use Rattle.gather.specs.Words.{first_taker, is_named, is_wild, lesser, shown_word, shown_words, words_of};
 ghost use Rattle.gather.specs.WordTables.{AddsWords, listed, shown_listed};
@@ -13,15 +14,21 @@ use ldscript::tree::{Input, SectionWord};
 use std::alloc::Global;
 use std::collections::BTreeMap;
 
+/// With this many patterns for files that it leaves out, a word costs more than a look for an earlier section of the
+/// same name.
+const MANY: usize = 16;
+
 /// The words of a script in the order of the text: those that match one name under that name, and the others in a list.
 #[derive(Drop)]
 pub struct WordTable<'a> {
     named: BTreeMap<&'a [u8], Vec<WordAt<'a>>>,
     wild: Vec<WordAt<'a>>,
+    /// The greatest number of patterns for files that a word under a name leaves out.
+    excluded: usize,
 }
 
 /// The one of two statements that comes first.
-fn lesser(a: Option<InputIndex>, b: Option<InputIndex>) -> Option<InputIndex>
+pub fn lesser(a: Option<InputIndex>, b: Option<InputIndex>) -> Option<InputIndex>
     ensures { number_of result ≡ lesser (number_of a) (number_of b) }
 {
     match (a, b) {
@@ -39,6 +46,7 @@ impl<'a> WordTable<'a> {
         WordTable {
             named: BTreeMap::new(alloc),
             wild: Vec::new(alloc),
+            excluded: 0,
         }
     }
 
@@ -67,7 +75,10 @@ impl<'a> WordTable<'a> {
         ensures { OnOk result (AddsWords self.old self.new (shown_word word.entry ∷ [])) }
     {
         match word.word.pattern.exact_name() {
-            Some(name) => self.add_named(alloc, name, word),
+            Some(name) => {
+                self.excluded = self.excluded.max(word.word.excluded.as_slice().len());
+                self.add_named(alloc, name, word)
+            }
             None => {
                 self.wild.push(word)?;
                 Ok(())
@@ -97,16 +108,37 @@ impl<'a> WordTable<'a> {
         Ok(())
     }
 
+    /// Of each word in the list of others: it isn't known yet which take sections from a file. An error says that
+    /// memory ran out.
+    pub fn nothing_known(&self, alloc: Global) -> Result<Vec<Option<bool>>, NoMemory>
+        ensures { IfOk result (λ known. (file : List ℕ) → AreKnown file self.now.wild.items known.items) }
+    {
+        vec![in alloc; None; self.wild.len()]
+    }
+
+    /// Whether a word under a name leaves out many patterns for files.
+    pub fn excludes_many(&self) -> bool {
+        self.excluded >= MANY
+    }
+
     /// The first statement that takes the sections of this name in the file of this name, by a word of the table.
-    pub fn first_taker(&self, file: &[u8], section: &[u8]) -> Option<InputIndex>
-        ensures { number_of result
+    /// `known` says which words in the list of others are known to take sections from the file, and which not.
+    pub fn first_taker(
+        &self,
+        known: &mut [Option<bool>],
+        file: &[u8],
+        section: &[u8],
+    ) -> Option<InputIndex>
+        requires { AreKnown file.now self.now.wild.items known.old }
+        ensures taker { number_of result
             ≡ lesser (first_taker file.now section.now (shown_listed self.now section.now))
             (first_taker file.now section.now (shown_words self.now.wild.items)) }
+        ensures known { AreKnown file.now self.now.wild.items known.new }
     {
         let named = match self.named.get(section) {
-            Some(words) => first_taker(words, file, section),
+            Some(words) => first_taker(words, &mut [], file, section),
             None => None,
         };
-        lesser(named, first_taker(&self.wild, file, section))
+        lesser(named, first_taker(&self.wild, known, file, section))
     }
 }

@@ -1,9 +1,17 @@
+use Rattle.std.proofs.Common.{◌≡◌, ◌∙◌, ap, map}
+use Rattle.std.proofs.lemmas.Result.{IfOk-weaker}
+use Rattle.gather.specs.FileSearches.{matches_by}
 use Rattle.gather.specs.Matches.{matches_of, number_of}
-use Rattle.gather.proofs.NamedLists.{map_more}
+use Rattle.gather.proofs.FirstTakers.{matches_by_tables}
 use Rattle.gather.proofs.matcher.Matcher.matches_of.Goals as goal
 
-pub loop-place-preserved : goal.loop-place-preserved
-loop-place-preserved c =
-    map_more number_of c.loop-place.found.items c.match_at-statement.result
-    (matches_of c.args.self.now c.args.file.now c.args.object.now.sections) c.loop-place.place
-    c.match_at-statement.ensures c.loop-place.invariant c.in_ok-push.ensures.items
+pub returns : goal.returns
+returns c =
+    let file = c.args.file.now in
+    let sections = c.args.object.now.sections in
+    IfOk-weaker c.matches_by.result
+    (λ found. map number_of found.items ≡ matches_by c.self.inside.words file sections)
+    (λ found. map number_of found.items ≡ matches_of c.args.self.now file sections)
+    (λ found h. h
+    ∙ matches_by_tables c.self.inside.words c.self.inside.script.now c.self.invariant file sections
+    ∙ ap (λ s. matches_of s file sections) c.self.view_is) c.matches_by.ensures

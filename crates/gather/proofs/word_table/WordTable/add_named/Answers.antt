@@ -16,7 +16,7 @@ returns-in_ok-push-in-Some-clause-named c = λ q.
     listed_more items_of (λ n. get_by (λ (k : Bor (List ℕ)). slice_cmp nat_cmp n k.now) c.args.self.now.named)
     c.args.name.now q
     (get_by (λ (k : Bor (List ℕ)). slice_cmp nat_cmp q k.now) (c.get_mut.follows.lender c.push.new.self))
-    c.push.new.self c.args.word
+    c.push.new.self (c.args.word ∷ [])
     (btree_map_updates_str c.args.name.now c.args.self.now.named (c.get_mut.follows.lender c.push.new.self)
     (Some c.push.new.self) ((c.get_mut.follows.holds c.push.new.self).3 (search rules)) q)
     (c.in_ok-push-in-Some.ensures.items
@@ -27,7 +27,7 @@ returns-in_ok-insert-in-None-clause-named c = λ q.
     listed_more items_of (λ n. get_by (λ (k : Bor (List ℕ)). slice_cmp nat_cmp n k.now) c.args.self.now.named)
     c.args.name.now q
     (get_by (λ (k : Bor (List ℕ)). slice_cmp nat_cmp q k.now) c.insert.new.self)
-    c.push-in-None.new.self c.args.word
+    c.push-in-None.new.self (c.args.word ∷ [])
     (btree_map_updates_str c.args.name.now c.args.self.now.named c.insert.new.self (Some c.push-in-None.new.self)
     (subst (λ m. UpdatesBy (λ (x y : Bor (List ℕ)). slice_cmp nat_cmp x.now y.now) (λ (k : Bor (List ℕ)).
     slice_cmp nat_cmp c.args.name.now k.now) m c.insert.new.self (Some c.push-in-None.new.self))

@@ -3,10 +3,10 @@ use Rattle.std.specs.Option.{option_map}
 use Rattle.std.proofs.lemmas.List.{length-map}
 use Rattle.std.proofs.lemmas.Option.{slice_get-map}
 use Rattle.elfobj.specs.Sections.{LinkedSection}
-use Rattle.ldmodel.specs.FirstMatch.{first_match}
+use Rattle.gather.specs.FileTables.{first_in}
 use Rattle.gather.specs.Matches.{number_of}
 use Rattle.gather.proofs.NamedLists.{found_before, same_name}
-use Rattle.gather.proofs.matcher.Matcher.match_at.Goals as goal
+use Rattle.gather.proofs.file_search.FileSearch.match_at.Goals as goal
 
 abbrev names : List LinkedSection → List (List ℕ)
 names sections = map (λ (s : LinkedSection). s.name) sections
@@ -19,19 +19,20 @@ bounds-found-other c =
     omega (
       arith,
       c.in-Some.ensures.before,
-      found_before number_of (first_match c.args.self.now c.args.file.now) c.args.found.now
+      found_before number_of (first_in c.args.self.now.words.now c.args.self.now.file.now) c.args.found.now
           (names c.args.object.now.sections) c.args.place c.requires.found
           (within c.args.object.now.sections c.args.place c.requires.place),
     )
 
-pub returns-in-Some : goal.returns-in-Some
-returns-in-Some c =
-    same_name number_of (first_match c.args.self.now c.args.file.now) c.args.found.now
+pub returns-in-Some-clause-found : goal.returns-in-Some-clause-found
+returns-in-Some-clause-found c =
+    same_name number_of (first_in c.args.self.now.words.now c.args.self.now.file.now) c.args.found.now
     (names c.args.object.now.sections) c.args.place c.in-Some.other None c.requires.found
     (within c.args.object.now.sections c.args.place c.requires.place) c.in-Some.ensures.before c.in-Some.ensures.same
 
-pub returns-in-None : goal.returns-in-None
-returns-in-None c =
-    slice_get-map (first_match c.args.self.now c.args.file.now) (names c.args.object.now.sections) c.args.place
-    ∙ ap (option_map (first_match c.args.self.now c.args.file.now)) c.section_name.ensures
-    ∙ ap (λ n. Some n) (sym c.first_match.ensures)
+pub returns-in-None-clause-found : goal.returns-in-None-clause-found
+returns-in-None-clause-found c =
+    slice_get-map (first_in c.args.self.now.words.now c.args.self.now.file.now) (names c.args.object.now.sections)
+    c.args.place
+    ∙ ap (option_map (first_in c.args.self.now.words.now c.args.self.now.file.now)) c.section_name.ensures
+    ∙ ap (λ n. Some n) (sym c.first_taker.ensures.taker)
