@@ -1,25 +1,41 @@
 -- Objects whose symbols have the values that they had in an earlier link.
 use Rattle.std.proofs.Common.{◌≡◌, ◌∙◌, ◌<◌, ◌≤◌, ◌⊎◌, inl, inr, ◌+◌, ℕ, zero, suc, Bool, true, false, List, [], ◌∷◌}
 use Rattle.std.proofs.Common.{◌++◌}
-use Rattle.std.proofs.Common.{Option, Some, None, length, map, ap, arith, refl, subst, sym}
+use Rattle.std.proofs.Common.{Option, Some, None, drop, length, ap, arith, refl, subst, sym}
 use Rattle.std.specs.Option.{option_map_or}
 use Rattle.std.specs.Prelude.{IfSome, slice_get, slice_index_or}
 use Rattle.std.proofs.lemmas.Bool.{cases_lt}
-use Rattle.std.proofs.lemmas.List.{length-append, length-map}
+use Rattle.std.proofs.lemmas.List.{get_or-drop, get_or-take, length-append}
 use Rattle.std.proofs.lemmas.Option.{slice_get_within}
 use Rattle.elfobj.specs.Symbols.{NamedSymbol}
 use Rattle.ldmodel.specs.Layout.{Layout}
 use Rattle.ldmodel.specs.Project.{NamedObject, Project}
-use Rattle.ldmodel.specs.Relocations.{Site, site_symbol, site_value}
+use Rattle.ldmodel.specs.Relocations.{site_symbol}
 use Rattle.ldmodel.specs.Stayed.{GoodLink}
 use Rattle.ldmodel.specs.SymbolValues as model
 use Rattle.ldmodel.specs.Targets.{referenced_value}
 use Rattle.ldtargets.specs.Values.{value_of}
 use Rattle.ldkept.specs.Marks.{AreMarks}
 use Rattle.ldkept.specs.Stays.{IsLastOf, LastState, last_place}
-use Rattle.ldkept.specs.SymbolTable.{AreSymbolValues, value_at}
+use Rattle.ldkept.specs.SymbolTable.{AreSymbolValues, row_at, value_at}
 use Rattle.ldkept.specs.Unmarked.{IsUnmarked}
 use Rattle.ldtargets.specs.declared.symbol_table.SymbolTable.{SymbolTable}
+use Rattle.ldtargets.specs.declared.value.SymbolValue.TheVariants.{NotDefined}
+
+-- a row has the values of the symbols of its object
+in_row : (t : SymbolTable) (place count n : ℕ) → n < count
+    → slice_index_or (row_at t place count) n NotDefined ≡ value_at t place n
+in_row t place count n l =
+    get_or-take count (drop (slice_index_or t.starts.items place 0) t.values.items) n NotDefined l
+    ∙ get_or-drop (slice_index_or t.starts.items place 0) t.values.items n NotDefined
+
+-- an object whose row is that of the earlier link
+pub unmarked_by_rows : (x : LastState) (symbols : SymbolTable) (place from count : ℕ)
+    → last_place x (record { 0 = place }) ≡ Some from
+    → ((n : ℕ) → slice_index_or (row_at x.good.symbols from count) n NotDefined
+    ≡ slice_index_or (row_at symbols place count) n NotDefined) → IsUnmarked (Some x) symbols place count
+unmarked_by_rows x symbols place from count at same =
+    (from, at, λ n l. sym (in_row x.good.symbols from count n l) ∙ (same n ∙ in_row symbols place count n l))
 
 -- the marks of the first objects
 pub record MarksSoFar (last : Option LastState) (symbols : SymbolTable) (objects : List NamedObject) (n : ℕ)

@@ -1,32 +1,31 @@
 //! Which objects of a link name a symbol that was worth something else in an earlier link.
 
-ghost use Rattle.std.specs.Prelude.{◌≡◌, ◌<◌, ℕ, IfOk, IfSome, false, true};
+ghost use Rattle.std.specs.Prelude.{◌≡◌, ℕ, IfOk, IfSome, false, slice_index_or, true};
 ghost use Rattle.ldkept.specs.Marks.{AreMarks};
 ghost use Rattle.ldkept.specs.Stays.{IsLastOf, last_of};
-ghost use Rattle.ldkept.specs.SymbolTable.{AreSymbolValues, value_at};
+ghost use Rattle.ldkept.specs.SymbolTable.{AreSymbolValues};
 ghost use Rattle.ldkept.specs.Unmarked.{IsUnmarked};
 ghost use Rattle.ldmodel.specs.Layout.{Layout};
 ghost use Rattle.ldmodel.specs.Stayed.{GoodLink};
+ghost use Rattle.ldtargets.specs.declared.value.SymbolValue.TheVariants.{NotDefined};
 
 use crate::stays::Last;
 use crate::symbol_table::SymbolTable;
 use ldmodel::memory::NoMemory;
 use ldmodel::names::ObjectKey;
 use ldproject::view::ProjectView;
+use ldtargets::value::SymbolValue;
 use std::alloc::Global;
 
-/// Whether the first `count` symbols of two objects have the same values, number by number.
-fn have_same_values(
-    old: &SymbolTable,
-    from: usize,
-    new: &SymbolTable,
-    place: usize,
-    count: usize,
-) -> bool
-    ensures { result ≡ true → (n : ℕ) → n < count → value_at old.now from n ≡ value_at new.now place n }
+/// Whether two objects have the same values, number by number.
+fn have_same_values(old: &[SymbolValue], new: &[SymbolValue]) -> bool
+    ensures { result ≡ true → (n : ℕ) → slice_index_or old.now n NotDefined ≡ slice_index_or new.now n NotDefined }
 {
-    for number in 0..count {
-        if old.numbered(from, number) != new.numbered(place, number) {
+    if old.len() != new.len() {
+        return false;
+    }
+    for number in 0..old.len() {
+        if old[number] != new[number] {
             return false;
         }
     }
@@ -35,6 +34,7 @@ fn have_same_values(
 
 /// Whether an object of a link, which has `count` symbols, is no object of the last one, or one of its symbols had
 /// another value there.
+#[tactic(auto, using(crate::proofs::Unmarked::unmarked_by_rows))]
 fn is_marked(last: Option<Last<'_>>, symbols: &SymbolTable, place: usize, count: usize) -> bool
     ensures { result ≡ false → IsUnmarked (last_of last.entry) symbols.now place count }
 {
@@ -44,7 +44,9 @@ fn is_marked(last: Option<Last<'_>>, symbols: &SymbolTable, place: usize, count:
     let Some(from) = last.place(ObjectKey(place)) else {
         return true;
     };
-    !have_same_values(&last.good.symbols, from, symbols, place, count)
+    let before = last.good.symbols.row(ObjectKey(from), count);
+    let now = symbols.row(ObjectKey(place), count);
+    !have_same_values(before, now)
 }
 
 /// Which objects of a link, by their places, are no objects of the last one, or have a symbol that had another value

@@ -12,3 +12,5 @@ pub mod Declared
 pub mod Looking
 pub mod Failing
 pub mod Searching
+pub mod Merging
+pub mod MergedNames

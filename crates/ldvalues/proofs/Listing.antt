@@ -1,11 +1,12 @@
 -- The names that may be symbols of the output.
 use Rattle.std.proofs.Common.{◌≡◌, ◌∙◌, ℕ, ◌+◌, ◌<◌, List, [], ◌∷◌, ◌++◌, length, map, take, get_or, ap, sym, subst}
-use Rattle.std.proofs.Common.{refl, append_assoc, append-nil, ◌⊎◌, inl, inr, ⊎_elim}
+use Rattle.std.proofs.Common.{refl, append_assoc, append-nil, arith, ◌⊎◌, inl, inr, ⊎_elim}
 use Rattle.std.specs.List.Sorted.{IsPermutation, IsSortedBy}
 use Rattle.std.proofs.lemmas.List.{get_or_default, map-append}
 use Rattle.std.proofs.lemmas.List.Concat.{flat_map-append}
-use Rattle.std.proofs.lemmas.List.Elements.{All-map}
-use Rattle.std.proofs.lemmas.List.Sorted.{All-permutation, Contains-permutation, IsPermutation-map}
+use Rattle.std.proofs.lemmas.List.Elements.{All-append, All-map}
+use Rattle.std.proofs.lemmas.List.Sorted.{All-permutation, Contains-permutation, IsPermutation-append_right}
+use Rattle.std.proofs.lemmas.List.Sorted.{IsPermutation-map, IsPermutation-trans}
 use Rattle.ldtext.proofs.ByteOrder.{In, append_in, contained_in, distinct_in, in_append, in_contained, in_distinct}
 use Rattle.ldtree.specs.Numbering.{AssignmentAt, CommonAt, assigned_by, assigned_in, common_commands, provided_by}
 use Rattle.ldtree.specs.Numbering.{provided_in}
@@ -22,17 +23,22 @@ use Rattle.ldnaming.specs.Sorted.{AreSorted}
 use Rattle.ldnaming.specs.declared.sorted.NamedKey.{NamedKey}
 use Rattle.ldvalues.specs.Candidates.{all_given, comes_before, names_given, names_of, with_key, AreCandidates, AreKeyed}
 use Rattle.ldvalues.specs.Candidates.{HasKeyOr}
+use Rattle.ldvalues.specs.Merged.{Merged, NotAfter}
 use Rattle.ldvalues.specs.declared.candidate.Candidate.{Candidate}
 use Rattle.ldvalues.proofs.Giving.{no_key, take_more}
+use Rattle.ldvalues.proofs.MergedNames.{comes_before_order, sorted_candidates, sorted_keys}
+use Rattle.ldvalues.proofs.Merging.{merges_permutation, merges_sorted}
 
-pub more_keys : (xs : List NamedKey) (i : ℕ) (x : NamedKey) (old new : List Candidate) → i < length xs
-    → x ≡ get_or xs i no_key → new ≡ old ++ with_key x ∷ [] → old ≡ map with_key (take i xs)
-    → new ≡ map with_key (take (i + 1) xs)
-more_keys xs i x old new within is added h =
+pub more_keys : (first : List Candidate) (xs : List NamedKey) (i : ℕ) (x : NamedKey) (old new : List Candidate)
+    → i < length xs → x ≡ get_or xs i no_key → new ≡ old ++ with_key x ∷ [] → old ≡ first ++ map with_key (take i xs)
+    → new ≡ first ++ map with_key (take (i + 1) xs)
+more_keys first xs i x old new within is added h =
     added
     ∙ (ap (λ ys. ys ++ with_key x ∷ []) h
-    ∙ sym (ap (map with_key) (take_more xs i x within (sym (is ∙ get_or_default xs i no_key x within)))
-    ∙ map-append with_key (take i xs) (x ∷ [])))
+    ∙ (append_assoc first (map with_key (take i xs)) (with_key x ∷ [])
+    ∙ ap (λ (ys : List Candidate). first ++ ys)
+    (sym (ap (map with_key) (take_more xs i x within (sym (is ∙ get_or_default xs i no_key x within)))
+    ∙ map-append with_key (take i xs) (x ∷ [])))))
 
 -- one more command
 pub more_given : (first : List (List ℕ)) (commands : List code.CommonAt) (i : ℕ) (x : code.CommonAt)
@@ -133,6 +139,7 @@ candidates_are a script xs cs first list sorted up commands keys names keyed mov
       All-permutation (λ (x : Candidate). HasKeyOr a x.name.now x.key) list sorted moved
       (keyed a (subst (AreKeyed a) (sym keys)
       (All-map (λ (x : Candidate). HasKeyOr a x.name.now x.key) with_key xs up.named)));
+  distinct = up.distinct;
   complete = λ p naming same z c.
       Contains-permutation (names_of list) (names_of sorted) z
       (IsPermutation-map (λ (x : Candidate). x.name.now) list sorted moved)
@@ -154,3 +161,22 @@ candidates_are a script xs cs first list sorted up commands keys names keyed mov
     by_script p same z i =
         subst (In z) (ap (λ (t : List Statement). all_given (common_commands t)) same ∙ ap all_given (sym commands))
         (⊎_elim (λ j. assigned_given p.script z j) (λ j. provided_given p.script z j) i)
+
+pub none_keyed : (xs : List Candidate) → xs ≡ [] → (b : NamingState) → AreKeyed b xs
+none_keyed xs none b = subst (AreKeyed b) (sym none) (λ i d w. absurd (omega (arith, w)))
+
+-- the names of objects, and those of a script at their places
+pub merged_are : (a : NamingState) (script : List Statement) (xs : List NamedKey) (cs : List CommonAt)
+    (given by_name list : List Candidate) → AreSorted a xs → cs ≡ common_commands script
+    → names_of given ≡ all_given cs → ((b : NamingState) → AreKeyed b given) → IsPermutation given by_name
+    → IsSortedBy comes_before by_name → Merged xs by_name list → AreCandidates a script list
+merged_are a script xs cs given by_name list up commands names keyed moved order merged =
+    let first : List Candidate = map with_key xs in
+    candidates_are a script xs cs first (first ++ given) list up commands refl
+    (map-append (λ (x : Candidate). x.name.now) first given ∙ ap (λ (ns : List (List ℕ)). names_of first ++ ns) names)
+    (λ b h. All-append (λ (x : Candidate). HasKeyOr b x.name.now x.key) first given h (keyed b))
+    (IsPermutation-trans (first ++ given) (first ++ by_name) list
+    (IsPermutation-append_right first given by_name moved)
+    (merges_permutation (NotAfter comes_before) first by_name list merged))
+    (merges_sorted comes_before comes_before_order first by_name list merged
+    (sorted_candidates xs (sorted_keys xs up.order)) order)

@@ -11,7 +11,7 @@ use Rattle.ldmodel.specs.Project.{Project}
 use Rattle.ldmodel.specs.declared.names.NameKey.{NameKey}
 use Rattle.ldnaming.specs.Naming.{IsNaming, NamingState}
 use Rattle.ldnaming.specs.declared.sorted.NamedKey.{NamedKey}
-use Rattle.symres.specs.State.{IsNamed}
+use Rattle.symres.specs.State.{AreDistinct, IsNamed}
 use Rattle.ldvalues.specs.declared.candidate.Candidate.{Candidate}
 
 abbrev pub names_of : List Candidate → List (List ℕ)
@@ -41,9 +41,10 @@ AreKeyed a xs = All (λ (x : Candidate). HasKeyOr a x.name.now x.key) xs
 abbrev pub comes_before : Candidate → Candidate → Bool
 comes_before x y = is_before x.name.now y.name.now
 
--- they stand in byte order, and each declared name is among them
+-- they stand in byte order, and each declared name is among them. No two keys have one name
 pub record AreCandidates (a : NamingState) (script : List Statement) (xs : List Candidate) : Type 0 where
   pub order : IsSortedBy comes_before xs
   pub keyed : AreKeyed a xs
+  pub distinct : AreDistinct a.names
   pub complete : (p : Project) → IsNaming p a → p.script ≡ script → (name : List ℕ) → Contains (declared_names p) name
       → Contains (names_of xs) name

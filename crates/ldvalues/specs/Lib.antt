@@ -8,3 +8,4 @@ pub mod Candidates
 pub mod Symbols
 pub mod AssertedSymbols
 pub mod FinalScope
+pub mod Merged

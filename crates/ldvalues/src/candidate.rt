@@ -4,8 +4,9 @@ ghost use Rattle.std.specs.Prelude.{◌≡◌, ◌++◌, IfOk, OnOk, map};
 ghost use Rattle.ldtree.specs.Numbered.{shown_commons};
 ghost use Rattle.ldnaming.specs.Naming.{NamingState};
 ghost use Rattle.ldnaming.specs.Sorted.{AreSorted};
-ghost use Rattle.ldvalues.specs.Candidates.{all_given, names_given, names_of, with_key, AreCandidates, AreKeyed};
+ghost use Rattle.ldvalues.specs.Candidates.{all_given, names_given, names_of, AreCandidates, AreKeyed};
 
+use crate::merged::merge_names;
 use ldmodel::memory::NoMemory;
 use ldmodel::names::NameKey;
 use ldnaming::naming::Naming;
@@ -21,20 +22,6 @@ pub(crate) struct Candidate<'a> {
     pub name: &'a [u8],
     /// Its key, if it has one: the script alone gives the others.
     pub key: Option<NameKey>,
-}
-
-/// Names with keys.
-fn with_keys<'a>(alloc: Global, sorted: &[NamedKey<'a>]) -> Result<Vec<Candidate<'a>>, NoMemory>
-    ensures { IfOk result (λ list. list.items ≡ map with_key sorted.now) }
-{
-    let mut list = Vec::with_capacity(alloc, sorted.len())?;
-    for named in sorted {
-        list.push(Candidate {
-            name: named.name,
-            key: Some(named.key),
-        })?;
-    }
-    Ok(list)
 }
 
 /// Adds the name that a command gives a value to, if it gives one.
@@ -85,8 +72,9 @@ pub(crate) fn candidates<'a>(
     ensures { IfOk result (λ list. AreCandidates naming.now script.now list.items) }
 {
     let commands = script.common_commands(alloc)?;
-    let mut list = with_keys(alloc, sorted)?;
-    add_all_given(&mut list, &commands)?;
-    list.sort_by(|x, y| x.name.cmp(y.name))?;
+    let mut given = Vec::with_capacity(alloc, commands.len())?;
+    add_all_given(&mut given, &commands)?;
+    given.sort_by(|x, y| x.name.cmp(y.name))?;
+    let list = merge_names(alloc, sorted, &given)?;
     Ok(list)
 }

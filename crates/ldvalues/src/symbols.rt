@@ -1,13 +1,13 @@
 //! The symbols of the output: names that stand for something, in byte order.
 
-ghost use Rattle.std.specs.Prelude.{◌≡◌, ◌<◌, ◌++◌, ◌∷◌, [], ℕ, List, IfOk, IfSome, OnOk, length};
+ghost use Rattle.std.specs.Prelude.{◌≡◌, ◌<◌, ◌++◌, ◌∷◌, [], ℕ, List, IfOk, IfSome, OnOk, bytes_eq, length};
 ghost use Rattle.ldmodel.specs.HandedOver.{decision_of};
 ghost use Rattle.ldmodel.specs.Layout.{Layout, script_value};
 ghost use Rattle.ldmodel.specs.OutputSymbols.{is_defined, output_symbols};
 ghost use Rattle.ldmodel.specs.Project.{Project};
 ghost use Rattle.ldmodel.specs.SymbolValues.{decided_value};
 ghost use Rattle.ldtargets.specs.Values.{value_of};
-ghost use Rattle.symres.specs.State.{IsNamed};
+ghost use Rattle.symres.specs.State.{AreDistinct, IsNamed};
 ghost use Rattle.ldvalues.specs.Candidates.{names_of, AreCandidates, HasKeyOr};
 ghost use Rattle.ldvalues.specs.Symbols.{defined, fresh, is_repeat, shown, AddsSymbols, AreSources};
 ghost use Rattle.ldvalues.specs.Values.{shown_symbol};
@@ -140,15 +140,32 @@ fn add_symbol<'a>(
     }
 }
 
+/// Whether two candidates have one name. Where both have keys, these are compared, so that no name is read.
+fn have_one_name(sources: &Sources<'_>, one: &Candidate<'_>, other: &Candidate<'_>) -> bool
+    requires distinct { AreDistinct sources.now.naming.now.names }
+    requires one { HasKeyOr sources.now.naming.now one.now.name.now one.now.key }
+    requires other { HasKeyOr sources.now.naming.now other.now.name.now other.now.key }
+    ensures { result ≡ bytes_eq one.now.name.now other.now.name.now }
+{
+    match one.key {
+        None => one.name == other.name,
+        Some(key) => match other.key {
+            None => one.name == other.name,
+            Some(of_other) => key.0 == of_other.0,
+        },
+    }
+}
+
 /// Whether the name at a place is that before it.
-fn is_repeat(candidates: &[Candidate<'_>], place: usize) -> bool
-    requires { place < length candidates.now }
+fn is_repeat(sources: &Sources<'_>, candidates: &[Candidate<'_>], place: usize) -> bool
+    requires place { place < length candidates.now }
+    requires candidates { AreCandidates sources.now.naming.now sources.now.script.now candidates.now }
     ensures { result ≡ is_repeat (names_of candidates.now) place }
 {
     if place == 0 {
         return false;
     }
-    candidates[place - 1].name == candidates[place].name
+    have_one_name(sources, &candidates[place - 1], &candidates[place])
 }
 
 /// Adds the symbol of the candidate at a place, unless its name is that before it.
@@ -163,7 +180,7 @@ fn add_unless_repeat<'a>(
     ensures { OnOk result ((p : Project) (s : Layout) → AreSources p s sources.now
         → AddsSymbols p s (fresh (names_of candidates.now) place) list.old.items list.new.items) }
 {
-    if is_repeat(candidates, place) {
+    if is_repeat(sources, candidates, place) {
         return Ok(());
     }
     add_symbol(sources, &candidates[place], list)

@@ -1,4 +1,4 @@
-use Rattle.std.proofs.Common.{◌≡◌, ◌∙◌, List, [], ap, length, map, refl, subst, sym}
+use Rattle.std.proofs.Common.{◌≡◌, ◌∙◌, ap, length, refl, subst, sym}
 use Rattle.std.specs.Prelude.{Some, slice_get}
 use Rattle.std.specs.Option.{option_map}
 use Rattle.std.proofs.lemmas.List.{length-map}

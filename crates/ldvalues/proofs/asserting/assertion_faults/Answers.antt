@@ -1,8 +1,10 @@
-use Rattle.std.proofs.Common.{◌∙◌, ap, arith, map, sym}
+use Rattle.std.proofs.Common.{◌∙◌, ap, arith, map, refl, sym}
 use Rattle.ldtree.specs.Numbered.{shown_commons}
 use Rattle.ldtree.specs.Numbering.{asserted_in, common_commands}
+use Rattle.ldmodel.specs.Assertions.{final_scope}
 use Rattle.ldmodel.specs.Names.{provided}
 use Rattle.ldmodel.specs.Rows.{rows}
+use Rattle.ldproject.specs.ByPlace.{faults_in}
 use Rattle.ldtext.specs.Naming.{shown_assertions}
 use Rattle.ldvalues.specs.Values.{shown_symbol}
 use Rattle.ldvalues.specs.FinalScope.{meaning_of}
@@ -23,6 +25,16 @@ loop-number-preserved c =
     ∙ ap asserted_in (ap shown_commons c.deref.ensures.value
     ∙ (c.in_ok-commands.ensures ∙ ap common_commands c.script-script.ensures))))
     (omega (arith, c.loop-number-test.true)) (sym c.at-item.is) c.in_ok-add_unless_holds.ensures c.loop-number.invariant
+
+pub returns-then-is_empty : goal.returns-then-is_empty
+returns-then-is_empty c =
+    λ s a laying values.
+    all_done c.args.project.now s (final_scope c.args.project.now s) c.in_ok-assertions.assertions.items 0
+    c.new.result.items
+    (c.in_ok-assertions.ensures
+    ∙ ap asserted_in (ap shown_commons c.deref.ensures.value
+    ∙ (c.in_ok-commands.ensures ∙ ap common_commands c.script-script.ensures)))
+    (grind (arith, c.is_empty.ensures, c.if-is_empty.true)) refl (ap (faults_in c.args.project.now) c.new.ensures.items)
 
 pub returns : goal.returns
 returns c =
