@@ -102,8 +102,9 @@ fn write_stretches(canvas: &mut Canvas, stretches: &[Stretch<'_>], end: usize, m
     }
 }
 
-/// Writes patches at their places in the file; the canvas grows where they lie past it. Where the patches have the bytes
-/// of an image, bytes of the canvas that were right for that image stay right, and the patched bytes become right.
+/// Writes patches at their places in the file; the canvas grows where they lie past it. Where the patches have the
+/// bytes of an image, bytes of the canvas that were right for that image stay right, and the patched bytes become
+/// right.
 fn write_patches(canvas: &mut Canvas, patches: &[Patch], end: usize, meter: &mut Meter)
     requires within { All (EndsBy end) patches.now }
     requires short { length canvas.old.bytes ≤ end }
@@ -125,8 +126,8 @@ fn write_patches(canvas: &mut Canvas, patches: &[Patch], end: usize, meter: &mut
     }
 }
 
-/// Brings the canvas to the image that the stretches, up to `end`, and the patches are a plan for: cuts off what lies past
-/// it, writes the patches, and then the stretches that don't stay. It takes no memory.
+/// Brings the canvas to the image that the stretches, up to `end`, and the patches are a plan for: cuts off what lies
+/// past it, writes the patches, and then the stretches that don't stay. It takes no memory.
 pub(crate) fn write_image(
     canvas: &mut Canvas,
     stretches: &[Stretch<'_>],

@@ -102,7 +102,10 @@ partitioned name xs sorted i j d l h earlier =
 
 pub place_among : (name : Name) (xs : List NamedKey) (n : ℕ)
     → IsPartitionPoint (λ x. comes_by name x ≡ true) (λ x. comes_by name x ≡ false) xs n → IsPlaceAmong name xs n
-place_among name xs n parts = (λ k d l h. before_it _ name (parts.0 k d l h), λ k d l h. after_it _ name (parts.1 k d l h))
+place_among name xs n parts = (
+  λ k d l h. before_it _ name (parts.0 k d l h),
+  λ k d l h. after_it _ name (parts.1 k d l h),
+)
 
 pub first_before : (c : Candidate) (xs : List NamedKey) (n : ℕ) → IsPlaceAmong c.name.now xs n → n ≤ length xs
     → Each (λ (x : Candidate). NotAfter comes_before x c) (take n (map with_key xs))
@@ -153,7 +156,8 @@ drop_one (y ∷ ys) (suc k) c w e =
     ∙ ap (λ n. c ∷ drop n (y ∷ ys)) (let is : suc (k + 1) ≡ suc k + 1 = omega arith in is)
 
 pub one_merged : (xs : List NamedKey) (ys : List Candidate) (left : List NamedKey) (k n : ℕ) (c : Candidate)
-    (list with now : List Candidate) → k < length ys → get_or ys k c ≡ c → n ≤ length left → IsPlaceAmong c.name.now left n
+    (list with now : List Candidate) → k < length ys → get_or ys k c ≡ c → n ≤ length left
+    → IsPlaceAmong c.name.now left n
     → with ≡ list ++ map with_key (take n left) → now ≡ with ++ c ∷ [] → MergedSoFar xs ys left k list
     → MergedSoFar xs ys (drop n left) (k + 1) now
 one_merged xs ys left k n c list with now within here inside parts runs adds h = record {

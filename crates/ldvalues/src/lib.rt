@@ -3,8 +3,8 @@
 //! faults.
 //!
 //! - `link_view` over `known`, `given` and `given_table`: what the evaluation of relocations asks of a link;
-//! - `values` over `candidate`, `merged`, `symbols` and `script_values`: the values of all names, and the symbols of the
-//!   output;
+//! - `values` over `candidate`, `merged`, `symbols` and `script_values`: the values of all names, and the symbols of
+//!   the output;
 //! - `asserting` over `final_scope` and `symbols_by_name`: the faults of ASSERTs.
 #![tactic(auto)]
 

@@ -1,4 +1,5 @@
-use Rattle.std.proofs.Common.{◌≡◌, ◌∙◌, ◌-◌, ◌+◌, ◌≤◌, ◌++◌, List, [], None, ap, arith, drop, get_or, length, map, subst, sym, take}
+use Rattle.std.proofs.Common.{◌≡◌, ◌∙◌, ◌-◌, ◌+◌, ◌≤◌, ◌++◌, List, [], None, ap, arith, drop, get_or, length, map}
+use Rattle.std.proofs.Common.{subst, sym, take}
 use Rattle.std.proofs.lemmas.List.{drop-drop, get_or_default, length-drop, take_all}
 use Rattle.ldvalues.specs.Candidates.{with_key}
 use Rattle.ldvalues.specs.Merged.{IsPlaceAmong}
