@@ -119,6 +119,10 @@ impl<'a> Earlier for Stays<'a> {
 
     ghost range = { range_of };
 
+    fn is_none(&self) -> bool {
+        self.last.is_none()
+    }
+
     fn stayed(&self, section: SectionKey) -> Option<FileRange> {
         let last = self.last?;
         let before = last.standing(section)?;

@@ -20,10 +20,11 @@ use crate::earlier::{Earlier, FileRange};
 use crate::fields::add_fields;
 use crate::known::Known;
 use crate::moved::add_moved;
-use crate::site::PlacedSection;
+use crate::site::{PlacedSection, is_evaluated};
 use crate::symbol_table::SymbolTable;
 use crate::value::SymbolValue;
 use elfobj::object::Object;
+use elfobj::relocation::Relocation;
 use elfobj::section::LinkedIndex;
 use ldfields::patch::Patch;
 use ldmodel::fault::Fault;
@@ -308,6 +309,40 @@ fn add_of_key<L: Known, E: Earlier>(
     }
 }
 
+/// How many of these relocations have a field: all but `R_X86_64_NONE`.
+fn count_of_table(relocations: &[Relocation]) -> usize {
+    relocations.iter().filter(|r| is_evaluated(r.kind)).count()
+}
+
+/// How many relocations with a field there are in those sections of an object that are in the output.
+fn count_of_object<L: Known>(link: &L, key: ObjectKey, object: &Object) -> usize {
+    let mut count: usize = 0;
+    for index in 0..object.sections().len() {
+        let relocations = object.relocations(LinkedIndex(index));
+        let part = Part::InTable(object.sections()[index].number);
+        let section = SectionKey { object: key, part };
+        if !relocations.is_empty() && link.start(section).is_some() {
+            count = count.saturating_add(count_of_table(relocations));
+        }
+    }
+    count
+}
+
+/// How many fields there will be, where there is no earlier link. Beside one there are few, and it is not worth asking
+/// of each section whether it stayed.
+fn count_fields<L: Known, E: Earlier>(link: &L, earlier: &E, objects: &[ObjectKey]) -> usize {
+    let mut count: usize = 0;
+    if !earlier.is_none() {
+        return count;
+    }
+    for key in objects {
+        if let Some(object) = link.object(*key) {
+            count = count.saturating_add(count_of_object(link, *key, object));
+        }
+    }
+    count
+}
+
 /// How many sections these objects have.
 fn count_sections<L: Known>(link: &L, objects: &[ObjectKey]) -> usize {
     let mut count: usize = 0;
@@ -343,7 +378,7 @@ pub fn changed_fields<L: Known, E: Earlier>(
     // so that the range of the count is known
     let _fields = meter.fields();
     let mut fields = ChangedFields {
-        patches: Vec::new(alloc),
+        patches: Vec::with_capacity(alloc, count_fields(link, earlier, objects))?,
         ends: Vec::with_capacity(alloc, count_sections(link, objects))?,
         retargeted: Vec::new(alloc),
         faults: Vec::new(alloc),

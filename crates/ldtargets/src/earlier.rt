@@ -36,6 +36,10 @@ pub trait Earlier {
     /// Which input sections stayed, as far as is known, and where their bytes stand in the file.
     ghost range: { Self → SectionKey → Option FileRange };
 
+    /// Whether there is no earlier link, so that no section stayed. It is asked before memory is reserved, and nothing
+    /// else rests on it.
+    fn is_none(&self) -> bool;
+
     /// Where the bytes of an input section stand in the file, if it stayed there: no bytes, where its output section
     /// has none. Nothing is said of a section that is not in the output.
     fn stayed(&self, section: SectionKey) -> Option<FileRange>
@@ -65,6 +69,10 @@ impl Earlier for Nothing {
     ghost knows = { λ _ _ _. Unit {0} };
 
     ghost range = { λ _ _. None };
+
+    fn is_none(&self) -> bool {
+        true
+    }
 
     fn stayed(&self, _section: SectionKey) -> Option<FileRange> {
         None

@@ -22,6 +22,7 @@ returns g c =
 pub loop-key-init : goal.loop-key-init
 loop-key-init g c =
     λ old l k e all low order.
-    changed_none old l (g.E.Earlier.range c.args.earlier.now) _ _ c.new.ensures.items
-    c.in_ok-with_capacity.ensures.items c.new-2.ensures.items c.new-3.ensures.items refl
+    changed_none old l (g.E.Earlier.range c.args.earlier.now) _ _ c.in_ok-with_capacity.ensures.items
+    c.in_ok-with_capacity-2.ensures.items
+    c.new.ensures.items c.new-2.ensures.items refl
     (omega (arith, c.fields-fields.type_inv, c.fields-fields.ensures))
