@@ -24,7 +24,11 @@ struct FileSearch<'t, 'a> {
 }
 
 impl<'t, 'a> FileSearch<'t, 'a> {
-    /// A search that knows nothing yet. An error says that memory ran out.
+    /// A search that knows nothing yet.
+    ///
+    /// # Errors
+    ///
+    /// Where memory runs out.
     fn new(
         alloc: Global,
         words: &'t FileTables<'a>,
@@ -71,7 +75,11 @@ impl<'t, 'a> FileSearch<'t, 'a> {
     }
 }
 
-/// The statements that take the sections of an object of this name, in their order. An error says that memory ran out.
+/// The statements that take the sections of an object of this name, in their order.
+///
+/// # Errors
+///
+/// Where memory runs out.
 pub fn matches_by(
     alloc: Global,
     words: &FileTables<'_>,

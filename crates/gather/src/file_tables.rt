@@ -74,8 +74,12 @@ impl<'a> FileTables<'a> {
         }
     }
 
-    /// Of the words of statements for several files that are in a list: it isn't known yet which take sections from a
-    /// file. An error says that memory ran out.
+    /// Says of each word of statements for several files that is in a list that it isn't known yet whether it takes
+    /// sections from a file.
+    ///
+    /// # Errors
+    ///
+    /// Where memory runs out.
     pub fn nothing_known(&self, alloc: Global) -> Result<Vec<Option<bool>>, NoMemory>
         ensures { IfOk result (λ known. (file : List ℕ) → AreKnown file self.now.others.wild.items known.items) }
     {

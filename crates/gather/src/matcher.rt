@@ -88,7 +88,11 @@ impl<'a> Matcher<'a> {
     /// The input statements that take the sections of an object, in their order. A long name is matched once, however
     /// many sections have it where it lies, and so is a short one, where a word that is one name leaves out many
     /// patterns for files. In statements for more than one file the patterns for files of a word that has pattern signs
-    /// are matched at most once. An error says that memory ran out.
+    /// are matched at most once.
+    ///
+    /// # Errors
+    ///
+    /// Where memory runs out.
     pub fn matches_of(
         &self,
         alloc: Global,

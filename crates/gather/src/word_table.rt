@@ -108,8 +108,11 @@ impl<'a> WordTable<'a> {
         Ok(())
     }
 
-    /// Of each word in the list of others: it isn't known yet which take sections from a file. An error says that
-    /// memory ran out.
+    /// Says of each word in the list of others that it isn't known yet whether it takes sections from a file.
+    ///
+    /// # Errors
+    ///
+    /// Where memory runs out.
     pub fn nothing_known(&self, alloc: Global) -> Result<Vec<Option<bool>>, NoMemory>
         ensures { IfOk result (λ known. (file : List ℕ) → AreKnown file self.now.wild.items known.items) }
     {

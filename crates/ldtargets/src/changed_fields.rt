@@ -328,13 +328,13 @@ fn count_of_object<L: Known>(link: &L, key: ObjectKey, object: &Object) -> usize
     count
 }
 
-/// How many fields there will be, where there is no earlier link. Beside one there are few, and it is not worth asking
-/// of each section whether it stayed.
+/// How many fields there will be, where there is no earlier link. Beside one it is 0: to know the number, each section
+/// would have to be asked once more whether it stayed, and the list may grow as well.
 fn count_fields<L: Known, E: Earlier>(link: &L, earlier: &E, objects: &[ObjectKey]) -> usize {
-    let mut count: usize = 0;
     if !earlier.is_none() {
-        return count;
+        return 0;
     }
+    let mut count: usize = 0;
     for key in objects {
         if let Some(object) = link.object(*key) {
             count = count.saturating_add(count_of_object(link, *key, object));
