@@ -53,7 +53,12 @@ def adapt(script: Path | str | bytes, defsyms: Sequence[tuple[str, str]] = (),
     data = script.encode() if isinstance(script, str) else script
     front = "".join(f"{_checked(name, value)} = {value}; " for name, value in defsyms)
     source = Source(path, front.encode("latin-1", "replace") + data, tuple(include_path))
-    model = Model(source, parse(source), None if objects is None else Objects(objects))
+    nodes, hashes = parse(source)
+    model = Model(source, nodes, None if objects is None else Objects(objects))
+    for start, end in hashes:
+        inside = source.text[start + 1:end].strip().replace("*/", "* /")
+        model.edits.replace(start, end, f"/* {inside} */")
+        model.note(REWRITTEN, start, "a comment of `#` as /* */")
     _report_front(model, defsyms)
     _rules(model)
     if orphans:

@@ -23,7 +23,7 @@ class Edits:
 
     def replace(self, start: int, end: int, text: str) -> None:
         """Another text in place of a span; comments and line ends of the span stay after it."""
-        rest = kept(self.source.text[start:end])
+        rest = "" if text.startswith("/*") else kept(self.source.text[start:end])
         if rest and not text:
             text = rest
         elif rest:
@@ -37,6 +37,10 @@ class Edits:
     def insert(self, at: int, text: str, order: int = 0) -> None:
         """A text before an offset; those of one offset stand by `order`, then as they came."""
         self._inserts.setdefault(at, []).append((order, len(self._inserts.get(at, ())), text))
+
+    def remove(self, at: int, text: str) -> None:
+        """Takes back an inserted text."""
+        self._inserts[at] = [entry for entry in self._inserts.get(at, []) if entry[2] != text]
 
     def move(self, start: int, end: int, to: int, order: int = 0) -> None:
         """A span with its own changes to another place; nothing stays where it was."""

@@ -39,7 +39,7 @@ class Rewriter:
         """Whether the statement is one of the profile as it stands."""
         node = self.node
         patterns = node.patterns
-        if patterns is None or node.commas or node.bare or node.file.sorts or node.file.exclude or node.file.quoted:
+        if patterns is None or node.bare or node.file.sorts or node.file.exclude or node.file.quoted:
             return False
         if not is_word(node.file.word) or any(not is_word(p.word) or p.quoted for p in patterns):
             return False
@@ -69,6 +69,9 @@ class Rewriter:
 
     def _word(self, pattern: str) -> str:
         word, exact = word_of(pattern)
+        if "," in pattern:
+            self.notes.append((REWRITTEN, f"`{pattern}`: to GNU ld the comma is a byte of the name; names are parted by "
+                               "spaces"))
         if not exact:
             self.notes.append((CHANGED, f"`{pattern}` is `{word}` here, which may match other names"))
         return word

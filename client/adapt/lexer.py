@@ -8,13 +8,14 @@ from client.adapt.source import Source
 SCRIPT, EXPRESSION, WILD, FILES = range(4)
 
 _SPACE = re.compile(r"(?:[ \t\r\n\f\v]+|/\*.*?\*/|#[^\n]*)*", re.DOTALL)
+_COMMENT = re.compile(r"/\*.*?\*/|#[^\n]*", re.DOTALL)
 _STRING = r'(?P<string>"[^"]*")'
 _SET = r"\[[^\]\s]*\]"
 _MODES = (
     # outside of output sections
     re.compile(_STRING + r"""
         |(?P<number>(?:0[xX][0-9A-Fa-f]+|\$[0-9A-Fa-f]+|[0-9]+)[MKmk]?)
-        |(?P<name>[_a-zA-Z/.\\$~](?:[_a-zA-Z0-9.\\$~\[\]]|[-+/](?![*=])|:(?=[_a-zA-Z0-9/]))*)
+        |(?P<name>(?!/=)[_a-zA-Z/.\\$~](?:[_a-zA-Z0-9.\\$~\[\]]|[-+/](?![*=])|:(?=[_a-zA-Z0-9/]))*)
         |(?P<mark><<=|>>=|[-+*/&|]=|[-+~!><,=(){}:;])""", re.VERBOSE),
     # in expressions
     re.compile(_STRING + r"""
@@ -25,8 +26,8 @@ _MODES = (
         |(?P<mark><<=|>>=|\|\||&&|[=!<>]=|<<|>>|[-+*/&|]=|[-+*/%&|^~!?<>,=(){}:;])""", re.VERBOSE),
     # between the braces of an output section
     re.compile(_STRING + r"""
-        |(?P<mark><<=|>>=|[-+*/&|]=|[=&(){};,]|\[(?=\s)|\])
-        |(?P<name>(?:[_a-zA-Z0-9/.$~:?^!<>]|\\[!-~]|[-+*](?!=)|%s)+)""" % _SET, re.VERBOSE),
+        |(?P<mark><<=|>>=|[-+*/&|]=|[=&(){};]|\[(?=\s)|\])
+        |(?P<name>(?:[_a-zA-Z0-9/.$~:?^!,]|\\[!-~]|[-+*](?!=)|%s)+)""" % _SET, re.VERBOSE),
     # lists of files
     re.compile(_STRING + r"""
         |(?P<mark>[(),])
@@ -56,12 +57,16 @@ class Lexer:
         self.last = 0
         """Where the last token taken ends."""
         self._seen: tuple[int, int, Token] | None = None
+        self.hashes: set[tuple[int, int]] = set()
+        """The spans of comments that begin with `#`."""
 
     def peek(self, mode: int) -> Token:
         """The next token, as the mode reads it."""
         if self._seen and self._seen[0] == self.at and self._seen[1] == mode:
             return self._seen[2]
         start = _SPACE.match(self.text, self.at).end()  # type: ignore[union-attr]
+        if self.text.find("#", self.at, start) >= 0:
+            self._comments(start)
         if start >= len(self.text):
             token = Token("end", "", len(self.text), len(self.text))
         elif self.text.startswith("/*", start):
@@ -78,6 +83,12 @@ class Lexer:
             token = Token(_kind(kind), text, start, match.end())
         self._seen = (self.at, mode, token)
         return token
+
+    def _comments(self, end: int) -> None:
+        """Notes the comments of `#` before an offset."""
+        for match in _COMMENT.finditer(self.text, self.at, end):
+            if match.group()[0] == "#":
+                self.hashes.add(match.span())
 
     def take(self, mode: int) -> Token:
         """The next token, taken."""

@@ -12,6 +12,10 @@ from client.adapt.source import Source
 from client.adapt.tree import Assign, Block, Command, Expr, Node, Region, Section
 
 
+UNKNOWN = -1e9
+"""A place that is not known yet."""
+
+
 class Step:
     """A statement at its place in the order of evaluation. A section has two: its head, and its end."""
 
@@ -33,8 +37,8 @@ class Definition:
     def __init__(self, name: str, step: Step, provide: bool) -> None:
         self.name, self.step, self.section, self.provide = name, step, step.section, provide
         self.emitted = name
-        self.ready = -1.0
-        """The place after which the symbol has its value; below 0 while it is not known."""
+        self.ready = UNKNOWN
+        """The place after which the symbol has its value."""
         self.moved: float | None = None
         """Where the assignment was moved to: after or before a step."""
         self.used = False

@@ -182,7 +182,7 @@ class Parser:
         lexer.expect(EXPRESSION, ")")
         end = lexer.last
         separator = lexer.peek(mode)
-        if separator.kind == "mark" and separator.text in (";", ","):
+        if separator.text in (";", ","):
             lexer.take(mode)
             return Assert(value, text, word.start, lexer.last, separator.text)
         del message
@@ -355,7 +355,7 @@ class Parser:
                 raise self.source.fail(section.open, f"this `{{` of {section.name} has no `}}`")
             if token.text == "}":
                 break
-            if token.kind == "mark" and token.text in ";,":
+            if token.text in (";", ","):
                 lexer.take(WILD)
                 continue
             section.body.append(self._statement())
@@ -439,7 +439,6 @@ class Parser:
         patterns: list[Pattern] = []
         while not (lexer.peek(WILD).kind == "mark" and lexer.accept(WILD, close)):
             if lexer.accept(WILD, ","):
-                node.commas = True
                 continue
             patterns.append(self._pattern())
         if not patterns:
@@ -458,8 +457,7 @@ class Parser:
         if lexer.accept(WILD, "EXCLUDE_FILE"):
             lexer.expect(WILD, "(")
             while not lexer.accept(WILD, ")"):
-                if not lexer.accept(WILD, ","):
-                    exclude.append(lexer.name(WILD).text)
+                exclude.append(lexer.name(WILD).text)
         token = lexer.peek(WILD)
         word = lexer.name(WILD)
         for _ in sorts:
@@ -467,9 +465,10 @@ class Parser:
         return Pattern(word.text, sorts, exclude, start, lexer.last, token.kind == "string")
 
 
-def parse(source: Source) -> list[Node]:
-    """The statements of a source; raises NoParse."""
-    return Parser(source).script()
+def parse(source: Source) -> tuple[list[Node], list[tuple[int, int]]]:
+    """The statements of a source, and the spans of its comments of `#`; raises NoParse."""
+    parser = Parser(source)
+    return parser.script(), sorted(parser.lexer.hashes)
 
 
 def expression_of(text: str, path: str) -> Expr:

@@ -65,7 +65,7 @@ class Statements:
         """A new symbol for `.` before a statement."""
         line = self.model.source.place(node.start)[1]
         name = self.model.fresh(f"ldi.here.{line}")
-        self.model.edits.insert(node.start, f"{name} = .; ", order=4)
+        self.model.edits.insert(node.start, f"{name} = .; ", order=10 ** 6)
         return ex.symbol(name)
 
     # --- symbols ---
@@ -151,9 +151,9 @@ class Statements:
             model.edits.insert(target.end, " " + text, order=order)
             return
         target = model.steps[whole].item
-        at, rank = target.start, 1
+        at, rank = target.start, 1 + int((d.moved - whole + 0.5) * 1e4)
         if getattr(target, "word", "") == "MEMORY" and getattr(model, "memory_at", target.start) != target.start:
-            at, rank = model.memory_at, -2
+            at, rank = model.memory_at, rank - 10 ** 6
         model.edits.insert(at, text + " ", order=rank)
 
     def _without_assert(self, step: Step, place: Place) -> Expr:
@@ -171,7 +171,7 @@ class Statements:
             check.dot = self._here(step.node)
         value = self.translator.value(call.args[0], check)
         text = ex.write(self.translator.raw(value, check))
-        self.model.edits.insert(step.node.start, f"ASSERT({text}, \"{_message(call.name)}\") ", order=6)
+        self.model.edits.insert(step.node.start, f"ASSERT({text}, \"{_message(call.name)}\") ", order=2 * 10 ** 6)
         place.notes.append("ASSERT is a statement and has no value")
         place.notes.extend(check.notes)
         place.worry.extend(check.worry)
@@ -291,7 +291,7 @@ class Statements:
         where = self.translator.in_section(value, place)
         line = self.model.source.place(node.start)[1]
         name = self.model.fresh(f"ldi.next.{line}")
-        self.model.edits.insert(node.start, f"{name} = {ex.write(where)}; ", order=5)
+        self.model.edits.insert(node.start, f"{name} = {ex.write(where)}; ", order=2 * 10 ** 6)
         place.notes.append("through a symbol, as `. = e` has neither `.` nor ALIGN in a section")
         return ex.subtract(ex.symbol(name), self.translator.start(place.section, place))
 
@@ -323,6 +323,7 @@ class Statements:
             return
         assert step.expr is not None and node.value is not None
         place = Place(step.index, None)
+        place.around = step.section
         value = self.translator.value(step.expr, place)
         result = self.translator.address(value, place)
         if node.word == "SQUAD":

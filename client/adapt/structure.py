@@ -138,12 +138,12 @@ class Structure:
         first, last = nodes[places[0]], nodes[places[-1]]
         assert isinstance(first, Block) and isinstance(last, Block)
         if low < places[0]:
-            model.edits.insert(nodes[low].start, "SECTIONS { ", order=5)
+            model.edits.insert(nodes[low].start, "SECTIONS { ", order=-1)
             model.edits.blank(first.start, first.open + 1)
             model.note(REWRITTEN, nodes[low].start, "`.` is used before SECTIONS: SECTIONS begin here")
         if high > places[-1]:
             model.edits.blank(last.close, last.end)
-            model.edits.insert(nodes[high].end, " }", order=90)
+            model.edits.insert(nodes[high].end, " }", order=10 ** 7)
             model.note(REWRITTEN, nodes[high].start, "`.` is used after SECTIONS: SECTIONS end here")
         for i in places[1:]:
             block = nodes[i]
@@ -176,7 +176,7 @@ class Structure:
         if not is_name(name):
             model.note(LEFT, node.start, f"{model.text(node)}: ENTRY needs a symbol's name")
         elif inside:
-            model.edits.insert(self.insertion, plain + " ", order=-3)
+            model.edits.insert(self.insertion, plain + " ", order=-10 ** 7)
             model.edits.blank(node.start, node.end)
             model.note(REWRITTEN, node.start, f"{plain}: stands before SECTIONS")
         elif '"' in model.source.text[node.start:node.end]:
@@ -196,7 +196,7 @@ class Structure:
             model.note(REWRITTEN, block.start, "a second MEMORY goes on with the first")
         self.memory_at = found[0].start if found else 0
         if found and self.nodes.index(found[0]) > self.low and self.high >= 0:
-            model.edits.move(found[0].start, found[0].end, self.insertion, order=-2)
+            model.edits.move(found[0].start, found[0].end, self.insertion, order=-10 ** 5)
             model.note(REWRITTEN, found[0].start, "MEMORY stands before the SECTIONS that use it")
             self.memory_at = self.insertion
         for block in found:

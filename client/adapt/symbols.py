@@ -2,7 +2,7 @@
 from __future__ import annotations
 
 from client.adapt import expressions as ex
-from client.adapt.model import Definition, Model, Step
+from client.adapt.model import UNKNOWN, Definition, Model, Step
 from client.adapt.notes import CHANGED, DROPPED, LEFT, REWRITTEN
 from client.adapt.tree import Assign, Expr, Region, Section
 
@@ -143,6 +143,8 @@ class Symbols:
             self._drop(d, f"PROVIDE({d.name} = ..) has no effect: {found.object} defines {d.name}")
             model.definitions[d.name] = []
             return
+        if model.objects and model.objects.refers(d.name):
+            return
         d.plain = True
         more = "" if model.objects else f"; where an object defines {d.name} too, take the line out"
         model.note(REWRITTEN, d.step.node.start, f"PROVIDE({d.name} = ..) as an assignment, as the script uses "
@@ -196,7 +198,7 @@ class Symbols:
 
     def _resolve(self, d: Definition) -> None:
         """Finds where a symbol has its value; moves its assignment if that is later."""
-        if d.ready >= 0 or d.busy:
+        if d.ready > UNKNOWN or d.busy:
             return
         d.busy = True
         step = d.step
@@ -206,7 +208,7 @@ class Symbols:
             if needed is None or needed is d:
                 continue
             self._resolve(needed)
-            if needed.ready < 0:
+            if needed.ready <= UNKNOWN:
                 latest = max(latest, float(step.index))
             elif needed.ready >= step.index and not self._hoist(needed, step):
                 latest = max(latest, needed.ready)
@@ -233,7 +235,7 @@ class Symbols:
             return False
         for name in _symbols(d.step.expr):
             needed = self.model.version(name, d.step.index)
-            if needed is not None and not 0 <= needed.ready < self._before(user):
+            if needed is not None and not UNKNOWN < needed.ready < self._before(user):
                 self._hoist(needed, user)
         self._count += 1
         d.ready = d.moved = self._before(user) + self._count * _SOON
@@ -267,7 +269,7 @@ class Symbols:
                 if self.model.objects is None or (found := self.model.objects.definition(name)) is None \
                         or found.section:
                     return False
-            elif not 0 <= needed.ready < self._before(user) and not self._early(needed, user, (*seen, d)):
+            elif not UNKNOWN < needed.ready < self._before(user) and not self._early(needed, user, (*seen, d)):
                 return False
         return True
 

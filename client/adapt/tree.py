@@ -114,7 +114,7 @@ class Pattern(Node):
 class Input(Node):
     """An input statement: `file` and its `patterns`, None where a file stands alone."""
 
-    __slots__ = ("keep", "flags", "file", "patterns", "commas", "bare")
+    __slots__ = ("keep", "flags", "file", "patterns", "bare")
 
     def __init__(self, file: Pattern, start: int) -> None:
         super().__init__(start, start)
@@ -122,7 +122,6 @@ class Input(Node):
         self.keep = False
         self.flags: list[str] = []
         self.patterns: list[Pattern] | None = None
-        self.commas = False
         self.bare = False
         """`[..]` without a file."""
 

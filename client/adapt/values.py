@@ -32,7 +32,7 @@ class Value:
 class Place:
     """Where an expression is evaluated: its step, the section around it, where its text will stand."""
 
-    __slots__ = ("step", "section", "at", "is_assert", "no_dot", "own", "notes", "dot", "worry")
+    __slots__ = ("step", "section", "at", "is_assert", "own", "around", "notes", "dot", "worry")
 
     def __init__(self, step: float, section: Section | None, at: float | None = None, is_assert: bool = False,
                  own: Section | None = None) -> None:
@@ -40,6 +40,8 @@ class Place:
         self.at = step if at is None else at
         self.own = own
         """The section whose head this is: its address may be named in AT."""
+        self.around = section
+        """The section in whose body this is, also where its numbers do not count from its start."""
         self.notes: list[str] = []
         """Why the expression was changed."""
         self.worry: list[str] = []
@@ -343,7 +345,7 @@ class Translator:
         if e.word == "ALIGNOF":
             return Value(NUMBER, self._alignof(section, place))
         if e.word == "ADDR":
-            if not complete and (section is place.section or section is place.own):
+            if not complete and (section is place.around or section is place.own):
                 if section is place.own:
                     return Value(RELATIVE, e, section)
                 place.notes.append(f"ADDR({e.name}) in it is a symbol of its start")
