@@ -1,15 +1,15 @@
 """A script of GNU ld's language as one of the profile: the function for other programs."""
 from __future__ import annotations
 
+import os
 from collections.abc import Iterable, Mapping, Sequence
-from dataclasses import dataclass
-from pathlib import Path
 
 from client.adapt.inputs import inputs
 from client.adapt.limits import parted
 from client.adapt.model import Model
 from client.adapt.notes import CHANGED, DROPPED, LEFT, REWRITTEN, Note
 from client.adapt.objects import Objects
+from client.adapt.patterns import has_wildcard
 from client.adapt.parser import expression_of, parse
 from client.adapt.sections import Sections
 from client.adapt.source import NoParse, Source
@@ -17,18 +17,20 @@ from client.adapt.statements import Statements
 from client.adapt.structure import Structure
 from client.adapt.symbols import Symbols, unused
 from client.adapt.taking import all_sections, taking
+from client.adapt.tree import Input
 
 __all__ = ["Adapted", "NoParse", "Note", "adapt", "CHANGED", "DROPPED", "LEFT", "REWRITTEN"]
 
 
-@dataclass(frozen=True)
 class Adapted:
     """The script for `ldi`, what was done, and where each of its lines came from."""
 
-    text: bytes
-    report: list[Note]
-    lines: tuple[tuple[str, int], ...]
-    """For each line of `text`, from 0: the file and the line (from 1) that it came from."""
+    __slots__ = ("text", "report", "lines")
+
+    def __init__(self, text: bytes, report: list[Note], lines: tuple[tuple[str, int], ...]) -> None:
+        self.text, self.report = text, report
+        self.lines = lines
+        """For each line of `text`, from 0: the file and the line (from 1) that it came from."""
 
     @property
     def status(self) -> int:
@@ -37,7 +39,7 @@ class Adapted:
         return 2 if LEFT in kinds else 1 if CHANGED in kinds else 0
 
 
-def adapt(script: Path | str | bytes, defsyms: Sequence[tuple[str, str]] = (),
+def adapt(script: os.PathLike[str] | str | bytes, defsyms: Sequence[tuple[str, str]] = (),
           objects: Mapping[str, bytes] | Iterable[str] | None = None,
           include_path: Sequence[str] = (), path: str = "script", orphans: bool = True) -> Adapted:
     """Rewrites `script` into the profile.
@@ -48,8 +50,10 @@ def adapt(script: Path | str | bytes, defsyms: Sequence[tuple[str, str]] = (),
     `include_path` are the folders where INCLUDE looks after the current one. With `orphans`, and objects, input
     sections that no statement takes are reported as left. Raises `NoParse`, and `OSError` where a file cannot be read.
     """
-    if isinstance(script, Path):
-        path, script = str(script), script.read_bytes()
+    if isinstance(script, os.PathLike):
+        path = os.fspath(script)
+        with open(path, "rb") as file:
+            script = file.read()
     data = script.encode() if isinstance(script, str) else script
     front = "".join(f"{_checked(name, value)} = {value}; " for name, value in defsyms)
     source = Source(path, front.encode("latin-1", "replace") + data, tuple(include_path))
@@ -104,6 +108,24 @@ def _rules(model: Model) -> None:
         if id(section) not in model.dropped:
             inputs(model, section)
     unused(model)
+    _order_of_files(model)
+
+
+def _order_of_files(model: Model) -> None:
+    """Says where files that a script names are linked first by GNU ld."""
+    named: list[str] = []
+    first = 0
+    for section in all_sections(model.nodes):
+        for node in section.body:
+            if isinstance(node, Input) and not has_wildcard(node.file.word) and ":" not in node.file.word \
+                    and node.file.word not in named and (model.objects is None or node.file.word in model.objects.names):
+                named.append(node.file.word)
+                first = first or node.start
+    known = model.objects.names if model.objects else []
+    if named and (not known or known[:len(named)] != named):
+        files = ", ".join(named[:4]) + (", .." if len(named) > 4 else "")
+        model.note(CHANGED, first, f"{files}: where -T stands before the objects, GNU ld takes the files that a script "
+                   "names before all others: give the objects in this order")
 
 
 def _orphans(model: Model) -> None:

@@ -3,7 +3,6 @@ from __future__ import annotations
 
 import struct
 from collections.abc import Iterable, Mapping
-from dataclasses import dataclass
 
 LINKED = frozenset((1, 7, 8, 14, 15, 16, 0x70000001))
 NOBITS = 8
@@ -11,27 +10,24 @@ WRITE, ALLOC, EXEC = 1, 2, 4
 _ABS, _COMMON = 0xFFF1, 0xFFF2
 
 
-@dataclass(frozen=True)
 class InputSection:
     """A linked section, or a common block, of an object."""
 
-    object: str
-    name: str
-    type: int
-    flags: int
-    size: int
-    align: int
+    __slots__ = ("object", "name", "type", "flags", "size", "align")
+
+    def __init__(self, owner: str, name: str, kind: int, flags: int, size: int, align: int) -> None:
+        self.object, self.name, self.type, self.flags, self.size, self.align = owner, name, kind, flags, size, align
 
 
-@dataclass(frozen=True)
 class Definition:
     """A definition of a name in an object."""
 
-    object: str
-    section: str
-    """The section's name; empty for an absolute one, COMMON for a common block."""
-    value: int
-    weak: bool
+    __slots__ = ("object", "section", "value", "weak")
+
+    def __init__(self, owner: str, section: str, value: int, weak: bool) -> None:
+        self.object, self.value, self.weak = owner, value, weak
+        self.section = section
+        """The section's name; empty for an absolute one, COMMON for a common block."""
 
 
 class Objects:

@@ -184,9 +184,10 @@ class Parser:
         separator = lexer.peek(mode)
         if separator.text in (";", ","):
             lexer.take(mode)
-            return Assert(value, text, word.start, lexer.last, separator.text)
-        del message
-        return Assert(value, text, word.start, end)
+            end = lexer.last
+        node = Assert(value, text, word.start, end, separator.text if separator.text in (";", ",") else "")
+        node.bare = message.kind != "string"
+        return node
 
     def _region(self) -> Region:
         lexer = self.lexer

@@ -7,7 +7,7 @@ from client.adapt.notes import CHANGED, DROPPED, LEFT, REWRITTEN, Left
 from client.adapt.patterns import is_name
 from client.adapt.statements import needs_writing
 from client.adapt.taking import alignment_of, flags_of, row
-from client.adapt.tree import Data, Expr, Input, Part, Region, Section
+from client.adapt.tree import Assign, Data, Expr, Input, Part, Region, Section
 from client.adapt.values import Place, Translator, Value
 
 ZERO = ex.number(0)
@@ -143,7 +143,8 @@ class Sections:
         items = row(model, section)
         if not word:
             self._blank(part, DROPPED, f"() of {section.name} says nothing")
-        elif model.objects is not None and (not items or word == "NOLOAD" and flags_of(model, section)[2]):
+        elif model.objects is not None and not _has_contents(section) \
+                and (not items or word == "NOLOAD" and flags_of(model, section)[2]):
             what = "without file bytes in these objects" if items else "takes nothing of these objects"
             self._blank(part, DROPPED, f"({word}) of {section.name}: it {what}")
         elif word == "NOLOAD":
@@ -158,6 +159,8 @@ class Sections:
         for part in section.head:
             if part.word in ("ONLY_IF_RO", "ONLY_IF_RW"):
                 self.model.edits.blank(part.start, part.end)
+            elif part.word == "ALIGN_WITH_INPUT" and section.part("AT>") is None:
+                self._blank(part, DROPPED, f"ALIGN_WITH_INPUT of {section.name}: it has no AT>")
             elif part.word == "SPECIAL":
                 self._blank(part, DROPPED, f"SPECIAL of {section.name}")
 
@@ -488,6 +491,11 @@ class Sections:
         elif text != own:
             model.edits.replace(part.start, part.end, "=" + text)
             model.note(REWRITTEN, part.start, f"the fill {own} of {section.name} as {text}")
+
+
+def _has_contents(section: Section) -> bool:
+    """Whether a section's body makes bytes of its own: data, or gaps."""
+    return any(isinstance(node, Data) or isinstance(node, Assign) and node.name == "." for node in section.body)
 
 
 def _after_region(section: Section) -> int:

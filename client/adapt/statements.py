@@ -307,7 +307,7 @@ class Statements:
         value = self.translator.value(step.expr, place)
         result = self.translator.raw(value, place)
         message = _message(node.message)
-        if message != node.message or node.separator == ",":
+        if message != node.message or node.separator == "," or node.bare:
             text = f"ASSERT({ex.write(result)}, \"{message}\")"
             self.model.edits.replace(node.start, node.end, text + (";" if node.separator else ""))
             place.notes.append("in the profile's form")
