@@ -59,9 +59,9 @@ class Sections:
         """Rewrites an expression of a head where it must be another."""
         result = self._value(e, place)
         if needs_writing(self.model.source.text, e, result):
-            self.model.edits.replace(e.start, e.end, ex.write(result))
+            self.model.edits.replace(e.start, e.end, ex.short(result))
             if not place.notes:
-                place.notes.append("as " + ex.write(result))
+                place.notes.append("as " + ex.short(result))
         self._report(e.start, what, place)
         return result
 
@@ -87,8 +87,11 @@ class Sections:
             model.note(REWRITTEN, at, "no comma stands between regions")
         if not is_name(region.name):
             raise Left(f"the region's name is none of the profile: {region.name}")
+        long = ex.sign_count(" ".join(text[r.start:r.end] for r in model.regions.values())) > ex.LONG
         for e in (region.origin, region.length):
-            self._write(e, Place(step.index, None), f"the region {region.name}:")
+            result = self._write(e, Place(step.index, None), f"the region {region.name}:")
+            if long and result.kind != "number":
+                edits.replace(e.start, e.end, ex.write(ex.folded(result)))
 
     # --- heads ---
 
@@ -121,8 +124,8 @@ class Sections:
                 folded = Expr("call", "ALIGN", (folded, power))
                 place.notes.append("its address is aligned by its ALIGN, as GNU ld does")
             if needs_writing(model.source.text, address, folded):
-                model.edits.replace(address.start, address.end, ex.write(folded))
-                place.notes = place.notes or ["as " + ex.write(folded)]
+                model.edits.replace(address.start, address.end, ex.short(folded))
+                place.notes = place.notes or ["as " + ex.short(folded)]
             self._report(section.start, f"the address of {section.name}:", place)
             known = folded
         if align is not None and align.value is not None:
@@ -306,7 +309,7 @@ class Sections:
         load: Expr = Expr("binary", "-", (address, distance))
         before = Expr("call", "ADDR", name=self.model.name_of(last))
         load = Expr("cond", "?", (Expr("binary", "<", (address, before)), address, load))
-        text = f" AT({ex.write(load)})"
+        text = f" AT({ex.short(load)})"
         self.model.edits.insert(section.colon + 1, text)
         self.model.note(REWRITTEN, section.start, f"{section.name}:{text}, as GNU ld keeps the distance of the section "
                         "before")
@@ -331,8 +334,8 @@ class Sections:
             self._at_own(section, region, address, at, result)
             return
         if needs_writing(model.source.text, at.value, result):
-            model.edits.replace(at.value.start, at.value.end, ex.write(result))
-            place.notes = place.notes or ["as " + ex.write(result)]
+            model.edits.replace(at.value.start, at.value.end, ex.short(result))
+            place.notes = place.notes or ["as " + ex.short(result)]
         self._report(at.start, f"AT of {section.name}:", place)
         self._both(region, self._of(section))
 
@@ -343,7 +346,7 @@ class Sections:
         distance = _distance(result, own)
         if address is not None:
             put = _put(result, own, address)
-            model.edits.replace(at.value.start, at.value.end, ex.write(put))  # type: ignore[union-attr]
+            model.edits.replace(at.value.start, at.value.end, ex.short(put))  # type: ignore[union-attr]
             model.note(REWRITTEN, at.start, f"AT of {section.name}: its address in place of ADDR({section.name})")
             self._both(region, distance if distance is not None else self._of(section))
             return
@@ -371,7 +374,7 @@ class Sections:
         """AT by the place before the section, with an ASSERT that it is the section's start."""
         model = self.model
         place = next(x for x in ex.walk(put) if x.kind == "name" and x.word.startswith("ldi.load."))
-        model.edits.replace(at.value.start, at.value.end, ex.write(put))  # type: ignore[union-attr]
+        model.edits.replace(at.value.start, at.value.end, ex.short(put))  # type: ignore[union-attr]
         model.note(CHANGED, at.start, f"AT of {section.name}: the place before it stands for ADDR({section.name}); "
                    "it must be aligned as the section is")
         model.edits.insert(section.end, f" ASSERT(ADDR({model.name_of(section)}) == {place.word}, "
@@ -385,9 +388,9 @@ class Sections:
             place = model.fresh("ldi.at." + section.name.lstrip("."))
             where = Expr("call", "ADDR", name=place)
             text = f"{place} : {{ }} >{region} "
-            text += f"{name} : AT({ex.write(ex.subtract(where, distance))}) {{ }} >{region} "
+            text += f"{name} : AT({ex.short(ex.subtract(where, distance))}) {{ }} >{region} "
         else:
-            text = f"{name} : AT({ex.write(ex.subtract(ex.DOT, distance))}) {{ }} "
+            text = f"{name} : AT({ex.short(ex.subtract(ex.DOT, distance))}) {{ }} "
         model.edits.insert(section.start, text, order=10 ** 6)
         return name
 
@@ -430,7 +433,7 @@ class Sections:
         where: Expr = Expr("call", "ADDR", name=name)
         if align is not None and align.value is not None:
             where = Expr("call", "ALIGN", (where, align.value))
-        model.edits.insert(section.colon + 1, f" AT({ex.write(where)})")
+        model.edits.insert(section.colon + 1, f" AT({ex.short(where)})")
         self._after_load(section, load, part)
         model.note(REWRITTEN, section.start, f"{section.name} AT>{load}: its load address is not aligned as the section "
                    f"is: it is that of an empty section {name}")

@@ -12,10 +12,10 @@ from client.adapt.source import Source
 from client.adapt.structure import Structure
 from client.adapt.symbols import expressions_of
 from client.adapt.taking import all_sections, is_outside
-from client.adapt.tree import Assign, Command, Input, Section
+from client.adapt.tree import Assert, Assign, Command, Input, Section
 
 _NOT_MADE = re.compile(r"\.(got|plt|iplt|igot|rel|dyn|hash|gnu\.|interp|eh_frame|note\.gnu|note\.GNU|sframe|tdata|tbss|"
-                       r"tcommon|stab|symtab|strtab|shstrtab|reloc|gcc_except|exception_ranges|relr|group|ctf)|L")
+                       r"tcommon|stab|symtab|strtab|shstrtab|reloc|gcc_except|exception_ranges|relr|group|ctf|lbss|ldata|lrodata|dynlbss)|L")
 _CODE = (".text", ".init", ".fini", ".head", ".entry", ".stub", ".start", ".vectors", ".fixup", ".boot", ".irqentry",
          ".kprobes", ".noinstr", ".exit", ".cpuidle", ".softirq")
 _DATA = (".data", ".ctors", ".dtors", ".init_array", ".fini_array", ".preinit_array", ".sdata", ".init.data")
@@ -43,6 +43,27 @@ def _flags(name: str, owner: str) -> str:
         if word.startswith(_DATA):
             return '"aw"'
     return '"aw"'
+
+
+def without_asserts(text: bytes, path: str) -> bytes:
+    """The text with all its ASSERTs true: made objects need not be what a project asserts."""
+    source = Source(path, text)
+    if source.included:
+        return text
+    nodes, _ = parse(source)
+    model = Model(source, nodes, None)
+    Structure(model).run()
+    spans: list[tuple[int, int]] = []
+    for step in model.steps:
+        if isinstance(step.node, Assert):
+            spans.append((step.node.value.start, step.node.value.end))
+        elif isinstance(step.node, Assign):
+            spans += [(x.args[0].start, x.args[0].end) for x in expressions.walk(step.node.value)
+                      if x.kind == "call" and x.word == "ASSERT"]
+    result = source.text
+    for start, end in sorted(spans, reverse=True):
+        result = f"{result[:start]}1 || ({result[start:end]}){result[end:]}"
+    return result.encode("latin-1")
 
 
 class Made:
@@ -127,8 +148,10 @@ class Made:
             label = re.sub(r"[^A-Za-z0-9]", "_", f"at_{count}_{name}_{number}")
             kind = ',@progbits' if "nobits" not in flags and not name.startswith((".init_array", ".fini_array",
                                                                                     ".preinit_array", ".note")) else ""
+            size = 3 + (number * 7 + count * 5) % 29
+            size = size * 8 if name.startswith((".ctors", ".dtors", ".init_array", ".fini_array")) else size
             lines += [f'.section "{name}",{flags}{kind}', f".balign {1 << (number + count) % 5}", f".globl {label}",
-                      f"{label}: .skip {3 + (number * 7 + count * 5) % 29}"]
+                      f"{label}: .skip {size}"]
         if path == "one.o":
             first = next((name for name, flags in sections if '"ax"' in flags), sections[0][0] if sections else ".none")
             flags = dict(sections).get(first, '"ax"')
