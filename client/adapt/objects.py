@@ -43,6 +43,7 @@ class Objects:
                     self._files[path] = file.read()
         self.names = list(self._files)
         self._sections: list[InputSection] | None = None
+        self._unloaded: list[InputSection] | None = None
         self._definitions: dict[str, Definition] = {}
         self._undefined: set[str] = set()
         self._read = False
@@ -55,6 +56,13 @@ class Objects:
                 self._sections.extend(section for section, _ in _sections(name, data) if section.flags & ALLOC)
                 self._sections.extend(_commons(name, data))
         return self._sections
+
+    def unloaded(self) -> list[InputSection]:
+        """Sections with contents and without ALLOC, but for symbol tables and relocations."""
+        if self._unloaded is None:
+            self._unloaded = [section for name, data in self._files.items() for section, _ in _sections(name, data)
+                              if not section.flags & ALLOC and section.size]
+        return self._unloaded
 
     def definition(self, name: str) -> Definition | None:
         """The first strong definition of a name, else the first one."""

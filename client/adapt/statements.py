@@ -49,7 +49,10 @@ class Statements:
         try:
             rule(step)
         except Left as left:
-            self.model.note(LEFT, step.node.start, f"{self.model.text(step.node)} {left}")
+            node = step.node
+            name = node.name if isinstance(node, Assign) and node.name != "." else "NAME"
+            text = str(left).replace("NAME", name)
+            self.model.note(LEFT, node.start, f"{self.model.text(node)} {text}")
 
     def _report(self, step: Step, place: Place, what: str = "") -> None:
         """The lines of the report for a statement whose text is another."""

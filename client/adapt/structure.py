@@ -5,7 +5,7 @@ from client.adapt import expressions as ex
 from client.adapt.model import Model, blocks, commands
 from client.adapt.notes import CHANGED, DROPPED, LEFT, REWRITTEN
 from client.adapt.patterns import is_name
-from client.adapt.taking import all_sections, flags_of, inputs, is_outside, row, words
+from client.adapt.taking import all_sections, flags_of, inputs, is_outside, row, takes, taking, words
 from client.adapt.tree import Assert, Assign, Block, Command, Expr, Input, Node, Section
 
 _PLAIN = {
@@ -47,6 +47,7 @@ class Structure:
         self._entries()
         self._memory()
         self._sections()
+        self.model.taken = None
         self._steps()
 
     # --- commands ---
@@ -269,12 +270,12 @@ class Structure:
 
     def _holds(self, section: Section, word: str) -> bool:
         model = self.model
-        items = row(model, section)
         if model.objects is not None:
-            writable = any(item.flags & 1 for item in items)
-            pair = [s for s in all_sections(self.nodes) if s.name == section.name and s is not section]
-            for other in pair:
-                writable = writable or any(item.flags & 1 for item in row(model, other))
+            pair = [s for s in all_sections(self.nodes) if s.name == section.name]
+            own = {id(item) for other in pair for item in row(model, other)} \
+                | {id(item) for item in taking(model).orphans}
+            items = [item for item in model.objects.sections() if id(item) in own]
+            writable = any(item.flags & 1 for item in items if any(takes(node, item) for node in inputs(section)))
             good = writable == (word == "ONLY_IF_RW")
             model.note(REWRITTEN if good else DROPPED, section.start,
                        f"{section.name} {word}: its input sections are {'writable' if writable else 'read-only'}")

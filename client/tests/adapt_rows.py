@@ -112,9 +112,11 @@ HEADS = [
          "d"),
 ]
 INPUTS = [
-    _row("a file alone", ".t : { KEEP(*b.o(.text)) KEEP(*b.o) } REST " + TAIL),
-    _row("the first file by its name", ".t : { a.o(.text) b.o } REST " + TAIL, "r", known=True),
-    _row("another file by its name", ".t : { b.o } REST " + TAIL, "cr", known=True, different=("symbol",)),
+    _row("a file alone", ".t : { KEEP(*b.o(.text)) } REST " + TAIL, ""),
+    _row("the first file by its name", ".t : { a.o(.text) b.o(.data) } REST " + TAIL, "", known=True),
+    _row("another file by its name", ".t : { b.o(.text) } REST " + TAIL, "c", known=True, different=("symbol",)),
+    _row("all of a file", ".t : { *b.o } REST " + TAIL, "cr", known=True, different=("section", "symbol")),
+    _row("all sections", ".t : { *(*) } " + TAIL, "c", different=("section", "symbol")),
     _row("commas in lists", ".t : { *(.data.*, .text) } REST " + TAIL),
     _row(":file and lib:file", ".t : { :*b.o(.text) *nolib.a:x.o(.text) } REST " + TAIL, "rc"),
     _row("other characters", ".t : { *(.tab+*) *x+y.o(.a~b) } REST " + TAIL),
