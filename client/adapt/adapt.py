@@ -16,7 +16,7 @@ from client.adapt.source import NoParse, Source
 from client.adapt.statements import Statements
 from client.adapt.structure import Structure
 from client.adapt.symbols import Symbols, unused
-from client.adapt.taking import all_sections, taking
+from client.adapt.taking import all_sections, row, taking
 from client.adapt.tree import Input
 
 __all__ = ["Adapted", "NoParse", "Note", "adapt", "CHANGED", "DROPPED", "LEFT", "REWRITTEN"]
@@ -109,6 +109,7 @@ def _rules(model: Model) -> None:
             inputs(model, section)
     unused(model)
     _order_of_files(model)
+    _starts_and_stops(model)
 
 
 def _order_of_files(model: Model) -> None:
@@ -126,6 +127,21 @@ def _order_of_files(model: Model) -> None:
         files = ", ".join(named[:4]) + (", .." if len(named) > 4 else "")
         model.note(CHANGED, first, f"{files}: where -T stands before the objects, GNU ld takes the files that a script "
                    "names before all others: give the objects in this order")
+
+
+def _starts_and_stops(model: Model) -> None:
+    """Writes the symbols that GNU ld defines for a section named as a C identifier, where an object uses them."""
+    if model.objects is None:
+        return
+    for section in model.order:
+        if not section.name.isidentifier() or not section.name.isascii() or not row(model, section):
+            continue
+        for word, at in (("__start_", section.open + 1), ("__stop_", section.close)):
+            name = word + section.name
+            if name not in model.definitions and model.objects.refers(name) \
+                    and model.objects.definition(name) is None:
+                model.edits.insert(at, f" PROVIDE({name} = .) ", order=-5 if at == section.open + 1 else 10 ** 7)
+                model.note(REWRITTEN, section.start, f"{name}, which GNU ld defines by itself, is PROVIDEd")
 
 
 def _orphans(model: Model) -> None:

@@ -181,7 +181,8 @@ VALUES = [
     _row("symbols of other sections", "k = 0x20; .t : { *(.text) m = .; } .u : { *(.data) a = m; b = m + 1; c = m - .; "
          "x = k; y = k + 4; z = . - m; w = k < 3; } REST " + TAIL),
     _row("distances", ".t : { QUAD(1) *(.text) m = .; } a = m & 7; b = (m + m) / 2; c = -m; d1 = ~m; e1 = !m; f = m ? 1 "
-         ": 2; g = ADDR(.t) ? 1 : 2; h = m * 2; i = m << 1; j = m % 16; kk = m && 1; REST " + TAIL),
+         ": 2; g = ADDR(.t) ? 1 : 2; h = m * 2; i = m << 1; j = m % 16; kk = m && 1; la = SIZEOF(.t) < m; lb = m - SIZEOF(.t); lc = m & "
+         "SIZEOF(.t); REST " + TAIL),
     _row("distances in a section", ".t : { QUAD(1) a = . & ~3; b = (. + 15) & ~15; c = -.; d1 = ~.; e1 = . * 2; f = . ? "
          "1 : 2; g = . - 4 < 8; h = 100 - .; *(.text) } REST " + TAIL),
     _row("MAX and MIN", "a = MAX(3, 4); b = MIN(., 0x10); .t : { *(.text) c = MAX(., a); d1 = MIN(. + 1, .); } REST "
@@ -200,6 +201,7 @@ VALUES = [
     _row("division has a sign", "a = -8 / 2; b = (0 - 9) % 4; REST " + TAIL),
     _row("comments of #", "a = 1; # a comment\n b = 2; REST " + TAIL, "r"),
     _row("an object's absolute symbol", "a = absolute + 1; . = absolute; REST " + TAIL, "r", known=True),
+    _row("a number as a name", "ab = 7; a = ab; REST " + TAIL),
     _row("an object's symbol", "a = main; REST " + TAIL, "l"),
     _row("DEFINED", "a = DEFINED(main) ? 1 : 2; b = DEFINED(nothing) ? nothing : 3; c = DEFINED(b) ? b : 4; d1 = "
          "DEFINED(size) ? size : 5; size = DEFINED(size) ? size : 6; REST " + TAIL, "r", known=True,
