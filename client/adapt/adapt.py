@@ -118,8 +118,10 @@ def _order_of_files(model: Model) -> None:
     first = 0
     for section in all_sections(model.nodes):
         for node in section.body:
-            if isinstance(node, Input) and not has_wildcard(node.file.word) and ":" not in node.file.word \
-                    and node.file.word not in named and (model.objects is None or node.file.word in model.objects.names):
+            if not isinstance(node, Input) or has_wildcard(node.file.word) or ":" in node.file.word:
+                continue
+            known_file = model.objects is None or node.file.word in model.objects.names
+            if known_file and node.file.word not in named:
                 named.append(node.file.word)
                 first = first or node.start
     known = model.objects.names if model.objects else []

@@ -70,8 +70,7 @@ class Rewriter:
     def _word(self, pattern: str) -> str:
         word, exact = word_of(pattern)
         if "," in pattern:
-            self.notes.append((REWRITTEN, f"`{pattern}`: to GNU ld the comma is a byte of the name; names are parted by "
-                               "spaces"))
+            self.notes.append((REWRITTEN, f"`{pattern}`: to GNU ld the comma is a byte of the name; spaces part names"))
         if not exact:
             self.notes.append((CHANGED, f"`{pattern}` is `{word}` here, which may match other names"))
         return word

@@ -82,6 +82,9 @@ class Model:
         """By `id` of an expression of a head or a region: the same with DEFINED decided."""
         self.externs: set[str] = set()
         self.taken: object = None
+        """The rows of the output sections over the objects (taking.py)."""
+        self.memory_at = -1
+        """Where MEMORY stands, where it was moved."""
         self.gone: set[str] = set()
         """Names of output sections that were dropped."""
 

@@ -80,10 +80,11 @@ class Parser:
 
     def _skip(self) -> tuple[int, list[str]]:
         """What stands up to the `}` that ends a block: its place, and the words of expression mode."""
-        depth, words = 1, []
+        depth = 1
+        words: list[str] = []
         text = self.source.text
         while True:
-            token = self.lexer.peek(FILES if False else EXPRESSION)
+            token = self.lexer.peek(EXPRESSION)
             if token.kind == "end":
                 raise self.source.fail(token.start, "a `}` is missing")
             if token.text == "{":

@@ -5,9 +5,10 @@ import re
 
 from client.adapt import expressions as ex
 from client.adapt.model import Definition, Model, Step
-from client.adapt.notes import CHANGED, DROPPED, LEFT, REWRITTEN, Left
+from client.adapt.notes import CHANGED, LEFT, REWRITTEN, Left
 from client.adapt.patterns import is_name
-from client.adapt.tree import Assert, Assign, Data, Expr, Node, Section
+from client.adapt.symbols import expressions_of
+from client.adapt.tree import Assert, Assign, Block, Data, Expr, Node, Section
 from client.adapt.values import NUMBER, Place, Translator, Value
 
 _GLUED = re.compile(r"(?<![A-Za-z0-9_.$])(?!\.-)[A-Za-z_.$][A-Za-z0-9_.$]*-")
@@ -31,7 +32,6 @@ class Statements:
     def __init__(self, model: Model) -> None:
         self.model = model
         self.translator = Translator(model)
-        self._fills: dict[int, Data] = {}
 
     def run(self) -> None:
         """All statements in their order."""
@@ -96,7 +96,6 @@ class Statements:
         for step in self.model.steps:
             if step.kind == "gone":
                 continue
-            from client.adapt.symbols import expressions_of
             for e in expressions_of(self.model, step):
                 if any(x.kind == "name" and x.word == d.name for x in ex.walk(e)) \
                         and self.model.version(d.name, step.index) is d:
@@ -157,7 +156,7 @@ class Statements:
             return
         target = model.steps[whole].item
         at, rank = target.start, 1 + int((d.moved - whole + 0.5) * 1e4)
-        if getattr(target, "word", "") == "MEMORY" and getattr(model, "memory_at", target.start) != target.start:
+        if isinstance(target, Block) and target.word == "MEMORY" and model.memory_at >= 0:
             at, rank = model.memory_at, rank - 10 ** 6
         model.edits.insert(at, text + " ", order=rank)
 
@@ -380,6 +379,3 @@ def _awkward(e: Expr) -> bool:
 def _message(text: str) -> str:
     """A message with the bytes that a STRING may have."""
     return "".join(c if " " <= c <= "~" else " " for c in text)
-
-
-__all__ = ["Statements", "needs_writing", "DROPPED", "Section"]

@@ -1,7 +1,6 @@
 """Links by GNU ld and by `ldi`, and what is different between the two images."""
 from __future__ import annotations
 
-import os
 import struct
 import subprocess
 from dataclasses import dataclass, field

@@ -15,8 +15,8 @@ from client.adapt.taking import all_sections, is_outside
 from client.adapt.tree import Assert, Assign, Command, Input, Section
 
 _NOT_MADE = re.compile(r"\.(got|plt|iplt|igot|rel|dyn|hash|gnu\.|interp|eh_frame|note\.gnu|note\.GNU|sframe|tdata|tbss|"
-                       r"tcommon|stab|symtab|strtab|shstrtab|reloc|gcc_except|exception_ranges|relr|group|ctf|lbss|ldata|lrodata|dynlbss|"
-                       r"gnu_extab)|L")
+                       r"tcommon|stab|symtab|strtab|shstrtab|reloc|gcc_except|exception_ranges|relr|group|ctf|"
+                       r"lbss|ldata|lrodata|dynlbss|gnu_extab)|L")
 _CODE = (".text", ".init", ".fini", ".head", ".entry", ".stub", ".start", ".vectors", ".fixup", ".boot", ".irqentry",
          ".kprobes", ".noinstr", ".exit", ".cpuidle", ".softirq")
 _DATA = (".data", ".ctors", ".dtors", ".init_array", ".fini_array", ".preinit_array", ".sdata", ".init.data")

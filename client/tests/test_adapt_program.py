@@ -126,7 +126,8 @@ class ProgramTest(unittest.TestCase):
 
     def test_words(self) -> None:
         """Words that are refused, and those that are not."""
-        for words in ((), ("s.ld", "t.ld"), ("s.ld", "--none"), ("s.ld", "--defsym", "x"), ("none.ld",), ("s.ld", "-o")):
+        for words in ((), ("s.ld", "t.ld"), ("s.ld", "--none"), ("s.ld", "--defsym", "x"), ("none.ld",),
+                      ("s.ld", "-o")):
             status, out, report = self.run_program(*words)
             self.assertEqual((status, out), (2, ""))
             self.assertTrue(report.startswith("ldi-adapt: "), report)
