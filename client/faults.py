@@ -164,7 +164,7 @@ class FaultSentences:
 
     def moved_back(self, line: str) -> str:
         """F6."""
-        return self._at_line(line, "`.' would go back; in an output section it counts from the section's start")
+        return self._at_line(line, "`.' would go back; raise the number, which counts from the section's start")
 
     def region_full(self, section: str, region: str) -> str:
         """F7."""
@@ -174,7 +174,8 @@ class FaultSentences:
         if output and (output.region == region) != (output.load_region == region):
             what = "addresses" if output.region == region else "load addresses"
         numbers = self._numbers(region)
-        return f"{place}: section `{section}' will not fit in region `{region}'{numbers}: its {what} do not lie there"
+        fault = f"section `{section}' will not fit in region `{region}'{numbers}: its {what} do not lie there"
+        return f"{place}: {fault}; raise LENGTH, or place less there"
 
     def _numbers(self, name: str) -> str:
         region = self.script.regions.get(name)
@@ -184,15 +185,15 @@ class FaultSentences:
 
     def past_address_space(self, line: str) -> str:
         """F8."""
-        return self._at_line(line, "an address, an end or `.' would be 2^64 or more")
+        return self._at_line(line, "an address, an end or `.' would be 2^64 or more; lower the address or the size")
 
     def addresses_meet(self, section: str, earlier: str) -> str:
         """F9."""
-        return self._meeting("addresses", section, earlier)
+        return self._meeting("addresses", section, earlier) + "; move one of the two"
 
     def load_addresses_meet(self, section: str, earlier: str) -> str:
         """F10."""
-        return self._meeting("load addresses", section, earlier)
+        return self._meeting("load addresses", section, earlier) + "; correct AT(..), or use AT>"
 
     def _meeting(self, what: str, section: str, earlier: str) -> str:
         here, there = self.script.outputs.get(section), self.script.outputs.get(earlier)

@@ -6,6 +6,7 @@ import subprocess
 import tempfile
 import unittest
 from collections.abc import Mapping
+from functools import cache
 
 from client.messages import Inputs, Message, fault_messages
 from client.protocol import Linked, Options, Refused, Session
@@ -13,7 +14,8 @@ from client.protocol import Linked, Options, Refused, Session
 SCRIPT = "SECTIONS { . = 0x401000; .text : { *(.text) } }"
 
 
-def built(command: list[str], prefix_map: str, source: str, suffix: str) -> bytes:
+@cache
+def built(command: tuple[str, ...], prefix_map: str, source: str, suffix: str) -> bytes:
     """The object of a source, which is `text` with this suffix in a folder of its own, as if in `/project`."""
     with tempfile.TemporaryDirectory() as folder:
         with open(os.path.join(folder, "text" + suffix), "w", encoding="ascii") as file:
@@ -26,13 +28,13 @@ def built(command: list[str], prefix_map: str, source: str, suffix: str) -> byte
 
 def assembled(source: str, *flags: str) -> bytes:
     """An object by `as`, without the sections that it adds."""
-    return built(["as", *flags], "--debug-prefix-map", source, ".s")
+    return built(("as", *flags), "--debug-prefix-map", source, ".s")
 
 
 def compiled(source: str, *flags: str, compiler: str = "gcc") -> bytes:
     """An object of a C text."""
-    words = [compiler, "-c", "-O1", "-fno-pic", "-ffreestanding", "-fno-asynchronous-unwind-tables"]
-    return built([*words, *flags], "-fdebug-prefix-map", source, ".c")
+    words = (compiler, "-c", "-O1", "-fno-pic", "-ffreestanding", "-fno-asynchronous-unwind-tables")
+    return built((*words, *flags), "-fdebug-prefix-map", source, ".c")
 
 
 class LinkTest(unittest.TestCase):

@@ -174,7 +174,7 @@ class OddInputTest(unittest.TestCase):
     def test_changed_bytes(self) -> None:
         """Objects with bytes changed at random, most of them in the debug sections and the tables."""
         chance = random.Random(5)
-        started = time.monotonic()
+        started = time.process_time()
         for command in (["gcc", "-g"], ["gcc", "-gdwarf-3"], ["gcc", "-g", "-gz"]):
             data = compile_all(command)
             for _ in range(40):
@@ -182,7 +182,7 @@ class OddInputTest(unittest.TestCase):
                 for _ in range(chance.choice((1, 5, 50))):
                     changed[chance.randrange(64, len(data))] = chance.choice((0, 1, 0x7F, 0x80, 0xFF))
                 self.look(bytes(changed))
-        self.assertLess(time.monotonic() - started, 60)
+        self.assertLess(time.process_time() - started, 60)
 
     def test_beginnings(self) -> None:
         """Beginnings of an object, and what is no object."""

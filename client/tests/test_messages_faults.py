@@ -136,7 +136,7 @@ class LayoutTest(LinkTest):
         """F6."""
         script = "SECTIONS {\n  .d : {\n    *(.d)\n    . = 4;\n  }\n}"
         self.check(script, {"a.o": section_d(8)}, [
-            "image.ld:4: `.' would go back; in an output section it counts from the section's start: . = 4; [F6 4]"])
+            "image.ld:4: `.' would go back; raise the number, which counts from the section's start: . = 4; [F6 4]"])
 
     def test_region(self) -> None:
         """F7 of addresses, of load addresses, and where both name the region."""
@@ -150,25 +150,25 @@ class LayoutTest(LinkTest):
             with self.subTest(tail):
                 self.check(f"{memory} .d : {{ *(.d) }} {tail} }}", {"a.o": section_d(9)}, [
                     f"image.ld:5: section `.d' will not fit in region `{region}' ({numbers}): "
-                    f"its {what} do not lie there [F7 .d r]"])
+                    f"its {what} do not lie there; raise LENGTH, or place less there [F7 .d r]"])
 
     def test_past_address_space(self) -> None:
         """F8 of an input section, and of a start."""
         script = "SECTIONS {\n  . = 0xFFFFFFFFFFFFFFFC;\n  .text : {\n    *(.text)\n  }\n}"
-        self.check(script, {"a.o": assembled(".long 1")}, [
-            "image.ld:4: an address, an end or `.' would be 2^64 or more: *(.text) [F8 4]"])
-        self.check(script, {"a.o": assembled(".balign 16")}, [
-            "image.ld:3: an address, an end or `.' would be 2^64 or more: .text : { [F8 3]"])
+        fault = "an address, an end or `.' would be 2^64 or more; lower the address or the size"
+        self.check(script, {"a.o": assembled(".long 1")}, [f"image.ld:4: {fault}: *(.text) [F8 4]"])
+        self.check(script, {"a.o": assembled(".balign 16")}, [f"image.ld:3: {fault}: .text : {{ [F8 3]"])
 
     def test_overlap(self) -> None:
         """F9 and F10."""
+        load = "the load addresses of section `.e' overlap those of `.d' (image.ld:%d); correct AT(..), or use AT>"
         script = "SECTIONS { . = 0x2000; .d : { *(.d) } . = 0x2004;\n .e : { *(.e) } }"
         self.check(script, {"a.o": TWO_SECTIONS}, [
-            "image.ld:2: the addresses of section `.e' overlap those of `.d' (image.ld:1) [F9 .e .d]",
-            "image.ld:2: the load addresses of section `.e' overlap those of `.d' (image.ld:1) [F10 .e .d]"])
+            "image.ld:2: the addresses of section `.e' overlap those of `.d' (image.ld:1); move one of the two "
+            "[F9 .e .d]",
+            "image.ld:2: " + load % 1 + " [F10 .e .d]"])
         script = "SECTIONS { . = 0x2000;\n.d : AT(0x8000) { *(.d) }\n.e : AT(0x8004) { *(.e) } }"
-        self.check(script, {"a.o": TWO_SECTIONS}, [
-            "image.ld:3: the load addresses of section `.e' overlap those of `.d' (image.ld:2) [F10 .e .d]"])
+        self.check(script, {"a.o": TWO_SECTIONS}, ["image.ld:3: " + load % 2 + " [F10 .e .d]"])
 
     def test_length(self) -> None:
         """F11."""

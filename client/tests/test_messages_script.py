@@ -71,14 +71,14 @@ class ScriptTextTest(unittest.TestCase):
     def test_odd_texts(self) -> None:
         """Any text is taken, in little time."""
         chance = random.Random(3)
-        pieces = b"SECTIONS { } ( ) = ; /* */ \" .a : > AT ENTRY MEMORY ORIGIN LENGTH , \\ \xff PROVIDE ASSERT .- 1".split()
-        pieces += [b" ", b"\n"]
+        words = b"SECTIONS { } ( ) = ; /* */ \" .a : > AT ENTRY MEMORY ORIGIN LENGTH , \\ \xff PROVIDE ASSERT .- 1"
+        pieces = [*words.split(), b" ", b"\n"]
         for _ in range(300):
             self.look(b"".join(chance.choice(pieces) for _ in range(chance.randrange(60))))
-        started = time.monotonic()
+        started = time.process_time()
         for piece in (b"{", b"(", b"a=b;", b".a:{}", b"ASSERT(1,\"\")", b"r : ORIGIN = 0, LENGTH = 1 ", b"/*", b"\n"):
             self.look(b"SECTIONS { " + piece * ((1 << 14) // len(piece)))
-        self.assertLess(time.monotonic() - started, 20)
+        self.assertLess(time.process_time() - started, 20)
 
     def look(self, text: bytes) -> None:
         """Looks everything up."""
