@@ -17,7 +17,7 @@ def fault_messages(faults: bytes, inputs: Inputs, limit: int | None = None) -> l
     """The messages of a link's fault lines, in their order. With a limit that there are more than, the first ones, and
     one without a line that says how many more there are."""
     sentences = FaultSentences(inputs)
-    messages = []
+    messages: list[Message] = []
     for fault in fault_lines(faults):
         if limit is not None and len(messages) == limit:
             messages.append(Message(f".. and {count_lines(faults) - limit} more", ""))
