@@ -8,11 +8,12 @@ from __future__ import annotations
 import os
 import select
 import time
+import typing
 from collections.abc import Iterable
 from concurrent.futures import ThreadPoolExecutor
+from types import ModuleType
 
-from client.messages import Inputs, Message, fault_messages, refusal_message
-from client.protocol import Refused, SessionEnded
+from client.protocol import SessionEnded
 from client.watch.commands import Command
 from client.watch.events import Event, Kind, Watcher
 from client.watch.inputs import Input, changed_among
@@ -24,6 +25,9 @@ from client.watch.places import Places
 from client.watch.says import Faulty, Good, RefusedInputs, State, Teller, Waiting, how_ended
 from client.watch.stops import Stops
 from client.watch.words import ListFile, Words
+
+if typing.TYPE_CHECKING:
+    from client.messages import Message
 
 QUIET = 0.015
 """Seconds without an event of a file after which those before are dealt with."""
@@ -44,6 +48,13 @@ MOST_ENDS = 3
 """Sessions that ended one after the other, without an image between, after which the next waits for a period."""
 
 STATUS_FAULTS, STATUS_REFUSED, STATUS_DEVICE, STATUS_MEMORY = 1, 2, 3, 4
+
+
+def messages() -> ModuleType:
+    """The module of messages, which is loaded only where there is one: what it reads DWARF with takes long to load."""
+    import client.messages
+
+    return client.messages
 
 
 class Watch:
@@ -246,7 +257,8 @@ class Watch:
             return
         if self.names_refused is not None:
             text = self.names_refused
-            self._set_state(RefusedInputs(tuple((path, Message(text, "names")) for path in self.lists)))
+            message = messages().Message(text, "names")
+            self._set_state(RefusedInputs(tuple((path, message) for path in self.lists)))
             return
         look = self.looker.submit(changed_among, self._inputs())
         self._bring()
@@ -319,20 +331,20 @@ class Watch:
         return reasons
 
     def _refusals(self) -> list[tuple[str, Message]]:
-        found = []
+        found: list[tuple[str, Message]] = []
         for name, refused in self.kept.refused.items():
             one = self.script if name == SCRIPT else self.objects[name]
-            word = "script" if name == SCRIPT else name
-            found.append((one.path, refusal_message(word, refused, one.data)))
+            said = messages().refusal_messages(one.path, refused, one.data)
+            found += [(one.path, message) for message in said]
         return found
 
     def _tell_faults(self) -> None:
         assert self.kept.session is not None
         objects = {name: self._data_of(one) for name, one in self.objects.items()}
-        inputs = Inputs(self.script.path, self._data_of(self.script), objects)
-        messages = fault_messages(self.kept.session.faults(), inputs)
+        inputs = messages().Inputs(self.script.path, self._data_of(self.script), objects)
+        found = messages().fault_messages(self.kept.session.faults(), inputs)
         self.is_current = False
-        self._set_state(Faulty(tuple(messages), tuple(self.after)), at_once=True)
+        self._set_state(Faulty(tuple(found), tuple(self.after)), at_once=True)
         self.after.clear()
 
     # the image
