@@ -445,13 +445,15 @@ class Watch:
         status = self.kept.end()
         self.ends += 1
         self.status = status
-        self.teller.restarted(f"the session {how_ended(status)}")
         self.compare = True
         self.is_current = False
-        now = time.monotonic()
         if self.ends < MOST_ENDS:
+            self.teller.restarted(f"the session {how_ended(status)}")
+            now = time.monotonic()
             self.first_event = now if self.first_event is None else self.first_event
             self.last_event = min(self.last_event, now - QUIET)
+        else:
+            self._set_state(Waiting((("the session", f"it {how_ended(status)}, again and again"),)), at_once=True)
 
     # --once
 

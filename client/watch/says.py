@@ -87,7 +87,7 @@ class Teller:
         if self._as_json:
             self._object("restarted", why=why)
         else:
-            self._line(YELLOW, "session", f"{why}; started again, and all inputs sent anew")
+            self._line(YELLOW, "session", f"{why}; started again")
 
     def note(self, name: str, text: str) -> None:
         """Says something of an input that is no state."""
