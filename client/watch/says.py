@@ -121,7 +121,8 @@ class Teller:
                 self._line(RED, counted(len(messages), "error"), f"after {listed(after)}; {self._old_image()}", ", ")
             case RefusedInputs(inputs):
                 self._messages([message for _, message in inputs])
-                self._line(RED, "refused", f"{listed(list(dict.fromkeys(name for name, _ in inputs)))}; {self._old_image()}")
+                names = list(dict.fromkeys(name for name, _ in inputs))
+                self._line(RED, "refused", f"{listed(names)}; {self._old_image()}")
             case Waiting(reasons):
                 name, why = reasons[0]
                 more = f", and {len(reasons) - 1} more" if len(reasons) > 1 else ""
