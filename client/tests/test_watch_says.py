@@ -83,7 +83,8 @@ class TextTest(unittest.TestCase):
         """Colours where standard output is a terminal, and not with NO_COLOR."""
         folder = Folder()
         self.addCleanup(folder.remove)
-        for setting, coloured in (({}, True), ({"NO_COLOR": "1"}, False)):
+        settings: list[tuple[dict[str, str], bool]] = [({}, True), ({"NO_COLOR": "1"}, False)]
+        for setting, coloured in settings:
             ours, theirs = pty.openpty()
             environment = {name: value for name, value in os.environ.items() if name != "NO_COLOR"}
             subprocess.run(
