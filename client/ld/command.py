@@ -75,6 +75,10 @@ class Command:
         if text not in self.notes:
             self.notes.append(text)
 
+    def inputs_named(self) -> bool:
+        """Whether the words name a file or a library."""
+        return any(item.kind in ("file", "library") for item in self.inputs)
+
 
 def number(text: str, option: str) -> int:
     """A number of C, or of hexadecimal digits alone where the option takes an address so."""

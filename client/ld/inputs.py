@@ -35,7 +35,11 @@ class CannotLink(Exception):
 
 
 class BadInput(Exception):
-    """An input that is not there, or no input; the text says which."""
+    """What is no input; the text says why."""
+
+
+class MissingInput(BadInput):
+    """An input that is not there or cannot be read; the text says which."""
 
 
 @dataclass(frozen=True)
@@ -65,7 +69,7 @@ def read_file(path: str) -> bytes:
         with open(path, "rb") as file:
             return file.read()
     except OSError as fault:
-        raise BadInput(f"cannot find {path}: {fault.strerror}") from fault
+        raise MissingInput(f"cannot find {path}: {fault.strerror}") from fault
 
 
 class Loader:
@@ -161,7 +165,7 @@ class Loader:
                 path = os.path.join(folder, file)
                 if os.path.isfile(path):
                     return path
-        raise BadInput(f"cannot find -l{name}: No such file or directory")
+        raise MissingInput(f"cannot find -l{name}: No such file or directory")
 
     def _file(self, path: str, flags: Flags, searched: bool = False) -> list[Archive]:
         """Takes a file by what it is."""
@@ -241,7 +245,7 @@ class Loader:
         try:
             return member.read()
         except OSError as fault:
-            raise BadInput(f"cannot find {member.path}, a member of {member.archive.path}: {fault.strerror}") from fault
+            raise MissingInput(f"cannot find {member.path}, a member of {member.archive.path}: {fault.strerror}") from fault
 
     def _member(self, member: Member) -> None:
         data = self._bytes(member)

@@ -1,0 +1,92 @@
+"""What `--print-memory-usage` and `--print-gc-sections` print, in GNU ld's words, from the map of a link."""
+from __future__ import annotations
+
+import struct
+from collections import Counter
+from collections.abc import Iterator, Sequence
+
+from client.ld.inputs import Object
+from client.ld.script_text import Head, outline
+from client.link_map import LinkMap, read_map
+from client.protocol import Linked, Session
+
+ALLOC = 2
+PROGBITS = 1
+NOTE = 7
+PREFIX = "ld.ldi.region."
+
+
+def _amount(size: int) -> str:
+    """A number of bytes as GNU ld prints it; 0 is in gigabytes there too."""
+    for shift, unit in ((30, "GB"), (20, "MB"), (10, "KB")):
+        if size % (1 << shift) == 0:
+            return f"{size >> shift:10} {unit}"
+    return f" {size:10} B"
+
+
+def _with_regions(script: str, names: Sequence[str]) -> str:
+    """The script with a symbol for the origin and one for the length of each region."""
+    symbols = (
+        f"{PREFIX}{index}.origin = ORIGIN({name}); {PREFIX}{index}.length = LENGTH({name});\n"
+        for index, name in enumerate(names)
+    )
+    return f"{script}\n{''.join(symbols)}"
+
+
+def _has_file_bytes(image: bytes) -> list[bool]:
+    """Of each output section whether the image has bytes for it, in the order of the script."""
+    (start,), (count,) = struct.unpack_from("<Q", image, 40), struct.unpack_from("<H", image, 60)
+    return [struct.unpack_from("<I", image, start + 64 * index + 4)[0] == PROGBITS for index in range(1, count - 3)]
+
+
+def _used(name: str, heads: Sequence[Head], link_map: LinkMap, image: bytes) -> int:
+    """Where what is in a region ends, by addresses and by load addresses; 0 where nothing is in it."""
+    ends = [0]
+    placed = {section.name.decode(): (section, loaded)
+              for section, loaded in zip(link_map.sections, _has_file_bytes(image))}
+    for head in heads:
+        if head.name in placed:
+            section, loaded = placed[head.name]
+            ends += [section.start + section.size] if head.region == name else []
+            ends += [section.load + section.size] if head.load_region == name and loaded else []
+    return max(ends)
+
+
+def memory_usage(session: Session, script: bytes, link_map: LinkMap, image: bytes) -> str:
+    """The table of memory regions. The session links once more, for the values of origins and lengths."""
+    text = script.decode(errors="surrogateescape")
+    parts = outline(text)
+    lines = ["Memory region         Used Size  Region Size  %age Used"]
+    answer = session.script(_with_regions(text, parts.memory).encode(errors="surrogateescape"))
+    if not isinstance(answer, Linked) or answer.status:
+        return "no memory usage: the origins and lengths of the regions are not known\n"
+    values = {symbol.name.decode(): symbol.value or 0 for symbol in read_map(session.map()).symbols}
+    for index, name in enumerate(parts.memory):
+        origin, length = values[f"{PREFIX}{index}.origin"], values[f"{PREFIX}{index}.length"]
+        used = max(_used(name, parts.sections, link_map, image) - origin, 0)
+        share = f"    {used * 100 / length:6.2f}%" if length else ""
+        lines.append(f"{name:>16}: {_amount(used)}{_amount(length)}{share}")
+    return "\n".join(lines) + "\n"
+
+
+def _allocated(data: bytes) -> Iterator[tuple[bytes, int]]:
+    """The names and sizes of an object's sections that a link with `--gc-sections` may leave out."""
+    (start,), (count, names_at) = struct.unpack_from("<Q", data, 40), struct.unpack_from("<HH", data, 60)
+    headers = [struct.unpack_from("<IIQQQQIIQQ", data, start + 64 * index) for index in range(count)]
+    names = headers[names_at][4]
+    for name, kind, flags, _, _, size, *_ in headers:
+        if flags & ALLOC and size and kind != NOTE:
+            begin = names + name
+            yield data[begin : data.index(b"\0", begin)], size
+
+
+def removed_sections(objects: Sequence[Object], link_map: LinkMap) -> Iterator[str]:
+    """A line for each section that is not in the output, of those that are not empty."""
+    placed = Counter((piece.object, piece.section, piece.size) for piece in link_map.pieces())
+    for item in objects:
+        for name, size in _allocated(item.data):
+            key = (item.name, name, size)
+            if placed[key]:
+                placed[key] -= 1
+            else:
+                yield f"removing unused section '{name.decode(errors='replace')}' in file '{item.name.decode()}'"
