@@ -3,7 +3,8 @@ from __future__ import annotations
 
 import struct
 
-PROGBITS, ALLOC = 1, 2
+from client.object_file import PROGBITS, ObjectFile
+
 GREATEST = 1 << 28
 
 
@@ -13,17 +14,16 @@ class NoFlatImage(Exception):
 
 def flat_binary(image: bytes) -> bytes:
     """What `objcopy -O binary` makes of an image: the sections with file bytes, by their load addresses."""
-    (segments_at, sections_at), (count,) = struct.unpack_from("<QQ", image, 32), struct.unpack_from("<H", image, 60)
-    (segment_count,) = struct.unpack_from("<H", image, 56)
+    (segments_at,), (segment_count,) = struct.unpack_from("<Q", image, 32), struct.unpack_from("<H", image, 56)
     segments = [struct.unpack_from("<IIQQQQQQ", image, segments_at + 56 * index) for index in range(segment_count)]
     parts: list[tuple[int, bytes]] = []
-    for index in range(1, count - 3):
-        _, kind, flags, start, offset, size, *_ = struct.unpack_from("<IIQQQQIIQQ", image, sections_at + 64 * index)
-        if kind != PROGBITS or not flags & ALLOC or not size:
+    for header in ObjectFile(image).headers[1:-3]:
+        if header.kind != PROGBITS or not header.size:
             continue
-        distance = next(load - address for _, _, _, address, load, _, length, _ in segments
-                        if address <= start and start + size <= address + length)
-        parts.append((start + distance, image[offset : offset + size]))
+        end = header.address + header.size
+        distance = next(load - start for _, _, _, start, load, _, length, _ in segments
+                        if start <= header.address and end <= start + length)
+        parts.append((header.address + distance, image[header.offset : header.offset + header.size]))
     if not parts:
         return b""
     base, end = min(load for load, _ in parts), max(load + len(data) for load, data in parts)

@@ -9,7 +9,7 @@ from dataclasses import dataclass
 from client.ld.archive import Archive, BadArchive, Member, is_archive, read_archive
 from client.ld.binary_object import binary_object
 from client.ld.command import Command, Flags, Input
-from client.ld.linkage import SHARED, Names, elf_type, is_elf, read_linkage
+from client.ld.linkage import Names, read_linkage
 from client.ld.script_commands import Commands, read_commands
 from client.protocol import GREATEST_NAME
 
@@ -26,6 +26,7 @@ STANDARD_FOLDERS = (
 )
 """Where libraries are looked for in a link without a script of its own, after the folders of `-L`."""
 
+ELF, SHARED = b"\x7fELF", b"\3\0"
 BITCODE = b"BC\xc0\xde"
 SLIM = b"__gnu_lto_slim\0"
 
@@ -182,7 +183,7 @@ class Loader:
             except BadArchive as fault:
                 raise BadInput(f"{path}: {fault}") from fault
             return self._archive(self._archives[path], flags)
-        elif is_elf(data) or not data:
+        elif data.startswith(ELF) or not data:
             self._object(path, data, path)
         elif data.startswith(BITCODE):
             raise CannotLink(f"{path}: bitcode of LLVM, no object")
@@ -257,7 +258,7 @@ class Loader:
 
     def _object(self, name: str, data: bytes, path: str) -> None:
         """Takes an object."""
-        if is_elf(data) and elf_type(data) == SHARED:
+        if data.startswith(ELF) and data[16:18] == SHARED:
             raise CannotLink(f"{name}: a shared library")
         if SLIM in data:
             raise CannotLink(f"{name}: an object of slim LTO, which has no code (-ffat-lto-objects gives it code)")

@@ -1,18 +1,15 @@
 """What `--print-memory-usage` and `--print-gc-sections` print, in GNU ld's words, from the map of a link."""
 from __future__ import annotations
 
-import struct
 from collections import Counter
 from collections.abc import Iterator, Sequence
 
 from client.ld.inputs import Object
 from client.ld.script_text import Head, outline
 from client.link_map import LinkMap, read_map
+from client.object_file import ALLOC, NOTE, PROGBITS, ObjectFile
 from client.protocol import Linked, Session
 
-ALLOC = 2
-PROGBITS = 1
-NOTE = 7
 PREFIX = "ld.ldi.region."
 
 
@@ -35,8 +32,7 @@ def _with_regions(script: str, names: Sequence[str]) -> str:
 
 def _has_file_bytes(image: bytes) -> list[bool]:
     """Of each output section whether the image has bytes for it, in the order of the script."""
-    (start,), (count,) = struct.unpack_from("<Q", image, 40), struct.unpack_from("<H", image, 60)
-    return [struct.unpack_from("<I", image, start + 64 * index + 4)[0] == PROGBITS for index in range(1, count - 3)]
+    return [header.kind == PROGBITS for header in ObjectFile(image).headers[1:-3]]
 
 
 def _used(name: str, heads: Sequence[Head], link_map: LinkMap, image: bytes) -> int:
@@ -71,13 +67,10 @@ def memory_usage(session: Session, script: bytes, link_map: LinkMap, image: byte
 
 def _allocated(data: bytes) -> Iterator[tuple[bytes, int]]:
     """The names and sizes of an object's sections that a link with `--gc-sections` may leave out."""
-    (start,), (count, names_at) = struct.unpack_from("<Q", data, 40), struct.unpack_from("<HH", data, 60)
-    headers = [struct.unpack_from("<IIQQQQIIQQ", data, start + 64 * index) for index in range(count)]
-    names = headers[names_at][4]
-    for name, kind, flags, _, _, size, *_ in headers:
-        if flags & ALLOC and size and kind != NOTE:
-            begin = names + name
-            yield data[begin : data.index(b"\0", begin)], size
+    file = ObjectFile(data)
+    for index, header in enumerate(file.headers):
+        if header.flags & ALLOC and header.size and header.kind != NOTE:
+            yield file.section_name(index), header.size
 
 
 def removed_sections(objects: Sequence[Object], link_map: LinkMap) -> Iterator[str]:
