@@ -56,6 +56,8 @@ class Command:
     folders: list[str] = field(default_factory=list)
     sysroot: str = ""
     nostdlib: bool = False
+    omagic: bool = False
+    """`-N`: the default script does not begin its data on a page of their own."""
     section_starts: dict[str, int] = field(default_factory=dict)
     page_size: int | None = None
     output_format: str | None = None
@@ -228,6 +230,9 @@ class Reader:
                 command.output_format = value
             else:
                 command.cannot.append(f"--oformat {value}: another format")
+        elif name == "N":
+            command.omagic = True
+            command.note("-N: code is not writable; segments lie in the file as their addresses modulo 4,096 ask")
         elif name in ("v", "V", "help", "print-output-format", "print-sysroot"):
             command.asks.append(name)
 

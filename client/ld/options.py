@@ -98,6 +98,7 @@ dependency-file|needed
 build-id|optional
 no-build-id|none
 no-pie|none
+N omagic|none
 v version|none
 V|none
 help target-help|none
@@ -246,7 +247,6 @@ shared Bshareable|none|a shared library
 pie pic-executable|none|an executable that is placed when it is loaded
 q emit-relocs|none|relocations in the output
 R just-symbols|needed|symbols of another image
-N omagic|none|code and data in one writable segment
 c mri-script|needed|a script of another language
 EB|none|big-endian objects
 wrap|needed|other names for symbols

@@ -2,18 +2,18 @@
 from __future__ import annotations
 
 import os
+import re
 import shutil
 import subprocess
 from dataclasses import dataclass
-from pathlib import Path
 
 from client.adapt.adapt import CHANGED, LEFT, Adapted, NoParse, Note, adapt
 from client.ld.command import Command
+from client.ld.default_script import DEFAULT
 from client.ld.inputs import BadInput, MissingInput, Object
 from client.ld.script_commands import Commands, read_commands
 from client.ld.script_text import outline, set_address, set_entry
 
-OWN_DEFAULT = Path(__file__).with_name("default.ld")
 NUMBER_ENTRY = "ld.ldi.entry"
 """The name that has the value of `-e NUMBER`."""
 
@@ -35,7 +35,7 @@ class Source:
 def find_script(command: Command) -> Source:
     """The script of `-T`, as it stands or in a folder of `-L`; else the default one."""
     if not command.scripts:
-        return default_script()
+        return default_script(command.omagic)
     if len(command.scripts) > 1:
         raise BadInput(f"-T {command.scripts[1]}: a second script after {command.scripts[0]}; a link has one")
     name = command.scripts[0]
@@ -51,16 +51,19 @@ def find_script(command: Command) -> Source:
         raise MissingInput(f"cannot open linker script file {name}: {fault.strerror}") from fault
 
 
-def default_script() -> Source:
-    """GNU ld's default script where GNU ld is there, else one of the same sections."""
+def default_script(omagic: bool) -> Source:
+    """GNU ld's default script where GNU ld is there, else one of the same sections; `omagic` is `-N`."""
     program = shutil.which("ld.bfd")
     if program:
-        words = [program, "-m", "elf_x86_64", "-static", "--verbose"]
+        words = [program, "-m", "elf_x86_64", "-static", *(["-N"] if omagic else []), "--verbose"]
         done = subprocess.run(words, capture_output=True, text=True, check=False)
         parts = done.stdout.split("=" * 50 + "\n")
         if done.returncode == 0 and len(parts) == 3:
             return Source("ld.bfd's default script", parts[1], own=False)
-    return Source("default.ld", OWN_DEFAULT.read_text(encoding="utf-8"), own=False)
+    text = DEFAULT
+    if omagic:
+        text = re.sub(r"(?m)^  \. = ALIGN\(4096\).*$", "", text)
+    return Source("default.ld", text, own=False)
 
 
 @dataclass(frozen=True)

@@ -1,3 +1,6 @@
+"""A script for links without `-T` where GNU ld, whose own default script is taken, is not there."""
+
+DEFAULT = """\
 /* The sections of GNU ld's default script for static programs, in the profile. */
 ENTRY(_start)
 SECTIONS {
@@ -6,7 +9,7 @@ SECTIONS {
   .note.gnu.build-id : { *(.note.gnu.build-id) }
   .note.gnu.property : { *(.note.gnu.property) }
   . = ALIGN(4096);
-  .init : { KEEP(*(SORT_BY_NAME(.init))) }
+  .init : { KEEP(*(.init)) }
   .text : {
     *(.text.unlikely .text.*_unlikely .text.unlikely.*)
     *(.text.exit .text.exit.*)
@@ -15,7 +18,7 @@ SECTIONS {
     *(SORT_BY_NAME(.text.sorted.*))
     *(.text .stub .text.* .gnu.linkonce.t.*)
   }
-  .fini : { KEEP(*(SORT_BY_NAME(.fini))) }
+  .fini : { KEEP(*(.fini)) }
   PROVIDE(__etext = .);
   PROVIDE(_etext = .);
   PROVIDE(etext = .);
@@ -61,3 +64,4 @@ SECTIONS {
   _end = .;
   PROVIDE(end = .);
 }
+"""
