@@ -4,12 +4,11 @@ from __future__ import annotations
 from collections.abc import Sequence
 from dataclasses import dataclass, field
 
+from client.ld.command import Command
 from client.ld.inputs import Object
+from client.ld.script import Script
 from client.protocol import GREATEST_PAYLOAD, Answer, Linked, Options, Refused, Session
-
-NOTHING = b"ENTRY(a_name_that_nothing_defines)"
-"""A script under which a link ends after its names: objects are sent before the real one."""
-
+from client.watch.quick import SCRIPT_WITHOUT_LINK
 
 @dataclass
 class Result:
@@ -40,9 +39,9 @@ def _send(session: Session, objects: Sequence[Object], result: Result) -> None:
 
 
 def link(session: Session, script: bytes, objects: Sequence[Object]) -> Result:
-    """Links the objects under the script, by a session that has none yet."""
+    """Links the objects under the script, by a session that has none yet; they are sent where that costs no link."""
     result = Result()
-    session.script(NOTHING)
+    session.script(SCRIPT_WITHOUT_LINK)
     _send(session, objects, result)
     answer: Answer = too_large(script) or session.script(script)
     if isinstance(answer, Refused):
@@ -58,6 +57,6 @@ def link(session: Session, script: bytes, objects: Sequence[Object]) -> Result:
     return result
 
 
-def options_of(gc_sections: bool, orphan_handling: str | None) -> Options:
-    """The options of the session; the entry symbol stands in the script."""
-    return Options(gc_sections=gc_sections, orphan_handling=orphan_handling)
+def options_of(command: Command, script: Script) -> Options:
+    """The options of the session; the entry symbol stands in the script where that can name it."""
+    return Options(command.gc_sections, script.entry, command.orphan_handling)

@@ -104,7 +104,7 @@ class Link:
             return REFUSED
         for note in command.notes:
             say(note)
-        session = Session(options_of(command.gc_sections, command.orphan_handling))
+        session = Session(options_of(command, script))
         try:
             result = link(session, script.text, self.objects)
             return self._finish(session, script, result, loader.files)
@@ -218,6 +218,9 @@ def main(words: list[str]) -> int:
     except BadInput as fault:
         say(str(fault))
         return DEVICE if isinstance(fault, MissingInput) else REFUSED
+    except WordsRefused as fault:
+        say(str(fault))
+        return REFUSED
     except NoFlatImage as fault:
         say(str(fault))
         return FAULTS

@@ -10,7 +10,7 @@ from client.link_map import LinkMap, read_map
 from client.object_file import ALLOC, NOTE, PROGBITS, ObjectFile
 from client.protocol import Linked, Session
 
-PREFIX = "ld.ldi.region."
+PREFIX = b"ld.ldi.region."
 
 
 def _amount(size: int) -> str:
@@ -21,13 +21,13 @@ def _amount(size: int) -> str:
     return f" {size:10} B"
 
 
-def _with_regions(script: str, names: Sequence[str]) -> str:
+def _with_regions(script: bytes, names: Sequence[bytes]) -> bytes:
     """The script with a symbol for the origin and one for the length of each region."""
-    symbols = (
-        f"{PREFIX}{index}.origin = ORIGIN({name}); {PREFIX}{index}.length = LENGTH({name});\n"
+    symbols = [
+        b"%s%d.origin = ORIGIN(%s); %s%d.length = LENGTH(%s);\n" % (PREFIX, index, name, PREFIX, index, name)
         for index, name in enumerate(names)
-    )
-    return f"{script}\n{''.join(symbols)}"
+    ]
+    return script + b"\n" + b"".join(symbols)
 
 
 def _has_file_bytes(image: bytes) -> list[bool]:
@@ -35,10 +35,10 @@ def _has_file_bytes(image: bytes) -> list[bool]:
     return [header.kind == PROGBITS for header in ObjectFile(image).headers[1:-3]]
 
 
-def _used(name: str, heads: Sequence[Head], link_map: LinkMap, image: bytes) -> int:
+def _used(name: bytes, heads: Sequence[Head], link_map: LinkMap, image: bytes) -> int:
     """Where what is in a region ends, by addresses and by load addresses; 0 where nothing is in it."""
     ends = [0]
-    placed = {section.name.decode(): (section, loaded)
+    placed = {section.name: (section, loaded)
               for section, loaded in zip(link_map.sections, _has_file_bytes(image))}
     for head in heads:
         if head.name in placed:
@@ -50,18 +50,17 @@ def _used(name: str, heads: Sequence[Head], link_map: LinkMap, image: bytes) -> 
 
 def memory_usage(session: Session, script: bytes, link_map: LinkMap, image: bytes) -> str:
     """The table of memory regions. The session links once more, for the values of origins and lengths."""
-    text = script.decode(errors="surrogateescape")
-    parts = outline(text)
+    parts = outline(script)
     lines = ["Memory region         Used Size  Region Size  %age Used"]
-    answer = session.script(_with_regions(text, parts.memory).encode(errors="surrogateescape"))
+    answer = session.script(_with_regions(script, parts.memory))
     if not isinstance(answer, Linked) or answer.status:
         return "no memory usage: the origins and lengths of the regions are not known\n"
-    values = {symbol.name.decode(): symbol.value or 0 for symbol in read_map(session.map()).symbols}
+    values = {symbol.name: symbol.value or 0 for symbol in read_map(session.map()).symbols}
     for index, name in enumerate(parts.memory):
-        origin, length = values[f"{PREFIX}{index}.origin"], values[f"{PREFIX}{index}.length"]
+        origin, length = values[b"%s%d.origin" % (PREFIX, index)], values[b"%s%d.length" % (PREFIX, index)]
         used = max(_used(name, parts.sections, link_map, image) - origin, 0)
         share = f"    {used * 100 / length:6.2f}%" if length else ""
-        lines.append(f"{name:>16}: {_amount(used)}{_amount(length)}{share}")
+        lines.append(f"{name.decode():>16}: {_amount(used)}{_amount(length)}{share}")
     return "\n".join(lines) + "\n"
 
 

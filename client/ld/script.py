@@ -8,13 +8,14 @@ import subprocess
 from dataclasses import dataclass
 
 from client.adapt.adapt import CHANGED, LEFT, Adapted, NoParse, Note, adapt
-from client.ld.command import Command
+from client.ld.command import Command, number
 from client.ld.default_script import DEFAULT
 from client.ld.inputs import BadInput, MissingInput, Object
 from client.ld.script_commands import Commands, read_commands
-from client.ld.script_text import outline, set_address, set_entry
+from client.ld.script_text import outline, set_address
+from client.watch.quick import with_entry
 
-NUMBER_ENTRY = "ld.ldi.entry"
+NUMBER_ENTRY = b"ld.ldi.entry"
 """The name that has the value of `-e NUMBER`."""
 
 
@@ -74,6 +75,8 @@ class Script:
     text: bytes
     lines: tuple[tuple[str, int], ...]
     report: list[Note]
+    entry: str | None = None
+    """The entry symbol where the script cannot name it, for the session's option."""
 
     @property
     def left(self) -> list[Note]:
@@ -106,24 +109,20 @@ def adapt_source(source: Source, command: Command, objects: list[Object]) -> Ada
 def write_script(source: Source, command: Command, objects: list[Object]) -> Script:
     """The script for the session, with the entry and the addresses that the command line gives."""
     adapted = adapt_source(source, command, objects)
-    text = adapted.text.decode(errors="surrogateescape")
+    text = adapted.text
     for section, start in command.section_starts.items():
-        changed = set_address(text, section, start)
+        changed = set_address(text, os.fsencode(section), start)
         if changed is None:
             command.note(f"the address of {section}: the script has no such section")
         text = changed or text
-    text = _with_entry(text, command)
-    return Script(source.path, text.encode(errors="surrogateescape"), adapted.lines, adapted.report)
-
-
-def _with_entry(text: str, command: Command) -> str:
-    """The script with the entry of `-e`, which is a name or a number."""
+    if command.entry is None and not outline(text).has_entry:
+        command.note("no entry symbol: the image's e_entry is 0 (GNU ld takes the start of .text)")
     if command.entry is None:
-        if outline(text).entry is None:
-            command.note("no entry symbol: the image's e_entry is 0 (GNU ld takes the start of .text)")
-        return text
-    try:
-        value = int(command.entry, 0)
-    except ValueError:
-        return set_entry(text, command.entry)
-    return f"{NUMBER_ENTRY} = 0x{value:x}; {set_entry(text, NUMBER_ENTRY)}"
+        return Script(source.path, text, adapted.lines, adapted.report)
+    entry = os.fsencode(command.entry)
+    if entry[:1].isdigit():
+        text = b"%s = 0x%x; %s" % (NUMBER_ENTRY, number(command.entry, "-e"), text)
+        entry = NUMBER_ENTRY
+    written = with_entry(text, entry)
+    option = command.entry if written is None else None
+    return Script(source.path, written or text, adapted.lines, adapted.report, option)
