@@ -58,7 +58,7 @@ class ObjectFile:
             self.headers = [
                 Header(*struct.unpack_from("<IIQQQQIIQQ", data, start + 64 * index)) for index in range(count)
             ]
-        except struct.error as fault:
+        except (struct.error, OverflowError) as fault:
             raise NotElf("its section headers are past its end") from fault
 
     @property
