@@ -5,27 +5,20 @@ from collections.abc import Iterable, Mapping, Sequence
 from dataclasses import dataclass
 from pathlib import Path
 
-DROPPED = "dropped"
-"""It has no effect on the image."""
-REWRITTEN = "rewritten"
-"""The text is another, the meaning the same."""
-CHANGED = "changed"
-"""`ldi` does not have the meaning; the text says what is different."""
-LEFT = "left"
-"""Nothing can be written for it; the text says what to do."""
+from client.adapt.inputs import inputs
+from client.adapt.limits import parted
+from client.adapt.model import Model
+from client.adapt.notes import CHANGED, DROPPED, LEFT, REWRITTEN, Note
+from client.adapt.objects import Objects
+from client.adapt.parser import expression_of, parse
+from client.adapt.sections import Sections
+from client.adapt.source import NoParse, Source
+from client.adapt.statements import Statements
+from client.adapt.structure import Structure
+from client.adapt.symbols import Symbols, unused
+from client.adapt.taking import all_sections, taking
 
-
-@dataclass(frozen=True)
-class Note:
-    """One line of the report: what became of a construct of the script."""
-
-    kind: str
-    path: str
-    line: int
-    text: str
-
-    def __str__(self) -> str:
-        return f"{self.path}:{self.line}: {self.kind}: {self.text}"
+__all__ = ["Adapted", "NoParse", "Note", "adapt", "CHANGED", "DROPPED", "LEFT", "REWRITTEN"]
 
 
 @dataclass(frozen=True)
@@ -44,26 +37,85 @@ class Adapted:
         return 2 if LEFT in kinds else 1 if CHANGED in kinds else 0
 
 
-class NoParse(Exception):
-    """The text is no script of GNU ld; `str()` is `file:line: reason`."""
-
-    def __init__(self, path: str, line: int, reason: str) -> None:
-        super().__init__(f"{path}:{line}: {reason}")
-        self.path, self.line, self.reason = path, line, reason
-
-
 def adapt(script: Path | str | bytes, defsyms: Sequence[tuple[str, str]] = (),
           objects: Mapping[str, bytes] | Iterable[str] | None = None,
-          include_path: Sequence[str] = (), path: str = "script") -> Adapted:
+          include_path: Sequence[str] = (), path: str = "script", orphans: bool = True) -> Adapted:
     """Rewrites `script` into the profile.
 
     `script` is a file's path as a `Path`, or a text (`str` or `bytes`), whose name in the report is then `path`.
     `defsyms` are pairs of a symbol and its expression. `objects` are the objects of the link in their order: names and
-    bytes, or paths of files; with `None` nothing is known of them. `include_path` are the folders where INCLUDE looks
-    after the current one. Raises `NoParse`, and `OSError` where a file cannot be read.
+    bytes, or paths of files; with `None` nothing is known of them. A member of an archive is named `lib.a(member.o)`.
+    `include_path` are the folders where INCLUDE looks after the current one. With `orphans`, and objects, input
+    sections that no statement takes are reported as left. Raises `NoParse`, and `OSError` where a file cannot be read.
     """
     if isinstance(script, Path):
         path, script = str(script), script.read_bytes()
-    text = script.encode() if isinstance(script, str) else script
-    count = text.count(b"\n") + 1
-    return Adapted(text, [], tuple((path, line) for line in range(1, count + 1)))
+    data = script.encode() if isinstance(script, str) else script
+    front = "".join(f"{_checked(name, value)} = {value}; " for name, value in defsyms)
+    source = Source(path, front.encode("latin-1", "replace") + data, tuple(include_path))
+    nodes, hashes = parse(source)
+    model = Model(source, nodes, None if objects is None else Objects(objects))
+    for start, end in hashes:
+        inside = source.text[start + 1:end].strip().replace("*/", "* /")
+        model.edits.replace(start, end, f"/* {inside} */")
+        model.note(REWRITTEN, start, "a comment of `#` as /* */")
+    _report_front(model, defsyms)
+    _rules(model)
+    if orphans:
+        _orphans(model)
+    text, lines = model.edits.render()
+    text, long = parted(text)
+    for at in long[:1]:
+        where = lines[text.count("\n", 0, at)]
+        model.note(LEFT, 0, f"an expression at {where[0]}:{where[1]} has more than 64 signs: use symbols for its parts")
+    return Adapted(text.encode("latin-1"), model.report(), lines)
+
+
+def _checked(name: str, value: str) -> str:
+    """The symbol of --defsym, if its expression is one."""
+    expression_of(value, f"--defsym {name}")
+    return name
+
+
+def _report_front(model: Model, defsyms: Sequence[tuple[str, str]]) -> None:
+    for path, line, found in model.source.included:
+        model.note(REWRITTEN, _offset(model, path, line), f"INCLUDE {found}: its text is read in")
+    for name, value in defsyms:
+        model.note(REWRITTEN, 0, f"--defsym {name}={value} as an assignment")
+
+
+def _offset(model: Model, path: str, line: int) -> int:
+    """An offset in a line of a file."""
+    at = 0
+    for origin in model.source.origins:
+        if origin == (path, line):
+            return at
+        at = model.source.text.find("\n", at) + 1
+    return 0
+
+
+def _rules(model: Model) -> None:
+    """All rules, in the order in which they need one another."""
+    Structure(model).run()
+    Symbols(model).run()
+    Statements(model).run()
+    Sections(model).run()
+    for section in all_sections(model.nodes):
+        if id(section) not in model.dropped:
+            inputs(model, section)
+    unused(model)
+
+
+def _orphans(model: Model) -> None:
+    """Says which input sections no statement takes: GNU ld places them, `ldi` does not."""
+    if model.objects is None:
+        return
+    found: dict[str, list[str]] = {}
+    for item in taking(model).orphans:
+        if item.size:
+            found.setdefault(item.name, []).append(item.object)
+    for name, objects in found.items():
+        more = f" and {len(objects) - 1} more" if len(objects) > 1 else ""
+        model.note(LEFT, max(len(model.source.text) - 1, 0), f"no statement takes {name} of {objects[0]}{more} (F3): "
+                   f"GNU ld places it after others; write `{name} : {{ *({name}) }}`, /DISCARD/ it, or link with "
+                   "--orphan-handling discard")
