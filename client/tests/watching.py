@@ -28,7 +28,7 @@ SCRIPT = b"""ENTRY(_start)
 SECTIONS {
   . = 0x401000;
   .numbers : { *(.numbers) }
-  .text : { *(.text) }
+  .text : { *(.text) *(.tail) }
 }
 """
 PLT32 = 4
@@ -37,8 +37,11 @@ PATIENCE = 20.0
 
 
 def numbered(number: int, version: int, count: int, calls: str | None = None) -> bytes:
-    """Object `number` of `count`: its number and version in `.numbers`, and a function that calls the next one's."""
-    text = bytes([0x90]) * (16 + 16 * (version % 7))
+    """Object `number` of `count`: its number and version in `.numbers`, and a function that calls the next one's.
+
+    The version stands once more after the function, in `.tail`, so that halves of two versions make none.
+    """
+    text = bytes([0x90]) * (16 + 16 * (version % 3))
     symbols = [Sym(f"f{number}", 2, 0, len(text), elf.STB_GLOBAL, elf.STT_FUNC)]
     if number == 0:
         symbols.append(Sym("_start", 2, 0, len(text), elf.STB_GLOBAL, elf.STT_FUNC))
@@ -46,7 +49,11 @@ def numbered(number: int, version: int, count: int, calls: str | None = None) ->
     if called not in [symbol.name for symbol in symbols]:
         symbols.append(Sym(called))
     numbers = number.to_bytes(8, "little") + version.to_bytes(8, "little")
-    sections = [Sec(".numbers", numbers, READ_ONLY, alignment=8), Sec(".text", text, CODE, alignment=16)]
+    sections = [
+        Sec(".numbers", numbers, READ_ONLY, alignment=8),
+        Sec(".text", text, CODE, alignment=16),
+        Sec(".tail", numbers[8:], CODE),
+    ]
     return build(sections, symbols, [Rel(2, 1, PLT32, called, -4)])
 
 

@@ -2,7 +2,8 @@
 from __future__ import annotations
 
 from bisect import bisect_left
-from collections.abc import Sequence
+from collections.abc import Callable, Sequence
+from contextlib import AbstractContextManager, nullcontext
 from dataclasses import dataclass, field
 
 from client.protocol import GREATEST_PAYLOAD, Answer, Linked, Options, Refused, Session
@@ -30,11 +31,17 @@ class Project:
 
 
 class Kept:
-    """A session that is kept in step with a project."""
+    """A session that is kept in step with a project. It is started within a `shield`, which puts off signals."""
 
-    def __init__(self, options: Options, program: str | None = None) -> None:
+    def __init__(
+        self,
+        options: Options,
+        program: str | None = None,
+        shield: Callable[[], AbstractContextManager[None]] = nullcontext,
+    ) -> None:
         self._options = options
         self._program = program
+        self._shield = shield
         self.session: Session | None = None
         self.refused: dict[str, Refused] = {}
         """Why the inputs that were refused last were, the script under the name SCRIPT."""
@@ -56,7 +63,8 @@ class Kept:
         if self.session is not None and options != self._started_with:
             self.end()
         if self.session is None:
-            self.session = Session(options, self._program, PATIENCE)
+            with self._shield():
+                self.session = Session(options, self._program, PATIENCE)
             self._started_with = options
         self.refused = {}
         in_order = self._order == list(project.objects)

@@ -55,7 +55,7 @@ class Watch:
         self.teller = teller
         self.watcher = Watcher()
         self.places = Places(self.watcher)
-        self.kept = Kept(words.options)
+        self.kept = Kept(words.options, shield=stops.shield)
         self.image = Output(words.image, IMAGE_MODE)
         self.map = Output(words.map, MAP_MODE) if words.map is not None else None
         self.runner = Command(words.run, words.json) if words.run is not None else None
@@ -227,7 +227,8 @@ class Watch:
         if making is None:
             return True
         if making.wanted and not making.running:
-            making.start()
+            with self.stops.shield():
+                making.start()
         if making.failed is not None and not making.running:
             self._set_state(Waiting(((f"`{making.command.text}`", how_ended(making.failed)),)), at_once=True)
         return making.is_done()
@@ -399,7 +400,8 @@ class Watch:
         self._set_state(self._good(length, written), at_once=True)
         if written and self.runner is not None:
             self.runner.end()
-            self.runner.start()
+            with self.stops.shield():
+                self.runner.start()
 
     def _good(self, length: int = 0, written: bool = True) -> Good:
         milliseconds = (time.monotonic() - self.last_event) * 1000
