@@ -17,6 +17,7 @@ from client.ld.options import WordsRefused
 from client.ld.output import PROGRAM, TEXT, write_file
 from client.ld.reports import memory_usage, removed_sections
 from client.ld.script import Script, Source, find_script, write_script
+from client.ld.valued import with_values
 from client.ld.words import expand
 from client.link_map import read_map
 from client.messages import Inputs, fault_messages, refusal_message
@@ -98,6 +99,8 @@ class Link:
         if self.source.commands.binary and self.source.own and command.output_format is None:
             command.output_format = "binary"
         script = write_script(self.source, command, self.objects)
+        if script.valued:
+            script = with_values(self.source, command, self.objects) or script
         report_script(script, command.verbose)
         if script.left:
             say(f"{self.source.path}: {len(script.left)} places cannot be linked by ldi; they are named above")
