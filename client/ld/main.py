@@ -2,6 +2,7 @@
 from __future__ import annotations
 
 import os
+import re
 import signal
 import subprocess
 import sys
@@ -15,16 +16,23 @@ from client.ld.inputs import BadInput, CannotLink, Loader, MissingInput, Object
 from client.ld.link import Result, link, options_of
 from client.ld.options import WordsRefused
 from client.ld.output import PROGRAM, TEXT, write_file
+from client.ld.page_size import TooFar, with_pages
 from client.ld.reports import memory_usage, removed_sections
 from client.ld.script import Script, Source, find_script, write_script
 from client.ld.valued import with_values
 from client.ld.words import expand
 from client.link_map import read_map
-from client.messages import Inputs, fault_messages, refusal_message
+from client.messages import Inputs, fault_messages, refusal_messages
 from client.protocol import Refused, Session, SessionEnded, find_program
 
 GOOD, FAULTS, REFUSED, DEVICE, MEMORY = range(5)
 """The statuses of `ldi link`."""
+
+GREATEST_LIST = 20
+"""The refused objects that are named."""
+
+GREATEST_FAULTS = 1000
+"""The faults that are said as sentences."""
 
 FOLLOWS = "2.40"
 """The release of GNU ld whose command line this is; the last word of the version, which builds ask for."""
@@ -122,13 +130,14 @@ class Link:
 
     def _finish(self, session: Session, script: Script, result: Result, files: list[str]) -> int:
         """Says what came of the link, and writes the files of a good one."""
-        inputs = Inputs(script.path, script.text, {item.name.decode(): item.data for item in self.objects}, script.lines)
+        data = {item.name.decode(): item.data for item in self.objects}
+        inputs = Inputs(script.path, script.text, data, script.lines, self.command.entry)
         if result.refused:
             return self._refused(result)
         if result.script_refused:
             return self._script_refused(result.script_refused, script)
         if result.status:
-            for message in fault_messages(result.faults, inputs):
+            for message in fault_messages(result.faults, inputs, GREATEST_FAULTS):
                 print(message, file=sys.stderr)
             return FAULTS
         self._write(result, files)
@@ -137,8 +146,9 @@ class Link:
 
     def _refused(self, result: Result) -> int:
         """Objects that are refused go to the other linker, but not for memory."""
-        for item, refused in result.refused[:20]:
-            print(refusal_message(item.name.decode(), refused, item.data), file=sys.stderr)
+        for item, refused in result.refused[:GREATEST_LIST]:
+            for message in refusal_messages(item.name.decode(), refused, item.data)[:3]:
+                print(message, file=sys.stderr)
         if any(refused.number == 7 for _, refused in result.refused):
             return MEMORY
         first = result.refused[0][0].name.decode()
@@ -146,7 +156,8 @@ class Link:
         return hand_over([f"{first}{others}: outside the profile of ldi"], self.words)
 
     def _script_refused(self, refused: Refused, script: Script) -> int:
-        print(refusal_message(script.path, refused, script.text), file=sys.stderr)
+        for message in refusal_messages(script.path, refused, script.text, script.lines):
+            print(message, file=sys.stderr)
         return MEMORY if refused.number == 7 else REFUSED
 
     def _map_path(self) -> str | None:
@@ -158,6 +169,13 @@ class Link:
             return path.replace("%", self.command.output, 1) + (".map" if path.endswith("%") else "")
         return path
 
+    def _image(self, image: bytes) -> bytes:
+        """The image in the form that the command asks for."""
+        if self.command.output_format == "binary":
+            return flat_binary(image)
+        has_phdrs = re.search(r"\bPHDRS\s*\{", self.source.text) is not None
+        return with_pages(image, self.command.page_size or 0, in_file_order=has_phdrs)
+
     def _write(self, result: Result, files: list[str]) -> None:
         """Writes the map, then the image."""
         command = self.command
@@ -167,7 +185,7 @@ class Link:
             sys.stdout.flush()
         if path is not None and path != "-":
             write_file(path, result.map, TEXT)
-        image = flat_binary(result.image) if command.output_format == "binary" else result.image
+        image = self._image(result.image)
         write_file(command.output, image, PROGRAM)
         if command.dependency_file is not None:
             names = [*files, *command.scripts]
@@ -224,7 +242,7 @@ def main(words: list[str]) -> int:
     except WordsRefused as fault:
         say(str(fault))
         return REFUSED
-    except NoFlatImage as fault:
+    except (NoFlatImage, TooFar) as fault:
         say(str(fault))
         return FAULTS
     except SessionEnded as fault:

@@ -311,6 +311,8 @@ def _long(text: str, dashes: int) -> tuple[Option, str | None] | None:
     """The option that a word without its dashes names by a long name, and the value that it has after `=`."""
     name, equals, value = text.partition("=")
     option = BY_NAME.get(name) if len(name) > 1 else None
+    if option is None and name.startswith("no-warn-"):
+        option = Option((name,), Value.NONE, Effect.IGNORED)
     if dashes == 1 and name.startswith("o"):
         return None
     if option is None and dashes == 2:

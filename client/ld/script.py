@@ -19,6 +19,9 @@ from client.watch.quick import with_entry
 NUMBER_ENTRY = b"ld.ldi.entry"
 """The name that has the value of `-e NUMBER`."""
 
+MAX_PAGE_SIZE = re.compile(r"\bCONSTANT\s*\(\s*MAXPAGESIZE\s*\)")
+"""What `-z max-page-size=` sets in a script."""
+
 
 @dataclass(frozen=True)
 class Source:
@@ -103,8 +106,12 @@ def adapt_source(
             raise BadInput(f"--defsym {defsym}: no NAME=EXPRESSION")
         defsyms.append((name.strip(), value.strip()))
     named = {item.name.decode(): item.data for item in objects}
+    text = source.text
+    if command.page_size is not None:
+        text = MAX_PAGE_SIZE.sub(f"0x{command.page_size:x}", text)
+    data = text.encode(errors="surrogateescape")
     try:
-        return adapt(source.text.encode(errors="surrogateescape"), defsyms, named, command.folders, source.path,
+        return adapt(data, defsyms, named, command.folders, source.path, orphans=False,
                      values=values)
     except NoParse as fault:
         raise BadInput(str(fault)) from fault

@@ -14,7 +14,7 @@ LD_LDI = ROOT / "client" / "bin" / "ld.ldi"
 LDI_GDB = ROOT / "client" / "bin" / "ldi-gdb"
 EXAMPLE = ROOT / "examples" / "linux"
 FLAGS = ("-O2", "-ffreestanding", "-fno-pic", "-fno-stack-protector", "-ffunction-sections", "-fdata-sections")
-LIMIT = 60.0
+LIMIT = 120.0
 """Seconds after which a program that a test runs is ended."""
 
 

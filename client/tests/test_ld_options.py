@@ -75,7 +75,7 @@ class ManualTest(unittest.TestCase):
         headings = {Effect.TAKEN: "Taken", Effect.IGNORED: "Ignored", Effect.SAID: "Said", Effect.CANNOT: "Handed over"}
         for effect, heading in headings.items():
             part = text.split(f"### {heading}\n")[1].split("\n##")[0]
-            written = set(re.findall(r"`(-[^`\s\[=]*)", part))
+            written = set(re.findall(r"`(-[^`\s\[=]+)", part))
             meant = {option.spelling for option in OPTIONS if option.effect is effect}
             self.assertEqual(meant - written, set(), heading)
             other = {spelling for spelling in written if spelling not in meant}
