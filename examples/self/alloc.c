@@ -13,9 +13,9 @@ enum {
     ALIGNMENT = 16,
     STEPS = 8,            /* how many sizes there are from one power of two to the next */
     SIZES = 64 * STEPS,
-    LARGE = 1 << 20,      /* blocks from this size on are mappings of their own */
+    LARGE = 1 << 17,      /* blocks from this size on are mappings of their own */
     HUGE = 1 << 21,       /* the size of a large page, and by how much the heap grows */
-    KEPT = 1 << 26,       /* how many bytes of mappings that were given back are kept for later */
+    KEPT = 1 << 22,       /* how many bytes of mappings that were given back are kept for later */
 };
 
 /* What stands before a block: its size with this header, and its number among the sizes. In a list it has the next. */
