@@ -5,8 +5,8 @@ LDI ?= $(CURDIR)/crates/ldi/out/ldi
 PREFIX ?= /usr/local
 export LDI
 
-.PHONY: help demo ldi self dist dist-test install check test test-client fmt examples bench check-real check-images check-model \
-        check-link check-readers check-session check-counts check-memory mutants
+.PHONY: help demo ldi self dist dist-test install check test test-client fmt examples bench check-real check-images \
+        check-model check-link check-readers check-session check-counts check-memory mutants
 
 help: ## this list
 	@awk -F ':.*## ' '/^[a-z-]+:.*## / { printf "make %-14s %s\n", $$1, $$2 }' Makefile
@@ -16,7 +16,7 @@ help: ## this list
 demo: ## builds ldi without its proofs, links the smallest program and shows the image
 	@tools/demo
 
-ldi: ## proves every crate below ldi, readobj and readscript, on all cores, and builds them: crates/NAME/out/NAME
+ldi: ## proves what ldi, readobj and readscript stand on, and builds them: crates/NAME/out/NAME
 	@tools/build-ldi
 
 self: ## links `ldi` by `ldi` as one static file, and runs the stored runs and streams with it: examples/self
