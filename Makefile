@@ -5,8 +5,9 @@ LDI ?= $(CURDIR)/crates/ldi/out/ldi
 PREFIX ?= /usr/local
 export LDI
 
-.PHONY: help demo ldi self dist dist-test install check test test-client fmt examples bench check-real check-images \
-        check-model check-link check-readers check-session check-counts check-memory mutants
+.PHONY: help demo ldi install check test test-client fmt examples bench check-real check-images check-model \
+        check-link check-readers check-session check-counts check-memory mutants soak-client
+.PHONY: self dist dist-test
 
 help: ## this list
 	@awk -F ':.*## ' '/^[a-z-]+:.*## / { printf "make %-14s %s\n", $$1, $$2 }' Makefile
@@ -39,6 +40,9 @@ test: ## the merge gate: every proof from nothing, the edits that must fail, the
 
 test-client: ## the tests of the client's programs, over the program that `make ldi` built
 	@tools/test-client
+
+soak-client: ## runs ldi-watch over 2,000 rounds of random rewrites, and judges every image: half an hour
+	@nice /usr/bin/python3 -m client.tests.soak 2000
 
 fmt: ## lays out the files of every crate, and prints those that changed, and what crates.txt names without need
 	@tools/fmt

@@ -5,7 +5,9 @@ it. Handles allow the linker no waiting and no processes; that is why the progra
 """
 from __future__ import annotations
 
+import fcntl
 import os
+import select
 import subprocess
 from dataclasses import dataclass
 from typing import IO, cast
@@ -55,7 +57,7 @@ Answer = Linked | Refused
 
 
 class SessionEnded(Exception):
-    """The session's process ended, or wrote what is no answer."""
+    """The session's process ended, gave no answer in time, or wrote what is no answer."""
 
 
 def is_name(name: bytes) -> bool:
@@ -80,10 +82,20 @@ def find_program(name: str = "ldi") -> str:
     return name
 
 
-class Session:
-    """A running `ldi session`. Each call sends one command and reads its answer; SessionEnded where it has ended."""
+PIPE_BYTES = 1 << 20
+"""The bytes that the session's pipes are asked to hold; with the system's 64 KiB an image takes longer."""
 
-    def __init__(self, options: Options = Options(), program: str | None = None) -> None:
+
+class Session:
+    """A running `ldi session`. Each call sends one command and reads its answer; SessionEnded where it has ended.
+
+    With `timeout`, an answer that has not begun after so many seconds ends it too. OSError where it cannot be started.
+    """
+
+    def __init__(
+        self, options: Options = Options(), program: str | None = None, timeout: float | None = None
+    ) -> None:
+        self.timeout = timeout
         self.process = subprocess.Popen(
             [program or find_program(), "session", *options.words()],
             stdin=subprocess.PIPE,
@@ -92,6 +104,15 @@ class Session:
         )
         self._to = cast(IO[bytes], self.process.stdin)
         self._from = cast(IO[bytes], self.process.stdout)
+        for pipe in (self._to, self._from):
+            try:
+                fcntl.fcntl(pipe, fcntl.F_SETPIPE_SZ, PIPE_BYTES)
+            except OSError:
+                pass
+
+    def fileno(self) -> int:
+        """A descriptor that has something to read, between two commands, only where the session has ended."""
+        return self._from.fileno()
 
     def add(self, name: bytes, position: int, data: bytes) -> Answer:
         """Adds an object before `position`, counted from 0."""
@@ -134,16 +155,18 @@ class Session:
         self._from.close()
         return self.process.wait()
 
-    def kill(self) -> None:
-        """Ends the session at once."""
+    def kill(self) -> int:
+        """Ends the session at once, whatever it does; gives its status, negative where a signal ended it."""
         self.process.kill()
-        self.close()
+        return self.close()
 
     def _send(self, line: bytes, payload: bytes = b"") -> list[bytes]:
         try:
             self._to.write(line + b"\n")
             self._to.write(payload)
             self._to.flush()
+            if self.timeout is not None and not select.select([self._from], [], [], self.timeout)[0]:
+                raise SessionEnded(f"the session gave no answer for {self.timeout:g} s")
             answer = self._from.readline()
         except (OSError, ValueError) as fault:
             raise SessionEnded(str(fault)) from fault
