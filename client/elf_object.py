@@ -94,6 +94,8 @@ class Relocation(NamedTuple):
 def plain(name: bytes) -> str:
     """A name as text of one line, whatever its bytes are."""
     text = name.decode("utf-8", errors="backslashreplace")
+    if text.isprintable():
+        return text
     return "".join(c if c.isprintable() else c.encode("unicode_escape").decode("ascii") for c in text)
 
 

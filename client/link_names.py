@@ -1,6 +1,7 @@
 """Names and source lines in the objects of a link, by what fault lines say of them."""
 from __future__ import annotations
 
+from collections import OrderedDict
 from collections.abc import Callable, Mapping
 from dataclasses import dataclass
 from functools import cached_property
@@ -24,6 +25,9 @@ SLIM = "is an object of slim LTO and has no code: compile it with -fno-lto"
 
 MOST_VARIABLE_OBJECTS = 50
 """The objects whose variables are looked for in debug information in one run of messages: a tenth of a second each."""
+
+MOST_RECENT = 256
+"""The objects that are kept from one run of messages to the next."""
 
 
 class ObjectNames:
@@ -58,6 +62,26 @@ class ObjectNames:
         return SHN_UNDEF < symbol.place < min(SHN_ABS, len(self.elf.sections))
 
 
+class RecentObjects:
+    """The objects that messages were made of last: the next messages are mostly of the same ones."""
+
+    def __init__(self) -> None:
+        self._objects: OrderedDict[str, ObjectNames] = OrderedDict()
+
+    def object(self, name: str, data: bytes) -> ObjectNames:
+        """What was read of these very bytes under this name before, or a new reading."""
+        names = self._objects.pop(name, None)
+        if names is None or names.data is not data:
+            names = ObjectNames(name, data)
+        self._objects[name] = names
+        if len(self._objects) > MOST_RECENT:
+            self._objects.popitem(last=False)
+        return names
+
+
+RECENT = RecentObjects()
+
+
 @dataclass(frozen=True)
 class Site:
     """Where a relocation or a definition is: what stands of it at the front of a message."""
@@ -80,7 +104,7 @@ class LinkNames:
         if name not in self._read:
             if name not in self.objects:
                 return None
-            self._read[name] = ObjectNames(name, self.objects[name])
+            self._read[name] = RECENT.object(name, self.objects[name])
         return self._read[name]
 
     def site(
@@ -118,9 +142,9 @@ class LinkNames:
 
     def _variable(self, names: ObjectNames, section: int, offset: int) -> Source | None:
         """The source line of a variable, for a bounded number of objects."""
-        self._variable_objects.add(names.name)
-        if len(self._variable_objects) > MOST_VARIABLE_OBJECTS:
+        if names.name not in self._variable_objects and len(self._variable_objects) == MOST_VARIABLE_OBJECTS:
             return None
+        self._variable_objects.add(names.name)
         return names.lines.of_variable(section, offset)
 
     def definition(self, name: str, symbol_name: str) -> Site | None:

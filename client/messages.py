@@ -17,7 +17,7 @@ def fault_messages(faults: bytes, inputs: Inputs, limit: int | None = None) -> l
     """The messages of a link's fault lines, in their order. With a limit that there are more than, the first ones, and
     one without a line that says how many more there are."""
     sentences = FaultSentences(inputs)
-    messages = []
+    messages: list[Message] = []
     for fault in fault_lines(faults):
         if limit is not None and len(messages) == limit:
             messages.append(Message(f".. and {count_lines(faults) - limit} more", ""))
@@ -30,8 +30,12 @@ def refusal_message(
     name: str, refused: Refused, data: bytes | None = None, script_lines: tuple[tuple[str, int], ...] = ()
 ) -> Message:
     """The message of a refused edit of the object `name`, or of the script; `data` is its payload. `script_lines` is
-    that of `Inputs`."""
-    return refusal_messages(name, refused, data, script_lines)[0]
+    that of `Inputs`. Of several places it has the first, and says how many more there are."""
+    first, *others = refusal_messages(name, refused, data, script_lines)
+    if not others:
+        return first
+    more = "1 more place" if len(others) == 1 else f"{len(others)} more places"
+    return Message(f"{first.sentence}; and {more}", first.line)
 
 
 def refusal_messages(

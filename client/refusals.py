@@ -63,6 +63,9 @@ FORMS = {
 }
 """Files that are no ELF files, by their first bytes."""
 
+DEEPER = "   "
+"""What begins a line that goes on with the one above: those of a place are indented by two spaces."""
+
 LINE = re.compile(r"line ([0-9]+): (.*)")
 
 
@@ -111,11 +114,17 @@ def _reasons(program: str, refused: Refused, data: bytes | None) -> list[str]:
     """What a program says of refused bytes, a reason for each place; none where it cannot be asked, or says another
     number."""
     output = _ask(program, data) if data is not None else ""
-    first, *reasons = output.split("\n")
+    first, *lines = output.split("\n")
     if not first.endswith(f": refused {refused.number} {refused.inner}"):
         return []
-    said = [plain(reason.strip().encode(errors="surrogateescape")) for reason in reasons if reason.strip()]
-    return said[:MOST_PLACES]
+    reasons: list[str] = []
+    for line in lines:
+        text = plain(line.strip().encode(errors="surrogateescape"))
+        if reasons and text and line.startswith(DEEPER):
+            reasons[-1] += f"; {text}"
+        elif text and len(reasons) < MOST_PLACES:
+            reasons.append(text)
+    return reasons
 
 
 def _ask(program: str, data: bytes) -> str:

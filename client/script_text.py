@@ -92,7 +92,7 @@ class ScriptText:
 
     def words(self, line: int) -> list[bytes]:
         """The tokens of the statements that begin on a line, to the end of the last one; perhaps a few more."""
-        words = []
+        words: list[bytes] = []
         for token in self._tokens[self._first_on(line) :]:
             if self.line_of(token) > line and words and words[-1] in (b";", b"{", b"}"):
                 break

@@ -107,6 +107,8 @@ def _joined(pieces: list[tuple[str, int, bool]], source: Source) -> tuple[str, t
                 break
             fresh = True
             at = end + 1
+            if not own:
+                offset = source.text.find("\n", offset) + 1 or offset
     if fresh:
         lines.append(source.place(len(source.text)))
     return "".join(text for text, _, _ in pieces), tuple(lines)

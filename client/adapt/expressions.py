@@ -1,12 +1,17 @@
 """Reads expressions of GNU ld, and writes expressions of the profile."""
 from __future__ import annotations
 
+import re
+
 from client.adapt.lexer import EXPRESSION, SCRIPT, Lexer, number_of
 from client.adapt.tree import Expr
 
 LEVELS = {"*": 1, "/": 1, "%": 1, "+": 2, "-": 2, "<<": 3, ">>": 3, "<": 4, "<=": 4, ">": 4, ">=": 4, "==": 5,
           "!=": 5, "&": 6, "^": 7, "|": 8, "&&": 9, "||": 10}
 COND = 11
+LONG = 56
+"""An expression of more signs is shortened; the profile's limit is 64 in a run."""
+_SIGNS = re.compile(r"<<|>>|<=|>=|==|!=|&&|\|\||(?<![A-Za-z0-9_.$])-|[(!~*/%+<>&|?]")
 _ONE = frozenset(("ABSOLUTE", "ALIGN", "BLOCK", "NEXT", "DATA_SEGMENT_END", "LOG2CEIL"))
 _TWO = frozenset(("ALIGN", "MAX", "MIN", "DATA_SEGMENT_ALIGN", "DATA_SEGMENT_RELRO_END"))
 _NAMED = frozenset(("SIZEOF", "ALIGNOF", "ADDR", "LOADADDR", "ORIGIN", "LENGTH", "CONSTANT", "DEFINED"))
@@ -224,14 +229,23 @@ def replace_dot(e: Expr, place: Expr) -> Expr:
     return Expr(e.kind, e.word, args, e.value, e.name, e.start, e.end)
 
 
-def signs(e: Expr) -> int:
-    """How many signs the written expression has, as the profile's limit counts them."""
+def sign_count(text: str) -> int:
+    """How many signs a text of expressions has, as the profile's limit counts them."""
+    return len(_SIGNS.findall(text))
+
+
+def folded(e: Expr) -> Expr:
+    """The expression with a number for each part that is made of numbers."""
+    value = constant(e)
+    if value is not None and e.kind != "number":
+        return number(value)
+    args = tuple(folded(arg) for arg in e.args)
+    if all(new is old for new, old in zip(args, e.args)):
+        return e
+    return Expr(e.kind, e.word, args, e.value, e.name, e.start, e.end)
+
+
+def short(e: Expr) -> str:
+    """The text of an expression; a long one has numbers for what is made of numbers."""
     text = write(e)
-    count, i = 0, 0
-    while i < len(text):
-        if text[i:i + 2] in ("<<", ">>", "<=", ">=", "==", "!=", "&&", "||"):
-            count, i = count + 1, i + 2
-            continue
-        count += text[i] in "(!-~*/%+<>&|?" and not (text[i] == "-" and i and text[i - 1].isalnum())
-        i += 1
-    return count
+    return text if sign_count(text) <= LONG else write(folded(e))

@@ -4,7 +4,7 @@ from __future__ import annotations
 from client.adapt.model import Model
 from client.adapt.notes import CHANGED, DROPPED, LEFT, REWRITTEN
 from client.adapt.patterns import is_word, word_of
-from client.adapt.taking import file_names, literal, takes, taking
+from client.adapt.taking import file_names, is_outside, literal, takes, taking
 from client.adapt.tree import Assert, Assign, Command, Data, Input, Node, Pattern, Section
 
 _SORTS = {"SORT": "SORT_BY_NAME", "SORT_BY_NAME": "SORT_BY_NAME", "SORT_BY_ALIGNMENT": "SORT_BY_ALIGNMENT",
@@ -70,8 +70,7 @@ class Rewriter:
     def _word(self, pattern: str) -> str:
         word, exact = word_of(pattern)
         if "," in pattern:
-            self.notes.append((REWRITTEN, f"`{pattern}`: to GNU ld the comma is a byte of the name; names are parted by "
-                               "spaces"))
+            self.notes.append((REWRITTEN, f"`{pattern}`: to GNU ld the comma is a byte of the name; spaces part names"))
         if not exact:
             self.notes.append((CHANGED, f"`{pattern}` is `{word}` here, which may match other names"))
         return word
@@ -255,10 +254,27 @@ def inputs(model: Model, section: Section) -> None:
     for node in section.body:
         if isinstance(node, Input):
             Rewriter(model, node, discard).run()
+            if not discard and not node.flags:
+                _unloaded(model, node)
         elif isinstance(node, Command):
             _command(model, node)
         elif discard:
             _in_discard(model, section, node)
+
+
+def _unloaded(model: Model, node: Input) -> None:
+    """Says where a statement takes what is not loaded too, which GNU ld then loads."""
+    if model.objects is not None:
+        found = next((item for item in model.objects.unloaded() if takes(node, item)), None)
+        if found is None:
+            return
+        what = f"{found.name} of {found.object}"
+    else:
+        words = [pattern.word for pattern in node.patterns] if node.patterns is not None else ["*"]
+        if not any(word == "*" or is_outside(word) for word in words):
+            return
+        what = "sections without the flag ALLOC"
+    model.note(CHANGED, node.start, f"{model.text(node)}: GNU ld takes {what} too; here only what is loaded is linked")
 
 
 def _command(model: Model, node: Command) -> None:

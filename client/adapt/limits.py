@@ -18,7 +18,8 @@ def parted(text: str) -> tuple[str, list[int]]:
     """
     ends: list[int] = []
     long: list[int] = []
-    run, candidates, depth = 0, [], 0
+    candidates: list[int] = []
+    run = depth = 0
     stack: list[bool] = []
     start = 0
     for match in _TOKENS.finditer(text):

@@ -2,7 +2,6 @@
 from __future__ import annotations
 
 import sys
-from pathlib import Path
 
 USAGE = """usage: ldi-adapt SCRIPT [-o OUT] [-L DIR].. [--defsym SYMBOL=EXPRESSION].. [--objects OBJECT.. | @LIST]
 
@@ -72,8 +71,8 @@ class Call:
         while rest and not rest[0].startswith("-"):
             word = rest.pop(0)
             if word.startswith("@"):
-                lines = Path(word[1:]).read_text(encoding="utf-8").split("\n")
-                self.objects.extend(line.strip() for line in lines if line.strip())
+                with open(word[1:], encoding="utf-8") as file:
+                    self.objects.extend(line.strip() for line in file if line.strip())
             else:
                 self.objects.append(word)
 
@@ -96,14 +95,17 @@ def main(words: list[str]) -> int:
 def _run(call: Call) -> int:
     from client.adapt.adapt import NoParse, adapt
     try:
-        result = adapt(Path(call.script), call.defsyms, call.objects, call.folders)
+        with open(call.script, "rb") as file:
+            data = file.read()
+        result = adapt(data, call.defsyms, call.objects, call.folders, path=call.script)
     except NoParse as fault:
         sys.stderr.write(f"{fault}\n")
         return 2
     for note in result.report:
         sys.stderr.write(f"{note}\n")
     if call.out:
-        Path(call.out).write_bytes(result.text)
+        with open(call.out, "wb") as file:
+            file.write(result.text)
     else:
         sys.stdout.buffer.write(result.text)
         sys.stdout.flush()

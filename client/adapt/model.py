@@ -2,7 +2,7 @@
 from __future__ import annotations
 
 import re
-from collections.abc import Iterable
+from collections.abc import Iterable, Mapping
 
 from client.adapt import expressions
 from client.adapt.edits import Edits
@@ -82,8 +82,15 @@ class Model:
         """By `id` of an expression of a head or a region: the same with DEFINED decided."""
         self.externs: set[str] = set()
         self.taken: object = None
+        """The rows of the output sections over the objects (taking.py)."""
+        self.memory_at = -1
+        """Where MEMORY stands, where it was moved."""
         self.gone: set[str] = set()
         """Names of output sections that were dropped."""
+        self.values: Mapping[str, int] | None = None
+        """Addresses of objects' symbols that an earlier link gave, for expressions that name them; 0 for others."""
+        self.valued: set[str] = set()
+        """The symbols of objects that stand outside of ASSERT, where they have no address yet."""
 
     # --- the report ---
 

@@ -3,7 +3,6 @@ from __future__ import annotations
 
 import struct
 from collections.abc import Iterable, Mapping
-from dataclasses import dataclass
 
 LINKED = frozenset((1, 7, 8, 14, 15, 16, 0x70000001))
 NOBITS = 8
@@ -11,27 +10,24 @@ WRITE, ALLOC, EXEC = 1, 2, 4
 _ABS, _COMMON = 0xFFF1, 0xFFF2
 
 
-@dataclass(frozen=True)
 class InputSection:
     """A linked section, or a common block, of an object."""
 
-    object: str
-    name: str
-    type: int
-    flags: int
-    size: int
-    align: int
+    __slots__ = ("object", "name", "type", "flags", "size", "align")
+
+    def __init__(self, owner: str, name: str, kind: int, flags: int, size: int, align: int) -> None:
+        self.object, self.name, self.type, self.flags, self.size, self.align = owner, name, kind, flags, size, align
 
 
-@dataclass(frozen=True)
 class Definition:
     """A definition of a name in an object."""
 
-    object: str
-    section: str
-    """The section's name; empty for an absolute one, COMMON for a common block."""
-    value: int
-    weak: bool
+    __slots__ = ("object", "section", "value", "weak")
+
+    def __init__(self, owner: str, section: str, value: int, weak: bool) -> None:
+        self.object, self.value, self.weak = owner, value, weak
+        self.section = section
+        """The section's name; empty for an absolute one, COMMON for a common block."""
 
 
 class Objects:
@@ -47,6 +43,7 @@ class Objects:
                     self._files[path] = file.read()
         self.names = list(self._files)
         self._sections: list[InputSection] | None = None
+        self._unloaded: list[InputSection] | None = None
         self._definitions: dict[str, Definition] = {}
         self._undefined: set[str] = set()
         self._read = False
@@ -59,6 +56,13 @@ class Objects:
                 self._sections.extend(section for section, _ in _sections(name, data) if section.flags & ALLOC)
                 self._sections.extend(_commons(name, data))
         return self._sections
+
+    def unloaded(self) -> list[InputSection]:
+        """Sections with contents and without ALLOC, but for symbol tables and relocations."""
+        if self._unloaded is None:
+            self._unloaded = [section for name, data in self._files.items() for section, _ in _sections(name, data)
+                              if not section.flags & ALLOC and section.size]
+        return self._unloaded
 
     def definition(self, name: str) -> Definition | None:
         """The first strong definition of a name, else the first one."""

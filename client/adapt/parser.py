@@ -80,10 +80,11 @@ class Parser:
 
     def _skip(self) -> tuple[int, list[str]]:
         """What stands up to the `}` that ends a block: its place, and the words of expression mode."""
-        depth, words = 1, []
+        depth = 1
+        words: list[str] = []
         text = self.source.text
         while True:
-            token = self.lexer.peek(FILES if False else EXPRESSION)
+            token = self.lexer.peek(EXPRESSION)
             if token.kind == "end":
                 raise self.source.fail(token.start, "a `}` is missing")
             if token.text == "{":
@@ -184,9 +185,10 @@ class Parser:
         separator = lexer.peek(mode)
         if separator.text in (";", ","):
             lexer.take(mode)
-            return Assert(value, text, word.start, lexer.last, separator.text)
-        del message
-        return Assert(value, text, word.start, end)
+            end = lexer.last
+        node = Assert(value, text, word.start, end, separator.text if separator.text in (";", ",") else "")
+        node.bare = message.kind != "string"
+        return node
 
     def _region(self) -> Region:
         lexer = self.lexer

@@ -2,6 +2,7 @@
 from __future__ import annotations
 
 import re
+from collections.abc import Set as AbstractSet
 
 RESERVED = frozenset("""ADDR ALIGN ASSERT AT BYTE CONSTANT DEFINED ENTRY EXCLUDE_FILE FILL HIDDEN INPUT_SECTION_FLAGS
     KEEP LENGTH LOADADDR LONG MAX MEMORY MIN NOLOAD ORIGIN PROVIDE PROVIDE_HIDDEN QUAD SECTIONS SHORT SIZEOF
@@ -77,7 +78,7 @@ def _set(inside: str) -> tuple[str, bool]:
     return f"[{_ranges(chosen)}]", True
 
 
-def _ranges(members: frozenset[str] | set[str]) -> str:
+def _ranges(members: AbstractSet[str]) -> str:
     """The bytes of a set in ranges; `-` stands last."""
     codes = sorted(ord(c) for c in members if c != "-")
     result: list[str] = []

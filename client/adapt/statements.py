@@ -5,9 +5,10 @@ import re
 
 from client.adapt import expressions as ex
 from client.adapt.model import Definition, Model, Step
-from client.adapt.notes import CHANGED, DROPPED, LEFT, REWRITTEN, Left
+from client.adapt.notes import CHANGED, LEFT, REWRITTEN, Left
 from client.adapt.patterns import is_name
-from client.adapt.tree import Assert, Assign, Data, Expr, Node, Section
+from client.adapt.symbols import expressions_of
+from client.adapt.tree import Assert, Assign, Block, Data, Expr, Node, Section
 from client.adapt.values import NUMBER, Place, Translator, Value
 
 _GLUED = re.compile(r"(?<![A-Za-z0-9_.$])(?!\.-)[A-Za-z_.$][A-Za-z0-9_.$]*-")
@@ -19,7 +20,7 @@ def needs_writing(source: str, old: Expr, new: Expr) -> bool:
     if new is not old and new != old:
         return True
     text = source[old.start:old.end]
-    if '"' in text or "#" in text or _GLUED.search(text):
+    if '"' in text or "#" in text or _GLUED.search(text) or ex.sign_count(text) > ex.LONG:
         return True
     return any(x.kind == "number" and x.word != ex.spelled(x) or x.kind == "unary" and x.word == "+"
                for x in ex.walk(old))
@@ -31,7 +32,6 @@ class Statements:
     def __init__(self, model: Model) -> None:
         self.model = model
         self.translator = Translator(model)
-        self._fills: dict[int, Data] = {}
 
     def run(self) -> None:
         """All statements in their order."""
@@ -49,7 +49,10 @@ class Statements:
         try:
             rule(step)
         except Left as left:
-            self.model.note(LEFT, step.node.start, f"{self.model.text(step.node)} {left}")
+            node = step.node
+            name = node.name if isinstance(node, Assign) and node.name != "." else "NAME"
+            text = str(left).replace("NAME", name)
+            self.model.note(LEFT, node.start, f"{self.model.text(node)} {text}")
 
     def _report(self, step: Step, place: Place, what: str = "") -> None:
         """The lines of the report for a statement whose text is another."""
@@ -93,7 +96,6 @@ class Statements:
         for step in self.model.steps:
             if step.kind == "gone":
                 continue
-            from client.adapt.symbols import expressions_of
             for e in expressions_of(self.model, step):
                 if any(x.kind == "name" and x.word == d.name for x in ex.walk(e)) \
                         and self.model.version(d.name, step.index) is d:
@@ -106,7 +108,7 @@ class Statements:
         model, node = self.model, step.node
         assert isinstance(node, Assign)
         provide = d.provide and not d.plain
-        text = f"PROVIDE({d.emitted} = {ex.write(result)})" if provide else f"{d.emitted} = {ex.write(result)};"
+        text = f"PROVIDE({d.emitted} = {ex.short(result)})" if provide else f"{d.emitted} = {ex.short(result)};"
         if d.moved is not None:
             self._moved(step, d, text)
             place.notes.append("stands where what it needs is known")
@@ -135,9 +137,11 @@ class Statements:
     def _expression(self, old: Expr, new: Expr, place: Place) -> None:
         """Writes an expression in place of another, if it is another."""
         if needs_writing(self.model.source.text, old, new):
-            self.model.edits.replace(old.start, old.end, ex.write(new))
-            if not place.notes:
-                place.notes.append("as " + ex.write(new))
+            self.model.edits.replace(old.start, old.end, ex.short(new))
+            if ex.sign_count(self.model.source.text[old.start:old.end]) > ex.LONG:
+                place.notes.append("in fewer signs")
+            elif not place.notes:
+                place.notes.append("as " + ex.short(new))
 
     def _moved(self, step: Step, d: Definition, text: str) -> None:
         """Writes a moved assignment after, or before, the step of its new place."""
@@ -152,7 +156,7 @@ class Statements:
             return
         target = model.steps[whole].item
         at, rank = target.start, 1 + int((d.moved - whole + 0.5) * 1e4)
-        if getattr(target, "word", "") == "MEMORY" and getattr(model, "memory_at", target.start) != target.start:
+        if isinstance(target, Block) and target.word == "MEMORY" and model.memory_at >= 0:
             at, rank = model.memory_at, rank - 10 ** 6
         model.edits.insert(at, text + " ", order=rank)
 
@@ -170,7 +174,7 @@ class Statements:
         if ex.uses_dot(call.args[0]):
             check.dot = self._here(step.node)
         value = self.translator.value(call.args[0], check)
-        text = ex.write(self.translator.raw(value, check))
+        text = ex.short(self.translator.raw(value, check))
         self.model.edits.insert(step.node.start, f"ASSERT({text}, \"{_message(call.name)}\") ", order=2 * 10 ** 6)
         place.notes.append("ASSERT is a statement and has no value")
         place.notes.extend(check.notes)
@@ -219,11 +223,11 @@ class Statements:
     def _dot_outside(self, step: Step, node: Assign, result: Expr, place: Place) -> None:
         if node.op == "+=" and step.expr is not None and result == step.expr and node.separator == ";":
             if needs_writing(self.model.source.text, node.value, result.args[1]):
-                self.model.edits.replace(node.value.start, node.value.end, ex.write(result.args[1]))
+                self.model.edits.replace(node.value.start, node.value.end, ex.short(result.args[1]))
                 place.notes.append("in the profile's form")
             return
         if node.op != "=" or node.separator == ",":
-            self.model.edits.replace(node.start, node.end, f". = {ex.write(result)};")
+            self.model.edits.replace(node.start, node.end, f". = {ex.short(result)};")
             place.notes.append("in the profile's form")
             return
         self._expression(node.value, result, place)
@@ -236,9 +240,9 @@ class Statements:
         if node.op in ("=", "+=") and node.separator == ";" and self._stays(node, form, old):
             return
         word, e = form
-        self.model.edits.replace(node.start, node.end, f". {word} {ex.write(e)};")
+        self.model.edits.replace(node.start, node.end, f". {word} {ex.short(e)};")
         if not place.notes:
-            place.notes.append(f"as . {word} {ex.write(e)}")
+            place.notes.append(f"as . {word} {ex.short(e)}")
 
     def _stays(self, node: Assign, form: tuple[str, Expr], old: Expr) -> bool:
         """Whether the text already says the form."""
@@ -291,7 +295,7 @@ class Statements:
         where = self.translator.in_section(value, place)
         line = self.model.source.place(node.start)[1]
         name = self.model.fresh(f"ldi.next.{line}")
-        self.model.edits.insert(node.start, f"{name} = {ex.write(where)}; ", order=2 * 10 ** 6)
+        self.model.edits.insert(node.start, f"{name} = {ex.short(where)}; ", order=2 * 10 ** 6)
         place.notes.append("through a symbol, as `. = e` has neither `.` nor ALIGN in a section")
         return ex.subtract(ex.symbol(name), self.translator.start(place.section, place))
 
@@ -307,8 +311,8 @@ class Statements:
         value = self.translator.value(step.expr, place)
         result = self.translator.raw(value, place)
         message = _message(node.message)
-        if message != node.message or node.separator == ",":
-            text = f"ASSERT({ex.write(result)}, \"{message}\")"
+        if message != node.message or node.separator == "," or node.bare:
+            text = f"ASSERT({ex.short(result)}, \"{message}\")"
             self.model.edits.replace(node.start, node.end, text + (";" if node.separator else ""))
             place.notes.append("in the profile's form")
         else:
@@ -327,7 +331,7 @@ class Statements:
         value = self.translator.value(step.expr, place)
         result = self.translator.address(value, place)
         if node.word == "SQUAD":
-            self.model.edits.replace(node.start, node.end, f"QUAD({ex.write(result)})")
+            self.model.edits.replace(node.start, node.end, f"QUAD({ex.short(result)})")
             place.notes.append("SQUAD is QUAD")
         else:
             self._expression(node.value, result, place)
@@ -375,6 +379,3 @@ def _awkward(e: Expr) -> bool:
 def _message(text: str) -> str:
     """A message with the bytes that a STRING may have."""
     return "".join(c if " " <= c <= "~" else " " for c in text)
-
-
-__all__ = ["Statements", "needs_writing", "DROPPED", "Section"]

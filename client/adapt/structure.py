@@ -5,7 +5,7 @@ from client.adapt import expressions as ex
 from client.adapt.model import Model, blocks, commands
 from client.adapt.notes import CHANGED, DROPPED, LEFT, REWRITTEN
 from client.adapt.patterns import is_name
-from client.adapt.taking import all_sections, flags_of, inputs, is_outside, row, words
+from client.adapt.taking import all_sections, flags_of, inputs, is_outside, row, takes, taking, words
 from client.adapt.tree import Assert, Assign, Block, Command, Expr, Input, Node, Section
 
 _PLAIN = {
@@ -47,6 +47,7 @@ class Structure:
         self._entries()
         self._memory()
         self._sections()
+        self.model.taken = None
         self._steps()
 
     # --- commands ---
@@ -71,8 +72,7 @@ class Structure:
             model.sane = model.sane or "SANE_EXPR" in node.args
             self._drop(node, REWRITTEN, f"{text}: numbers are never relative to a section")
         elif word == "PHDRS":
-            model.headers = sum(1 for name in node.args if name.startswith("PT_") or name[:1].isdigit()) or 1
-            model.headers = _headers(node.args)
+            model.headers = node.args.count(";")
             self._drop(node, CHANGED, "PHDRS: segments follow addresses, sizes and flags of the output sections")
         elif word in ("INPUT", "GROUP", "STARTUP"):
             self._objects(node, text)
@@ -194,11 +194,10 @@ class Structure:
             model.edits.blank(block.start, block.open + 1)
             model.edits.blank(block.close, block.end)
             model.note(REWRITTEN, block.start, "a second MEMORY goes on with the first")
-        self.memory_at = found[0].start if found else 0
         if found and self.nodes.index(found[0]) > self.low and self.high >= 0:
             model.edits.move(found[0].start, found[0].end, self.insertion, order=-10 ** 5)
             model.note(REWRITTEN, found[0].start, "MEMORY stands before the SECTIONS that use it")
-            self.memory_at = self.insertion
+            model.memory_at = self.insertion
         for block in found:
             for region in block.items:
                 model.regions.setdefault(getattr(region, "name"), region)  # type: ignore[arg-type]
@@ -269,12 +268,12 @@ class Structure:
 
     def _holds(self, section: Section, word: str) -> bool:
         model = self.model
-        items = row(model, section)
         if model.objects is not None:
-            writable = any(item.flags & 1 for item in items)
-            pair = [s for s in all_sections(self.nodes) if s.name == section.name and s is not section]
-            for other in pair:
-                writable = writable or any(item.flags & 1 for item in row(model, other))
+            pair = [s for s in all_sections(self.nodes) if s.name == section.name]
+            own = {id(item) for other in pair for item in row(model, other)} \
+                | {id(item) for item in taking(model).orphans}
+            items = [item for item in model.objects.sections() if id(item) in own]
+            writable = any(item.flags & 1 for item in items if any(takes(node, item) for node in inputs(section)))
             good = writable == (word == "ONLY_IF_RW")
             model.note(REWRITTEN if good else DROPPED, section.start,
                        f"{section.name} {word}: its input sections are {'writable' if writable else 'read-only'}")
@@ -282,18 +281,15 @@ class Structure:
         writable, _, _ = flags_of(model, section)
         others = [s for s in all_sections(self.nodes) if s.name == section.name and s is not section]
         good = word == "ONLY_IF_RO" if others else True
-        model.note(CHANGED, section.start, f"{section.name} {word}: {'stays' if good else 'is left out'}, as nothing is "
-                   "known of the objects (--objects)")
+        what = "stays" if good else "is left out"
+        model.note(CHANGED, section.start, f"{section.name} {word}: {what}, as nothing is known of the objects "
+                   "(--objects)")
         return good
 
     # --- the steps ---
 
     def _steps(self) -> None:
         model = self.model
-        for block in blocks(self.nodes, "MEMORY"):
-            block_index = self.nodes.index(block)
-            if not (self.high >= 0 and block_index > self.low):
-                continue
         order = sorted(range(len(self.nodes)), key=self._rank)
         for i in order:
             node = self.nodes[i]
@@ -308,16 +304,13 @@ class Structure:
                 self._step(node, inside, node)
 
     def _rank(self, i: int) -> tuple[int, int]:
-        """MEMORY that was moved comes right before SECTIONS."""
+        """The order of evaluation: all of MEMORY where its first one stands, or right before SECTIONS."""
         node = self.nodes[i]
-        moved = isinstance(node, Block) and node.word == "MEMORY" and self.high >= 0 and i > self.low
-        if isinstance(node, Block) and node.word == "MEMORY":
-            first = self.nodes.index(blocks(self.nodes, "MEMORY")[0])
-            if first != i and not moved:
-                return first, i
-            if first != i and moved and first < self.low:
-                return first, i
-        return (self.low, -1) if moved else (i, 0)
+        if not (isinstance(node, Block) and node.word == "MEMORY"):
+            return i, 0
+        first = self.nodes.index(blocks(self.nodes, "MEMORY")[0])
+        moved = self.high >= 0 and first > self.low
+        return (self.low, i - len(self.nodes)) if moved else (first, i)
 
     def _step(self, node: Node, inside: bool, item: Node) -> None:
         model = self.model
@@ -384,8 +377,3 @@ def _harmless(node: Node) -> bool:
     return isinstance(node, Assign) and node.name == "." and node.op == "=" and (
         node.value.kind == "call" and node.value.word == "ALIGN"
         or node.value.kind == "number" and node.value.value == 0)
-
-
-def _headers(args: list[str]) -> int:
-    """How many program headers the words of PHDRS declare: one to each `;`."""
-    return args.count(";")

@@ -189,12 +189,12 @@ class Symbols:
             return
         for e in expressions_of(self.model, step):
             for name in _symbols(e):
-                d = self.model.version(name, step.index)
-                if d is None:
+                needed = self.model.version(name, step.index)
+                if needed is None:
                     continue
-                self._resolve(d)
-                if step.kind != "assert" and d.ready >= step.index:
-                    self._hoist(d, step)
+                self._resolve(needed)
+                if step.kind != "assert" and needed.ready >= step.index:
+                    self._hoist(needed, step)
 
     def _resolve(self, d: Definition) -> None:
         """Finds where a symbol has its value; moves its assignment if that is later."""

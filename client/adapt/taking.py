@@ -81,7 +81,7 @@ def taking(model: Model) -> Taking:
     """The rows of the model's sections, made once."""
     found = getattr(model, "taken", None)
     if found is None:
-        found = Taking(model, all_sections(model.nodes))
+        found = Taking(model, [s for s in all_sections(model.nodes) if id(s) not in model.dropped])
         model.taken = found
     return found
 

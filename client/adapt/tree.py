@@ -94,10 +94,12 @@ class Assign(Node):
 class Assert(Node):
     """`ASSERT(value, "message")`."""
 
-    __slots__ = ("value", "message", "separator")
+    __slots__ = ("value", "message", "separator", "bare")
 
     def __init__(self, value: Expr, message: str, start: int, end: int, separator: str = "") -> None:
         super().__init__(start, end)
+        self.bare = False
+        """The message has no quotes."""
         self.value, self.message, self.separator = value, message, separator
 
 

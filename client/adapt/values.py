@@ -171,6 +171,11 @@ class Translator:
             return Value(RELATIVE, e, "object's " + e.word)
         if objects is not None and found is None:
             raise Left(f"nothing defines {e.word}")
+        if found is not None:
+            self.model.valued.add(e.word)
+            if self.model.values is not None:
+                place.notes.append(f"{e.word} as the number that a link gives it")
+                return Value(ABSOLUTE, ex.number(self.model.values.get(e.word, 0)))
         where = "an object's symbol has no address yet while the layout goes on"
         if found is not None:
             where = f"{e.word} is at {hex(found.value)} in {found.section} of {found.object}, and has no address yet"

@@ -86,8 +86,9 @@ def _symbols(data: bytes, width: int) -> Iterator[tuple[bytes, int]]:
 def _member_name(raw: bytes, long_names: bytes) -> str:
     """The name that the first sixteen bytes of a header stand for."""
     name = raw.rstrip(b" ")
-    if name.startswith(b"/") and name[1:].isdigit():
-        begin = int(name[1:])
+    number = name[1:].removesuffix(b"/").strip()  # `ar -T -P` ends the field with a slash
+    if name.startswith(b"/") and number.isdigit():
+        begin = int(number)
         end = long_names.find(b"\n", begin)
         if begin >= len(long_names) or end < 0:
             raise BadArchive("a long name is not in its table")

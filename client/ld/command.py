@@ -14,8 +14,8 @@ from client.ld.options import (
     find_option,
 )
 
-PAGE = 4096
-"""The alignment of segments in an image of `ldi`."""
+GREATEST_PAGE = 1 << 30
+"""The greatest page of `-z max-page-size=`."""
 
 
 @dataclass(frozen=True)
@@ -243,8 +243,8 @@ class Reader:
             self.command.note(f"-z {name}: {KEYWORDS_SAID[name]}")
         elif name == "max-page-size":
             self.command.page_size = number(value, "-z max-page-size")
-            if self.command.page_size > PAGE:
-                self.command.note(f"-z {text}: segments have the alignment {PAGE:,}")
+            if self.command.page_size > GREATEST_PAGE or self.command.page_size.bit_count() != 1:
+                raise WordsRefused(f"-z {text}: no power of two up to {GREATEST_PAGE:#x}")
         elif name not in KEYWORDS_IGNORED:
             self.command.note(f"-z {text}: not known, without effect")
 

@@ -38,6 +38,14 @@ def _send(session: Session, objects: Sequence[Object], result: Result) -> None:
             position += 1
 
 
+def send_objects(session: Session, objects: Sequence[Object]) -> bool:
+    """Adds the objects where that costs no link; says whether all were accepted."""
+    result = Result()
+    session.script(SCRIPT_WITHOUT_LINK)
+    _send(session, objects, result)
+    return not result.refused
+
+
 def link(session: Session, script: bytes, objects: Sequence[Object]) -> Result:
     """Links the objects under the script, by a session that has none yet; they are sent where that costs no link."""
     result = Result()

@@ -2,6 +2,7 @@
 from __future__ import annotations
 
 import os
+import re
 import signal
 import subprocess
 import sys
@@ -15,8 +16,10 @@ from client.ld.inputs import BadInput, CannotLink, Loader, MissingInput, Object
 from client.ld.link import Result, link, options_of
 from client.ld.options import WordsRefused
 from client.ld.output import PROGRAM, TEXT, write_file
+from client.ld.page_size import TooFar, with_pages
 from client.ld.reports import memory_usage, removed_sections
 from client.ld.script import Script, Source, find_script, write_script
+from client.ld.valued import with_values
 from client.ld.words import expand
 from client.link_map import read_map
 from client.inputs import Inputs
@@ -120,6 +123,8 @@ class Link:
         if self.source.commands.binary and self.source.own and command.output_format is None:
             command.output_format = "binary"
         script = write_script(self.source, command, self.objects)
+        if script.valued:
+            script = with_values(self.source, command, self.objects) or script
         report_script(script, command.verbose)
         if script.left:
             say(f"{self.source.path}: {len(script.left)} places cannot be linked by ldi; they are named above")
@@ -177,6 +182,13 @@ class Link:
             return path.replace("%", self.command.output, 1) + (".map" if path.endswith("%") else "")
         return path
 
+    def _image(self, image: bytes) -> bytes:
+        """The image in the form that the command asks for."""
+        if self.command.output_format == "binary":
+            return flat_binary(image)
+        has_phdrs = re.search(r"\bPHDRS\s*\{", self.source.text) is not None
+        return with_pages(image, self.command.page_size or 0, in_file_order=has_phdrs)
+
     def _write(self, result: Result, files: list[str]) -> None:
         """Writes the map, then the image."""
         command = self.command
@@ -186,7 +198,7 @@ class Link:
             sys.stdout.flush()
         if path is not None and path != "-":
             write_file(path, result.map, TEXT)
-        image = flat_binary(result.image) if command.output_format == "binary" else result.image
+        image = self._image(result.image)
         write_file(command.output, image, PROGRAM)
         if command.dependency_file is not None:
             names = [*files, *command.scripts]
@@ -243,7 +255,7 @@ def main(words: list[str]) -> int:
     except WordsRefused as fault:
         say(str(fault))
         return REFUSED
-    except NoFlatImage as fault:
+    except (NoFlatImage, TooFar) as fault:
         say(str(fault))
         return FAULTS
     except SessionEnded as fault:

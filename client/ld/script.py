@@ -5,6 +5,7 @@ import os
 import re
 import shutil
 import subprocess
+from collections.abc import Mapping
 from dataclasses import dataclass
 
 from client.adapt.adapt import CHANGED, LEFT, Adapted, NoParse, Note, adapt
@@ -80,6 +81,8 @@ class Script:
     report: list[Note]
     entry: str | None = None
     """The entry symbol where the script cannot name it, for the session's option."""
+    valued: frozenset[str] = frozenset()
+    """The symbols of objects whose addresses expressions of the script want."""
 
     @property
     def left(self) -> list[Note]:
@@ -92,7 +95,9 @@ class Script:
         return [note for note in self.report if note.kind == CHANGED]
 
 
-def adapt_source(source: Source, command: Command, objects: list[Object]) -> Adapted:
+def adapt_source(
+    source: Source, command: Command, objects: list[Object], values: Mapping[str, int] | None = None
+) -> Adapted:
     """The script as `ldi-adapt` writes it; BadInput where it is no script."""
     defsyms = []
     for defsym in command.defsyms:
@@ -106,16 +111,22 @@ def adapt_source(source: Source, command: Command, objects: list[Object]) -> Ada
         text = MAX_PAGE_SIZE.sub(f"0x{command.page_size:x}", text)
     data = text.encode(errors="surrogateescape")
     try:
-        return adapt(data, defsyms, named, command.folders, source.path, orphans=False)
+        return adapt(data, defsyms, named, command.folders, source.path, orphans=False,
+                     values=values)
     except NoParse as fault:
         raise BadInput(str(fault)) from fault
     except OSError as fault:
         raise MissingInput(f"{source.path}: {fault.filename}: {fault.strerror}") from fault
 
 
-def write_script(source: Source, command: Command, objects: list[Object]) -> Script:
-    """The script for the session, with the entry and the addresses that the command line gives."""
-    adapted = adapt_source(source, command, objects)
+def write_script(
+    source: Source, command: Command, objects: list[Object], values: Mapping[str, int] | None = None
+) -> Script:
+    """The script for the session, with the entry and the addresses that the command line gives.
+
+    `values` are the addresses of objects' symbols for expressions of the script (`client/ld/valued.py`).
+    """
+    adapted = adapt_source(source, command, objects, values)
     text = adapted.text
     for section, start in command.section_starts.items():
         changed = set_address(text, os.fsencode(section), start)
@@ -125,11 +136,11 @@ def write_script(source: Source, command: Command, objects: list[Object]) -> Scr
     if command.entry is None and not outline(text).has_entry:
         command.note("no entry symbol: the image's e_entry is 0 (GNU ld takes the start of .text)")
     if command.entry is None:
-        return Script(source.path, text, adapted.lines, adapted.report)
+        return Script(source.path, text, adapted.lines, adapted.report, valued=adapted.valued)
     entry = os.fsencode(command.entry)
     if entry[:1].isdigit():
         text = b"%s = 0x%x; %s" % (NUMBER_ENTRY, number(command.entry, "-e"), text)
         entry = NUMBER_ENTRY
     written = with_entry(text, entry)
     option = command.entry if written is None else None
-    return Script(source.path, written or text, adapted.lines, adapted.report, option)
+    return Script(source.path, written or text, adapted.lines, adapted.report, option, adapted.valued)

@@ -1,7 +1,6 @@
 """Links by GNU ld and by `ldi`, and what is different between the two images."""
 from __future__ import annotations
 
-import os
 import struct
 import subprocess
 from dataclasses import dataclass, field
@@ -96,8 +95,11 @@ def _text(data: bytes, at: int) -> str:
     return data[at:data.index(b"\0", at)].decode("latin-1")
 
 
-def differences(gnu: Placed, ldi: Placed, loads: bool = True) -> list[str]:
-    """What is another in the image of `ldi`: sections of GNU ld's image that are not empty, and its symbols."""
+def differences(gnu: Placed, ldi: Placed, ignored: str = "") -> list[str]:
+    """What is another in the image of `ldi`: sections of GNU ld's image that are not empty, and its symbols.
+
+    That the symbol `ignored` is not there is no difference.
+    """
     found: list[str] = []
     own = [section for section in ldi.sections if section[2]]
     for name, address, size, load in gnu.sections:
@@ -107,11 +109,11 @@ def differences(gnu: Placed, ldi: Placed, loads: bool = True) -> list[str]:
         if not match:
             here = [f"{s[0]} {s[1]:#x} {s[2]:#x}" for s in own if s[0] == name]
             found.append(f"section {name} {address:#x} {size:#x}: {' '.join(here) or 'none'}")
-        elif loads and load >= 0 and match[0][3] != load:
+        elif load >= 0 and match[0][3] != load:
             found.append(f"load address of {name} {load:#x}: {match[0][3]:#x}")
     for name, value in gnu.symbols.items():
-        if name not in ldi.symbols:
+        if name not in ldi.symbols and name != ignored:
             found.append(f"symbol {name} {value:#x}: none")
-        elif ldi.symbols[name] != value:
+        elif ldi.symbols.get(name, value) != value:
             found.append(f"symbol {name} {value:#x}: {ldi.symbols[name]:#x}")
     return found

@@ -112,7 +112,11 @@ HEADS = [
          "d"),
 ]
 INPUTS = [
-    _row("a file alone", ".t : { KEEP(b.o(.text)) KEEP(*b.o) } REST " + TAIL),
+    _row("a file alone", ".t : { KEEP(*b.o(.text)) } REST " + TAIL, ""),
+    _row("the first file by its name", ".t : { a.o(.text) b.o(.data) } REST " + TAIL, "", known=True),
+    _row("another file by its name", ".t : { b.o(.text) } REST " + TAIL, "c", known=True, different=("symbol",)),
+    _row("all of a file", ".t : { *b.o } REST " + TAIL, "cr", known=True, different=("section", "symbol")),
+    _row("all sections", ".t : { *(*) } " + TAIL, "c", different=("section", "symbol")),
     _row("commas in lists", ".t : { *(.data.*, .text) } REST " + TAIL),
     _row(":file and lib:file", ".t : { :*b.o(.text) *nolib.a:x.o(.text) } REST " + TAIL, "rc"),
     _row("other characters", ".t : { *(.tab+*) *x+y.o(.a~b) } REST " + TAIL),
@@ -149,8 +153,8 @@ DOT = [
     _row("`. = ASSERT`", 'SECTIONS { . = 0x1000; REST ' + TAIL + ' } . = ASSERT(_end > 0x1000, "m"); x = ASSERT(3, '
          '"n");', "r"),
     _row("`. = ASSERT` and then `.`", '. = ASSERT(SIZEOF(.rest) > 3, "m"); x = .; . = 0x400000; REST ' + TAIL, "l"),
-    _row("compound assignments", "a = 3; a += 4; a -= 1; b = a; a *= 2; a /= 3; a <<= 2; a >>= 1; a &= 14; a |= 1; . -= "
-         "0x1000; . |= 0x10; . *= 1; REST " + TAIL),
+    _row("compound assignments", "a = 3; a += 4; a -= 1; b = a; a *= 2; a /= 3; a <<= 2; a >>= 1; a &= 14; a |= 1; "
+         ". -= 0x1000; . |= 0x10; . *= 1; REST " + TAIL),
     _row("assigned twice", "a = .; b = a + 1; REST a = . + 2; c = a; " + TAIL),
     _row("assigned twice, unused", "a = 1; REST a = 2; " + TAIL, "d"),
     _row("commas after assignments", "a = 1, b = 2, REST " + TAIL),
@@ -160,8 +164,8 @@ DOT = [
          "REST " + TAIL),
     _row("`. = n` counts", ".t : { *(.text) . = 0x40; x = .; } REST " + TAIL, ""),
     _row("`. = absolute symbol`", "n = 0x80; .t : { *(.text) . = n; x = .; . = ABSOLUTE(.) + 8; y = .; } REST " + TAIL),
-    _row("`. = ALIGN(cond)`", ".t : { *(.text) . = ALIGN(. != 0 ? 8 : 1); x = .; } .e : { *(.none) . = ALIGN(. != 0 ? 8 "
-         ": 1); } REST " + TAIL),
+    _row("`. = ALIGN(cond)`", ".t : { *(.text) . = ALIGN(. != 0 ? 8 : 1); x = .; } .e : { *(.none) "
+         ". = ALIGN(. != 0 ? 8 : 1); } REST " + TAIL),
     _row("`. = ALIGN(., n)`", ".t : ALIGN(64) { *(.text) . = ALIGN(., 32); x = .; . = ALIGN(x + 1, 8); y = .; } REST "
          + TAIL),
     _row("sums of `.`", "a = 2; .t : { *(.text) . = a + .; . = . + a + 4; x = .; . = . + 8 - 4; y = .; } REST " + TAIL),
@@ -172,18 +176,19 @@ DOT = [
     _row("ASSERT in a section", '.t : { *(.text) ASSERT(. <= 0x40, "long"); ASSERT(. > 1, "short"), } REST ' + TAIL),
 ]
 VALUES = [
-    _row("numbers in a section", ".t : { *(.text) a = 0x10; b = a + 4; c = a - b; n = SIZEOF(.t); z = 0; } d1 = a; REST "
-         + TAIL),
+    _row("numbers in a section", ".t : { *(.text) a = 0x10; b = a + 4; c = a - b; n = SIZEOF(.t); z = 0; } d1 = a; "
+         "REST " + TAIL),
     _row("symbols of other sections", "k = 0x20; .t : { *(.text) m = .; } .u : { *(.data) a = m; b = m + 1; c = m - .; "
          "x = k; y = k + 4; z = . - m; w = k < 3; } REST " + TAIL),
-    _row("distances", ".t : { QUAD(1) *(.text) m = .; } a = m & 7; b = (m + m) / 2; c = -m; d1 = ~m; e1 = !m; f = m ? 1 "
-         ": 2; g = ADDR(.t) ? 1 : 2; h = m * 2; i = m << 1; j = m % 16; kk = m && 1; REST " + TAIL),
-    _row("distances in a section", ".t : { QUAD(1) a = . & ~3; b = (. + 15) & ~15; c = -.; d1 = ~.; e1 = . * 2; f = . ? "
-         "1 : 2; g = . - 4 < 8; h = 100 - .; *(.text) } REST " + TAIL),
+    _row("distances", ".t : { QUAD(1) *(.text) m = .; } a = m & 7; b = (m + m) / 2; c = -m; d1 = ~m; e1 = !m; "
+         "f = m ? 1 : 2; g = ADDR(.t) ? 1 : 2; h = m * 2; i = m << 1; j = m % 16; kk = m && 1; la = SIZEOF(.t) < m; "
+         "lb = m - SIZEOF(.t); lc = m & SIZEOF(.t); REST " + TAIL),
+    _row("distances in a section", ".t : { QUAD(1) a = . & ~3; b = (. + 15) & ~15; c = -.; d1 = ~.; e1 = . * 2; "
+         "f = . ? 1 : 2; g = . - 4 < 8; h = 100 - .; *(.text) } REST " + TAIL),
     _row("MAX and MIN", "a = MAX(3, 4); b = MIN(., 0x10); .t : { *(.text) c = MAX(., a); d1 = MIN(. + 1, .); } REST "
          + TAIL),
-    _row("ABSOLUTE", ".t : { *(.text) a = ABSOLUTE(.); b = ABSOLUTE(0x30); c = ABSOLUTE(a + 1); } d1 = ABSOLUTE(a); REST "
-         + TAIL),
+    _row("ABSOLUTE", ".t : { *(.text) a = ABSOLUTE(.); b = ABSOLUTE(0x30); c = ABSOLUTE(a + 1); } d1 = ABSOLUTE(a); "
+         "REST " + TAIL),
     _row("CONSTANT, SEGMENT_START", "a = CONSTANT(MAXPAGESIZE); b = CONSTANT(COMMONPAGESIZE) - 1; c = "
          'SEGMENT_START("text-segment", 0x400000); . = SEGMENT_START("data-segment", .); REST ' + TAIL),
     _row("DATA_SEGMENT without RELRO", ".t : { *(.text) } . = DATA_SEGMENT_ALIGN(0x1000, 0x1000); REST . = "
@@ -196,11 +201,13 @@ VALUES = [
     _row("division has a sign", "a = -8 / 2; b = (0 - 9) % 4; REST " + TAIL),
     _row("comments of #", "a = 1; # a comment\n b = 2; REST " + TAIL, "r"),
     _row("an object's absolute symbol", "a = absolute + 1; . = absolute; REST " + TAIL, "r", known=True),
+    _row("a number as a name", "ab = 7; a = ab; REST " + TAIL),
     _row("an object's symbol", "a = main; REST " + TAIL, "l"),
     _row("DEFINED", "a = DEFINED(main) ? 1 : 2; b = DEFINED(nothing) ? nothing : 3; c = DEFINED(b) ? b : 4; d1 = "
          "DEFINED(size) ? size : 5; size = DEFINED(size) ? size : 6; REST " + TAIL, "r", known=True,
          defsyms=(("size", "0x77"),)),
-    _row("DEFINED of itself", "provided = DEFINED(provided) ? provided : 0x55; REST _end = .; end = .; __stack = 2;", "cr"),
+    _row("DEFINED of itself", "provided = DEFINED(provided) ? provided : 0x55; REST _end = .; end = .; __stack = 2;",
+         "cr"),
     _row("DEFINED in ASSERT", 'ASSERT(DEFINED(main) && 1, "no main") REST ' + TAIL),
     _row("--defsym", "a = size + 1; REST " + TAIL, "r", defsyms=(("size", "0x40"),)),
     _row("used before", "x = y + 1; z = SIZEOF(.data) + LOADADDR(.data); .t : { *(.text) q = w; r = SIZEOF(.t); s = "

@@ -171,9 +171,7 @@ class Soak:
             watching.wait_for("linked")
             for number in range(WRITERS + 1):
                 end, other = multiprocessing.Pipe()
-                target, words = (write, (self.folder.path, number, self.seed, self.pace, other)) if number < WRITERS else (
-                    read, (self.folder / "image", other))
-                processes.append(multiprocessing.Process(target=target, args=words, daemon=True))
+                processes.append(self._process(number, other))
                 processes[-1].start()
                 ends.append(end)
             for number in range(rounds):
@@ -186,6 +184,13 @@ class Soak:
                 process.kill()
             if watching.end() != 0 or watching.errors:
                 self.wrong.append(f"ldi-watch ended badly: {watching.errors}")
+
+    def _process(self, number: int, orders: Connection) -> multiprocessing.Process:
+        """A writer, or after them the reader."""
+        if number < WRITERS:
+            words = (self.folder.path, number, self.seed, self.pace, orders)
+            return multiprocessing.Process(target=write, args=words, daemon=True)
+        return multiprocessing.Process(target=read, args=(self.folder / "image", orders), daemon=True)
 
     def _round(self, number: int, writers: list[Connection], reader: Connection) -> None:
         for writer in writers:

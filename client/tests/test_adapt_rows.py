@@ -33,6 +33,7 @@ class AdaptRowsTest(unittest.TestCase):
 
     @classmethod
     def tearDownClass(cls) -> None:
+        """Ends the session and removes the objects."""
         cls.session.close()
         os.chdir(cls.old)
         cls.folder.cleanup()

@@ -130,6 +130,24 @@ class RefusalTest(unittest.TestCase):
             self.assertTrue(message.sentence.endswith(what), message.sentence)
 
 
+class PlacesTest(unittest.TestCase):
+    """Several places, and lines that go on with the one above, by a program in place of `readscript`."""
+
+    def test_places(self) -> None:
+        """A message for each place, or the first and the number of the others."""
+        lines = ["f: refused 5 2", "  line 2: first", "    and so", "  line 1: second", "  all of it"]
+        with tempfile.TemporaryDirectory() as folder, mock.patch.dict(os.environ, LDI=folder + "/ldi"):
+            program = os.path.join(folder, "readscript")
+            with open(program, "w", encoding="ascii") as file:
+                file.write("#!/bin/sh\n" + "".join(f"echo '{line}'\n" for line in lines))
+            os.chmod(program, 0o755)
+            messages = refusal_messages("image.ld", Refused(5, 2), b"a\nb")
+            self.assertEqual([message.sentence for message in messages],
+                             ["image.ld:2: first; and so: b", "image.ld:1: second: a", "image.ld: all of it"])
+            message = refusal_message("image.ld", Refused(5, 2), b"a\nb")
+            self.assertEqual(str(message), "image.ld:2: first; and so: b; and 2 more places [image.ld: refused 5 2]")
+
+
 class WithoutProgramsTest(unittest.TestCase):
     """Refusals where `readobj` and `readscript` cannot be had, or say something else."""
 

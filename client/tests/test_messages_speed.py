@@ -5,6 +5,7 @@ import time
 import unittest
 
 from client.elf_object import ElfObject
+from client.link_names import MOST_RECENT, RECENT
 from client.messages import Inputs, fault_messages
 from client.tests.message_links import compiled
 
@@ -34,6 +35,17 @@ class SpeedTest(unittest.TestCase):
         self.assertTrue(all(m.sentence.startswith("/project/text.c:") for m in messages))
         self.assertLess(seconds, 20)
         self.assertEqual(len(fault_messages(faults, inputs, limit=10)), 11)
+
+    def test_again(self) -> None:
+        """The next messages of the same objects read nothing again; those of other bytes do."""
+        first, other = compiled("int f(void);\nint main(void) { return f(); }", "-g"), compiled("int f(void);", "-g")
+        self.assertIs(RECENT.object("a.o", first), RECENT.object("a.o", first))
+        self.assertIsNot(RECENT.object("a.o", first), RECENT.object("b.o", first))
+        self.assertEqual(RECENT.object("a.o", other).data, other)
+        self.assertEqual(RECENT.object("a.o", first).data, first)
+        for number in range(MOST_RECENT):
+            RECENT.object(f"{number}.o", first)
+        self.assertEqual(len(RECENT._objects), MOST_RECENT)
 
     def sites(self, data: bytes) -> list[tuple[int, str]]:
         """The offsets and the names of the calls in the object."""

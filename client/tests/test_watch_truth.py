@@ -3,7 +3,27 @@ import os
 import time
 import unittest
 
+from client.protocol import find_program
 from client.tests.watching import SCRIPT, Folder, Watching, numbered, wait_until
+
+
+MEDDLING = """#!/usr/bin/python3
+import os, subprocess, sys
+session = subprocess.Popen([%r, *sys.argv[1:]], stdin=subprocess.PIPE, stdout=subprocess.PIPE)
+while line := sys.stdin.buffer.readline():
+    words = line.split()
+    if words[0] == b"image" and os.path.exists("next.o"):
+        os.rename("next.o", "o1.o")
+    session.stdin.write(line)
+    session.stdin.write(sys.stdin.buffer.read(int(words[-1])) if words[0] in (b"add", b"replace", b"script") else b"")
+    session.stdin.flush()
+    answer = session.stdout.readline()
+    sys.stdout.buffer.write(answer)
+    if answer.startswith(b"bytes"):
+        sys.stdout.buffer.write(session.stdout.read(int(answer.split()[1])))
+    sys.stdout.flush()
+"""
+"""A linker in front of the linker, which replaces an object when it is asked for an image."""
 
 
 class TruthTest(unittest.TestCase):
@@ -188,6 +208,17 @@ class TruthTest(unittest.TestCase):
         self.folder.renew(1, 2)
         self.assertEqual(watching.next()["event"], "linked")
         self.assertEqual(self.folder.image(), self.folder.link())
+
+    def test_changed_after_the_image(self) -> None:
+        """An object that changes after the image was asked for: that image is not put in place."""
+        self.folder.put("ldi", (MEDDLING % find_program()).encode())
+        os.chmod(self.folder / "ldi", 0o755)
+        (self.folder / "next.o").write_bytes(numbered(1, 2, 3))
+        watching = Watching(self.folder, env={**os.environ, "LDI": str(self.folder / "ldi")})
+        self.addCleanup(watching.end)
+        self.assertEqual(watching.next()["event"], "linked")
+        self.assertEqual(self.folder.image(), self.folder.link())
+        self.assertTrue(watching.is_silent(0.2))
 
     def test_image_removed(self) -> None:
         """An image that was removed is written again when an object comes, though its bytes are the old ones."""

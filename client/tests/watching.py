@@ -112,16 +112,14 @@ class Watching:
     def __init__(self, folder: Folder, *words: str, names: list[str] | None = None, **how: Any) -> None:
         names = folder.names if names is None else names
         self.process = subprocess.Popen(
-            [PROGRAM, "--json", "-T", "t.ld", "-o", "image", *words, "--", *names]
-            if not any(name.startswith("@") for name in names)
-            else [PROGRAM, "--json", "-T", "t.ld", "-o", "image", *words, *names],
+            [PROGRAM, "--json", "-T", "t.ld", "-o", "image", *names, *words],
             cwd=folder.path,
             stdout=subprocess.PIPE,
             stderr=subprocess.PIPE,
             text=True,
             **how,
         )
-        self._queue: queue.Queue[dict[str, Any]] = queue.Queue()
+        self._queue: queue.Queue[dict[str, Any] | None] = queue.Queue()
         self.errors = ""
         self._threads = [threading.Thread(target=self._read_lines), threading.Thread(target=self._read_errors)]
         for thread in self._threads:
@@ -131,6 +129,7 @@ class Watching:
         assert self.process.stdout is not None
         for line in self.process.stdout:
             self._queue.put(json.loads(line))
+        self._queue.put(None)
 
     def _read_errors(self) -> None:
         assert self.process.stderr is not None
@@ -138,7 +137,9 @@ class Watching:
 
     def next(self, patience: float = PATIENCE) -> dict[str, Any]:
         """The next object."""
-        return self._queue.get(timeout=patience)
+        found = self._queue.get(timeout=patience)
+        assert found is not None, f"it has ended: {self.errors}"
+        return found
 
     def wait_for(self, event: str) -> dict[str, Any]:
         """The next object of this event; others before it are passed over."""
@@ -150,10 +151,9 @@ class Watching:
     def is_silent(self, seconds: float) -> bool:
         """Whether nothing comes for so long."""
         try:
-            self._queue.get(timeout=seconds)
+            return self._queue.get(timeout=seconds) is None
         except queue.Empty:
             return True
-        return False
 
     def children(self) -> list[int]:
         """The processes that it started, by their numbers."""
@@ -188,10 +188,12 @@ class Watching:
         return status
 
 
-def run_once(folder: Folder, *words: str, names: list[str] | None = None, **how: Any) -> subprocess.CompletedProcess[str]:
+def run_once(
+    folder: Folder, *words: str, names: list[str] | None = None, **how: Any
+) -> subprocess.CompletedProcess[str]:
     """Runs `ldi-watch --once` over the folder to its end."""
     names = folder.names if names is None else names
-    command = [PROGRAM, "--once", "-T", "t.ld", "-o", "image", *words, *names]
+    command = [PROGRAM, "--once", "-T", "t.ld", "-o", "image", *names, *words]
     return subprocess.run(command, cwd=folder.path, capture_output=True, text=True, timeout=PATIENCE, **how)
 
 

@@ -3,9 +3,13 @@ from __future__ import annotations
 
 import enum
 import os
+import sys
 from dataclasses import dataclass
 
-from watchdog.observers.inotify_c import Inotify, InotifyConstants, InotifyEvent
+try:
+    from watchdog.observers.inotify_c import Inotify, InotifyConstants, InotifyEvent
+except ModuleNotFoundError:
+    sys.exit("ldi-watch: the package python3-watchdog is not installed: apt-get install python3-watchdog")
 
 MASK = (
     InotifyConstants.IN_MODIFY

@@ -9,8 +9,11 @@ from dataclasses import dataclass, field
 from client.protocol import GREATEST_PAYLOAD, Answer, Linked, Options, Refused, Session
 from client.watch.quick import SCRIPT_WITHOUT_LINK, with_entry
 
-HANDFUL = 6
-"""More edits than these are sent under a script that ends a link after its names, and the script itself last."""
+HANDFUL = 3
+"""More edits than these are sent under a script that ends a link after its names, and the script itself last.
+
+`bench/watch --handful` measures from where on that is quicker.
+"""
 
 PATIENCE = 600.0
 """Seconds after which a session that gives no answer is taken for one that has ended."""

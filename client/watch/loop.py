@@ -8,11 +8,12 @@ from __future__ import annotations
 import os
 import select
 import time
+import typing
 from collections.abc import Iterable
 from concurrent.futures import ThreadPoolExecutor
+from types import ModuleType
 
-from client.messages import Inputs, Message, fault_messages, refusal_message
-from client.protocol import Refused, SessionEnded
+from client.protocol import SessionEnded
 from client.watch.commands import Command
 from client.watch.events import Event, Kind, Watcher
 from client.watch.inputs import Input, changed_among
@@ -24,6 +25,9 @@ from client.watch.places import Places
 from client.watch.says import Faulty, Good, RefusedInputs, State, Teller, Waiting, how_ended
 from client.watch.stops import Stops
 from client.watch.words import ListFile, Words
+
+if typing.TYPE_CHECKING:
+    from client.messages import Message
 
 QUIET = 0.015
 """Seconds without an event of a file after which those before are dealt with."""
@@ -46,6 +50,13 @@ MOST_ENDS = 3
 STATUS_FAULTS, STATUS_REFUSED, STATUS_DEVICE, STATUS_MEMORY = 1, 2, 3, 4
 
 
+def messages() -> ModuleType:
+    """The module of messages, which is loaded only where there is one: what it reads DWARF with takes long to load."""
+    import client.messages
+
+    return client.messages
+
+
 class Watch:
     """A session over files, and the image that it keeps up to date."""
 
@@ -63,6 +74,8 @@ class Watch:
         self.script = Input(words.script)
         self.lists = {item.path: Input(item.path) for item in words.objects if isinstance(item, ListFile)}
         self.objects: dict[str, Input] = {}
+        self.inputs = [self.script, *self.lists.values()]
+        self.writers: set[Input] = set()
         self.names_refused: str | None = None
         self.looker = ThreadPoolExecutor(1)
         now = time.monotonic()
@@ -134,7 +147,7 @@ class Watch:
             times.append(self._due())
         if self.state is not None and not self.state_said:
             times.append(self.state_since + BEFORE_SAID)
-        times += [one.writing + LONGEST_WRITING for one in self._inputs() if one.writing is not None]
+        times += [one.writing + LONGEST_WRITING for one in self.writers if one.writing is not None]
         waited_for = [self.stops.fileno()]
         if self.watcher.fileno() >= 0:
             waited_for.append(self.watcher.fileno())
@@ -154,7 +167,8 @@ class Watch:
             self._take(self.watcher.read())
 
     def _inputs(self) -> list[Input]:
-        return [self.script, *self.lists.values(), *self.objects.values()]
+        """All inputs: the script, the lists and the objects."""
+        return self.inputs
 
     # events
 
@@ -167,8 +181,10 @@ class Watch:
                 one.dirty = True
                 if event.kind is Kind.WRITING:
                     one.writing = now
+                    self.writers.add(one)
                 elif event.kind is not Kind.TOUCHED:
                     one.writing = None
+                    self.writers.discard(one)
             if concerned or self._is_of_sources(event):
                 self.last_event = now
                 self.first_event = now if self.first_event is None else self.first_event
@@ -186,10 +202,11 @@ class Watch:
 
     def _give_up_on_writers(self, now: float) -> None:
         """Takes files as they are whose writers do not close them."""
-        for one in self._inputs():
+        for one in list(self.writers):
             if one.writing is not None and now >= one.writing + LONGEST_WRITING:
                 one.writing = None
                 one.dirty = True
+                self.writers.discard(one)
                 self.first_event = now if self.first_event is None else self.first_event
                 self.teller.note(one.path, f"its writer has not closed it for {LONGEST_WRITING:g} s: read as it is")
 
@@ -246,7 +263,8 @@ class Watch:
             return
         if self.names_refused is not None:
             text = self.names_refused
-            self._set_state(RefusedInputs(tuple((path, Message(text, "names")) for path in self.lists)))
+            message = messages().Message(text, "names")
+            self._set_state(RefusedInputs(tuple((path, message) for path in self.lists)))
             return
         look = self.looker.submit(changed_among, self._inputs())
         self._bring()
@@ -260,7 +278,7 @@ class Watch:
     def _bring(self) -> None:
         """Brings the session in step with what was read."""
         edits = self.kept.edits
-        objects = {name: self._data_of(one) for name, one in self.objects.items()}
+        objects = {name: one.data for name, one in self.objects.items() if one.data is not None}
         self.kept.bring(Project(self._data_of(self.script), objects))
         if self.kept.edits != edits:
             self.is_current = False
@@ -276,7 +294,7 @@ class Watch:
             self._read_one(one)
         if all(one.data is not None and one.failure is None for one in self.lists.values()):
             self._find_objects()
-        for one in self.objects.values():
+        for one in [one for one in self.objects.values() if one.dirty]:
             self._read_one(one)
 
     def _read_one(self, one: Input) -> None:
@@ -303,6 +321,8 @@ class Watch:
             return
         before = self.objects
         self.objects = {name: before.get(name) or Input(name) for name in names}
+        self.inputs = [self.script, *self.lists.values(), *self.objects.values()]
+        self.writers.intersection_update(self.inputs)
         self.places.forget(one for name, one in before.items() if name not in self.objects)
         for name, one in self.objects.items():
             if name not in before:
@@ -310,29 +330,25 @@ class Watch:
 
     def _not_there(self) -> list[tuple[str, str]]:
         """The inputs that are missing, cannot be read or are being written, and what there is to say of each."""
-        reasons = []
-        for one in self._inputs():
-            if one.writing is not None:
-                reasons.append((one.path, "it is being written"))
-            elif one.failure is not None:
-                reasons.append((one.path, one.failure))
-        return reasons
+        reasons = [(one.path, "it is being written") for one in self.writers]
+        failed = [one for one in self._inputs() if one.failure is not None and one not in self.writers]
+        return reasons + [(one.path, one.failure or "") for one in failed]
 
     def _refusals(self) -> list[tuple[str, Message]]:
-        found = []
+        found: list[tuple[str, Message]] = []
         for name, refused in self.kept.refused.items():
             one = self.script if name == SCRIPT else self.objects[name]
-            word = "script" if name == SCRIPT else name
-            found.append((one.path, refusal_message(word, refused, one.data)))
+            said = messages().refusal_messages(one.path, refused, one.data)
+            found += [(one.path, message) for message in said]
         return found
 
     def _tell_faults(self) -> None:
         assert self.kept.session is not None
         objects = {name: self._data_of(one) for name, one in self.objects.items()}
-        inputs = Inputs(self.script.path, self._data_of(self.script), objects)
-        messages = fault_messages(self.kept.session.faults(), inputs)
+        inputs = messages().Inputs(self.script.path, self._data_of(self.script), objects)
+        found = messages().fault_messages(self.kept.session.faults(), inputs)
         self.is_current = False
-        self._set_state(Faulty(tuple(messages), tuple(self.after)), at_once=True)
+        self._set_state(Faulty(tuple(found), tuple(self.after)), at_once=True)
         self.after.clear()
 
     # the image
@@ -367,7 +383,7 @@ class Watch:
         for one in changed:
             one.dirty = True
         self._drain()
-        if any(one.dirty or one.writing is not None for one in self._inputs()):
+        if self.writers or any([one.dirty for one in self._inputs()]):
             now = time.monotonic()
             self.first_event = now if self.first_event is None else self.first_event
             return True
@@ -433,20 +449,22 @@ class Watch:
         status = self.kept.end()
         self.ends += 1
         self.status = status
-        self.teller.restarted(f"the session {how_ended(status)}")
         self.compare = True
         self.is_current = False
-        now = time.monotonic()
         if self.ends < MOST_ENDS:
+            self.teller.restarted(f"the session {how_ended(status)}")
+            now = time.monotonic()
             self.first_event = now if self.first_event is None else self.first_event
             self.last_event = min(self.last_event, now - QUIET)
+        else:
+            self._set_state(Waiting((("the session", f"it {how_ended(status)}, again and again"),)), at_once=True)
 
     # --once
 
     def _is_finished(self) -> bool:
         if self.ends >= MOST_ENDS:
             return True
-        if any(one.writing is not None for one in self._inputs()):
+        if self.writers:
             return False
         return self.state is not None and self.state_said and self.first_event is None
 

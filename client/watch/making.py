@@ -1,7 +1,6 @@
 """When the command that makes the objects is run: at the start, and after a source changed; never for its own files."""
 from __future__ import annotations
 
-import hashlib
 import os
 from collections.abc import Sequence
 from fnmatch import fnmatchcase
@@ -31,7 +30,7 @@ class Making:
         self._patterns = patterns
         self._watcher = watcher
         self._folder = folder
-        self._known: dict[str, bytes] = {}
+        self._known: dict[str, int | None] = {}
         self._own: set[str] = set()
         self._in_run: set[str] = set()
         self._times: dict[str, int] = {}
@@ -51,7 +50,7 @@ class Making:
             self._in_run.add(path)
             return False
         digest = digest_of(path)
-        if digest == self._known.get(path):
+        if path in self._known and digest == self._known[path]:
             return False
         self._known[path] = digest
         self._own.discard(path)
@@ -86,12 +85,12 @@ class Making:
 
     def _changed_in_run(self, path: str) -> None:
         digest = digest_of(path)
-        before = self._known.get(path)
-        self._known[path] = digest
-        if digest == before or path in self._own:
+        is_new = self._known.get(path) is None
+        if digest == self._known.get(path) or path in self._own:
             return
+        self._known[path] = digest
         self._times[path] = self._times.get(path, 0) + 1
-        if before is None or self._times[path] >= TIMES:
+        if is_new or self._times[path] >= TIMES:
             self._own.add(path)
         else:
             self.wanted = True
@@ -113,10 +112,10 @@ class Making:
         return found
 
 
-def digest_of(path: str) -> bytes:
-    """A digest of the file's bytes; empty where it cannot be read."""
+def digest_of(path: str) -> int | None:
+    """A digest of the file's bytes; None where it cannot be read."""
     try:
         with open(path, "rb") as file:
-            return hashlib.file_digest(file, "blake2b").digest()
+            return hash(file.read())
     except OSError:
-        return b""
+        return None

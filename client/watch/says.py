@@ -8,9 +8,10 @@ import sys
 import time
 from collections.abc import Sequence
 from dataclasses import dataclass
-from typing import IO
+from typing import IO, TYPE_CHECKING
 
-from client.messages import Message
+if TYPE_CHECKING:
+    from client.messages import Message
 
 MOST_LINES = 20
 """The messages of one state that are printed for people; JSON has all."""
@@ -86,7 +87,7 @@ class Teller:
         if self._as_json:
             self._object("restarted", why=why)
         else:
-            self._line(YELLOW, "session", f"{why}; started again, and all inputs sent anew")
+            self._line(YELLOW, "session", f"{why}; started again")
 
     def note(self, name: str, text: str) -> None:
         """Says something of an input that is no state."""
@@ -120,7 +121,8 @@ class Teller:
                 self._line(RED, counted(len(messages), "error"), f"after {listed(after)}; {self._old_image()}", ", ")
             case RefusedInputs(inputs):
                 self._messages([message for _, message in inputs])
-                self._line(RED, "refused", f"{listed([name for name, _ in inputs])}; {self._old_image()}")
+                names = list(dict.fromkeys(name for name, _ in inputs))
+                self._line(RED, "refused", f"{listed(names)}; {self._old_image()}")
             case Waiting(reasons):
                 name, why = reasons[0]
                 more = f", and {len(reasons) - 1} more" if len(reasons) > 1 else ""
