@@ -76,7 +76,7 @@ class Watch:
         self.objects: dict[str, Input] = {}
         self.inputs = [self.script, *self.lists.values()]
         self.writers: set[Input] = set()
-        self.names_refused: str | None = None
+        self.names_refused: NamesRefused | None = None
         self.looker = ThreadPoolExecutor(1)
         now = time.monotonic()
         self.first_event: float | None = now
@@ -262,9 +262,9 @@ class Watch:
             self._set_state(Waiting(tuple(waiting)))
             return
         if self.names_refused is not None:
-            text = self.names_refused
-            message = messages().Message(text, "names")
-            self._set_state(RefusedInputs(tuple((path, message) for path in self.lists)))
+            said = [(path, f"{path}: {self.names_refused}", self.names_refused.line) for path in self.lists]
+            refused = tuple((path, messages().Message(text, f"{path}: {line}")) for path, text, line in said)
+            self._set_state(RefusedInputs(refused))
             return
         look = self.looker.submit(changed_among, self._inputs())
         self._bring()
@@ -315,7 +315,7 @@ class Watch:
             names = object_names(self.words.objects, {path: self._data_of(one) for path, one in self.lists.items()})
             self.names_refused = None
         except NamesRefused as refused:
-            self.names_refused = str(refused)
+            self.names_refused = refused
             return
         if names == list(self.objects):
             return
@@ -421,7 +421,7 @@ class Watch:
 
     def _good(self, length: int = 0, written: bool = True) -> Good:
         milliseconds = (time.monotonic() - self.last_event) * 1000
-        good = Good(tuple(self.after or [self.words.script]), milliseconds, length, written)
+        good = Good(tuple(self.after), milliseconds, length, written)
         self.after.clear()
         return good
 
