@@ -7,8 +7,10 @@ the start is taken off first.
 from __future__ import annotations
 
 from client.adapt import expressions as ex
-from client.adapt.model import Definition, Model
+from client.adapt.model import Definition as Version
+from client.adapt.model import Model
 from client.adapt.notes import Left
+from client.adapt.objects import Definition
 from client.adapt.tree import Expr, Section
 
 NUMBER, ABSOLUTE, RELATIVE, EITHER = "number", "absolute", "relative", "either"
@@ -109,7 +111,7 @@ class Translator:
         place.notes.append(f"a number counts from the start of {place.section.name} in it")
         return ex.add(self.start(place.section, place), value.e)
 
-    def kind_of(self, definition: Definition) -> tuple[str, object]:
+    def kind_of(self, definition: Version) -> tuple[str, object]:
         """What the value of a symbol is: its kind and its section."""
         if definition.kind_known is None:
             if definition.busy:
@@ -176,11 +178,21 @@ class Translator:
             if self.model.values is not None:
                 place.notes.append(f"{e.word} as the number that a link gives it")
                 return Value(ABSOLUTE, ex.number(self.model.values.get(e.word, 0)))
-        where = "an object's symbol has no address yet while the layout goes on"
-        if found is not None:
-            where = f"{e.word} is at {hex(found.value)} in {found.section} of {found.object}, and has no address yet"
-        raise Left(f"{where}: assign `.` before the statement that takes its section, use that, and "
-                   f"`ASSERT(NAME == {e.word}, \"..\")`")
+        raise Left(self._advice(e.word, found))
+
+    def _advice(self, name: str, found: Definition | None) -> str:
+        """What to write for an object's symbol, whose address is known only after the layout."""
+        from client.adapt.taking import taken_at
+        use = f"use `here` for {name}, and add `ASSERT(here == {name}, \"..\")`"
+        where = taken_at(self.model, found.object, found.section) if found is not None else None
+        if found is None or where is None:
+            return ("an object's symbol has no address while the layout goes on: write `here = .;` before the statement "
+                    f"that takes its section, {use}")
+        offset, align = where
+        distance = f" + {hex(found.value)}" if found.value else ""
+        line = self.model.source.place(offset)[1]
+        return (f"{name} is an object's symbol and has no address while the layout goes on: before line {line} write "
+                f"`. = ALIGN({align}); here = .{distance}; {found.object}({found.section})`, {use}")
 
     def _unary(self, e: Expr, inner: Value, place: Place) -> Value:
         if e.word == "+":
