@@ -25,12 +25,15 @@ __all__ = ["Adapted", "NoParse", "Note", "adapt", "CHANGED", "DROPPED", "LEFT", 
 class Adapted:
     """The script for `ldi`, what was done, and where each of its lines came from."""
 
-    __slots__ = ("text", "report", "lines")
+    __slots__ = ("text", "report", "lines", "valued")
 
-    def __init__(self, text: bytes, report: list[Note], lines: tuple[tuple[str, int], ...]) -> None:
+    def __init__(self, text: bytes, report: list[Note], lines: tuple[tuple[str, int], ...],
+                 valued: frozenset[str] = frozenset()) -> None:
         self.text, self.report = text, report
         self.lines = lines
         """For each line of `text`, from 0: the file and the line (from 1) that it came from."""
+        self.valued = valued
+        """The symbols of objects whose addresses expressions outside of ASSERT want."""
 
     @property
     def status(self) -> int:
@@ -41,14 +44,18 @@ class Adapted:
 
 def adapt(script: os.PathLike[str] | str | bytes, defsyms: Sequence[tuple[str, str]] = (),
           objects: Mapping[str, bytes] | Iterable[str] | None = None,
-          include_path: Sequence[str] = (), path: str = "script", orphans: bool = True) -> Adapted:
+          include_path: Sequence[str] = (), path: str = "script", orphans: bool = True,
+          values: Mapping[str, int] | None = None) -> Adapted:
     """Rewrites `script` into the profile.
 
     `script` is a file's path as a `Path`, or a text (`str` or `bytes`), whose name in the report is then `path`.
     `defsyms` are pairs of a symbol and its expression. `objects` are the objects of the link in their order: names and
     bytes, or paths of files; with `None` nothing is known of them. A member of an archive is named `lib.a(member.o)`.
     `include_path` are the folders where INCLUDE looks after the current one. With `orphans`, and objects, input
-    sections that no statement takes are reported as left. Raises `NoParse`, and `OSError` where a file cannot be read.
+    sections that no statement takes are reported as left. `values` are addresses of objects' symbols that an earlier
+    link of the same objects gave: where an expression outside of ASSERT names one, which is left otherwise, its number
+    is written (0 where there is none); the caller links again until the numbers stay (`Adapted.valued`). Raises
+    `NoParse`, and `OSError` where a file cannot be read.
     """
     if isinstance(script, os.PathLike):
         path = os.fspath(script)
@@ -59,6 +66,7 @@ def adapt(script: os.PathLike[str] | str | bytes, defsyms: Sequence[tuple[str, s
     source = Source(path, front.encode("latin-1", "replace") + data, tuple(include_path))
     nodes, hashes = parse(source)
     model = Model(source, nodes, None if objects is None else Objects(objects))
+    model.values = values
     for start, end in hashes:
         inside = source.text[start + 1:end].strip().replace("*/", "* /")
         model.edits.replace(start, end, f"/* {inside} */")
@@ -72,7 +80,7 @@ def adapt(script: os.PathLike[str] | str | bytes, defsyms: Sequence[tuple[str, s
     for at in long[:1]:
         where = lines[text.count("\n", 0, at)]
         model.note(LEFT, 0, f"an expression at {where[0]}:{where[1]} has more than 64 signs: use symbols for its parts")
-    return Adapted(text.encode("latin-1"), model.report(), lines)
+    return Adapted(text.encode("latin-1"), model.report(), lines, frozenset(model.valued))
 
 
 def _checked(name: str, value: str) -> str:

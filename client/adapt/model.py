@@ -2,7 +2,7 @@
 from __future__ import annotations
 
 import re
-from collections.abc import Iterable
+from collections.abc import Iterable, Mapping
 
 from client.adapt import expressions
 from client.adapt.edits import Edits
@@ -87,6 +87,10 @@ class Model:
         """Where MEMORY stands, where it was moved."""
         self.gone: set[str] = set()
         """Names of output sections that were dropped."""
+        self.values: Mapping[str, int] | None = None
+        """Addresses of objects' symbols that an earlier link gave, for expressions that name them; 0 for others."""
+        self.valued: set[str] = set()
+        """The symbols of objects that stand outside of ASSERT, where they have no address yet."""
 
     # --- the report ---
 

@@ -173,6 +173,11 @@ class Translator:
             return Value(RELATIVE, e, "object's " + e.word)
         if objects is not None and found is None:
             raise Left(f"nothing defines {e.word}")
+        if found is not None:
+            self.model.valued.add(e.word)
+            if self.model.values is not None:
+                place.notes.append(f"{e.word} as the number that a link gives it")
+                return Value(ABSOLUTE, ex.number(self.model.values.get(e.word, 0)))
         raise Left(self._advice(e.word, found))
 
     def _advice(self, name: str, found: Definition | None) -> str:
