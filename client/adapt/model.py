@@ -143,7 +143,7 @@ class Model:
 
     def _own_start(self, section: Section) -> str | None:
         """The symbol of an assignment of `.` at the front of a section's body."""
-        for node in section.body:
+        for node in section.body[:1]:
             if not isinstance(node, Assign) or node.name == ".":
                 return None
             found = [d for d in self.definitions.get(node.name, ()) if d.step.node is node]
