@@ -32,7 +32,7 @@ class Definition:
     """An assignment of a symbol: one version of it."""
 
     __slots__ = ("name", "step", "section", "provide", "emitted", "ready", "moved", "used", "plain", "kind_known",
-                 "busy")
+                 "either", "busy")
 
     def __init__(self, name: str, step: Step, provide: bool) -> None:
         self.name, self.step, self.section, self.provide = name, step, step.section, provide
@@ -46,6 +46,8 @@ class Definition:
         self.plain = False
         """A PROVIDE that becomes an assignment."""
         self.kind_known: tuple[str, object] | None = None
+        self.either = False
+        """Whether its value is a number or an address depends on a condition."""
         self.busy = False
 
 

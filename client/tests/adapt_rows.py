@@ -162,6 +162,7 @@ DOT = [
     _row("compound assignments", "a = 3; a += 4; a -= 1; b = a; a *= 2; a /= 3; a <<= 2; a >>= 1; a &= 14; a |= 1; "
          ". -= 0x1000; . |= 0x10; . *= 1; REST " + TAIL),
     _row("assigned twice", "a = .; b = a + 1; REST a = . + 2; c = a; " + TAIL),
+    _row("assigned to itself in a section", "a = 0x20; .t : { *(.text) a = a; } b = a; REST " + TAIL),
     _row("assigned twice, unused", "a = 1; REST a = 2; " + TAIL, "d"),
     _row("commas after assignments", "a = 1, b = 2, REST " + TAIL),
     _row("`. = symbol + n`", ".t : { *(.text) mark = .; . = mark + 0x20; *(.text.*) at = .; . = at + 3 + 4; x = .; } "
