@@ -145,7 +145,7 @@ class Watch:
         times = [self.next_look]
         if self.first_event is not None:
             times.append(self._due())
-        if self.state is not None and not self.state_said:
+        if self.state is not None and not self.state_said and self.first_event is None:
             times.append(self.state_since + BEFORE_SAID)
         times += [one.writing + LONGEST_WRITING for one in self.writers if one.writing is not None]
         waited_for = [self.stops.fileno()]
@@ -438,7 +438,9 @@ class Watch:
             self.state_said = True
 
     def _say_in_time(self, now: float) -> None:
-        if self.state is not None and not self.state_said and now >= self.state_since + BEFORE_SAID:
+        if self.state is None or self.state_said or self.first_event is not None:
+            return  # what was gathered may make it another
+        if now >= self.state_since + BEFORE_SAID:
             self.teller.say(self.state)
             self.state_said = True
 
