@@ -72,7 +72,7 @@ class Kept:
         others = [name for name, data in project.objects.items() if self._held.get(name) is not data]
         count = len(others) + (script != self._script) + (0 if in_order else self._count_of_order(project))
         if count > HANDFUL and options.entry is None and self._answered(
-            SCRIPT, self.session.script(SCRIPT_WITHOUT_LINK)
+            SCRIPT, self._running().script(SCRIPT_WITHOUT_LINK)
         ):
             self._script = SCRIPT_WITHOUT_LINK
         if not in_order:
