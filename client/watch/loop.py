@@ -10,7 +10,7 @@ import select
 import time
 import typing
 from collections.abc import Iterable
-from concurrent.futures import ThreadPoolExecutor
+from concurrent.futures import ThreadPoolExecutor, wait
 from types import ModuleType
 
 from client.protocol import SessionEnded
@@ -267,12 +267,17 @@ class Watch:
             self._set_state(RefusedInputs(refused))
             return
         look = self.looker.submit(changed_among, self._inputs())
-        self._bring()
+        try:
+            self._bring()
+        finally:
+            wait([look])
         if self.kept.refused:
             self._set_state(RefusedInputs(tuple(self._refusals())))
+        elif self._begins_anew(look.result()):
+            return
         elif self.kept.status != 0:
             self._tell_faults()
-        elif not self._begins_anew(look.result()):
+        else:
             self._place()
 
     def _bring(self) -> None:
@@ -375,7 +380,7 @@ class Watch:
         except OSError as fault:
             self._set_state(Waiting(((self.words.image, f"it cannot be written: {fault.strerror or fault}"),)))
         finally:
-            look.cancel()
+            wait([look])
             self._drop()
 
     def _begins_anew(self, changed: list[Input]) -> bool:
@@ -459,7 +464,7 @@ class Watch:
             self.first_event = now if self.first_event is None else self.first_event
             self.last_event = min(self.last_event, now - QUIET)
         else:
-            self._set_state(Waiting((("the session", f"it {how_ended(status)}, again and again"),)), at_once=True)
+            self._set_state(Waiting((("the session", "it ends again and again"),)), at_once=True)
 
     # --once
 
