@@ -218,7 +218,7 @@ class Soak:
         took = time.monotonic() - rest
         self.slowest = max(self.slowest, took)
         if took > self.limit:
-            self.wrong.append(f"round {number}: the image is that of the files after {took:.1f} s, not {self.limit:g} s")
+            self.wrong.append(f"round {number}: the image is that of the files after {took:.1f} s, not {self.limit:g}")
         return expected
 
     def _judge(self, number: int, image: bytes, when: float, expected: bytes) -> None:
