@@ -28,8 +28,8 @@ class CompletionTest(LinkTest):
     def complete(self, line: str) -> set[str]:
         """The words that complete a line's last one."""
         name = line.split()[0]
-        text = ('source "$1"; COMP_WORDS=($2); [[ $2 == *" " ]] && COMP_WORDS+=(""); COMP_CWORD=$((${#COMP_WORDS[@]} - 1));'
-                ' $3; printf "%s\\n" "${COMPREPLY[@]}"')
+        text = ('source "$1"; COMP_WORDS=($2); [[ $2 == *" " ]] && COMP_WORDS+=("");'
+                ' COMP_CWORD=$((${#COMP_WORDS[@]} - 1)); $3; printf "%s\\n" "${COMPREPLY[@]}"')
         function = "_" + re.sub(r"[.-]", "_", name)
         return set(self.run_tool("bash", "-c", text, "bash", COMPLETION / name, line, function).split())
 
