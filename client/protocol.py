@@ -9,6 +9,7 @@ import fcntl
 import os
 import select
 import subprocess
+import sys
 from dataclasses import dataclass
 from typing import IO, cast
 
@@ -66,19 +67,19 @@ def is_name(name: bytes) -> bool:
 
 
 def find_program(name: str = "ldi") -> str:
-    """The path of a program of the linker: $LDI and its neighbours, else the one on PATH.
+    """The path of a program of the linker: $LDI and its neighbours, else the one beside the program that runs, as
+    `make install` puts it there, else the one on PATH.
 
-    `LDI` names `ldi` itself; `readobj` and `readscript` are looked for beside it, then in the crates of a repository
-    (`crates/NAME/out/NAME`), then on PATH.
+    `LDI` names `ldi` itself; `readobj` and `readscript` are looked for beside it, and in the crates of a repository
+    (`crates/NAME/out/NAME`).
     """
     ldi = os.environ.get("LDI")
-    if name == "ldi":
-        return ldi or "ldi"
-    if ldi:
-        folder = os.path.dirname(os.path.realpath(ldi))
-        for path in (os.path.join(folder, name), os.path.join(folder, "..", "..", name, "out", name)):
-            if os.access(path, os.X_OK):
-                return os.path.normpath(path)
+    if ldi and name == "ldi":
+        return ldi
+    folder = os.path.dirname(os.path.realpath(ldi or sys.argv[0]))
+    for path in (os.path.join(folder, name), os.path.join(folder, "..", "..", name, "out", name)):
+        if os.path.isfile(path) and os.access(path, os.X_OK):
+            return os.path.normpath(path)
     return name
 
 

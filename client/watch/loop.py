@@ -74,7 +74,9 @@ class Watch:
         self.script = Input(words.script)
         self.lists = {item.path: Input(item.path) for item in words.objects if isinstance(item, ListFile)}
         self.objects: dict[str, Input] = {}
-        self.names_refused: str | None = None
+        self.inputs = [self.script, *self.lists.values()]
+        self.writers: set[Input] = set()
+        self.names_refused: NamesRefused | None = None
         self.looker = ThreadPoolExecutor(1)
         now = time.monotonic()
         self.first_event: float | None = now
@@ -145,7 +147,7 @@ class Watch:
             times.append(self._due())
         if self.state is not None and not self.state_said:
             times.append(self.state_since + BEFORE_SAID)
-        times += [one.writing + LONGEST_WRITING for one in self._inputs() if one.writing is not None]
+        times += [one.writing + LONGEST_WRITING for one in self.writers if one.writing is not None]
         waited_for = [self.stops.fileno()]
         if self.watcher.fileno() >= 0:
             waited_for.append(self.watcher.fileno())
@@ -165,7 +167,8 @@ class Watch:
             self._take(self.watcher.read())
 
     def _inputs(self) -> list[Input]:
-        return [self.script, *self.lists.values(), *self.objects.values()]
+        """All inputs: the script, the lists and the objects."""
+        return self.inputs
 
     # events
 
@@ -178,8 +181,10 @@ class Watch:
                 one.dirty = True
                 if event.kind is Kind.WRITING:
                     one.writing = now
+                    self.writers.add(one)
                 elif event.kind is not Kind.TOUCHED:
                     one.writing = None
+                    self.writers.discard(one)
             if concerned or self._is_of_sources(event):
                 self.last_event = now
                 self.first_event = now if self.first_event is None else self.first_event
@@ -197,10 +202,11 @@ class Watch:
 
     def _give_up_on_writers(self, now: float) -> None:
         """Takes files as they are whose writers do not close them."""
-        for one in self._inputs():
+        for one in list(self.writers):
             if one.writing is not None and now >= one.writing + LONGEST_WRITING:
                 one.writing = None
                 one.dirty = True
+                self.writers.discard(one)
                 self.first_event = now if self.first_event is None else self.first_event
                 self.teller.note(one.path, f"its writer has not closed it for {LONGEST_WRITING:g} s: read as it is")
 
@@ -256,9 +262,9 @@ class Watch:
             self._set_state(Waiting(tuple(waiting)))
             return
         if self.names_refused is not None:
-            text = self.names_refused
-            message = messages().Message(text, "names")
-            self._set_state(RefusedInputs(tuple((path, message) for path in self.lists)))
+            said = [(path, f"{path}: {self.names_refused}", self.names_refused.line) for path in self.lists]
+            refused = tuple((path, messages().Message(text, f"{path}: {line}")) for path, text, line in said)
+            self._set_state(RefusedInputs(refused))
             return
         look = self.looker.submit(changed_among, self._inputs())
         self._bring()
@@ -272,7 +278,7 @@ class Watch:
     def _bring(self) -> None:
         """Brings the session in step with what was read."""
         edits = self.kept.edits
-        objects = {name: self._data_of(one) for name, one in self.objects.items()}
+        objects = {name: one.data for name, one in self.objects.items() if one.data is not None}
         self.kept.bring(Project(self._data_of(self.script), objects))
         if self.kept.edits != edits:
             self.is_current = False
@@ -288,7 +294,7 @@ class Watch:
             self._read_one(one)
         if all(one.data is not None and one.failure is None for one in self.lists.values()):
             self._find_objects()
-        for one in self.objects.values():
+        for one in [one for one in self.objects.values() if one.dirty]:
             self._read_one(one)
 
     def _read_one(self, one: Input) -> None:
@@ -309,12 +315,14 @@ class Watch:
             names = object_names(self.words.objects, {path: self._data_of(one) for path, one in self.lists.items()})
             self.names_refused = None
         except NamesRefused as refused:
-            self.names_refused = str(refused)
+            self.names_refused = refused
             return
         if names == list(self.objects):
             return
         before = self.objects
         self.objects = {name: before.get(name) or Input(name) for name in names}
+        self.inputs = [self.script, *self.lists.values(), *self.objects.values()]
+        self.writers.intersection_update(self.inputs)
         self.places.forget(one for name, one in before.items() if name not in self.objects)
         for name, one in self.objects.items():
             if name not in before:
@@ -322,13 +330,9 @@ class Watch:
 
     def _not_there(self) -> list[tuple[str, str]]:
         """The inputs that are missing, cannot be read or are being written, and what there is to say of each."""
-        reasons = []
-        for one in self._inputs():
-            if one.writing is not None:
-                reasons.append((one.path, "it is being written"))
-            elif one.failure is not None:
-                reasons.append((one.path, one.failure))
-        return reasons
+        reasons = [(one.path, "it is being written") for one in self.writers]
+        failed = [one for one in self._inputs() if one.failure is not None and one not in self.writers]
+        return reasons + [(one.path, one.failure or "") for one in failed]
 
     def _refusals(self) -> list[tuple[str, Message]]:
         found: list[tuple[str, Message]] = []
@@ -379,7 +383,7 @@ class Watch:
         for one in changed:
             one.dirty = True
         self._drain()
-        if any(one.dirty or one.writing is not None for one in self._inputs()):
+        if self.writers or any([one.dirty for one in self._inputs()]):
             now = time.monotonic()
             self.first_event = now if self.first_event is None else self.first_event
             return True
@@ -417,7 +421,7 @@ class Watch:
 
     def _good(self, length: int = 0, written: bool = True) -> Good:
         milliseconds = (time.monotonic() - self.last_event) * 1000
-        good = Good(tuple(self.after or [self.words.script]), milliseconds, length, written)
+        good = Good(tuple(self.after), milliseconds, length, written)
         self.after.clear()
         return good
 
@@ -460,7 +464,7 @@ class Watch:
     def _is_finished(self) -> bool:
         if self.ends >= MOST_ENDS:
             return True
-        if any(one.writing is not None for one in self._inputs()):
+        if self.writers:
             return False
         return self.state is not None and self.state_said and self.first_event is None
 
