@@ -350,7 +350,8 @@ class Watch:
     def _tell_faults(self) -> None:
         assert self.kept.session is not None
         objects = {name: self._data_of(one) for name, one in self.objects.items()}
-        inputs = messages().Inputs(self.script.path, self._data_of(self.script), objects)
+        entry = self.words.options.entry
+        inputs = messages().Inputs(self.script.path, self._data_of(self.script), objects, entry=entry)
         found = messages().fault_messages(self.kept.session.faults(), inputs)
         self.is_current = False
         self._set_state(Faulty(tuple(found), tuple(self.after)), at_once=True)
