@@ -6,6 +6,8 @@ the start is taken off first.
 """
 from __future__ import annotations
 
+import re
+
 from client.adapt import expressions as ex
 from client.adapt.model import Definition as Version
 from client.adapt.model import Model
@@ -17,6 +19,10 @@ NUMBER, ABSOLUTE, RELATIVE, EITHER = "number", "absolute", "relative", "either"
 COMPARISONS = frozenset(("==", "!=", "<", "<=", ">", ">=", "&&", "||"))
 PAGE = 0x1000
 """MAXPAGESIZE and COMMONPAGESIZE of GNU ld 2.40 for x86-64."""
+
+
+HIGH_ADDRESS = re.compile(r"0[xX][89a-fA-F][0-9a-fA-F]{15}\b")
+"""A number of 2^63 and more in a script: a kernel's addresses."""
 
 
 class Value:
@@ -276,15 +282,23 @@ class Translator:
             return self._signed(operator, left, right, place)
         return self._same(e, "binary", operator, (left, right))
 
-    @staticmethod
-    def _huge(left: Expr, right: Expr) -> bool:
-        """Whether an operand is a number with its highest bit set, as of `-8 / 2`, which GNU ld divides with a sign."""
+    def _huge(self, left: Expr, right: Expr) -> bool:
+        """Whether an operand may have its highest bit set, as in `-8 / 2`: GNU ld divides with a sign."""
         values = [ex.constant(x) for x in (left, right)]
-        return any(value is not None and value >> 63 for value in values)
+        high = any(value is not None and value >> 63 for value in values)
+        return high or (values[0] is None and HIGH_ADDRESS.search(self.model.source.text) is not None
+                        and ex.names_address(left))
 
     @staticmethod
     def _signed(operator: str, left: Expr, right: Expr, place: Place) -> Expr:
         folded = ex.constant(Expr("binary", operator, (left, right)))
+        divisor = ex.constant(right)
+        if folded is None and divisor is not None and 0 < divisor < 1 << 63:
+            place.notes.append(f"{operator} with a sign")
+            zero = ex.number(0)
+            negative = Expr("binary", operator, (Expr("binary", "-", (zero, left)), right))
+            test = Expr("binary", ">>", (left, ex.number(63)))
+            return Expr("cond", "?", (test, Expr("binary", "-", (zero, negative)), Expr("binary", operator, (left, right))))
         if folded is None:
             place.worry.append(f"{operator} has no sign here: numbers of 2^63 and more are not negative")
             return Expr("binary", operator, (left, right))
