@@ -95,6 +95,8 @@ HEADS = [
     _row("types", ".got.plt (INFO) : { *(.got.plt) } .x (COPY) : { *(.xx) } .y (DSECT) : { *(.yy) } .z (OVERLAY) : { "
          "*(.zz) } .w () : { *(.ww) } REST " + TAIL, "d", known=True),
     _row("ALIGN and an address", ".text 0x400003 : ALIGN(64) { *(.text) } REST " + TAIL, "r"),
+    _row("ALIGN of an empty section", ".e : ALIGN(4096) { *(.none) } a = .; .f : ALIGN(64) { k = .; } b = .; REST "
+         + TAIL, "r", known=True),
     _row("SUBALIGN", ".t : SUBALIGN(8) { *(.data) } REST " + TAIL, "c", different=("section", "symbol", "load")),
     _row("ONLY_IF_RO", ".x : ONLY_IF_RO { *(.rodata) } .x : ONLY_IF_RW { *(.rodata) q = .; } .y : ONLY_IF_RO { "
          "*(.data) } .y : ONLY_IF_RW { *(.data) r = .; } REST " + TAIL, "rd", known=True),
