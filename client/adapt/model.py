@@ -85,6 +85,8 @@ class Model:
         self.externs: set[str] = set()
         self.taken: object = None
         """The rows of the output sections over the objects (taking.py)."""
+        self.entry: Command | None = None
+        """The ENTRY that counts."""
         self.memory_at = -1
         """Where MEMORY stands, where it was moved."""
         self.gone: set[str] = set()
