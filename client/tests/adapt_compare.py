@@ -85,8 +85,9 @@ def read_image(data: bytes) -> Placed:
 def _load(header: tuple[int, ...], segments: list[tuple[int, ...]]) -> int:
     """The load address of a section by the segment that has it; -1 without one."""
     address, size = header[3], header[5]
-    for kind, _, _, vaddr, paddr, _, memsz, _ in segments:
-        if kind == 1 and vaddr <= address and address + size <= vaddr + memsz and size:
+    for kind, _, offset, vaddr, paddr, _, memsz, _ in segments:
+        if kind == 1 and vaddr <= address and address + size <= vaddr + memsz and size \
+                and (header[1] == 8 or header[4] - offset == address - vaddr):
             return paddr + address - vaddr
     return -1
 

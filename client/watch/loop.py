@@ -10,7 +10,7 @@ import select
 import time
 import typing
 from collections.abc import Iterable
-from concurrent.futures import ThreadPoolExecutor
+from concurrent.futures import ThreadPoolExecutor, wait
 from types import ModuleType
 
 from client.protocol import SessionEnded
@@ -145,7 +145,7 @@ class Watch:
         times = [self.next_look]
         if self.first_event is not None:
             times.append(self._due())
-        if self.state is not None and not self.state_said:
+        if self.state is not None and not self.state_said and self.first_event is None:
             times.append(self.state_since + BEFORE_SAID)
         times += [one.writing + LONGEST_WRITING for one in self.writers if one.writing is not None]
         waited_for = [self.stops.fileno()]
@@ -267,12 +267,17 @@ class Watch:
             self._set_state(RefusedInputs(refused))
             return
         look = self.looker.submit(changed_among, self._inputs())
-        self._bring()
+        try:
+            self._bring()
+        finally:
+            wait([look])
         if self.kept.refused:
             self._set_state(RefusedInputs(tuple(self._refusals())))
+        elif self._begins_anew(look.result()):
+            return
         elif self.kept.status != 0:
             self._tell_faults()
-        elif not self._begins_anew(look.result()):
+        else:
             self._place()
 
     def _bring(self) -> None:
@@ -345,7 +350,8 @@ class Watch:
     def _tell_faults(self) -> None:
         assert self.kept.session is not None
         objects = {name: self._data_of(one) for name, one in self.objects.items()}
-        inputs = messages().Inputs(self.script.path, self._data_of(self.script), objects)
+        entry = self.words.options.entry
+        inputs = messages().Inputs(self.script.path, self._data_of(self.script), objects, entry=entry)
         found = messages().fault_messages(self.kept.session.faults(), inputs)
         self.is_current = False
         self._set_state(Faulty(tuple(found), tuple(self.after)), at_once=True)
@@ -375,7 +381,7 @@ class Watch:
         except OSError as fault:
             self._set_state(Waiting(((self.words.image, f"it cannot be written: {fault.strerror or fault}"),)))
         finally:
-            look.cancel()
+            wait([look])
             self._drop()
 
     def _begins_anew(self, changed: list[Input]) -> bool:
@@ -438,7 +444,9 @@ class Watch:
             self.state_said = True
 
     def _say_in_time(self, now: float) -> None:
-        if self.state is not None and not self.state_said and now >= self.state_since + BEFORE_SAID:
+        if self.state is None or self.state_said or self.first_event is not None:
+            return  # what was gathered may make it another
+        if now >= self.state_since + BEFORE_SAID:
             self.teller.say(self.state)
             self.state_said = True
 
@@ -457,7 +465,7 @@ class Watch:
             self.first_event = now if self.first_event is None else self.first_event
             self.last_event = min(self.last_event, now - QUIET)
         else:
-            self._set_state(Waiting((("the session", f"it {how_ended(status)}, again and again"),)), at_once=True)
+            self._set_state(Waiting((("the session", "it ends again and again"),)), at_once=True)
 
     # --once
 
