@@ -8,7 +8,7 @@ from client.adapt.model import Definition, Model, Step
 from client.adapt.notes import CHANGED, LEFT, REWRITTEN, Left
 from client.adapt.patterns import is_name
 from client.adapt.symbols import expressions_of
-from client.adapt.tree import Assert, Assign, Block, Data, Expr, Node, Section
+from client.adapt.tree import Assert, Assign, Block, Data, Expr, Node, Region, Section
 from client.adapt.values import NUMBER, Place, Translator, Value
 
 _GLUED = re.compile(r"(?<![A-Za-z0-9_.$])(?!\.-)[A-Za-z_.$][A-Za-z0-9_.$]*-")
@@ -152,7 +152,12 @@ class Statements:
         order = 50 + int((d.moved - whole) * 1e4) if d.moved < whole + 0.25 and d.moved >= whole else 0
         if d.moved >= whole:
             target = model.steps[whole].node
-            model.edits.insert(target.end, " " + text, order=order)
+            if not isinstance(target, Region):
+                model.edits.insert(target.end, " " + text, order=order)
+            elif model.memory_at >= 0:
+                model.edits.insert(model.memory_at, text + " ", order=order - 9 * 10 ** 4)
+            else:
+                model.edits.insert(model.steps[whole].item.end, " " + text, order=order)
             return
         target = model.steps[whole].item
         at, rank = target.start, 1 + int((d.moved - whole + 0.5) * 1e4)

@@ -78,6 +78,15 @@ MEMORY = [
          "SECTIONS { .text : { *(.text) } >rom .data : ALIGN_WITH_INPUT { *(.data) } >ram AT>rom .ro : "
          "ALIGN_WITH_INPUT { *(.rodata) } >ram AT>rom a = LOADADDR(.data); b = LOADADDR(.ro); REST >ram AT>ram " + TAIL
          + " }", "r", known=True),
+    _row("`.` around AT>r", "MEMORY { rom : ORIGIN = 0x1001, LENGTH = 4K ram : ORIGIN = 0x8003, LENGTH = 1M } SECTIONS "
+         "{ .text : { *(.text) } >rom . = 0x8100; .data . : { *(.data) } >ram AT>rom after = .; .ro ALIGN(64) : "
+         "ALIGN_WITH_INPUT { *(.rodata) } >ram AT>rom last = .; a = LOADADDR(.data); b = LOADADDR(.ro); REST >ram "
+         "AT>ram " + TAIL + " }", "r", known=True),
+    _row("regions before MEMORY", "top = ORIGIN(ram) + LENGTH(ram); low = top - 16; MEMORY { rom : ORIGIN = 0x1000, "
+         "LENGTH = 4K ram : ORIGIN = 0x8000, LENGTH = 1M } SECTIONS { .text : { *(.text) } >rom a = low; REST >ram "
+         + TAIL + " }", "r"),
+    _row("regions before MEMORY after SECTIONS", "top = ORIGIN(ram); SECTIONS { . = 0x1000; a = top + 1; REST " + TAIL
+         + " } MEMORY { ram : ORIGIN = 0x8000, LENGTH = 1M }", "r"),
     _row("AT> alone", "MEMORY { rom : ORIGIN = 0x1000, LENGTH = 1M } SECTIONS { REST AT>rom " + TAIL + " }", "r"),
     _row("DEFINED in MEMORY", "MEMORY { ram : ORIGIN = DEFINED(base) ? base : 0x1000, LENGTH = size } SECTIONS { REST "
          ">ram " + TAIL + " } size = 1M;", "r", defsyms=(("base", "0x3000"),)),
