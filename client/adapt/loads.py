@@ -6,7 +6,7 @@ from client.adapt.heads import Heads
 from client.adapt.model import Model, Step
 from client.adapt.notes import CHANGED, REWRITTEN
 from client.adapt.statements import needs_writing
-from client.adapt.taking import alignment_of, flags_of
+from client.adapt.taking import alignment_of, flags_of, may_have_no_bytes
 from client.adapt.tree import Expr, Part, Section
 from client.adapt.values import Place
 
@@ -190,7 +190,7 @@ class Loads(Heads):
 
     def _at_region(self, section: Section, region: str, load: str, part: Part | None) -> None:
         """AT>r: GNU ld aligns the load address by the head's ALIGN alone."""
-        model = self.model
+        model, before = self.model, self.own.get(region, ZERO)
         self.own[region] = self._of(section)
         with_input = section.part("ALIGN_WITH_INPUT")
         if with_input is not None:
@@ -201,6 +201,10 @@ class Loads(Heads):
                 self._unaligned(section, load, part, None)
             return
         if load == region:
+            if section.address is None:
+                self.own[region] = ZERO
+                if may_have_no_bytes(model, section):
+                    self._own_region(section, load, part, before)
             return
         align = section.part("ALIGN")
         head = ex.constant(align.value) if align is not None and align.value is not None else 1
@@ -235,6 +239,21 @@ class Loads(Heads):
         model.note(REWRITTEN, section.start, f"{section.name} AT>{load}: its load address is not aligned as the "
                    f"section is: it is that of an empty section {name}")
 
+    def _own_region(self, section: Section, load: str, part: Part | None, distance: Expr) -> None:
+        """>r AT>r without file bytes: the load end, where r would go on, is the section's start."""
+        self._take_out(section, load, part)
+        if distance != ZERO:
+            self._helper(section, load, ZERO)
+        self.model.note(REWRITTEN, section.start, f"{section.name} >{load} AT>{load}: without AT>{load}, which goes "
+                        "back over a section that has no file bytes")
+
+    def _take_out(self, section: Section, load: str, part: Part | None) -> None:
+        """Takes AT>r out, also one that was inherited."""
+        if part is not None:
+            self.model.edits.blank(part.start, part.end)
+        else:
+            self.model.edits.remove(_after_region(section), f" AT>{load}")
+
     def _before_load(self, section: Section, text: str) -> None:
         """An empty section before one whose head may name `.`, which keeps its value."""
         model = self.model
@@ -248,10 +267,7 @@ class Loads(Heads):
         """An empty section after one that is loaded in a region, which moves the region on; `.` stays where it was."""
         model = self.model
         name = model.name_of(section)
-        if part is not None:
-            model.edits.blank(part.start, part.end)
-        else:
-            model.edits.remove(_after_region(section), f" AT>{load}")
+        self._take_out(section, load, part)
         if flags_of(model, section)[2] and section.part("ALIGN_WITH_INPUT") is None:
             return
         end = model.fresh("ldi.end." + section.name.lstrip("."))

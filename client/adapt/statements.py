@@ -5,7 +5,7 @@ import re
 
 from client.adapt import expressions as ex
 from client.adapt.model import Definition, Model, Step
-from client.adapt.notes import CHANGED, LEFT, REWRITTEN, Left
+from client.adapt.notes import CHANGED, DROPPED, LEFT, REWRITTEN, Left
 from client.adapt.patterns import is_name
 from client.adapt.symbols import expressions_of
 from client.adapt.tree import Assert, Assign, Block, Data, Expr, Node, Region, Section
@@ -50,9 +50,20 @@ class Statements:
             rule(step)
         except Left as left:
             node = step.node
+            if self._is_idle(step):
+                self.model.edits.blank(node.start, node.end)
+                self.model.note(DROPPED, node.start, f"{self.model.text(node)} has no effect: no object uses it")
+                return
             name = node.name if isinstance(node, Assign) and node.name != "." else "NAME"
             text = str(left).replace("NAME", name)
             self.model.note(LEFT, node.start, f"{self.model.text(node)} {text}")
+
+    def _is_idle(self, step: Step) -> bool:
+        """Whether a statement is a PROVIDE of a symbol that neither the script nor an object uses."""
+        objects = self.model.objects
+        return objects is not None and any(
+            d.step is step and d.provide and not d.plain and not objects.refers(name)
+            for name, versions in self.model.definitions.items() for d in versions)
 
     def _report(self, step: Step, place: Place, what: str = "") -> None:
         """The lines of the report for a statement whose text is another."""
