@@ -6,7 +6,7 @@ from client.adapt.heads import Heads
 from client.adapt.model import Model, Step
 from client.adapt.notes import CHANGED, REWRITTEN
 from client.adapt.statements import needs_writing
-from client.adapt.taking import alignment_of, flags_of, may_have_no_bytes
+from client.adapt.taking import alignment_of, flags_of
 from client.adapt.tree import Expr, Part, Section
 from client.adapt.values import Place
 
@@ -23,6 +23,8 @@ class Loads(Heads):
         """By region: how far the start of the section that counts is from its load address; for GNU ld, for `ldi`."""
         self.last: dict[str, Section] = {}
         """By region: the last section without AT>r."""
+        self.own_before: dict[str, Expr] = {}
+        """`own` before the present section."""
         self.load_region = ""
         """The region of the AT>r of the section before."""
         self.region_before: str | None = None
@@ -190,21 +192,20 @@ class Loads(Heads):
 
     def _at_region(self, section: Section, region: str, load: str, part: Part | None) -> None:
         """AT>r: GNU ld aligns the load address by the head's ALIGN alone."""
-        model, before = self.model, self.own.get(region, ZERO)
+        model = self.model
+        self.own_before = dict(self.own)
         self.own[region] = self._of(section)
         with_input = section.part("ALIGN_WITH_INPUT")
         if with_input is not None:
             model.edits.blank(with_input.start, with_input.end)
+        if with_input is not None and load != region:
             if section.address is None:
                 self._with_input(section, region, load, part)
             else:
                 self._unaligned(section, load, part, None)
             return
         if load == region:
-            if section.address is None:
-                self.own[region] = ZERO
-                if may_have_no_bytes(model, section):
-                    self._own_region(section, load, part, before)
+            self._same_region(section, region, part)
             return
         align = section.part("ALIGN")
         head = ex.constant(align.value) if align is not None and align.value is not None else 1
@@ -216,6 +217,17 @@ class Loads(Heads):
         elif (head or 1) < 16 and not flags_of(model, section)[2]:
             model.note(CHANGED, section.start, f"{section.name} AT>{load}: its load address is aligned as the section "
                        "is; GNU ld aligns it by the head's ALIGN alone (--objects says whether that differs)")
+
+    def _same_region(self, section: Section, region: str, part: Part | None) -> None:
+        """AT>r beside >r: it is loaded where it starts. Here AT>r moves r to the load end, so without file bytes back."""
+        if part is not None:
+            self.model.edits.blank(part.start, part.end)
+        else:
+            self.model.edits.remove(_after_region(section), f" AT>{region}")
+        if self.own_before.get(region, ZERO) != ZERO:
+            self._helper(section, region, ZERO)
+        self.own[region] = ZERO
+        self.model.note(REWRITTEN, section.start, f"{section.name}: AT>{region} is where it starts, as >{region} says")
 
     def _with_input(self, section: Section, region: str, load: str, part: Part | None) -> None:
         """ALIGN_WITH_INPUT: the load address moves on as the address does."""
@@ -239,40 +251,30 @@ class Loads(Heads):
         model.note(REWRITTEN, section.start, f"{section.name} AT>{load}: its load address is not aligned as the "
                    f"section is: it is that of an empty section {name}")
 
-    def _own_region(self, section: Section, load: str, part: Part | None, distance: Expr) -> None:
-        """>r AT>r without file bytes: the load end, where r would go on, is the section's start."""
-        self._take_out(section, load, part)
-        if distance != ZERO:
-            self._helper(section, load, ZERO)
-        self.model.note(REWRITTEN, section.start, f"{section.name} >{load} AT>{load}: without AT>{load}, which goes "
-                        "back over a section that has no file bytes")
-
-    def _take_out(self, section: Section, load: str, part: Part | None) -> None:
-        """Takes AT>r out, also one that was inherited."""
-        if part is not None:
-            self.model.edits.blank(part.start, part.end)
-        else:
-            self.model.edits.remove(_after_region(section), f" AT>{load}")
-
     def _before_load(self, section: Section, text: str) -> None:
         """An empty section before one whose head may name `.`, which keeps its value."""
-        model = self.model
         heads = [section.address] + [part.value for part in section.head]
         if any(e is not None and ex.uses_dot(e) for e in heads):
-            place = model.fresh("ldi.at." + section.name.lstrip("."))
+            place = self.model.fresh("ldi.at." + section.name.lstrip("."))
             text = f"{place} = .; {text}. = {place}; "
-        model.edits.insert(section.start, text, order=10 ** 6)
+        self.model.edits.insert(section.start, text, order=10 ** 6)
 
     def _after_load(self, section: Section, load: str, part: Part | None) -> None:
-        """An empty section after one that is loaded in a region, which moves the region on; `.` stays where it was."""
+        """An empty section after one that is loaded in a region, which moves the region on."""
         model = self.model
         name = model.name_of(section)
-        self._take_out(section, load, part)
+        if part is not None:
+            model.edits.blank(part.start, part.end)
+        else:
+            model.edits.remove(_after_region(section), f" AT>{load}")
         if flags_of(model, section)[2] and section.part("ALIGN_WITH_INPUT") is None:
             return
         end = model.fresh("ldi.end." + section.name.lstrip("."))
-        model.edits.insert(section.end, f" {end} LOADADDR({name}) + SIZEOF({name}) : {{ }} >{load}"
-                           f" . = ADDR({name}) + SIZEOF({name});", order=2)
+        text = f" {end} LOADADDR({name}) + SIZEOF({name}) : {{ }} >{load}"
+        if model.dot_used_after(model.closed[id(section)]):
+            dot = model.fresh("ldi.dot." + section.name.lstrip("."))
+            text = f" {dot} = .;{text} . = {dot};"
+        model.edits.insert(section.end, text, order=2)
 
 
 def _after_region(section: Section) -> int:

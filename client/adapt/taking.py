@@ -4,7 +4,7 @@ from __future__ import annotations
 from client.adapt.model import Model
 from client.adapt.objects import EXEC, NOBITS, WRITE, InputSection
 from client.adapt.patterns import has_wildcard, matcher
-from client.adapt.tree import Data, Input, Node, Pattern, Section
+from client.adapt.tree import Input, Node, Pattern, Section
 
 _OUTSIDE = (".debug", ".zdebug", ".comment", ".stab", ".line", ".gnu.linkonce.wi.", ".symtab", ".strtab", ".shstrtab",
             ".gnu.build.attributes", ".note.GNU-stack", ".GCC.command.line", ".mdebug", ".gnu.attributes", ".SUNW_",
@@ -86,6 +86,17 @@ def taking(model: Model) -> Taking:
     return found
 
 
+def taken_at(model: Model, name: str, section: str) -> tuple[int, int] | None:
+    """Where in the text the statement stands that takes a section of an object, and the section's alignment."""
+    rows = taking(model)
+    for output in model.order:
+        for node in inputs(output):
+            for item in rows.by_input.get(id(node), ()):
+                if item.object == name and item.name == section:
+                    return node.start, item.align
+    return None
+
+
 def all_sections(nodes: list[Node]) -> list[Section]:
     """All output sections and `/DISCARD/`s of a script, in their order."""
     result: list[Section] = []
@@ -133,18 +144,6 @@ def flags_of(model: Model, section: Section) -> tuple[bool, bool, bool]:
     data = bss or any(name.startswith((".data", ".tdata", ".sdata", ".ctors", ".dtors", ".init_array", ".got"))
                       for name in names)
     return data, code, bss
-
-
-_LOADED = (".text", ".rodata", ".data", ".init", ".fini", ".preinit", ".ctors", ".dtors", ".eh_frame", ".got", ".note")
-
-
-def may_have_no_bytes(model: Model, section: Section) -> bool:
-    """Whether a section has, or without objects may have, no bytes of the file."""
-    if any(isinstance(node, Data) for node in section.body):
-        return False
-    if model.objects is not None:
-        return all(item.type == NOBITS for item in row(model, section))
-    return not any(word.startswith(_LOADED) for word in words(section))
 
 
 def literal(pattern: Pattern) -> bool:

@@ -31,7 +31,7 @@ def parser() -> argparse.ArgumentParser:
                        help="the folder that the names of objects count from; the current one by default")
     words.add_argument("--members", metavar="FOLDER", help="unpacks members of archives into this folder, for gdb")
     words.add_argument("--symbols", metavar="IMAGE",
-                       help="writes a copy of the image to OUT, with the local names of all objects in its symbol table")
+                       help="writes a copy of the image to OUT with the local names of all objects")
     words.add_argument("--lines", action="store_true",
                        help="prints object, section, function and source line of each ADDRESS, or of standard input's")
     return words

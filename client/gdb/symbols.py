@@ -22,6 +22,9 @@ from client.object_file import (
     ObjectFile,
 )
 
+KEPT = (NOTYPE, OBJECT, FUNCTION)
+"""The kinds of local symbols that the copy has."""
+
 ADDED_SECTIONS = 3
 """The sections at the end of an image: the symbol table and the two tables of names."""
 
@@ -93,7 +96,7 @@ def local_names(name: bytes, data: bytes, placed: dict[bytes, list[Placed]]) -> 
         for text, symbol in file.symbols(1, file.first_global()):
             if symbol.kind == FILE:
                 source = LocalName(text, FILE, ABSOLUTE, 0, 0)
-            elif symbol.kind in (NOTYPE, OBJECT, FUNCTION) and symbol.section in places and text[:2] not in (b"", b".L"):
+            elif symbol.kind in KEPT and symbol.section in places and text[:2] not in (b"", b".L"):
                 if source:
                     yield source
                     source = None

@@ -28,7 +28,7 @@ def flat_binary(image: bytes) -> bytes:
         return b""
     base, end = min(load for load, _ in parts), max(load + len(data) for load, data in parts)
     if end - base > GREATEST:
-        raise NoFlatImage(f"the load addresses go from {base:#x} to {end:#x}: a flat image would have {end - base} bytes")
+        raise NoFlatImage(f"load addresses from {base:#x} to {end:#x}: a flat image would have {end - base} bytes")
     flat = bytearray(end - base)
     for load, data in parts:
         flat[load - base : load - base + len(data)] = data

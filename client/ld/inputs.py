@@ -197,7 +197,7 @@ class Loader:
             raise BadInput(f"{path}: file format not recognized")
         commands = read_commands(data.decode(errors="surrogateescape"))
         if commands.other is not None or not commands.inputs:
-            raise BadInput(f"{path}: no object and no archive, and no script of INPUT and GROUP alone; a script is -T's")
+            raise BadInput(f"{path}: no object, no archive, no script of INPUT and GROUP alone; a script is -T's")
         return self._commands(commands, flags)
 
     def _archive(self, archive: Archive, flags: Flags) -> list[Archive]:
@@ -246,7 +246,8 @@ class Loader:
         try:
             return member.read()
         except OSError as fault:
-            raise MissingInput(f"cannot find {member.path}, a member of {member.archive.path}: {fault.strerror}") from fault
+            text = f"cannot find {member.path}, a member of {member.archive.path}: {fault.strerror}"
+            raise MissingInput(text) from fault
 
     def _member(self, member: Member) -> None:
         data = self._bytes(member)

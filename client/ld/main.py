@@ -22,7 +22,7 @@ from client.ld.script import Script, Source, find_script, write_script
 from client.ld.valued import with_values
 from client.ld.words import expand
 from client.link_map import read_map
-from client.messages import Inputs, fault_messages, refusal_messages
+from client.inputs import Inputs
 from client.protocol import Refused, Session, SessionEnded, find_program
 
 GOOD, FAULTS, REFUSED, DEVICE, MEMORY = range(5)
@@ -55,6 +55,22 @@ def version() -> str:
     except OSError:
         own = "unknown"
     return f"GNU ld (ldi {own}) {FOLLOWS}"
+
+
+def print_refusal(name: str, refused: Refused, data: bytes, lines: tuple[tuple[str, int], ...], limit: int) -> None:
+    """Prints the first messages of a refusal. What makes messages takes long to load, and is loaded where one is."""
+    from client.messages import refusal_messages
+
+    for message in refusal_messages(name, refused, data, lines)[:limit]:
+        print(message, file=sys.stderr)
+
+
+def print_faults(faults: bytes, inputs: Inputs) -> None:
+    """Prints the messages of a link's faults."""
+    from client.messages import fault_messages
+
+    for message in fault_messages(faults, inputs, GREATEST_FAULTS):
+        print(message, file=sys.stderr)
 
 
 def print_asked(command: Command, source: Source | None) -> None:
@@ -137,8 +153,7 @@ class Link:
         if result.script_refused:
             return self._script_refused(result.script_refused, script)
         if result.status:
-            for message in fault_messages(result.faults, inputs, GREATEST_FAULTS):
-                print(message, file=sys.stderr)
+            print_faults(result.faults, inputs)
             return FAULTS
         self._write(result, files)
         self._report(session, script, result)
@@ -147,8 +162,7 @@ class Link:
     def _refused(self, result: Result) -> int:
         """Objects that are refused go to the other linker, but not for memory."""
         for item, refused in result.refused[:GREATEST_LIST]:
-            for message in refusal_messages(item.name.decode(), refused, item.data)[:3]:
-                print(message, file=sys.stderr)
+            print_refusal(item.name.decode(), refused, item.data, (), 3)
         if any(refused.number == 7 for _, refused in result.refused):
             return MEMORY
         first = result.refused[0][0].name.decode()
@@ -156,8 +170,7 @@ class Link:
         return hand_over([f"{first}{others}: outside the profile of ldi"], self.words)
 
     def _script_refused(self, refused: Refused, script: Script) -> int:
-        for message in refusal_messages(script.path, refused, script.text, script.lines):
-            print(message, file=sys.stderr)
+        print_refusal(script.path, refused, script.text, script.lines, GREATEST_LIST)
         return MEMORY if refused.number == 7 else REFUSED
 
     def _map_path(self) -> str | None:

@@ -268,7 +268,7 @@ Tldata-segment|needed|the address of a segment
 KEYWORDS_IGNORED = frozenset(
     "call-nop cet-report combreloc common common-page-size defs dynamic-undefined-weak execstack global globalaudit ibt"
     " ibtplt indirect-extern-access initfirst interpose keep-text-section-prefix lam-report lam-u48 lam-u48-report"
-    " lam-u57 lam-u57-report lazy loadfltr max-page-size nocombreloc nocommon nocopyreloc nodefaultlib nodelete nodlopen"
+    " lam-u57 lam-u57-report lazy loadfltr nocombreloc nocommon nocopyreloc nodefaultlib nodelete nodlopen"
     " nodump nodynamic-undefined-weak noexecstack noextern-protected-data noindirect-extern-access norelro"
     " noseparate-code nostart-stop-gc notext nounique nounique-symbol now origin relro report-relative-reloc"
     " nopack-relative-relocs pack-relative-relocs sectionheader separate-code shstk stack-size start-stop-visibility"

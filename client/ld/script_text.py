@@ -48,8 +48,8 @@ def outline(script: bytes) -> Outline:
 
 def _sections(found: list[Token]) -> Iterator[Head]:
     """The output sections of a script."""
-    at = next((index for index, token in enumerate(found) if token.text == b"SECTIONS" and token.depth == 0), len(found))
-    at += 2
+    begins = (index for index, token in enumerate(found) if token.text == b"SECTIONS" and token.depth == 0)
+    at = next(begins, len(found)) + 2
     while at < len(found) and found[at].depth >= 1:
         if found[at].text in (b";", b"}"):
             at += 1

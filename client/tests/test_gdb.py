@@ -35,7 +35,8 @@ class ImageTest(LinkTest):
 
     def link(self, *objects: str, script: str = "linux.ld", image: str = "hello") -> None:
         """Links, with the map beside the image."""
-        self.run_tool(find_program(), "link", "--gc-sections", "-T", script, "-o", image, "--Map", f"{image}.map", *objects)
+        words = ["--gc-sections", "-T", script, "-o", image, "--Map", f"{image}.map"]
+        self.run_tool(find_program(), "link", *words, *objects)
 
     def names(self, image: str) -> dict[str, str]:
         """The letters of nm by names."""
@@ -55,10 +56,10 @@ class GdbTest(ImageTest):
                             "info symbol call\nprint sizeof(composite)\ninfo address never_called\n")
         text = self.run_tool("gdb", "-batch", "-nx", "-x", "drive", "./hello")
         line = (self.folder / "system.c").read_text(encoding="utf-8").splitlines().index("    long result;") + 2
-        self.assertRegex(text, rf"call \(number=number@?e?n?t?r?y?=60, .*\) at system\.c:{line}")
+        self.assertRegex(text, rf"call \(number=(number@entry=)?60, .*\) at system\.c:{line}")
         self.assertIn("$1 = 60", text)
         self.assertIn("$2 = 0x0", text)
-        self.assertRegex(text, r"#1 .* in begin \(\) at system\.c:")
+        self.assertRegex(text, r"#1 .* in (begin \(\) at system\.c:|_start \(\))")
         self.assertIn("primes below 100: 25", text)
         self.assertIn("$3 = 100", text)
         self.assertRegex(text, r'"never_called" is a function at address 0x80000000000')
@@ -67,7 +68,8 @@ class GdbTest(ImageTest):
         """Objects with what is in the image, what is left out at no address, COMMON and empty sections not named."""
         self.compile("a.s", ".globl f\nf: nop\n.section .x,\"ax\"\nnop\n.section .gone,\"a\"\n.byte 1\n.comm c, 8\n")
         text = (b"entry 0000000000001000\nsection .text 0000000000001000 0000000000001000 0000000000000002 r-x\n"
-                b"piece 0000000000001000 0000000000000001 a.o .text\npiece 0000000000001001 0000000000000000 a.o .data\n"
+                b"piece 0000000000001000 0000000000000001 a.o .text\n"
+                b"piece 0000000000001001 0000000000000000 a.o .data\n"
                 b"piece 0000000000001001 0000000000000001 a.o .x\npiece 0000000000002000 0000000000000008 a.o COMMON\n"
                 b"piece 0000000000003000 0000000000000001 none.o .text\n"
                 b"piece 0000000000003000 0000000000000001 x.a(m.o) .text\n")
@@ -82,12 +84,14 @@ class GdbTest(ImageTest):
         """Members of archives are unpacked into a folder."""
         objects = self.compile_example("-g")
         self.run_tool("ar", "rcs", "libtext.a", "text.o")
-        self.run_tool(self.ld_path(), "-T", "linux.ld", "-o", "hello", "-Map=hello.map", "system.o", "main.o", "libtext.a")
+        words = ["-T", "linux.ld", "-o", "hello", "-Map=hello.map"]
+        self.run_tool(self.ld_path(), *words, "system.o", "main.o", "libtext.a")
         done = self.run_program(LDI_GDB, "hello.map")
         self.assertEqual((done.returncode, len(done.stderr.splitlines())), (1, 1))
         script = self.run_tool(LDI_GDB, "hello.map", "--members", "unpacked")
         self.assertIn(f"add-symbol-file {self.folder}/unpacked/libtext.a_text.o_ -s .text.write_line", script)
-        self.assertEqual((self.folder / "unpacked/libtext.a_text.o_").read_bytes(), (self.folder / "text.o").read_bytes())
+        unpacked = (self.folder / "unpacked/libtext.a_text.o_").read_bytes()
+        self.assertEqual(unpacked, (self.folder / "text.o").read_bytes())
         self.assertEqual(len(objects), 3)
 
     def ld_path(self) -> str:

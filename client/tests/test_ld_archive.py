@@ -209,7 +209,8 @@ class SelectionTest(LinkTest):
         folders = [f"-L{self.folder}/two", f"-L{self.folder}/one"]
         self.assertEqual(self.loaded(*folders, "-ug", "-uf", "-lx"), ["g.o"])
         self.assertEqual(self.loaded(*folders, "-l:start.o"), ["start.o"])
-        self.write("libboth.a", f"/* text */ OUTPUT_FORMAT(elf64-x86-64) GROUP({self.folder}/one/libx.a AS_NEEDED(-lx))")
+        group = f"GROUP({self.folder}/one/libx.a AS_NEEDED(-lx))"
+        self.write("libboth.a", f"/* text */ OUTPUT_FORMAT(elf64-x86-64) {group}")
         self.assertEqual(self.loaded(*folders, "-uf", "-ug", f"-L{self.folder}", "-lboth"), ["f.o", "g.o"])
         with self.assertRaises(BadInput):
             self.loaded("-lnothing")

@@ -76,7 +76,8 @@ class ExampleTest(LinkTest):
             self.assertEqual(done.returncode, 0, done.stderr)
             self.assertIn("primes below 100: 25", self.run_tool("./hello"))
             pieces = read_map((self.folder / "hello.map").read_bytes()).pieces()
-            self.assertIn((b"./libtext.a(text.o)", b".text.write_line"), [(piece.object, piece.section) for piece in pieces])
+            placed = [(piece.object, piece.section) for piece in pieces]
+            self.assertIn((b"./libtext.a(text.o)", b".text.write_line"), placed)
             (self.folder / "hello").unlink()
 
     def test_program_that_runs(self) -> None:
