@@ -84,6 +84,18 @@ MEMORY = [
     _row("AT> of the same region", "MEMORY { ram : ORIGIN = 0x8003, LENGTH = 1M } SECTIONS { .b : { *(.bss) } >ram "
          "AT>ram .heap : { . += 0x20; } >ram AT>ram .d : { *(.data) } >ram a = LOADADDR(.b); b = LOADADDR(.d); REST >ram "
          + TAIL + " }", "r"),
+    _row("`.` around AT>r", "MEMORY { rom : ORIGIN = 0x1001, LENGTH = 4K ram : ORIGIN = 0x8003, LENGTH = 1M } SECTIONS "
+         "{ .text : { *(.text) } >rom . = 0x8100; .data . : { *(.data) } >ram AT>rom after = .; .ro ALIGN(64) : "
+         "ALIGN_WITH_INPUT { *(.rodata) } >ram AT>rom last = .; a = LOADADDR(.data); b = LOADADDR(.ro); REST >ram "
+         "AT>ram " + TAIL + " }", "r", known=True),
+    _row("regions before MEMORY", "top = ORIGIN(ram) + LENGTH(ram); low = top - 16; MEMORY { rom : ORIGIN = 0x1000, "
+         "LENGTH = 4K ram : ORIGIN = 0x8000, LENGTH = 1M } SECTIONS { .text : { *(.text) } >rom a = low; REST >ram "
+         + TAIL + " }", "r"),
+    _row("regions before MEMORY after SECTIONS", "top = ORIGIN(ram); SECTIONS { . = 0x1000; a = top + 1; .text : { "
+         "*(.text) } >ram REST >ram " + TAIL + " } MEMORY { ram : ORIGIN = 0x8000, LENGTH = 1M }", "r"),
+    _row("AT>r of one's own region", "MEMORY { rom : ORIGIN = 0x1000, LENGTH = 4K ram : ORIGIN = 0x8000, LENGTH = 1M } "
+         "SECTIONS { .text : { *(.text) } >ram AT>rom .b : { *(.bss) } >ram AT>ram .heap : { . += 64; } >ram AT>ram "
+         ".data : { *(.data) } >ram AT>ram .none : { *(.none) } >ram REST >ram " + TAIL + " }", "r", known=True),
     _row("AT> alone", "MEMORY { rom : ORIGIN = 0x1000, LENGTH = 1M } SECTIONS { REST AT>rom " + TAIL + " }", "r"),
     _row("DEFINED in MEMORY", "MEMORY { ram : ORIGIN = DEFINED(base) ? base : 0x1000, LENGTH = size } SECTIONS { REST "
          ">ram " + TAIL + " } size = 1M;", "r", defsyms=(("base", "0x3000"),)),
@@ -226,6 +238,7 @@ VALUES = [
          "origin = 0x5000; pad = 16;"),
     _row("SIZEOF before, in `.`", ". = . + SIZEOF(.rest); REST " + TAIL, "l"),
     _row("PROVIDE that the script uses", "PROVIDE(gap = 0x30); . = . + gap; REST " + TAIL),
+    _row("PROVIDE that nothing uses", "PROVIDE(idle = nowhere + 1); REST " + TAIL, "d", known=True),
     _row("PROVIDE twice", "PROVIDE(provided = 3); PROVIDE(provided = 4); REST _end = .; end = .; __stack = 2;", "d"),
     _row("PROVIDE and an assignment", "PROVIDE(provided = 3); provided = 4; REST _end = .; end = .; __stack = 2;", "d"),
     _row("many signs", 'REST ' + TAIL + " " + " ".join(f'ASSERT((_end > {n}) && (_end != {n}), "m")'
