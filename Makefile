@@ -42,7 +42,7 @@ test-client: ## the tests of the client's programs, over the program that `make 
 	@tools/test-client
 
 soak-client: ## runs ldi-watch over 2,000 rounds of random rewrites, and judges every image: half an hour
-	@nice /usr/bin/python3 -m client.tests.soak 2000
+	@/usr/bin/python3 -m client.tests.soak 2000
 
 fmt: ## lays out the files of every crate, and prints those that changed, and what crates.txt names without need
 	@tools/fmt

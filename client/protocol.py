@@ -87,6 +87,10 @@ PIPE_BYTES = 1 << 20
 """The bytes that the session's pipes are asked to hold; with the system's 64 KiB an image takes longer."""
 
 
+OWN_END = 1.0
+"""Seconds in which a session that has closed its pipes ends, and leaves its status."""
+
+
 class Session:
     """A running `ldi session`. Each call sends one command and reads its answer; SessionEnded where it has ended.
 
@@ -97,6 +101,8 @@ class Session:
         self, options: Options = Options(), program: str | None = None, timeout: float | None = None
     ) -> None:
         self.timeout = timeout
+        self._is_closed = False
+        """Whether the session has closed a pipe, as it does when it ends."""
         self.process = subprocess.Popen(
             [program or find_program(), "session", *options.words()],
             stdin=subprocess.PIPE,
@@ -158,6 +164,11 @@ class Session:
 
     def kill(self) -> int:
         """Ends the session at once, whatever it does; gives its status, negative where a signal ended it."""
+        if self._is_closed:
+            try:
+                self.process.wait(OWN_END)
+            except subprocess.TimeoutExpired:
+                pass
         self.process.kill()
         return self.close()
 
@@ -170,8 +181,10 @@ class Session:
                 raise SessionEnded(f"the session gave no answer for {self.timeout:g} s")
             answer = self._from.readline()
         except (OSError, ValueError) as fault:
+            self._is_closed = True
             raise SessionEnded(str(fault)) from fault
         if not answer.endswith(b"\n"):
+            self._is_closed = True
             raise SessionEnded("the session ended")
         return answer.split()
 

@@ -142,6 +142,13 @@ def subtract(left: Expr, right: Expr) -> Expr:
     return Expr("binary", "-", (left, right))
 
 
+def names_address(e: Expr) -> bool:
+    """Whether an expression has a symbol, `.`, or an address of a section in it."""
+    if e.kind == "name" or (e.kind == "call" and e.word in ("ADDR", "LOADADDR", "ORIGIN")):
+        return True
+    return any(names_address(arg) for arg in e.args)
+
+
 def constant(e: Expr) -> int | None:
     """The value of an expression of numbers, if it is one."""
     if e.kind == "number":

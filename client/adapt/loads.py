@@ -23,6 +23,8 @@ class Loads(Heads):
         """By region: how far the start of the section that counts is from its load address; for GNU ld, for `ldi`."""
         self.last: dict[str, Section] = {}
         """By region: the last section without AT>r."""
+        self.own_before: dict[str, Expr] = {}
+        """`own` before the present section."""
         self.load_region = ""
         """The region of the AT>r of the section before."""
         self.region_before: str | None = None
@@ -191,13 +193,16 @@ class Loads(Heads):
     def _at_region(self, section: Section, region: str, load: str, part: Part | None) -> None:
         """AT>r: GNU ld aligns the load address by the head's ALIGN alone."""
         model = self.model
+        self.own_before = dict(self.own)
         self.own[region] = self._of(section)
         with_input = section.part("ALIGN_WITH_INPUT")
         if with_input is not None:
             model.edits.blank(with_input.start, with_input.end)
+        if with_input is not None and load != region:
             self._with_input(section, region, load, part)
             return
         if load == region:
+            self._same_region(section, region, part)
             return
         align = section.part("ALIGN")
         head = ex.constant(align.value) if align is not None and align.value is not None else 1
@@ -209,6 +214,17 @@ class Loads(Heads):
         elif (head or 1) < 16 and not flags_of(model, section)[2]:
             model.note(CHANGED, section.start, f"{section.name} AT>{load}: its load address is aligned as the section "
                        "is; GNU ld aligns it by the head's ALIGN alone (--objects says whether that differs)")
+
+    def _same_region(self, section: Section, region: str, part: Part | None) -> None:
+        """AT>r beside >r: it is loaded where it starts. Here AT>r moves r to the load end, so without file bytes back."""
+        if part is not None:
+            self.model.edits.blank(part.start, part.end)
+        else:
+            self.model.edits.remove(_after_region(section), f" AT>{region}")
+        if self.own_before.get(region, ZERO) != ZERO:
+            self._helper(section, region, ZERO)
+        self.own[region] = ZERO
+        self.model.note(REWRITTEN, section.start, f"{section.name}: AT>{region} is where it starts, as >{region} says")
 
     def _with_input(self, section: Section, region: str, load: str, part: Part | None) -> None:
         """ALIGN_WITH_INPUT: the load address moves on as the address does."""
@@ -243,7 +259,11 @@ class Loads(Heads):
         if flags_of(model, section)[2] and section.part("ALIGN_WITH_INPUT") is None:
             return
         end = model.fresh("ldi.end." + section.name.lstrip("."))
-        model.edits.insert(section.end, f" {end} LOADADDR({name}) + SIZEOF({name}) : {{ }} >{load}", order=2)
+        text = f" {end} LOADADDR({name}) + SIZEOF({name}) : {{ }} >{load}"
+        if model.dot_used_after(model.closed[id(section)]):
+            dot = model.fresh("ldi.dot." + section.name.lstrip("."))
+            text = f" {dot} = .;{text} . = {dot};"
+        model.edits.insert(section.end, text, order=2)
 
 
 def _after_region(section: Section) -> int:

@@ -155,6 +155,25 @@ class Model:
 
     # --- the order of statements ---
 
+    def dot_used_after(self, index: int) -> bool:
+        """Whether something uses `.` as the statement of a step leaves it."""
+        for later in self.steps[index + 1:]:
+            node = later.node
+            if later.kind in ("gone", "region", "close"):
+                continue
+            if isinstance(node, Section):
+                if node.address is None and node.part(">") is None and node.part("AT>") is None:
+                    return True
+                return node.address is not None and expressions.uses_dot(node.address)
+            if isinstance(node, Assign) and node.name == ".":
+                if expressions.uses_dot(node.value) or node.op != "=":
+                    return True
+                if not (node.value.kind == "call" and node.value.word == "ASSERT"):
+                    return False
+            elif later.section is not None or later.expr is not None and expressions.uses_dot(later.expr):
+                return True
+        return False
+
     def add(self, kind: str, node: Node, section: Section | None, item: Node) -> Step:
         """Adds a step."""
         step = Step(len(self.steps), kind, node, section, item)

@@ -187,7 +187,7 @@ class Statements:
         assert isinstance(node, Assign) and step.expr is not None
         place = Place(step.index, step.section)
         e = self._without_assert(step, place)
-        if e.kind == "call" and e.word == "ASSERT" and not self._dot_used_after(step):
+        if e.kind == "call" and e.word == "ASSERT" and not self.model.dot_used_after(step.index):
             self.model.edits.blank(node.start, node.end)
             self._report(step, place)
             return
@@ -200,25 +200,6 @@ class Statements:
         else:
             self._dot_inside(step, node, value, place)
         self._report(step, place)
-
-    def _dot_used_after(self, step: Step) -> bool:
-        """Whether something uses `.` as a statement leaves it."""
-        for later in self.model.steps[step.index + 1:]:
-            node = later.node
-            if later.kind in ("gone", "region", "close"):
-                continue
-            if isinstance(node, Section):
-                return node.address is None or ex.uses_dot(node.address)
-            if isinstance(node, Assign) and node.name == ".":
-                if ex.uses_dot(node.value) or node.op != "=":
-                    return True
-                if not (node.value.kind == "call" and node.value.word == "ASSERT"):
-                    return False
-            elif later.expr is not None and ex.uses_dot(later.expr):
-                return True
-            elif later.section is not None:
-                return True
-        return False
 
     def _dot_outside(self, step: Step, node: Assign, result: Expr, place: Place) -> None:
         if node.op == "+=" and step.expr is not None and result == step.expr and node.separator == ";":

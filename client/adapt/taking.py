@@ -86,6 +86,17 @@ def taking(model: Model) -> Taking:
     return found
 
 
+def taken_at(model: Model, name: str, section: str) -> tuple[int, int] | None:
+    """Where in the text the statement stands that takes a section of an object, and the section's alignment."""
+    rows = taking(model)
+    for output in model.order:
+        for node in inputs(output):
+            for item in rows.by_input.get(id(node), ()):
+                if item.object == name and item.name == section:
+                    return node.start, item.align
+    return None
+
+
 def all_sections(nodes: list[Node]) -> list[Section]:
     """All output sections and `/DISCARD/`s of a script, in their order."""
     result: list[Section] = []

@@ -6,15 +6,23 @@ the start is taken off first.
 """
 from __future__ import annotations
 
+import re
+
 from client.adapt import expressions as ex
-from client.adapt.model import Definition, Model
+from client.adapt.model import Definition as Version
+from client.adapt.model import Model
 from client.adapt.notes import Left
+from client.adapt.objects import Definition
 from client.adapt.tree import Expr, Section
 
 NUMBER, ABSOLUTE, RELATIVE, EITHER = "number", "absolute", "relative", "either"
 COMPARISONS = frozenset(("==", "!=", "<", "<=", ">", ">=", "&&", "||"))
 PAGE = 0x1000
 """MAXPAGESIZE and COMMONPAGESIZE of GNU ld 2.40 for x86-64."""
+
+
+HIGH_ADDRESS = re.compile(r"0[xX][89a-fA-F][0-9a-fA-F]{15}\b")
+"""A number of 2^63 and more in a script: a kernel's addresses."""
 
 
 class Value:
@@ -109,7 +117,7 @@ class Translator:
         place.notes.append(f"a number counts from the start of {place.section.name} in it")
         return ex.add(self.start(place.section, place), value.e)
 
-    def kind_of(self, definition: Definition) -> tuple[str, object]:
+    def kind_of(self, definition: Version) -> tuple[str, object]:
         """What the value of a symbol is: its kind and its section."""
         if definition.kind_known is None:
             if definition.busy:
@@ -176,11 +184,21 @@ class Translator:
             if self.model.values is not None:
                 place.notes.append(f"{e.word} as the number that a link gives it")
                 return Value(ABSOLUTE, ex.number(self.model.values.get(e.word, 0)))
-        where = "an object's symbol has no address yet while the layout goes on"
-        if found is not None:
-            where = f"{e.word} is at {hex(found.value)} in {found.section} of {found.object}, and has no address yet"
-        raise Left(f"{where}: assign `.` before the statement that takes its section, use that, and "
-                   f"`ASSERT(NAME == {e.word}, \"..\")`")
+        raise Left(self._advice(e.word, found))
+
+    def _advice(self, name: str, found: Definition | None) -> str:
+        """What to write for an object's symbol, whose address is known only after the layout."""
+        from client.adapt.taking import taken_at
+        use = f"use `here` for {name}, and add `ASSERT(here == {name}, \"..\")`"
+        where = taken_at(self.model, found.object, found.section) if found is not None else None
+        if found is None or where is None:
+            return ("an object's symbol has no address while the layout goes on: write `here = .;` before the statement "
+                    f"that takes its section, {use}")
+        offset, align = where
+        distance = f" + {hex(found.value)}" if found.value else ""
+        line = self.model.source.place(offset)[1]
+        return (f"{name} is an object's symbol and has no address while the layout goes on: before line {line} write "
+                f"`. = ALIGN({align}); here = .{distance}; {found.object}({found.section})`, {use}")
 
     def _unary(self, e: Expr, inner: Value, place: Place) -> Value:
         if e.word == "+":
@@ -259,15 +277,23 @@ class Translator:
             return self._signed(operator, left, right, place)
         return self._same(e, "binary", operator, (left, right))
 
-    @staticmethod
-    def _huge(left: Expr, right: Expr) -> bool:
-        """Whether an operand is a number with its highest bit set, as of `-8 / 2`, which GNU ld divides with a sign."""
+    def _huge(self, left: Expr, right: Expr) -> bool:
+        """Whether an operand may have its highest bit set, as in `-8 / 2`: GNU ld divides with a sign."""
         values = [ex.constant(x) for x in (left, right)]
-        return any(value is not None and value >> 63 for value in values)
+        high = any(value is not None and value >> 63 for value in values)
+        return high or (values[0] is None and HIGH_ADDRESS.search(self.model.source.text) is not None
+                        and ex.names_address(left))
 
     @staticmethod
     def _signed(operator: str, left: Expr, right: Expr, place: Place) -> Expr:
         folded = ex.constant(Expr("binary", operator, (left, right)))
+        divisor = ex.constant(right)
+        if folded is None and divisor is not None and 0 < divisor < 1 << 63:
+            place.notes.append(f"{operator} with a sign")
+            zero = ex.number(0)
+            negative = Expr("binary", operator, (Expr("binary", "-", (zero, left)), right))
+            test = Expr("binary", ">>", (left, ex.number(63)))
+            return Expr("cond", "?", (test, Expr("binary", "-", (zero, negative)), Expr("binary", operator, (left, right))))
         if folded is None:
             place.worry.append(f"{operator} has no sign here: numbers of 2^63 and more are not negative")
             return Expr("binary", operator, (left, right))

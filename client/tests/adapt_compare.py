@@ -20,6 +20,8 @@ class Placed:
     sections: list[tuple[str, int, int, int]] = field(default_factory=list)
     """Name, address, size, load address (of a section that takes no bytes of the file: -1), in their order."""
     symbols: dict[str, int] = field(default_factory=dict)
+    local: dict[str, int] = field(default_factory=dict)
+    """Local symbols without a type: hidden ones of the script, and labels of objects."""
 
 
 class LinkFailed(Exception):
@@ -60,7 +62,7 @@ def link_gnu(script: str, objects: list[str], out: str, options: tuple[str, ...]
 
 
 def read_image(data: bytes) -> Placed:
-    """The sections with ALLOC and the symbols that are not local of an ELF-64 image."""
+    """The sections with ALLOC and the symbols of an ELF-64 image."""
     phoff, shoff = struct.unpack_from("<QQ", data, 32)
     phnum, = struct.unpack_from("<H", data, 56)
     shnum, names = struct.unpack_from("<HH", data, 60)
@@ -76,17 +78,16 @@ def read_image(data: bytes) -> Placed:
             for at in range(header[4], header[4] + header[5], 24):
                 name, info, _, shndx, value, _ = _SYMBOL.unpack_from(data, at)
                 if shndx and (info >> 4 or info & 15 == 0):
-                    text = _text(data, strings + name)
-                    if info >> 4 or text not in placed.symbols:
-                        placed.symbols[text] = value
+                    (placed.symbols if info >> 4 else placed.local)[_text(data, strings + name)] = value
     return placed
 
 
 def _load(header: tuple[int, ...], segments: list[tuple[int, ...]]) -> int:
     """The load address of a section by the segment that has it; -1 without one."""
     address, size = header[3], header[5]
-    for kind, _, _, vaddr, paddr, _, memsz, _ in segments:
-        if kind == 1 and vaddr <= address and address + size <= vaddr + memsz and size:
+    for kind, _, offset, vaddr, paddr, _, memsz, _ in segments:
+        if kind == 1 and vaddr <= address and address + size <= vaddr + memsz and size \
+                and (header[1] == 8 or header[4] - offset == address - vaddr):
             return paddr + address - vaddr
     return -1
 
@@ -111,7 +112,8 @@ def differences(gnu: Placed, ldi: Placed, ignored: str = "") -> list[str]:
             found.append(f"section {name} {address:#x} {size:#x}: {' '.join(here) or 'none'}")
         elif load >= 0 and match[0][3] != load:
             found.append(f"load address of {name} {load:#x}: {match[0][3]:#x}")
-    for name, value in gnu.symbols.items():
+    hidden = {name: value for name, value in gnu.local.items() if name in ldi.symbols}
+    for name, value in {**hidden, **gnu.symbols}.items():
         if name not in ldi.symbols and name != ignored:
             found.append(f"symbol {name} {value:#x}: none")
         elif ldi.symbols.get(name, value) != value:

@@ -109,19 +109,22 @@ class Made:
         provided: set[str] = set()
         used: set[str] = set()
         checked: set[str] = set()
+        asked: set[str] = set()
         for step in self.model.steps:
             node = step.node
             if isinstance(node, Assign) and node.name != ".":
                 assigned.add(node.name)
                 if node.wrapper.startswith("PROVIDE"):
                     provided.add(node.name)
+            asked.update(x.name for e in expressions_of(self.model, step) for x in expressions.walk(e)
+                         if x.kind == "call" and x.word == "DEFINED")
             found = {x.word for e in expressions_of(self.model, step) for x in expressions.walk(e)
                      if x.kind == "name" and x.word != "."}
             (checked if step.kind == "assert" else used).update(found)
         for node in self.model.nodes:
             if isinstance(node, Assign):
                 assigned.add(node.name)
-        used -= assigned
+        used -= assigned | asked
         self.assigned = assigned
         return used, checked - assigned - used, provided
 

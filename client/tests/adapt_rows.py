@@ -78,6 +78,12 @@ MEMORY = [
          "SECTIONS { .text : { *(.text) } >rom .data : ALIGN_WITH_INPUT { *(.data) } >ram AT>rom .ro : "
          "ALIGN_WITH_INPUT { *(.rodata) } >ram AT>rom a = LOADADDR(.data); b = LOADADDR(.ro); REST >ram AT>ram " + TAIL
          + " }", "r", known=True),
+    _row("`.` after ALIGN_WITH_INPUT", "MEMORY { rom : ORIGIN = 0x1001, LENGTH = 4K ram : ORIGIN = 0x8003, LENGTH = 1M } "
+         "SECTIONS { .text : { *(.text) } >rom .data : ALIGN_WITH_INPUT { *(.data) } >ram AT>rom after = .; . = ALIGN(8); "
+         "then = .; REST >ram AT>ram " + TAIL + " }", "r", known=True),
+    _row("AT> of the same region", "MEMORY { ram : ORIGIN = 0x8003, LENGTH = 1M } SECTIONS { .b : { *(.bss) } >ram "
+         "AT>ram .heap : { . += 0x20; } >ram AT>ram .d : { *(.data) } >ram a = LOADADDR(.b); b = LOADADDR(.d); REST >ram "
+         + TAIL + " }", "r"),
     _row("AT> alone", "MEMORY { rom : ORIGIN = 0x1000, LENGTH = 1M } SECTIONS { REST AT>rom " + TAIL + " }", "r"),
     _row("DEFINED in MEMORY", "MEMORY { ram : ORIGIN = DEFINED(base) ? base : 0x1000, LENGTH = size } SECTIONS { REST "
          ">ram " + TAIL + " } size = 1M;", "r", defsyms=(("base", "0x3000"),)),

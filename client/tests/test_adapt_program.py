@@ -98,7 +98,12 @@ class AdaptTest(unittest.TestCase):
         """An object's symbol outside of ASSERT."""
         report = adapt("SECTIONS { .text : { *(.text) } }\njiffies = jiffies_64;").report
         self.assertEqual([(note.kind, note.line) for note in report], [("left", 2)])
-        self.assertIn("ASSERT(jiffies == jiffies_64", report[0].text)
+        self.assertIn("`ASSERT(here == jiffies_64, \"..\")`", report[0].text)
+        with tempfile.TemporaryDirectory() as folder:
+            paths = make(folder)
+            text = "SECTIONS { .t : {\n*(.data) } /DISCARD/ : { *(*) } } x = data_a;"
+            report = [note for note in adapt(text, objects=paths).report if note.kind == "left"]
+        self.assertIn("before line 2 write `. = ALIGN(8); here = .; ", report[0].text)
 
 
 class ProgramTest(unittest.TestCase):

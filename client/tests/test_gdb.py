@@ -56,9 +56,10 @@ class GdbTest(ImageTest):
                             "info symbol call\nprint sizeof(composite)\ninfo address never_called\n")
         text = self.run_tool("gdb", "-batch", "-nx", "-x", "drive", "./hello")
         line = (self.folder / "system.c").read_text(encoding="utf-8").splitlines().index("    long result;") + 2
-        self.assertRegex(text, rf"call \(number=60, .*\) at system\.c:{line}\n")
+        self.assertRegex(text, rf"call \(number=(number@entry=)?60, .*\) at system\.c:{line}")
         self.assertIn("$1 = 60", text)
         self.assertIn("$2 = 0x0", text)
+        self.assertRegex(text, r"#1 .* in (begin \(\) at system\.c:|_start \(\))")
         self.assertIn("primes below 100: 25", text)
         self.assertIn("$3 = 100", text)
         self.assertRegex(text, r'"never_called" is a function at address 0x80000000000')

@@ -34,6 +34,7 @@ class TextTest(unittest.TestCase):
         self.assertEqual(self.said(Good(("main.o",), 3.14, 100)), ["image: 3.1 ms after main.o"])
         self.assertEqual(self.said(Good(("a.o", "b.o", "c.o"), 30, 100)), ["image: 30.0 ms after a.o and 2 more"])
         self.assertEqual(self.said(Good(("a.o",), 1, 0, False)), ["image: as it was, 1.0 ms after a.o"])
+        self.assertEqual(self.said(Good((), 1, 0, False)), ["image: as it was"])
 
     def test_once(self) -> None:
         """The same state is not said again."""

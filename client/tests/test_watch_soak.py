@@ -9,6 +9,6 @@ class SoakTest(unittest.TestCase):
 
     def test_soak(self) -> None:
         """100 rounds, with ten times the time limits."""
-        done = soak(100, limit=10.0, seed=2, pace=0.04)
+        done = soak(100, limit=10.0, seed=2, pace=0.03)
         self.assertEqual(done.wrong, [])
         self.assertGreaterEqual(done.images, 100)

@@ -104,9 +104,14 @@ class TruthTest(unittest.TestCase):
     def test_refused_for_a_moment(self) -> None:
         """An object that is refused for less than 0.3 s is not said."""
         watching = self.opened()
-        self.folder.put("o1.o", b"no object")
-        time.sleep(0.1)
-        self.folder.renew(1, 2)
+        for version in range(2, 12):
+            begins = time.monotonic()
+            self.folder.put("o1.o", b"no object")
+            time.sleep(0.1)
+            self.folder.renew(1, version)
+            if time.monotonic() < begins + 0.2:
+                break
+            watching.wait_for("linked")  # the machine has other work
         self.assertEqual(watching.next()["event"], "linked")
         self.assertEqual(self.folder.image(), self.folder.link())
 

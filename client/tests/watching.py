@@ -106,11 +106,18 @@ class Folder:
         shutil.rmtree(self.path, ignore_errors=True)
 
 
+def default_signals() -> None:
+    """Makes signals end a process, as at a terminal, though the tests are run under nohup."""
+    for number in (signal.SIGINT, signal.SIGTERM, signal.SIGHUP):
+        signal.signal(number, signal.SIG_DFL)
+
+
 class Watching:
     """A running `ldi-watch --json` over a folder; its objects are queued as they come."""
 
     def __init__(self, folder: Folder, *words: str, names: list[str] | None = None, **how: Any) -> None:
         names = folder.names if names is None else names
+        how.setdefault("preexec_fn", default_signals)
         self.process = subprocess.Popen(
             [PROGRAM, "--json", "-T", "t.ld", "-o", "image", *names, *words],
             cwd=folder.path,

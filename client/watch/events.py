@@ -77,6 +77,7 @@ class Watcher:
         except KeyError:  # of a folder that went and came again: its books are out of order
             self._renew()
             return []
+        self._inotify.clear_move_records()
         events = []
         for one in found:
             if one.is_ignored or one.is_delete_self or one.is_move_self:

@@ -6,7 +6,7 @@ from collections.abc import Callable, Sequence
 from contextlib import AbstractContextManager, nullcontext
 from dataclasses import dataclass, field
 
-from client.protocol import GREATEST_PAYLOAD, Answer, Linked, Options, Refused, Session
+from client.protocol import GREATEST_PAYLOAD, Answer, Linked, Options, Refused, Session, find_program
 from client.watch.quick import SCRIPT_WITHOUT_LINK, with_entry
 
 HANDFUL = 3
@@ -66,15 +66,13 @@ class Kept:
         if self.session is not None and options != self._started_with:
             self.end()
         if self.session is None:
-            with self._shield():
-                self.session = Session(options, self._program, PATIENCE)
-            self._started_with = options
+            self._start(options)
         self.refused = {}
         in_order = self._order == list(project.objects)
         others = [name for name, data in project.objects.items() if self._held.get(name) is not data]
         count = len(others) + (script != self._script) + (0 if in_order else self._count_of_order(project))
         if count > HANDFUL and options.entry is None and self._answered(
-            SCRIPT, self.session.script(SCRIPT_WITHOUT_LINK)
+            SCRIPT, self._running().script(SCRIPT_WITHOUT_LINK)
         ):
             self._script = SCRIPT_WITHOUT_LINK
         if not in_order:
@@ -83,6 +81,16 @@ class Kept:
         self._replace(project, others)
         if script != self._script and self._answered(SCRIPT, self._set_script(script)):
             self._script = script
+
+    def _start(self, options: Options) -> None:
+        program = self._program or find_program()
+        try:
+            with self._shield():
+                self.session = Session(options, program, PATIENCE)
+        except OSError as fault:
+            text = f"the linker `{program}` cannot be started: {fault.strerror}; LDI=PATH names another"
+            raise OSError(text) from fault
+        self._started_with = options
 
     def end(self) -> int:
         """Ends the session, whatever it does; gives its status."""

@@ -11,7 +11,11 @@ GREATEST_COUNT = 4096
 
 
 class NamesRefused(Exception):
-    """A session does not take these names; the text says why."""
+    """A session does not take these names; the text says why, and `line` has the session's answer to them."""
+
+    def __init__(self, text: str, line: str = "refused 6 0") -> None:
+        super().__init__(text)
+        self.line = line
 
 
 def names_in(data: bytes) -> list[str]:
@@ -38,7 +42,7 @@ def check_names(names: Sequence[str]) -> None:
                 f"an object's name has 1 to {GREATEST_NAME} bytes from `!` to `~`, no spaces: `{shown}` is none"
             )
         if name in seen:
-            raise NamesRefused(f"`{name}` is named twice")
+            raise NamesRefused(f"`{name}` is named twice", "refused 1 0")
         seen.add(name)
     if len(names) > GREATEST_COUNT:
         raise NamesRefused(f"{len(names)} objects are named; a session has at most {GREATEST_COUNT:,}")

@@ -10,7 +10,7 @@ import select
 import time
 import typing
 from collections.abc import Iterable
-from concurrent.futures import ThreadPoolExecutor
+from concurrent.futures import ThreadPoolExecutor, wait
 from types import ModuleType
 
 from client.protocol import SessionEnded
@@ -76,7 +76,7 @@ class Watch:
         self.objects: dict[str, Input] = {}
         self.inputs = [self.script, *self.lists.values()]
         self.writers: set[Input] = set()
-        self.names_refused: str | None = None
+        self.names_refused: NamesRefused | None = None
         self.looker = ThreadPoolExecutor(1)
         now = time.monotonic()
         self.first_event: float | None = now
@@ -145,7 +145,7 @@ class Watch:
         times = [self.next_look]
         if self.first_event is not None:
             times.append(self._due())
-        if self.state is not None and not self.state_said:
+        if self.state is not None and not self.state_said and self.first_event is None:
             times.append(self.state_since + BEFORE_SAID)
         times += [one.writing + LONGEST_WRITING for one in self.writers if one.writing is not None]
         waited_for = [self.stops.fileno()]
@@ -262,17 +262,22 @@ class Watch:
             self._set_state(Waiting(tuple(waiting)))
             return
         if self.names_refused is not None:
-            text = self.names_refused
-            message = messages().Message(text, "names")
-            self._set_state(RefusedInputs(tuple((path, message) for path in self.lists)))
+            said = [(path, f"{path}: {self.names_refused}", self.names_refused.line) for path in self.lists]
+            refused = tuple((path, messages().Message(text, f"{path}: {line}")) for path, text, line in said)
+            self._set_state(RefusedInputs(refused))
             return
         look = self.looker.submit(changed_among, self._inputs())
-        self._bring()
+        try:
+            self._bring()
+        finally:
+            wait([look])
         if self.kept.refused:
             self._set_state(RefusedInputs(tuple(self._refusals())))
+        elif self._begins_anew(look.result()):
+            return
         elif self.kept.status != 0:
             self._tell_faults()
-        elif not self._begins_anew(look.result()):
+        else:
             self._place()
 
     def _bring(self) -> None:
@@ -315,7 +320,7 @@ class Watch:
             names = object_names(self.words.objects, {path: self._data_of(one) for path, one in self.lists.items()})
             self.names_refused = None
         except NamesRefused as refused:
-            self.names_refused = str(refused)
+            self.names_refused = refused
             return
         if names == list(self.objects):
             return
@@ -345,7 +350,8 @@ class Watch:
     def _tell_faults(self) -> None:
         assert self.kept.session is not None
         objects = {name: self._data_of(one) for name, one in self.objects.items()}
-        inputs = messages().Inputs(self.script.path, self._data_of(self.script), objects)
+        entry = self.words.options.entry
+        inputs = messages().Inputs(self.script.path, self._data_of(self.script), objects, entry=entry)
         found = messages().fault_messages(self.kept.session.faults(), inputs)
         self.is_current = False
         self._set_state(Faulty(tuple(found), tuple(self.after)), at_once=True)
@@ -375,7 +381,7 @@ class Watch:
         except OSError as fault:
             self._set_state(Waiting(((self.words.image, f"it cannot be written: {fault.strerror or fault}"),)))
         finally:
-            look.cancel()
+            wait([look])
             self._drop()
 
     def _begins_anew(self, changed: list[Input]) -> bool:
@@ -421,7 +427,7 @@ class Watch:
 
     def _good(self, length: int = 0, written: bool = True) -> Good:
         milliseconds = (time.monotonic() - self.last_event) * 1000
-        good = Good(tuple(self.after or [self.words.script]), milliseconds, length, written)
+        good = Good(tuple(self.after), milliseconds, length, written)
         self.after.clear()
         return good
 
@@ -438,7 +444,9 @@ class Watch:
             self.state_said = True
 
     def _say_in_time(self, now: float) -> None:
-        if self.state is not None and not self.state_said and now >= self.state_since + BEFORE_SAID:
+        if self.state is None or self.state_said or self.first_event is not None:
+            return  # what was gathered may make it another
+        if now >= self.state_since + BEFORE_SAID:
             self.teller.say(self.state)
             self.state_said = True
 
@@ -457,7 +465,7 @@ class Watch:
             self.first_event = now if self.first_event is None else self.first_event
             self.last_event = min(self.last_event, now - QUIET)
         else:
-            self._set_state(Waiting((("the session", f"it {how_ended(status)}, again and again"),)), at_once=True)
+            self._set_state(Waiting((("the session", "it ends again and again"),)), at_once=True)
 
     # --once
 

@@ -114,8 +114,9 @@ class Teller:
     def _print_text(self, state: State) -> None:
         match state:
             case Good(after, milliseconds, _, written):
-                what = f"{milliseconds:.1f} ms after {listed(after)}"
-                self._line(GREEN, "image", what if written else f"as it was, {what}")
+                what = [] if written else ["as it was"]
+                what += [f"{milliseconds:.1f} ms after {listed(after)}"] if after else []
+                self._line(GREEN, "image", ", ".join(what or [f"{milliseconds:.1f} ms"]))
             case Faulty(messages, after):
                 self._messages(messages)
                 self._line(RED, counted(len(messages), "error"), f"after {listed(after)}; {self._old_image()}", ", ")
