@@ -68,8 +68,10 @@ class Symbols:
                 self.model.folded[id(e)] = self._folded(e, step, False)
 
     def _self_assigned(self, node: Assign, step: Step) -> None:
-        """`x = x`, which is what DEFINED left: x is defined elsewhere."""
+        """`x = x`, which is what DEFINED left: x is defined elsewhere. In a section it may be another value."""
         model = self.model
+        if step.section is not None and any(d.step.index < step.index for d in model.definitions[node.name]):
+            return
         model.definitions[node.name] = [d for d in model.definitions[node.name] if d.step is not step]
         model.edits.blank(node.start, node.end)
         model.note(REWRITTEN, node.start, f"{model.text(node)} goes: {node.name} is defined")

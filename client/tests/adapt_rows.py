@@ -110,6 +110,8 @@ HEADS = [
     _row("types", ".got.plt (INFO) : { *(.got.plt) } .x (COPY) : { *(.xx) } .y (DSECT) : { *(.yy) } .z (OVERLAY) : { "
          "*(.zz) } .w () : { *(.ww) } REST " + TAIL, "d", known=True),
     _row("ALIGN and an address", ".text 0x400003 : ALIGN(64) { *(.text) } REST " + TAIL, "r"),
+    _row("ALIGN of an empty section", ".e : ALIGN(4096) { *(.none) } a = .; .f : ALIGN(64) { k = .; } b = .; REST "
+         + TAIL, "r", known=True),
     _row("SUBALIGN", ".t : SUBALIGN(8) { *(.data) } REST " + TAIL, "c", different=("section", "symbol", "load")),
     _row("ONLY_IF_RO", ".x : ONLY_IF_RO { *(.rodata) } .x : ONLY_IF_RW { *(.rodata) q = .; } .y : ONLY_IF_RO { "
          "*(.data) } .y : ONLY_IF_RW { *(.data) r = .; } REST " + TAIL, "rd", known=True),
@@ -177,6 +179,7 @@ DOT = [
     _row("compound assignments", "a = 3; a += 4; a -= 1; b = a; a *= 2; a /= 3; a <<= 2; a >>= 1; a &= 14; a |= 1; "
          ". -= 0x1000; . |= 0x10; . *= 1; REST " + TAIL),
     _row("assigned twice", "a = .; b = a + 1; REST a = . + 2; c = a; " + TAIL),
+    _row("assigned to itself in a section", "a = 0x20; .t : { *(.text) a = a; } b = a; REST " + TAIL),
     _row("assigned twice, unused", "a = 1; REST a = 2; " + TAIL, "d"),
     _row("commas after assignments", "a = 1, b = 2, REST " + TAIL),
     _row("`. = symbol + n`", ".t : { *(.text) mark = .; . = mark + 0x20; *(.text.*) at = .; . = at + 3 + 4; x = .; } "
