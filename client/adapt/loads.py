@@ -219,11 +219,16 @@ class Loads(Heads):
                        "is; GNU ld aligns it by the head's ALIGN alone (--objects says whether that differs)")
 
     def _same_region(self, section: Section, region: str, part: Part | None) -> None:
-        """AT>r beside >r: it is loaded where it starts. Here AT>r moves r to the load end, so without file bytes back."""
-        if part is not None:
-            self.model.edits.blank(part.start, part.end)
-        else:
-            self.model.edits.remove(_after_region(section), f" AT>{region}")
+        """AT>r beside >r: it is loaded where it starts, but with an address where r is free.
+
+        Here AT>r moves r to the load end, so without file bytes back.
+        """
+        self._take_out(section, region, part)
+        if section.address is not None:
+            name = self._free(section, region, section.part("ALIGN"))
+            self.model.note(REWRITTEN, section.start, f"{section.name}: AT>{region} is where {region} is free, by an "
+                            f"empty section {name}")
+            return
         if self.own_before.get(region, ZERO) != ZERO:
             self._helper(section, region, ZERO)
         self.own[region] = ZERO
@@ -241,15 +246,27 @@ class Loads(Heads):
     def _unaligned(self, section: Section, load: str, part: Part | None, align: Part | None) -> None:
         """AT>r where the section is aligned more than its head says."""
         model = self.model
-        name = model.fresh("ldi.load." + section.name.lstrip("."))
+        name = self._free(section, load, align)
+        self._after_load(section, load, part)
+        model.note(REWRITTEN, section.start, f"{section.name} AT>{load}: its load address is not aligned as the "
+                   f"section is: it is that of an empty section {name}")
+
+    def _free(self, section: Section, load: str, align: Part | None) -> str:
+        """An empty section where a region is free, and AT of that place."""
+        name = self.model.fresh("ldi.load." + section.name.lstrip("."))
         self._before_load(section, f"{name} : {{ }} >{load} ")
         where: Expr = Expr("call", "ADDR", name=name)
         if align is not None and align.value is not None:
             where = Expr("call", "ALIGN", (where, align.value))
-        model.edits.insert(section.colon + 1, f" AT({ex.short(where)})")
-        self._after_load(section, load, part)
-        model.note(REWRITTEN, section.start, f"{section.name} AT>{load}: its load address is not aligned as the "
-                   f"section is: it is that of an empty section {name}")
+        self.model.edits.insert(section.colon + 1, f" AT({ex.short(where)})")
+        return name
+
+    def _take_out(self, section: Section, load: str, part: Part | None) -> None:
+        """Takes AT>r out, also one that was inherited."""
+        if part is not None:
+            self.model.edits.blank(part.start, part.end)
+        else:
+            self.model.edits.remove(_after_region(section), f" AT>{load}")
 
     def _before_load(self, section: Section, text: str) -> None:
         """An empty section before one whose head may name `.`, which keeps its value."""
@@ -263,10 +280,7 @@ class Loads(Heads):
         """An empty section after one that is loaded in a region, which moves the region on."""
         model = self.model
         name = model.name_of(section)
-        if part is not None:
-            model.edits.blank(part.start, part.end)
-        else:
-            model.edits.remove(_after_region(section), f" AT>{load}")
+        self._take_out(section, load, part)
         if flags_of(model, section)[2] and section.part("ALIGN_WITH_INPUT") is None:
             return
         end = model.fresh("ldi.end." + section.name.lstrip("."))

@@ -120,6 +120,7 @@ class Link:
         loader = Loader(command, self.source.commands, self.source.own, wanted_names(command, self.source))
         self.objects = loader.load()
         self._check_required(loader)
+        self._check_outputs([*loader.files, *command.scripts])
         if self.source.commands.binary and self.source.own and command.output_format is None:
             command.output_format = "binary"
         script = write_script(self.source, command, self.objects)
@@ -143,6 +144,15 @@ class Link:
         for name in self.command.required:
             if loader.names.state.get(os.fsencode(name), 0) <= loader.names.UNDEFINED_WEAK:
                 raise BadInput(f"required symbol `{name}' not defined")
+
+    def _check_outputs(self, inputs: list[str]) -> None:
+        """No file that was read is written."""
+        for path in (self.command.output, self._map_path(), self.command.dependency_file):
+            if path is None or not os.path.isfile(path):
+                continue
+            for name in inputs:
+                if os.path.exists(name) and os.path.samefile(name, path):
+                    raise BadInput(f"input file '{name}' is the same as output file")
 
     def _finish(self, session: Session, script: Script, result: Result, files: list[str]) -> int:
         """Says what came of the link, and writes the files of a good one."""

@@ -1,6 +1,7 @@
 """Files written whole: beside their place and then renamed, or in place where that is no regular file."""
 from __future__ import annotations
 
+import errno
 import os
 import tempfile
 
@@ -20,8 +21,16 @@ def _write_in_place(path: str, data: bytes) -> None:
 
 
 def write_file(path: str, data: bytes, mode: int) -> None:
-    """Writes a file; OSError where that fails, and then the old file stands as it was."""
-    path = os.path.realpath(path)
+    """Writes a file; OSError with its name where that fails, and then the old file stands as it was."""
+    try:
+        if path.endswith("/"):
+            raise IsADirectoryError(errno.EISDIR, os.strerror(errno.EISDIR))
+        _write(os.path.realpath(path), data, mode)
+    except OSError as fault:
+        raise OSError(fault.errno, fault.strerror, path) from fault
+
+
+def _write(path: str, data: bytes, mode: int) -> None:
     if os.path.exists(path) and not os.path.isfile(path):
         _write_in_place(path, data)
         return

@@ -96,6 +96,9 @@ MEMORY = [
     _row("AT>r of one's own region", "MEMORY { rom : ORIGIN = 0x1000, LENGTH = 4K ram : ORIGIN = 0x8000, LENGTH = 1M } "
          "SECTIONS { .text : { *(.text) } >ram AT>rom .b : { *(.bss) } >ram AT>ram .heap : { . += 64; } >ram AT>ram "
          ".data : { *(.data) } >ram AT>ram .none : { *(.none) } >ram REST >ram " + TAIL + " }", "r", known=True),
+    _row("AT> of the same region with an address", "MEMORY { ram : ORIGIN = 0x8003, LENGTH = 1M } SECTIONS { .a : { "
+         "*(.text) } >ram AT>ram .d 0x9000 : { *(.data) } >ram AT>ram .e . : ALIGN(32) { *(.rodata) } >ram AT>ram a = "
+         "LOADADDR(.d); b = LOADADDR(.e); REST >ram " + TAIL + " }", "r"),
     _row("AT> alone", "MEMORY { rom : ORIGIN = 0x1000, LENGTH = 1M } SECTIONS { REST AT>rom " + TAIL + " }", "r"),
     _row("DEFINED in MEMORY", "MEMORY { ram : ORIGIN = DEFINED(base) ? base : 0x1000, LENGTH = size } SECTIONS { REST "
          ">ram " + TAIL + " } size = 1M;", "r", defsyms=(("base", "0x3000"),)),

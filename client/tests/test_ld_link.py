@@ -215,7 +215,11 @@ class RefusedTest(LinkTest):
             (["-T", "t.ld", "-T", "t.ld", "a.o"], 2, "a second script"),
             (["-T", "bad.ld", "a.o"], 2, "bad.ld"),
             (["-T", "t.ld", "t.ld", "a.o"], 2, "a script is -T's"),
-            (["-T", "t.ld", "a.o", "-o", "none/out"], 3, "No such file"),
+            (["-T", "t.ld", "a.o", "-o", "none/out"], 3, "none/out: No such file or directory"),
+            (["-T", "t.ld", "a.o", "-o", "/dev/full"], 3, "/dev/full: No space left on device"),
+            (["-T", "t.ld", "a.o", "-Map=none/"], 3, "none/: Is a directory"),
+            (["-T", "t.ld", "a.o", "-o", "./a.o"], 2, "input file 'a.o' is the same as output file"),
+            (["-T", "t.ld", "a.o", "-Map=t.ld"], 2, "input file 't.ld' is the same as output file"),
         ):
             with self.subTest(words=words):
                 done = self.ld(*words)

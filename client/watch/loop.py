@@ -88,6 +88,7 @@ class Watch:
         self.after: list[str] = []
         self.listed: list[bytes | None] | None = None
         self.is_current = False
+        self.length = 0
         self.compare = False
         self.ends = 0
         self.status = 0
@@ -363,7 +364,7 @@ class Watch:
         """Puts the image in place where it is the truth of all files; begins anew where something changed meanwhile."""
         if self.is_current and self._are_placed():
             if not isinstance(self.state, Good):
-                self._set_state(self._good(written=False), at_once=True)
+                self._set_state(self._good(self.length, written=False), at_once=True)
             self.after.clear()
             return
         assert self.kept.session is not None
@@ -417,6 +418,7 @@ class Watch:
     def _placed(self, length: int, written: bool) -> None:
         """The image is in place: says it, and runs what is to be run."""
         self.is_current = True
+        self.length = length
         self.compare = False
         self.ends = 0
         self._set_state(self._good(length, written), at_once=True)
@@ -425,7 +427,7 @@ class Watch:
             with self.stops.shield():
                 self.runner.start()
 
-    def _good(self, length: int = 0, written: bool = True) -> Good:
+    def _good(self, length: int, written: bool) -> Good:
         milliseconds = (time.monotonic() - self.last_event) * 1000
         good = Good(tuple(self.after), milliseconds, length, written)
         self.after.clear()
