@@ -5,7 +5,7 @@ from client.adapt import expressions as ex
 from client.adapt.heads import Heads
 from client.adapt.loads import Loads
 from client.adapt.model import Model, Step
-from client.adapt.notes import CHANGED, DROPPED, LEFT, REWRITTEN, Left
+from client.adapt.notes import CHANGED, DROPPED, LEFT, REWRITTEN, SEGMENTS, Left
 from client.adapt.patterns import is_name
 from client.adapt.statements import needs_writing
 from client.adapt.taking import flags_of, row
@@ -158,8 +158,7 @@ class Sections(Heads):
         region = ""
         for part in section.tail:
             if part.word == ":":
-                self.blank(part, CHANGED, f":{part.name} of {section.name}: segments follow addresses, sizes and "
-                            "flags")
+                self.blank(part, CHANGED, f":{part.name} of {section.name}: {SEGMENTS}")
                 continue
             if part.word in (">", "AT>"):
                 name = model.aliases.get(part.name, part.name)

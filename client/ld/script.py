@@ -9,6 +9,7 @@ from collections.abc import Mapping
 from dataclasses import dataclass
 
 from client.adapt.adapt import CHANGED, LEFT, Adapted, NoParse, Note, adapt
+from client.adapt.segments import Segments
 from client.ld.command import Command, number
 from client.ld.default_script import DEFAULT
 from client.ld.inputs import BadInput, MissingInput, Object
@@ -83,6 +84,8 @@ class Script:
     """The entry symbol where the script cannot name it, for the session's option."""
     valued: frozenset[str] = frozenset()
     """The symbols of objects whose addresses expressions of the script want."""
+    segments: Segments | None = None
+    """The program headers that PHDRS asks for."""
 
     @property
     def left(self) -> list[Note]:
@@ -136,11 +139,12 @@ def write_script(
     if command.entry is None and not outline(text).has_entry:
         command.note("no entry symbol: the image's e_entry is 0 (GNU ld takes the start of .text)")
     if command.entry is None:
-        return Script(source.path, text, adapted.lines, adapted.report, valued=adapted.valued)
+        return Script(source.path, text, adapted.lines, adapted.report, None, adapted.valued, adapted.segments)
     entry = os.fsencode(command.entry)
     if entry[:1].isdigit():
         text = b"%s = 0x%x; %s" % (NUMBER_ENTRY, number(command.entry, "-e"), text)
         entry = NUMBER_ENTRY
     written = with_entry(text, entry)
     option = command.entry if written is None else None
-    return Script(source.path, written or text, adapted.lines, adapted.report, option, adapted.valued)
+    return Script(source.path, written or text, adapted.lines, adapted.report, option, adapted.valued,
+                  adapted.segments)
