@@ -65,6 +65,16 @@ def adapt(script: os.PathLike[str] | str | bytes, defsyms: Sequence[tuple[str, s
         with open(path, "rb") as file:
             script = file.read()
     data = script.encode() if isinstance(script, str) else script
+    try:
+        return _adapted(data, defsyms, objects, include_path, path, orphans, values)
+    except RecursionError:
+        reason = "an expression of the script has hundreds of signs: use symbols for its parts"
+        raise NoParse(path, 1, reason) from None
+
+
+def _adapted(data: bytes, defsyms: Sequence[tuple[str, str]], objects: Mapping[str, bytes] | Iterable[str] | None,
+             include_path: Sequence[str], path: str, orphans: bool, values: Mapping[str, int] | None) -> Adapted:
+    """The same, of a text."""
     front = "".join(f"{_checked(name, value)} = {value}; " for name, value in defsyms)
     source = Source(path, front.encode("latin-1", "replace") + data, tuple(include_path))
     nodes, hashes = parse(source)

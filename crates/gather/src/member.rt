@@ -11,7 +11,7 @@ use elfobj::object::Object;
 use elfobj::relocation::SymbolIndex;
 use elfobj::section::{LinkedIndex, SectionKind};
 use ldmodel::memory::NoMemory;
-use ldmodel::names::ObjectKey;
+use ldmodel::names::ObjectPlace;
 use ldmodel::rows::InputIndex;
 use ldmodel::sections::{Part, SectionKey};
 use std::alloc::{AllocError, Global};
@@ -31,7 +31,7 @@ pub struct CommonBlock {
 #[derive(Clone, Copy)]
 pub struct Member<'a> {
     /// Its key.
-    pub key: ObjectKey,
+    pub key: ObjectPlace,
     /// The object.
     pub object: &'a Object,
     /// The statements that take its linked sections, in their order (`Matcher::matches_of`).

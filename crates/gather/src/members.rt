@@ -10,7 +10,7 @@ ghost use Rattle.ldproject.specs.Inputs.{shown_input};
 use crate::matches::Matches;
 use crate::member::{CommonBlock, Member};
 use ldmodel::memory::NoMemory;
-use ldmodel::names::ObjectKey;
+use ldmodel::names::ObjectPlace;
 use ldproject::input::InputObject;
 use ldproject::view::ProjectView;
 use std::alloc::Global;
@@ -31,7 +31,7 @@ fn member<'a>(
 {
     let _sections = input.object.sections();
     Member {
-        key: ObjectKey(place),
+        key: ObjectPlace(place),
         object: input.object,
         matches: &matches.linked,
         blocks,

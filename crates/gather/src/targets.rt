@@ -13,7 +13,7 @@ use crate::cases::case_of_symbol;
 use elfobj::object::Object;
 use elfobj::relocation::{Relocation, SymbolIndex};
 use elfobj::symbol::SymbolPlace;
-use ldmodel::names::{Case, Entry, ObjectKey};
+use ldmodel::names::{Case, Entry, ObjectPlace};
 use ldmodel::sections::{Part, SectionKey};
 use ldnaming::naming::Naming;
 use ldproject::view::ProjectView;
@@ -24,7 +24,7 @@ fn section_at(place: usize, at: SymbolPlace) -> Option<SectionKey>
 {
     match at {
         SymbolPlace::Section(number) => Some(SectionKey {
-            object: ObjectKey(place),
+            object: ObjectPlace(place),
             part: Part::InTable(number),
         }),
         SymbolPlace::Undefined | SymbolPlace::Absolute | SymbolPlace::Common => None,
@@ -36,7 +36,7 @@ fn place_of(project: &ProjectView<'_>, entry: Entry) -> Option<SymbolPlace>
     ensures { result ≡ option_map (λ (s : NamedSymbol). s.symbol.place)
         (symbol_at project.now entry.key entry.symbol) }
 {
-    match project.object(ObjectKey(entry.key)) {
+    match project.object(ObjectPlace(entry.key)) {
         Some(object) => match object.symbols().get(entry.symbol as usize) {
             Some(symbol) => Some(symbol.place),
             None => None,
@@ -64,7 +64,7 @@ fn section_of_case(project: &ProjectView<'_>, case: Case) -> Option<SectionKey>
     match case {
         Case::Strong(entry) | Case::Weak(entry) => section_of_entry(project, entry),
         Case::Common { owner, .. } => Some(SectionKey {
-            object: ObjectKey(owner.key),
+            object: ObjectPlace(owner.key),
             part: Part::InCommon(SymbolIndex(owner.symbol)),
         }),
         Case::Script | Case::Provided | Case::Undefined | Case::Duplicate => None,

@@ -18,7 +18,7 @@ use Rattle.ldmodel.specs.SectionHeaders.{image_length}
 use Rattle.ldmodel.specs.Segments.{SectionInFile, file_offset, in_file, nonempty, segments}
 use Rattle.ldmodel.specs.Stayed.{GoodLink, LinkedPiece, has_stayed, pieces_in, same_piece}
 use Rattle.ldmodel.specs.Targets.{referenced_value}
-use Rattle.ldmodel.specs.declared.names.ObjectKey.{ObjectKey}
+use Rattle.ldmodel.specs.declared.names.ObjectPlace.{ObjectPlace}
 use Rattle.ldmodel.specs.declared.sections.Part.{Part}
 use Rattle.ldmodel.specs.declared.sections.SectionKey.{SectionKey}
 use Rattle.ldlaws.specs.FileOrder.{AreInFileOrder}
@@ -220,13 +220,13 @@ module _ (m : Option Last) (y : Last) (last_is : m ≡ Some y) (t : Starts) (f :
 
 -- ---- what symbols were worth
 
-pub not_kept : (m : Option LastState) (t : Starts) (f : Laying) (object : ObjectKey) → m ≡ None
+pub not_kept : (m : Option LastState) (t : Starts) (f : Laying) (object : ObjectPlace) → m ≡ None
     → IsKept (kept_range m t f) object → ⊥
 not_kept m t f object e kept =
     false≢true (subst IsSome (none_known m t f (record { object = object; part = kept.0 }) e) kept.1)
 
 module _ (old : GoodLink) (l : KnownLink) (keys : (k : ℕ) → l.number k ≡ k) (t : Starts) (f : Laying)
-    (y : LastState) (last : IsLastOf old l.project y) (object : ObjectKey) (index : SymbolIndex) (symbol : Symbol)
+    (y : LastState) (last : IsLastOf old l.project y) (object : ObjectPlace) (index : SymbolIndex) (symbol : Symbol)
     (o : NamedObject) (x : NamedSymbol) (is : IsSymbolOf l object index symbol o x) where
   worth : (p : Option ℕ) → last_place y object ≡ p → (part : Part)
       → IsSome (kept_range (Some y) t f (record { object = object; part = part }))
@@ -247,7 +247,7 @@ module _ (old : GoodLink) (l : KnownLink) (keys : (k : ℕ) → l.number k ≡ k
   was_worth kept = worth (last_place y object) refl kept.0 kept.1
 
 pub worth_of : (old : GoodLink) (l : KnownLink) → ((k : ℕ) → l.number k ≡ k) → (t : Starts) (f : Laying)
-    (m : Option Last) (y : Last) → m ≡ Some y → IfSome (last_of m) (IsLastOf old l.project) → (object : ObjectKey)
+    (m : Option Last) (y : Last) → m ≡ Some y → IfSome (last_of m) (IsLastOf old l.project) → (object : ObjectPlace)
     (index : SymbolIndex) (symbol : Symbol) (o : NamedObject) (x : NamedSymbol) → IsSymbolOf l object index symbol o x
     → IsKept (kept_range (last_of m) t f) object
     → value_of (last_value (last_state y) object index) ≡ referenced_value old.project old.layout o x

@@ -13,7 +13,7 @@ use Rattle.ldmodel.specs.Layout.{Layout}
 use Rattle.ldmodel.specs.Project.{NamedObject, Project}
 use Rattle.ldmodel.specs.SymbolValues as model
 use Rattle.ldmodel.specs.Targets.{referenced_value}
-use Rattle.ldmodel.specs.declared.names.ObjectKey.{ObjectKey}
+use Rattle.ldmodel.specs.declared.names.ObjectPlace.{ObjectPlace}
 use Rattle.ldnaming.specs.Naming.{NamingState}
 use Rattle.ldproject.specs.Inputs.{shown_input, shown_inputs}
 use Rattle.ldproject.specs.declared.input.InputObject.{InputObject}
@@ -53,7 +53,7 @@ flat_next f xs k x e =
 
 -- ---- of one object
 
-pub record ValuesSoFar (link : LinkView) (names : List SymbolValue) (key : ObjectKey) (object : ObjectData)
+pub record ValuesSoFar (link : LinkView) (names : List SymbolValue) (key : ObjectPlace) (object : ObjectData)
     (before : List SymbolValue) (n : ℕ) (values : List SymbolValue) : Type 0 where
   pub long : length values ≡ length before + n
   pub values_are : (l : KnownLink) (o : NamedObject) → IsLinkView l link → AreNameValues l names
@@ -66,7 +66,7 @@ member_at [] k l = absurd (omega (arith, l))
 member_at (x ∷ xs) zero l = (x, refl)
 member_at (x ∷ xs) (suc k) l = member_at xs k (omega (arith, l))
 
-module _ (link : LinkView) (names : List SymbolValue) (key : ObjectKey) (object : ObjectData)
+module _ (link : LinkView) (names : List SymbolValue) (key : ObjectPlace) (object : ObjectData)
     (before : List SymbolValue) where
   pub one_value_more : (n : ℕ) (values now : List SymbolValue) (v : SymbolValue) (symbols : List Symbol) (d : Symbol)
       → n < length symbols → symbols ≡ map (λ (s : NamedSymbol). s.symbol) object.symbols

@@ -9,7 +9,7 @@ use Rattle.ldmodel.specs.Link.{max_image_length}
 use Rattle.ldmodel.specs.Project.{NamedObject, Project}
 use Rattle.ldmodel.specs.SectionHeaders.{image_length}
 use Rattle.ldmodel.specs.Stayed.{GoodLink}
-use Rattle.ldmodel.specs.declared.names.ObjectKey.{ObjectKey}
+use Rattle.ldmodel.specs.declared.names.ObjectPlace.{ObjectPlace}
 use Rattle.ldmodel.specs.declared.sections.Part.{Part}
 use Rattle.ldmodel.specs.declared.sections.SectionKey.{SectionKey}
 use Rattle.ldnaming.specs.Naming.{NamingState}
@@ -35,9 +35,9 @@ use Rattle.ldkept.specs.declared.stays.Stays.{Stays}
 
 -- an object of the earlier link, its place in it, and the place in the new one of the object that came in its place
 pub record ReplacedState : Type 0 where
-  pub old : ObjectKey
+  pub old : ObjectPlace
   pub object : ObjectData
-  pub new : ObjectKey
+  pub new : ObjectPlace
 
 abbrev pub replaced_state : Replaced → ReplacedState
 replaced_state x = record { old = x.old; object = x.object.now; new = x.new }
@@ -61,7 +61,7 @@ abbrev pub last_of : Option Last → Option LastState
 last_of x = option_map last_state x
 
 -- where an object stood in the earlier link
-abbrev pub last_place : LastState → ObjectKey → Option ℕ
+abbrev pub last_place : LastState → ObjectPlace → Option ℕ
 last_place x k = slice_index_or x.from k.0 None
 
 -- where an input section did
@@ -77,7 +77,7 @@ abbrev pub value_from : LastState → SymbolIndex → Option ℕ → SymbolValue
 value_from x index None = NotDefined
 value_from x index (Some i) = value_at x.good.symbols i index.0
 
-abbrev pub last_value : LastState → ObjectKey → SymbolIndex → SymbolValue
+abbrev pub last_value : LastState → ObjectPlace → SymbolIndex → SymbolValue
 last_value x k index = value_from x index (last_place x k)
 
 -- it stayed where it stands as it stood

@@ -12,7 +12,7 @@ ghost use Rattle.ldtargets.specs.declared.value.SymbolValue.TheVariants.{NotDefi
 use crate::stays::Last;
 use crate::symbol_table::SymbolTable;
 use ldmodel::memory::NoMemory;
-use ldmodel::names::ObjectKey;
+use ldmodel::names::ObjectPlace;
 use ldproject::view::ProjectView;
 use ldtargets::value::SymbolValue;
 use std::alloc::Global;
@@ -41,11 +41,11 @@ fn is_marked(last: Option<Last<'_>>, symbols: &SymbolTable, place: usize, count:
     let Some(last) = last else {
         return true;
     };
-    let Some(from) = last.place(ObjectKey(place)) else {
+    let Some(from) = last.place(ObjectPlace(place)) else {
         return true;
     };
-    let before = last.good.symbols.row(ObjectKey(from), count);
-    let now = symbols.row(ObjectKey(place), count);
+    let before = last.good.symbols.row(ObjectPlace(from), count);
+    let now = symbols.row(ObjectPlace(place), count);
     !have_same_values(before, now)
 }
 

@@ -15,7 +15,7 @@ use elfobj::symbol::Symbol;
 use ldlaws::segments::{files_in_order, sections_in_file};
 use ldlayout::laying::Laying;
 use ldlayout::starts::Starts;
-use ldmodel::names::ObjectKey;
+use ldmodel::names::ObjectPlace;
 use ldmodel::sections::SectionKey;
 use ldtargets::earlier::{Earlier, FileRange};
 use ldtargets::value::SymbolValue;
@@ -24,11 +24,11 @@ use ldtargets::value::SymbolValue;
 #[derive(Clone, Copy)]
 pub struct Replaced<'a> {
     /// The place of the object in the earlier link.
-    pub old: ObjectKey,
+    pub old: ObjectPlace,
     /// The object.
     pub object: &'a Object,
     /// The place in the new link of the object that came.
-    pub new: ObjectKey,
+    pub new: ObjectPlace,
 }
 
 /// An earlier link without faults, and at which place of it each object of the new one stood, by the new places; none
@@ -47,7 +47,7 @@ pub struct Last<'a> {
 
 impl<'a> Last<'a> {
     /// The place that an object of the new link had in the earlier one.
-    pub(crate) fn place(&self, object: ObjectKey) -> Option<usize>
+    pub(crate) fn place(&self, object: ObjectPlace) -> Option<usize>
         ensures { result ≡ slice_index_or self.now.from.now object.0 None }
     {
         self.from.get(object.0).copied().unwrap_or(None)
@@ -60,14 +60,14 @@ impl<'a> Last<'a> {
     {
         let place = self.place(section.object)?;
         let section = SectionKey {
-            object: ObjectKey(place),
+            object: ObjectPlace(place),
             part: section.part,
         };
         find_standing(&self.good.starts, &self.good.laying, section)
     }
 
     /// What a symbol of an object of the new link was worth in the earlier one.
-    fn value(&self, object: ObjectKey, index: SymbolIndex) -> SymbolValue
+    fn value(&self, object: ObjectPlace, index: SymbolIndex) -> SymbolValue
         ensures { result ≡ last_value (last_state self.now) object index }
     {
         match self.place(object) {
@@ -93,7 +93,7 @@ pub struct Stays<'a> {
 
 impl<'a> Stays<'a> {
     /// Whether an object has a mark; an object of which nothing is known has one.
-    fn mark(&self, object: ObjectKey) -> bool
+    fn mark(&self, object: ObjectPlace) -> bool
         ensures { result ≡ slice_index_or self.now.marks.now object.0 true }
     {
         self.marks.get(object.0).copied().unwrap_or(true)
@@ -130,11 +130,11 @@ impl<'a> Earlier for Stays<'a> {
         if before == now { Some(now.range) } else { None }
     }
 
-    fn is_marked(&self, object: ObjectKey) -> bool {
+    fn is_marked(&self, object: ObjectPlace) -> bool {
         self.mark(object)
     }
 
-    fn value(&self, object: ObjectKey, index: SymbolIndex, _symbol: &Symbol) -> SymbolValue {
+    fn value(&self, object: ObjectPlace, index: SymbolIndex, _symbol: &Symbol) -> SymbolValue {
         match self.last {
             None => SymbolValue::NotDefined,
             Some(last) => last.value(object, index),

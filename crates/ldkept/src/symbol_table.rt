@@ -13,7 +13,7 @@ ghost use Rattle.ldkept.specs.SymbolTable.{AreSymbolValues};
 use elfobj::object::Object;
 use elfobj::relocation::SymbolIndex;
 use ldmodel::memory::NoMemory;
-use ldmodel::names::ObjectKey;
+use ldmodel::names::ObjectPlace;
 use ldproject::input::InputObject;
 use ldproject::view::ProjectView;
 pub use ldtargets::symbol_table::SymbolTable;
@@ -37,7 +37,7 @@ fn count_symbols(inputs: &[InputObject<'_>]) -> Result<usize, NoMemory> {
 fn add_object(
     link: &LinkView<'_, '_>,
     names: &[SymbolValue],
-    key: ObjectKey,
+    key: ObjectPlace,
     object: &Object,
     values: &mut Vec<SymbolValue>,
 ) -> Result<(), NoMemory>
@@ -75,7 +75,7 @@ pub fn symbol_values(
     let mut values = Vec::with_capacity(alloc, count)?;
     for (place, input) in inputs.iter().enumerate() {
         starts.push(values.len())?;
-        add_object(link, names, ObjectKey(place), input.object, &mut values)?;
+        add_object(link, names, ObjectPlace(place), input.object, &mut values)?;
     }
     Ok(SymbolTable { starts, values })
 }

@@ -9,8 +9,7 @@ use Rattle.elfobj.specs.declared.relocation.SymbolIndex.{SymbolIndex}
 use Rattle.elfobj.specs.declared.section.SectionIndex.{SectionIndex}
 use Rattle.ldmodel.specs.declared.sections.Part.{Part}
 use Rattle.ldmodel.specs.declared.sections.Part.TheVariants.{InTable, InCommon}
-use Rattle.ldlayout.specs.Headers.{AreHeadersOf, AreNumbered, HasNumber, HasPartNumber, IsCounted, IsPartCounted}
-use Rattle.ldlayout.specs.Headers.{headers_of, no_headers}
+use Rattle.ldlayout.specs.Headers.{AreLaid, AreNumbered, IsCounted, IsPartCounted, headers_of, no_headers}
 use Rattle.ldlayout.specs.declared.entry.Entry.{Entry}
 use Rattle.ldlayout.specs.declared.headers.Headers.{Headers}
 
@@ -67,29 +66,15 @@ same_part : (before after : List Headers) → ((n : ℕ) → (headers_of after n
 same_part before after counts n (InTable k) h = omega (arith, counts n)
 same_part before after counts n (InCommon x) h = h
 
--- header numbers that are counted and then begin one after another
-pub headers_are : (before after : List Headers) (total : ℕ) (entries : List Entry) → All (IsCounted before) entries
-    → AreNumbered before after total → AreHeadersOf entries after total
-headers_are before after total entries counted numbered = record {
-  counted = λ i d h.
-      same_part before after numbered.counts (get_or entries i d).object (get_or entries i d).part (counted i d h);
-  within = numbered.within;
-  apart = numbered.apart;
-}
+-- header numbers that begin one after another do not meet
+pub headers_laid : (before after : List Headers) (total : ℕ) → AreNumbered before after total → AreLaid after total
+headers_laid before after total numbered = record { within = numbered.within; apart = numbered.apart }
 
-numbered_part : (entries : List Entry) (hs : List Headers) (total : ℕ) → AreHeadersOf entries hs total → (n : ℕ)
-    (part : Part) → IsPartCounted hs n part → HasPartNumber hs total n part
-numbered_part entries hs total numbered n (InTable k) h =
-    let l : n < length hs = inside hs n k.0 h in
-    (l, omega (arith, numbered.within n l))
-numbered_part entries hs total numbered n (InCommon x) h = h
-
--- each section has a number
-pub all_numbered : (entries : List Entry) (hs : List Headers) (total : ℕ) → AreHeadersOf entries hs total
-    → All (HasNumber hs total) entries
-all_numbered entries hs total numbered i d h =
-    numbered_part entries hs total numbered (get_or entries i d).object (get_or entries i d).part
-    (numbered.counted i d h)
+-- and are counted as before
+pub still_counted : (before after : List Headers) (total : ℕ) (entries : List Entry) → All (IsCounted before) entries
+    → AreNumbered before after total → All (IsCounted after) entries
+still_counted before after total entries counted numbered i d h =
+    same_part before after numbered.counts (get_or entries i d).object (get_or entries i d).part (counted i d h)
 
 -- the header numbers of the objects before this one begin one after another
 pub record NumberedBelow (before now : List Headers) (total i : ℕ) : Type 0 where

@@ -8,11 +8,14 @@ mod Named
 mod Ascending
 pub mod Members
 mod Owned
+mod Parted
 pub mod Walking
 mod Ranks
 mod Searching
 mod Numbers
 mod Collecting
 mod Counting
-mod Owning
+mod Numbering
+mod Column
+mod Cutting
 mod Placing

@@ -16,6 +16,9 @@ use Rattle.ldmodel.specs.Project.{NamedObject, Project}
 use Rattle.ldmodel.specs.Rows.{Piece, below, is_in_section, is_taken_by, piece_of, pieces_in, row, rows, sorted_pieces}
 use Rattle.ldmodel.specs.Rows.{taken}
 use Rattle.ldmodel.specs.Sections.{InputSection}
+use Rattle.ldmodel.specs.declared.sections.Part.{Part}
+use Rattle.ldmodel.specs.declared.sections.Part.TheVariants.{InTable, InCommon}
+use Rattle.elfobj.specs.declared.relocation.SymbolIndex.{SymbolIndex}
 use Rattle.ldmodel.specs.Sorting.{insert_by, sort_by}
 use Rattle.ldlayout.proofs.Lists.{each_filter, each_into_map}
 use Rattle.ldproject.specs.Inputs.{shown_input, shown_inputs}
@@ -53,19 +56,32 @@ each_numbered : {X : Type 0} (P : ℕ × X → Type 0) (n : ℕ) (xs : List X)
 each_numbered P n [] h = tt
 each_numbered P n (x ∷ xs) h = (h n x (here x xs), each_numbered P (n + 1) xs (λ i y c. h i y (later x xs y c)))
 
+each_member : {X : Type 0} (P : X → Type 0) (xs : List X) → ((x : X) → Contains xs x → P x) → Each P xs
+each_member P [] h = tt
+each_member P (x ∷ xs) h = (h x (here x xs), each_member P xs (λ y c. h y (later x xs y c)))
+
 -- ---- input sections
 
-module _ (p : Project) (Holds : List ℕ → Type 0) (named : (o : NamedObject) → Contains p.objects o → Holds o.name) where
-  abbrev OfInput : InputSection → Type 0
-  OfInput x = Holds x.object
+-- a part of an object: one of its linked sections, or the common block of some symbol
+abbrev pub IsPartOf : NamedObject → Part → Type 0
+IsPartOf o (InTable k) = (x : LinkedSection) × Contains o.object.sections x × (x.number ≡ k)
+IsPartOf o (InCommon s) = Unit {0}
 
-  of_block : (o : NamedObject) (e : Entry) (d : Decision) → Holds o.name
+module _ (p : Project) (Holds : List ℕ → Part → Type 0)
+    (named : (o : NamedObject) → Contains p.objects o → (part : Part) → IsPartOf o part → Holds o.name part) where
+  abbrev OfInput : InputSection → Type 0
+  OfInput x = Holds x.object x.id.part
+
+  abbrev OfBlocks : NamedObject → Type 0
+  OfBlocks o = (s : SymbolIndex) → Holds o.name (InCommon s)
+
+  of_block : (o : NamedObject) (e : Entry) (d : Decision) → OfBlocks o
       → Each OfInput (cons_option (block_of o.name e d) [])
   of_block o e (Common owner size alignment) h = go (is_same_entry owner e)
     where
       go : (b : Bool)
           → Each OfInput (cons_option (cond b (Some (common_block o.name owner size alignment)) None) [])
-      go true = (h, tt)
+      go true = (h (record { 0 = owner.symbol }), tt)
       go false = tt
   of_block o e (Strong x) h = tt
   of_block o e Script h = tt
@@ -79,7 +95,7 @@ module _ (p : Project) (Holds : List ℕ → Type 0) (named : (o : NamedObject) 
   of_option None xs h k = k
   of_option (Some x) xs h k = (h.0, k)
 
-  of_blocks : (i : ℕ) (o : NamedObject) → Holds o.name → (es : List (ℕ × NamedSymbol))
+  of_blocks : (i : ℕ) (o : NamedObject) → OfBlocks o → (es : List (ℕ × NamedSymbol))
       → Each OfInput (filter_map (block_at p i o) es)
   of_blocks i o h [] = tt
   of_blocks i o h (e ∷ es) =
@@ -90,8 +106,9 @@ module _ (p : Project) (Holds : List ℕ → Type 0) (named : (o : NamedObject) 
   of_object i o c =
       each_join OfInput (map (linked_section i o) o.object.sections) (common_blocks p i o)
       (each_into_map OfInput (linked_section i o) o.object.sections
-      (each_always (λ (x : LinkedSection). Holds o.name) (λ x. named o c) o.object.sections))
-      (of_blocks i o (named o c) (enumerate_from 0 o.object.symbols))
+      (each_member (λ (x : LinkedSection). Holds o.name (InTable x.number)) o.object.sections
+      (λ x among. named o c (InTable x.number) (x, among, refl))))
+      (of_blocks i o (λ s. named o c (InCommon s) tt) (enumerate_from 0 o.object.symbols))
 
   of_all : Each OfInput (input_sections p)
   unfolding input_sections
@@ -109,7 +126,7 @@ module _ (p : Project) (Holds : List ℕ → Type 0) (named : (o : NamedObject) 
         (each_filter OfInput (λ s. not (is_out p s)) (input_sections p) of_all))
 
     abbrev OfPiece : Piece → Type 0
-    OfPiece x = Holds x.object
+    OfPiece x = Holds x.object x.part
 
     of_statement : (n : ℕ) (i : InputStatementAt) → Each OfPiece (sorted_pieces p n i)
     of_statement n i =
@@ -158,4 +175,19 @@ all_named p inputs same none o c = record {
 pub all_owned : (p : Project) (inputs : List InputObject) → shown_inputs inputs ≡ p.objects
     → list_any has_no_name inputs ≡ false → (test : InputSection → Bool) × (live p ≡ filter test (candidates p))
     → Each (IsOwned p) (flat_map (λ (row : List Piece). row) (rows p))
-all_owned p inputs same none in_order = of_rows p (IsObjectName p) (all_named p inputs same none) in_order
+all_owned p inputs same none in_order =
+    of_rows p (λ name part. IsObjectName p name) (λ o c part own. all_named p inputs same none o c) in_order
+
+-- ---- parts
+
+-- each entry of the rows is of a part of an object of its name
+pub record IsOfPart (p : Project) (name : List ℕ) (part : Part) : Type 0 where
+  pub object : NamedObject
+  pub among : Contains p.objects object
+  pub is : object.name ≡ name
+  pub own : IsPartOf object part
+
+pub all_parts : (p : Project) → (test : InputSection → Bool) × (live p ≡ filter test (candidates p))
+    → Each (λ (x : Piece). IsOfPart p x.object x.part) (flat_map (λ (row : List Piece). row) (rows p))
+all_parts p in_order =
+    of_rows p (IsOfPart p) (λ o c part own. record { object = o; among = c; is = refl; own = own }) in_order

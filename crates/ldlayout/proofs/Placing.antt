@@ -8,11 +8,8 @@ use Rattle.std.proofs.lemmas.Bool.{true≢false}
 use Rattle.std.proofs.lemmas.Iterator.Adapters.{position_from-zero}
 use Rattle.std.proofs.lemmas.List.Folds.{find-append}
 use Rattle.std.specs.List.{All, list_any, position_from}
-use Rattle.std.specs.List.Sorted.{IsSortedByKey, IsStableByKey}
 use Rattle.std.specs.Option.{is_some, option_map, option_or}
-use Rattle.std.specs.Ordering.{is_eq}
 use Rattle.std.specs.Vec.{vec_items}
-use Rattle.elfobj.specs.declared.relocation.SymbolIndex.{SymbolIndex}
 use Rattle.ldmodel.specs.Edits.{AreNamesDistinct}
 use Rattle.ldmodel.specs.FileLayout.{Each}
 use Rattle.ldmodel.specs.Layout.{Layout, PlacedPiece, PlacedSection}
@@ -23,16 +20,13 @@ use Rattle.ldmodel.specs.Rows as model
 use Rattle.ldmodel.specs.Sections.{is_same_part}
 use Rattle.ldmodel.specs.SymbolValues.{is_part}
 use Rattle.ldmodel.specs.declared.rows.Piece.{Piece}
-use Rattle.ldmodel.specs.declared.sections.Part.{Part}
-use Rattle.ldmodel.specs.declared.sections.Part.TheVariants.{InTable, InCommon}
 use Rattle.ldmodel.specs.declared.sections.SectionKey.{SectionKey}
 use Rattle.ldlaws.specs.Spread.{entries_in}
 use Rattle.ldproject.specs.ByPlace.{piece_in, rows_in}
-use Rattle.ldlayout.specs.Entries.{all_entries, entry_of, has_rank, is_block, is_block_part, rank_cmp, rank_in, rank_of}
-use Rattle.ldlayout.specs.Entries.{row_entries}
+use Rattle.ldlayout.specs.Entries.{all_entries, entry_of, has_rank, rank_of, row_entries}
 use Rattle.ldlayout.specs.InPlace.{AreInPlace, IsOwned, entries_of}
-use Rattle.ldlayout.specs.Sections.{HasSections}
-use Rattle.ldlayout.specs.Starts.{AreStarts, IsPartPlace, part_in, place_in}
+use Rattle.ldlayout.specs.SectionTable.{AreOwners, HasNumbers}
+use Rattle.ldlayout.specs.Starts.{AreStarts, IsPartPlace, place_in}
 use Rattle.ldlayout.specs.declared.entry.Entry.{Entry}
 use Rattle.ldlayout.specs.declared.starts.PartPlace.{PartPlace}
 use Rattle.ldlayout.specs.declared.starts.Starts.{Starts}
@@ -40,7 +34,7 @@ use Rattle.ldlayout.proofs.Lists.{each_append}
 use Rattle.ldlayout.proofs.Members.{each_join}
 use Rattle.ldlayout.proofs.Numbers.{in_project, same_key}
 use Rattle.ldlayout.proofs.Ranks.{one_rank}
-use Rattle.ldlayout.proofs.Searching.{kept_first}
+use Rattle.ldlayout.proofs.Column.{has_first}
 
 module _ (p : Project) (distinct : AreNamesDistinct p.objects) (k : SectionKey) where
   -- an entry is the one that is looked for
@@ -195,58 +189,14 @@ module _ (p : Project) (distinct : AreNamesDistinct p.objects) (k : SectionKey) 
       go (Some x) h =
           (h.0, position_from-zero (λ (q : PlacedSection). list_any test q.pieces) s.sections ∙ h.1, h.2)
 
-and_false : (t : Bool) → t && false ≡ false
-and_false true = refl
-and_false false = refl
-
-module _ (n : ℕ) (x : SymbolIndex) where
-  -- only a common block has the rank of one
-  only_block : (m : ℕ) (part : Part) → is_block_part part ≡ false
-      → is_eq (rank_cmp (rank_of m part) (n, true, x.0)) ≡ false
-  only_block m (InTable k) e = one_rank m n (InTable k) (InCommon x) ∙ and_false (m == n)
-  only_block m (InCommon y) e = absurd (true≢false e)
-
-  -- so it is found among the common blocks
-  among_blocks : (xs : List Entry)
-      → find (has_rank (n, true, x.0)) (filter is_block xs) ≡ find (has_rank (n, true, x.0)) xs
-  among_blocks [] = refl
-  among_blocks (e ∷ es) = go (is_block e) refl (among_blocks es)
-    where
-      go : (b : Bool) → is_block e ≡ b
-          → find (has_rank (n, true, x.0)) (filter is_block es) ≡ find (has_rank (n, true, x.0)) es
-          → find (has_rank (n, true, x.0)) (cond b (e ∷ filter is_block es) (filter is_block es))
-          ≡ find (has_rank (n, true, x.0)) (e ∷ es)
-      go true block same = ap (cond (has_rank (n, true, x.0) e) (Some e)) same
-      go false block same =
-          same
-          ∙ sym (ap (λ b. cond b (Some e) (find (has_rank (n, true, x.0)) es)) (only_block e.object e.part block))
-
-  -- an entry of a common block
-  abbrev block : Entry
-  block = record {
-    object = n;
-    part = InCommon x;
-    place = record { start = 0; size = 0; section = record { 0 = 0 } };
-  }
-
--- a table of all entries finds what is found among them
-found_in : (collected : List Entry) (t : Starts) → HasSections collected t.sections
-    → IsStableByKey rank_in rank_cmp (filter is_block collected) t.blocks.items → (n : ℕ) (part : Part)
-    → part_in t n part ≡ option_map (λ (e : Entry). e.place) (find (has_rank (rank_of n part)) collected)
-found_in collected t sections stable n (InTable k) = sections n k.0
-found_in collected t sections stable n (InCommon x) =
-    ap (option_map (λ (e : Entry). e.place)) (kept_first (block n x) (filter is_block collected) t.blocks.items stable
-    ∙ among_blocks n x collected)
-
--- so it has all places
+-- a column of all entries has all places
 pub all_places : (p : Project) (s : Layout) (rows : List (Vec Piece Global)) (starts : List ℕ) (collected : List Entry)
     (t : Starts) → AreNamesDistinct p.objects → AreInPlace p s → map entries_in s.sections ≡ rows_in p rows
     → starts ≡ flat_map starts_of s.sections → collected ≡ all_entries 0 rows starts
-    → HasSections collected t.sections → IsSortedByKey rank_in rank_cmp t.blocks.items
-    → IsStableByKey rank_in rank_cmp (filter is_block collected) t.blocks.items → AreStarts p s t
-all_places p s rows starts collected t distinct apart placed begin all sections sorted stable =
+    → HasNumbers t.table collected → AreOwners t.table collected t.owners.items
+    → t.places.items ≡ map (λ (e : Entry). e.place) collected → AreStarts p s t
+all_places p s rows starts collected t distinct apart placed begin all numbers owned are =
     record {
-      sorted = sorted;
       places = λ k. subst (IsPartPlace p s k) (sym (same k)) (is_place p distinct k s rows placed apart.owned);
       apart = apart;
     }
@@ -255,7 +205,7 @@ all_places p s rows starts collected t distinct apart placed begin all sections 
         ≡ option_map (λ (e : Entry). e.place)
         (find (has_rank (rank_of k.object.0 k.part)) (all_entries 0 rows (flat_map starts_of s.sections)))
     same k =
-        found_in collected t sections stable k.object.0 k.part
+        has_first collected t.table t.owners.items t.places.items numbers owned are k.object.0 k.part
         ∙ ap (λ xs. option_map (λ (e : Entry). e.place) (find (has_rank (rank_of k.object.0 k.part)) xs))
         (all ∙ ap (all_entries 0 rows) begin)
 

@@ -1,10 +1,9 @@
 -- The order of input sections.
-use Rattle.std.proofs.Common.{◌≡◌, ◌<◌, ◌==◌, ◌&&◌, ℕ, Bool, true, false, cond, not, refl, ap, ◌∙◌, arith}
-use Rattle.std.proofs.lemmas.Bool.{eqb-true, ltb-true}
+use Rattle.std.proofs.Common.{◌≡◌, ◌<◌, ◌==◌, ◌&&◌, ℕ, Bool, true, false, cond, refl, sym, ap, ◌∙◌, arith}
+use Rattle.std.proofs.lemmas.Bool.{eq-eqb, eqb-true, false≢true, ltb-true}
 use Rattle.std.proofs.lemmas.Cmp.{nat_cmp_total, on_total, then_total}
 use Rattle.std.specs.Cmp.{IsTotalOrder, bool_cmp_total}
-use Rattle.std.specs.List.Sorted.{ties}
-use Rattle.std.specs.Ordering.{bool_cmp, is_eq, is_lt, nat_cmp, ordering_reverse, ordering_then}
+use Rattle.std.specs.Ordering.{bool_cmp, is_eq, nat_cmp, ordering_then}
 use Rattle.std.specs.Prelude.{nat_lt}
 use mathlib.Core.Bool.{beq}
 use Rattle.std.specs.declared.cmp.Ordering.{Ordering}
@@ -12,17 +11,12 @@ use Rattle.std.specs.declared.cmp.Ordering.TheVariants.{Less, Equal, Greater}
 use Rattle.ldmodel.specs.Sections.{is_same_part}
 use Rattle.ldmodel.specs.declared.sections.Part.{Part}
 use Rattle.ldmodel.specs.declared.sections.Part.TheVariants.{InTable, InCommon}
-use Rattle.ldlayout.specs.Entries.{has_rank, rank_cmp, rank_in, rank_of}
-use Rattle.ldlayout.specs.declared.entry.Entry.{Entry}
+use Rattle.ldlayout.specs.Entries.{rank_cmp, rank_of}
 
 pub rank_total : IsTotalOrder rank_cmp
 rank_total =
     then_total (then_total (on_total (λ (x : ℕ × Bool × ℕ). x.0) nat_cmp_total)
     (on_total (λ (x : ℕ × Bool × ℕ). x.1) bool_cmp_total)) (on_total (λ (x : ℕ × Bool × ℕ). x.2) nat_cmp_total)
-
--- which of two entries comes first
-abbrev pub is_before : Entry → Entry → Bool
-is_before x y = is_lt (rank_cmp (rank_in x) (rank_in y))
 
 eq_then : (o r : Ordering) → is_eq (ordering_then o r) ≡ is_eq o && is_eq r
 eq_then Less r = refl
@@ -75,12 +69,51 @@ module _ (a b : ℕ) where
   pub one_rank : (q r : Part) → is_eq (rank_cmp (rank_of a q) (rank_of b r)) ≡ (a == b) && is_same_part q r
   one_rank q r = equal (rank_of a q) (rank_of b r) ∙ joined q r
 
--- an entry ties with one exactly where it has its rank
-pub tied : (x y : Entry) → ties is_before x y ≡ has_rank (rank_in x) y
-tied x y = go (rank_cmp (rank_in y) (rank_in x)) (rank_total.antisymm (rank_in x) (rank_in y))
+beq_true : (x y : Bool) → beq x y ≡ true → x ≡ y
+beq_true true true e = refl
+beq_true true false e = absurd (false≢true e)
+beq_true false true e = absurd (false≢true e)
+beq_true false false e = refl
+
+left : (s t : Bool) → s && t ≡ true → s ≡ true
+left true t e = refl
+left false t e = e
+
+right : (s t : Bool) → s && t ≡ true → t ≡ true
+right true t e = e
+right false t e = absurd (false≢true e)
+
+-- ranks that compare as equal are one
+pub one : (x y : ℕ × Bool × ℕ) → is_eq (rank_cmp x y) ≡ true → x ≡ y
+one x y e =
+    ap (λ (i : ℕ). (i, x.1, x.2)) (eqb-true x.0 y.0 (left (x.0 == y.0) (beq x.1 y.1) both))
+    ∙ ap (λ (b : Bool). (y.0, b, x.2)) (beq_true x.1 y.1 (right (x.0 == y.0) (beq x.1 y.1) both))
+    ∙ ap (λ (k : ℕ). (y.0, y.1, k)) (eqb-true x.2 y.2 (right ((x.0 == y.0) && beq x.1 y.1) (x.2 == y.2) all))
   where
-    go : (o : Ordering) → rank_cmp (rank_in x) (rank_in y) ≡ ordering_reverse o
-        → not (is_lt (rank_cmp (rank_in x) (rank_in y))) && not (is_lt o) ≡ is_eq o
-    go Less e = ap (λ t. not (is_lt t) && false) e
-    go Equal e = ap (λ t. not (is_lt t) && true) e
-    go Greater e = ap (λ t. not (is_lt t) && true) e
+    all : are_equal x y ≡ true
+    all = sym (equal x y) ∙ e
+
+    both : (x.0 == y.0) && beq x.1 y.1 ≡ true
+    both = left ((x.0 == y.0) && beq x.1 y.1) (x.2 == y.2) all
+
+beq_self : (x : Bool) → beq x x ≡ true
+beq_self true = refl
+beq_self false = refl
+
+-- a rank compares as equal with itself
+pub alike : (r : ℕ × Bool × ℕ) → is_eq (rank_cmp r r) ≡ true
+alike r =
+    equal r r ∙ ap (λ b. (b && beq r.1 r.1) && (r.2 == r.2)) (eq-eqb r.0 r.0 refl)
+    ∙ ap (λ b. b && (r.2 == r.2)) (beq_self r.1) ∙ eq-eqb r.2 r.2 refl
+
+same_part : (q r : Part) → is_same_part q r ≡ true → q ≡ r
+same_part (InTable k) (InTable n) e = ap (λ m. InTable (record { 0 = m })) (eqb-true k.0 n.0 e)
+same_part (InTable k) (InCommon n) e = absurd (false≢true e)
+same_part (InCommon k) (InTable n) e = absurd (false≢true e)
+same_part (InCommon k) (InCommon n) e = ap (λ m. InCommon (record { 0 = m })) (eqb-true k.0 n.0 e)
+
+-- parts of objects whose ranks compare as equal are one
+pub one_of : (a b : ℕ) (q r : Part) → is_eq (rank_cmp (rank_of a q) (rank_of b r)) ≡ true → (a ≡ b) × (q ≡ r)
+one_of a b q r e =
+    let both : (a == b) && is_same_part q r ≡ true = sym (one_rank a b q r) ∙ e in
+    (eqb-true a b (left (a == b) (is_same_part q r) both), same_part q r (right (a == b) (is_same_part q r) both))

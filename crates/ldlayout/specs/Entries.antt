@@ -20,6 +20,12 @@ rank_in e = rank_of e.object e.part
 abbrev pub rank_cmp : ℕ × Bool × ℕ → ℕ × Bool × ℕ → Ordering
 rank_cmp x y = ordering_then (ordering_then (nat_cmp x.0 y.0) (bool_cmp x.1 y.1)) (nat_cmp x.2 y.2)
 
+abbrev pub rank_self : ℕ × Bool × ℕ → ℕ × Bool × ℕ
+rank_self r = r
+
+abbrev pub is_ranked : ℕ × Bool × ℕ → ℕ × Bool × ℕ → Bool
+is_ranked sought r = is_eq (rank_cmp r sought)
+
 abbrev pub has_rank : ℕ × Bool × ℕ → Entry → Bool
 has_rank sought e = is_eq (rank_cmp (rank_in e) sought)
 

@@ -6,5 +6,6 @@ pub mod Offsets
 pub mod Entries
 pub mod Headers
 pub mod InPlace
-pub mod Sections
+pub mod SectionTable
 pub mod Starts
+pub mod Cut

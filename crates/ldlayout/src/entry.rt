@@ -1,16 +1,15 @@
-//! Input sections with their places, in an order of their own.
+//! Input sections with their places, and the ranks of common blocks.
 
-ghost use Rattle.std.specs.Prelude.{◌≡◌, IfOk, filter, find};
+ghost use Rattle.std.specs.Prelude.{◌≡◌, ◌<◌, IfOk, IfSome, filter, length, map, position};
 ghost use Rattle.std.specs.List.Sorted.{IsSortedByKey};
-ghost use Rattle.std.specs.Option.{option_map};
-ghost use Rattle.ldlayout.specs.Entries.{has_rank, is_block, rank_cmp, rank_in, rank_of};
+ghost use Rattle.ldlayout.specs.Entries.{is_block, is_ranked, rank_cmp, rank_in, rank_of, rank_self};
 
 use crate::starts::PartPlace;
 use ldmodel::memory::NoMemory;
 use ldmodel::sections::Part;
 use std::alloc::Global;
 
-/// Where a part of an object comes among all: by the number of the object, then sections before common blocks, then by
+/// Where a part of an object comes among all: by the place of the object, then sections before common blocks, then by
 /// the number of the part.
 pub(crate) type Rank = (usize, bool, u32);
 
@@ -51,31 +50,27 @@ impl Entry {
     }
 }
 
-/// The common blocks among these input sections, in their order.
+/// The ranks of the common blocks among these input sections, in their order.
 ///
 /// # Errors
 ///
 /// Where memory runs out.
-pub(crate) fn blocks_among(alloc: Global, entries: &[Entry]) -> Result<Vec<Entry>, NoMemory>
-    ensures { IfOk result (λ v. v.items ≡ filter is_block entries.now) }
+pub(crate) fn block_ranks(alloc: Global, entries: &[Entry]) -> Result<Vec<Rank>, NoMemory>
+    ensures { IfOk result (λ v. v.items ≡ map rank_in (filter is_block entries.now)) }
 {
     entries
         .iter()
         .filter(|entry| entry.is_block())
-        .copied()
+        .map(|entry| entry.rank())
         .collect(alloc)
 }
 
-/// Where the first input section of a rank stands. The time is logarithmic.
-pub(crate) fn find_rank(entries: &[Entry], sought: Rank) -> Option<PartPlace>
-    ensures { IsSortedByKey rank_in rank_cmp entries.now
-        → result ≡ option_map (λ e. e.place) (find (has_rank sought) entries.now) }
+/// The place of a rank among ranks in their order. The time is logarithmic.
+pub(crate) fn find_rank(ranks: &[Rank], sought: Rank) -> Option<usize>
+    ensures is { IsSortedByKey rank_self rank_cmp ranks.now → result ≡ position (is_ranked sought) ranks.now }
+    ensures below { IfSome result (λ i. i < length ranks.now) }
 {
-    let first = entries.partition_point(|entry| entry.rank() < sought);
-    let entry = entries.get(first)?;
-    if entry.rank() == sought {
-        Some(entry.place)
-    } else {
-        None
-    }
+    let first = ranks.partition_point(|other| *other < sought);
+    let found = *ranks.get(first)?;
+    if found == sought { Some(first) } else { None }
 }

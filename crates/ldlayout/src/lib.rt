@@ -16,6 +16,7 @@ pub mod laying;
 pub mod length;
 pub mod numbered;
 mod offsets;
-mod sections;
+pub mod rows;
+pub mod section_table;
 pub mod segments;
 pub mod starts;

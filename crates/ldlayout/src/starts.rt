@@ -1,25 +1,25 @@
 //! A table of where the input sections of a link stand.
 
-ghost use Rattle.std.specs.Prelude.{◌≡◌, IfOk};
+ghost use Rattle.std.specs.Prelude.{◌≡◌, IfOk, map};
 ghost use Rattle.std.specs.List.{list_any};
-ghost use Rattle.std.specs.List.Sorted.{IsSortedByKey};
 ghost use Rattle.ldmodel.specs.Layout.{Layout};
 ghost use Rattle.ldmodel.specs.Project.{Project};
 ghost use Rattle.ldlayout.specs.Laying.{IsLaying};
 ghost use Rattle.ldmodel.specs.Rows as model;
 ghost use Rattle.ldproject.specs.ByPlace.{rows_in};
-ghost use Rattle.ldlayout.specs.Entries.{rank_cmp, rank_in};
 ghost use Rattle.ldlayout.specs.InPlace.{has_no_name};
+ghost use Rattle.ldlayout.specs.SectionTable.{AreOwners};
 
 use crate::collected::collect;
-use crate::entry::{Entry, blocks_among, find_rank, rank};
+use crate::entry::Entry;
 use crate::laying::Laying;
 use crate::numbered::are_numbered;
-use crate::sections::Sections;
+use crate::section_table::{SectionId, SectionTable};
 use ldlaws::gathering::{live_by_path, once_in_rows};
 use ldlaws::layout::{nothing_meets, placed_are_rows};
 use ldmodel::laid::OutputIndex;
 use ldmodel::memory::NoMemory;
+use ldmodel::names::ObjectPlace;
 use ldmodel::rows::Piece;
 use ldmodel::sections::{Part, SectionKey};
 use ldproject::input::InputObject;
@@ -37,13 +37,15 @@ pub struct PartPlace {
     pub section: OutputIndex,
 }
 
-/// Where the input sections of a link stand.
+/// Where the input sections of a link stand: a column of its table.
 #[derive(Drop)]
 pub struct Starts {
-    sections: Sections,
-    /// The common blocks, by rank.
-    blocks: Vec<Entry>,
-    ghost sorted: { IsSortedByKey rank_in rank_cmp blocks.items },
+    /// The numbers of the input sections.
+    table: SectionTable,
+    /// For each number which of the places is its own; the number of places where none is.
+    owners: Vec<u32>,
+    /// The places of all input sections in the output, in the order of the rows.
+    places: Vec<PartPlace>,
 }
 
 /// Whether one of these objects has no name.
@@ -53,8 +55,41 @@ fn has_unnamed(inputs: &[InputObject<'_>]) -> bool
     inputs.iter().any(|input| input.name.is_empty())
 }
 
+/// For each number of a table which entry is the first one of it; the number of entries where none is. Fails where
+/// memory runs out.
+fn owners(
+    alloc: Global,
+    table: &SectionTable,
+    entries: &[Entry],
+) -> Result<Vec<u32>, NoMemory>
+    ensures { IfOk result (λ v. AreOwners table.now entries.now v.items) }
+{
+    let Ok(none) = u32::try_from(entries.len()) else {
+        // Unreachable: 2^32 input sections take 256 GiB
+        return Err(AllocError);
+    };
+    let mut owners = vec![in alloc; none; table.len() as usize]?;
+    for (number, entry) in entries.iter().enumerate() {
+        if let Some(id) = table.find(ObjectPlace(entry.object), entry.part) {
+            let at = id.0 as usize;
+            // each section stands in one row, once, but the contract does not say so
+            if owners[at] >= none {
+                owners[at] = number as u32;
+            }
+        }
+    }
+    Ok(owners)
+}
+
+/// The places of these input sections. Fails where memory runs out.
+fn places(alloc: Global, entries: &[Entry]) -> Result<Vec<PartPlace>, NoMemory>
+    ensures { IfOk result (λ v. v.items ≡ map (λ e. e.place) entries.now) }
+{
+    entries.iter().map(|entry| entry.place).collect(alloc)
+}
+
 impl Starts {
-    ghost use Rattle.ldlayout.specs.Starts.{AreStarts, IsPartPlace, part_in, place_in};
+    ghost use Rattle.ldlayout.specs.Starts.{AreStarts, IsPartPlace, part_in, place_in, place_under};
 
     /// Where the input sections of these rows stand, by their layout.
     ///
@@ -81,20 +116,37 @@ impl Starts {
             return Err(AllocError);
         }
         let entries = collect(alloc, rows, laying.placement.pieces())?;
-        let sections = Sections::of(alloc, &entries, inputs.len())?;
-        let mut blocks = blocks_among(alloc, &entries)?;
-        blocks.sort_by_key(|entry| entry.rank())?;
-        Ok(Starts { sections, blocks })
+        let table = SectionTable::of(alloc, &entries, inputs.len())?;
+        let owners = owners(alloc, &table, &entries)?;
+        let places = places(alloc, &entries)?;
+        Ok(Starts {
+            table,
+            owners,
+            places,
+        })
+    }
+
+    /// The numbers of the input sections.
+    pub fn table(&self) -> &SectionTable
+        ensures { result.now ≡ self.now.table }
+    {
+        &self.table
+    }
+
+    /// Where the input section of a number stands, if it is in the output. The time is constant.
+    pub fn at(&self, id: SectionId) -> Option<PartPlace>
+        ensures { result ≡ place_under self.now id.0 }
+    {
+        let owner = self.owners.get(id.0 as usize)?;
+        self.places.get(*owner as usize).copied()
     }
 
     /// Where a part of the object of a number stands, if it is in the output.
     fn part(&self, object: usize, part: Part) -> Option<PartPlace>
         ensures { result ≡ part_in self.now object part }
     {
-        match part {
-            Part::InCommon(_) => find_rank(&self.blocks, rank(object, part)),
-            Part::InTable(section) => self.sections.find(object, section),
-        }
+        let id = self.table.find(ObjectPlace(object), part)?;
+        self.at(id)
     }
 
     /// Where an input section stands, if it is in the output. For a section the time is constant, for a common block it

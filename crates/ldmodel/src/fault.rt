@@ -2,7 +2,7 @@
 //! (`specs/FaultCode.antt`). A name is found by the number or key that a fault has in its place.
 
 use crate::laid::{OutputIndex, RegionIndex};
-use crate::names::{Entry, ObjectKey};
+use crate::names::{Entry, ObjectPlace};
 use crate::sections::SectionKey;
 use elfobj::section::SectionIndex;
 
@@ -21,14 +21,14 @@ pub enum Definer {
     /// An assignment in the script.
     Script,
     /// A global definition in this object.
-    Object(ObjectKey),
+    Object(ObjectPlace),
 }
 
 /// Where a relocation stands.
 #[derive(Clone, Copy, Debug, PartialEq, Eq)]
 pub struct SiteKey {
     /// The object.
-    pub object: ObjectKey,
+    pub object: ObjectPlace,
     /// The section that the relocation changes.
     pub section: SectionIndex,
     /// The number of its entry among the relocations of the section, in the order of the table, from 0.

@@ -4,6 +4,10 @@
 #[derive(Clone, Copy, Debug, PartialEq, Eq)]
 pub struct ObjectKey(pub usize);
 
+/// The place of an object among those of a project, from 0: what stands for it in a link.
+#[derive(Clone, Copy, Debug, PartialEq, Eq)]
+pub struct ObjectPlace(pub usize);
+
 /// The number under which a name is kept while an object declares it.
 #[derive(Clone, Copy, Debug, PartialEq, Eq)]
 pub struct NameKey(pub usize);

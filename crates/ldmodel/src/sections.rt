@@ -1,6 +1,6 @@
 //! Input sections: what a link places.
 
-use crate::names::ObjectKey;
+use crate::names::ObjectPlace;
 use elfobj::relocation::SymbolIndex;
 use elfobj::section::SectionIndex;
 
@@ -17,7 +17,7 @@ pub enum Part {
 #[derive(Clone, Copy, Debug, PartialEq, Eq)]
 pub struct SectionKey {
     /// The object.
-    pub object: ObjectKey,
+    pub object: ObjectPlace,
     /// The part of the object.
     pub part: Part,
 }

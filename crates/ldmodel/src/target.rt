@@ -1,6 +1,6 @@
 //! What the value of a relocation's symbol depends on.
 
-use crate::names::{NameKey, ObjectKey};
+use crate::names::{NameKey, ObjectPlace};
 use elfobj::section::SectionIndex;
 
 /// What the value of a symbol that a relocation names depends on in a link. While the number of a target stays the
@@ -10,7 +10,7 @@ pub enum Target {
     /// A name: its number is its value, 0 where nothing defines it.
     Name(NameKey),
     /// A section of an object, for a local symbol in it: its number is where the section starts.
-    Section(ObjectKey, SectionIndex),
+    Section(ObjectPlace, SectionIndex),
     /// Nothing: a local absolute symbol, or symbol number 0.
     Fixed,
 }

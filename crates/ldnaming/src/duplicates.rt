@@ -21,7 +21,7 @@ use elfobj::relocation::SymbolIndex;
 use elfobj::symbol::{Binding, Symbol, SymbolPlace};
 use ldmodel::fault::{Definer, Fault};
 use ldmodel::memory::NoMemory;
-use ldmodel::names::{Case, Entry, NameKey, ObjectKey};
+use ldmodel::names::{Case, Entry, NameKey, ObjectPlace};
 use ldproject::view::ProjectView;
 use ldscript::script::Script;
 use ldscript::tree::Given;
@@ -76,7 +76,7 @@ fn definer_before(is_assigned: bool, first: Entry, entry: Entry) -> Option<Defin
     if first == entry {
         return None;
     }
-    Some(Definer::Object(ObjectKey(first.key)))
+    Some(Definer::Object(ObjectPlace(first.key)))
 }
 
 /// Adds the fault of a definition, unless nothing defines the name before it.

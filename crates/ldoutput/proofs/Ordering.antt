@@ -7,15 +7,15 @@ use Rattle.std.proofs.lemmas.List.{get_or-map, length-map, map-append, map_more,
 use Rattle.std.proofs.lemmas.List.Elements.{All-more}
 use Rattle.std.proofs.lemmas.Option.{slice_get-get_or}
 use Rattle.ldmodel.specs.Project.{NamedObject}
-use Rattle.ldmodel.specs.declared.names.ObjectKey.{ObjectKey}
+use Rattle.ldmodel.specs.declared.names.ObjectPlace.{ObjectPlace}
 use Rattle.ldproject.specs.Inputs.{shown_input, shown_inputs}
 use Rattle.ldproject.specs.declared.input.InputObject.{InputObject}
 use Rattle.ldoutput.specs.Numbered.{AreKeysOf, IsRead}
 
-one_more_key : {X : Type 0} (xs : List X) (ks : List ObjectKey) (i : ℕ) (d : X) → i < length xs
+one_more_key : {X : Type 0} (xs : List X) (ks : List ObjectPlace) (i : ℕ) (d : X) → i < length xs
     → AreKeysOf (take i xs) xs ks → AreKeysOf (take (i + 1) xs) xs (ks ++ record { 0 = i } ∷ [])
 one_more_key xs ks i d l h =
-    map-append (λ (k : ObjectKey). slice_get xs k.0) ks (record { 0 = i } ∷ [])
+    map-append (λ (k : ObjectPlace). slice_get xs k.0) ks (record { 0 = i } ∷ [])
     ∙ ap (λ ys. ys ++ slice_get xs i ∷ []) h
     ∙ ap (λ y. map Some (take i xs) ++ y ∷ []) (slice_get-get_or xs i d l)
     ∙ sym (map_more Some xs i d l)
@@ -27,7 +27,7 @@ module _ (inputs : List InputObject) (i : ℕ) where
   shown : i < length inputs → i < length (shown_inputs inputs)
   shown l = omega (arith, l, length-map inputs shown_input)
 
-  pub keys_more : (x : InputObject) → i < length inputs → (ks new : List ObjectKey) → new ≡ ks ++ record { 0 = i } ∷ []
+  pub keys_more : (x : InputObject) → i < length inputs → (ks new : List ObjectPlace) → new ≡ ks ++ record { 0 = i } ∷ []
       → AreKeysOf (take i (shown_inputs inputs)) (shown_inputs inputs) ks
       → AreKeysOf (take (i + 1) (shown_inputs inputs)) (shown_inputs inputs) new
   keys_more x l ks new e h =

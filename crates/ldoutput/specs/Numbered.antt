@@ -5,7 +5,7 @@ use Rattle.elfobj.specs.Object.{ObjectData, object_of}
 use Rattle.elfobj.specs.Profile.{HasRelocationsOfProfile}
 use Rattle.elfobj.specs.Sections.{LinkedSection, section_of}
 use Rattle.elfobj.specs.declared.section.Section.{Section}
-use Rattle.ldmodel.specs.declared.names.ObjectKey.{ObjectKey}
+use Rattle.ldmodel.specs.declared.names.ObjectPlace.{ObjectPlace}
 
 -- the numbers of the sections of an object ascend, as the object reader gives them
 abbrev pub AreAscending : List LinkedSection → Type 0
@@ -19,5 +19,5 @@ pub record IsRead (o : ObjectData) : Type 0 where
   pub relocations : All (HasRelocationsOfProfile (length o.symbols)) o.sections
 
 -- the keys are those of some of all members, in their order; a key is a place
-abbrev pub AreKeysOf : {X : Type 0} → (some all : List X) → List ObjectKey → Type 0
-AreKeysOf some all ks = map (λ (k : ObjectKey). slice_get all k.0) ks ≡ map Some some
+abbrev pub AreKeysOf : {X : Type 0} → (some all : List X) → List ObjectPlace → Type 0
+AreKeysOf some all ks = map (λ (k : ObjectPlace). slice_get all k.0) ks ≡ map Some some

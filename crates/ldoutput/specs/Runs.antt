@@ -2,20 +2,20 @@
 use Rattle.std.specs.Prelude.{◌≡◌, ℕ, List, Bool, Some, false, flat_map, slice_get}
 use Rattle.std.specs.List.{AllZip}
 use Rattle.ldfields.specs.declared.patch.Patch.{Patch}
-use Rattle.ldmodel.specs.declared.names.ObjectKey.{ObjectKey}
+use Rattle.ldmodel.specs.declared.names.ObjectPlace.{ObjectPlace}
 use Rattle.ldmodel.specs.declared.sections.Part.TheVariants.{InTable}
 use Rattle.ldmodel.specs.declared.sections.SectionKey.{SectionKey}
 use Rattle.ldtargets.specs.Filled.{IsRunOf, ObjectSection, ends_of, sections_in}
 use Rattle.ldtargets.specs.KnownLink.{KnownLink}
 
 -- the key of an input section, by its object's
-abbrev pub key_in : ObjectKey → ObjectSection → SectionKey
+abbrev pub key_in : ObjectPlace → ObjectSection → SectionKey
 key_in object s = record { object = object; part = InTable s.section.number }
 
 -- the fields of an input section, unless its key stays; the key of an object is its place
 abbrev pub IsRunUnless : KnownLink → (SectionKey → Bool) → ObjectSection → List Patch → Type 0
 IsRunUnless l stays s run =
-    (object : ObjectKey) → slice_get l.project.objects object.0 ≡ Some s.object → stays (key_in object s) ≡ false
+    (object : ObjectPlace) → slice_get l.project.objects object.0 ≡ Some s.object → stays (key_in object s) ≡ false
     → IsRunOf l s run
 
 -- the fields of each input section, one after another, and where those of each end; of those that stay nothing is said

@@ -1,7 +1,7 @@
 //! The objects of a project by their places.
 
 use elfobj::object::Object;
-use ldmodel::names::ObjectKey;
+use ldmodel::names::ObjectPlace;
 use ldproject::view::ProjectView;
 use ldtext::members::Members;
 
@@ -22,12 +22,12 @@ impl<'a, 'b> Members for ByPlace<'a, 'b> {
 
     ghost number = { λ t key. key };
 
-    fn name(&self, key: ObjectKey) -> &[u8] {
+    fn name(&self, key: ObjectPlace) -> &[u8] {
         let project = self.project;
         project.name(key)
     }
 
-    fn object(&self, key: ObjectKey) -> Option<&Object> {
+    fn object(&self, key: ObjectPlace) -> Option<&Object> {
         let project = self.project;
         project.object(key)
     }

@@ -8,7 +8,7 @@ ghost use Rattle.ldoutput.specs.Numbered.{AreKeysOf, IsRead};
 use elfobj::object::Object;
 use elfobj::section::LinkedIndex;
 use ldmodel::memory::NoMemory;
-use ldmodel::names::ObjectKey;
+use ldmodel::names::ObjectPlace;
 use ldproject::view::ProjectView;
 use std::alloc::Global;
 
@@ -28,7 +28,7 @@ fn as_read(object: &Object)
 /// # Errors
 ///
 /// Where memory runs out.
-pub(crate) fn keys_of(alloc: Global, project: &ProjectView<'_>) -> Result<Vec<ObjectKey>, NoMemory>
+pub(crate) fn keys_of(alloc: Global, project: &ProjectView<'_>) -> Result<Vec<ObjectPlace>, NoMemory>
     ensures keys { IfOk result (λ keys. AreKeysOf project.now.objects project.now.objects keys.items) }
     ensures read { IfOk result (λ keys. All (λ (o : NamedObject). IsRead o.object) project.now.objects) }
     ensures distinct { AreNamesDistinct project.now.objects }
@@ -37,7 +37,7 @@ pub(crate) fn keys_of(alloc: Global, project: &ProjectView<'_>) -> Result<Vec<Ob
     let mut keys = Vec::with_capacity(alloc, inputs.len())?;
     for (place, input) in inputs.iter().enumerate() {
         as_read(input.object);
-        keys.push(ObjectKey(place))?;
+        keys.push(ObjectPlace(place))?;
     }
     Ok(keys)
 }

@@ -29,7 +29,7 @@ use ldlaws::gathering::{live_by_path, once_in_rows};
 use ldlaws::layout::placed_are_rows;
 use ldlayout::laying::Laying;
 use ldmodel::memory::NoMemory;
-use ldmodel::names::ObjectKey;
+use ldmodel::names::ObjectPlace;
 use ldmodel::rows::Piece;
 use ldmodel::sections::Part;
 use ldproject::view::ProjectView;
@@ -63,7 +63,7 @@ fn section_at(object: &Object, index: LinkedIndex) -> Section
 fn section_piece<'a>(
     relocated: &'a Relocated,
     firsts: &[usize],
-    key: ObjectKey,
+    key: ObjectPlace,
     object: &'a Object,
     index: LinkedIndex,
     size: u64,

@@ -23,7 +23,7 @@ use ldimage::symbols::TableSymbol;
 use ldlayout::starts::Starts;
 use ldmodel::laid::OutputIndex;
 use ldmodel::memory::NoMemory;
-use ldmodel::names::{Case, Entry, ObjectKey};
+use ldmodel::names::{Case, Entry, ObjectPlace};
 use ldmodel::sections::{Part, SectionKey};
 use ldproject::view::ProjectView;
 use ldtargets::value::SymbolValue;
@@ -70,7 +70,7 @@ fn header_of_part(starts: &Starts, section: SectionKey) -> Result<u32, NoMemory>
 }
 
 /// The number of the header of the output section that a symbol of an object stands in, or `SHN_ABS`.
-fn header_of_place(starts: &Starts, object: ObjectKey, place: SymbolPlace) -> Result<u32, NoMemory>
+fn header_of_place(starts: &Starts, object: ObjectPlace, place: SymbolPlace) -> Result<u32, NoMemory>
     ensures { IfOk result (λ n. (p : Project) (s : Layout) → AreStarts p s starts.now
         → n ≡ header_of_place s (object_name p object.0) place) }
 {
@@ -87,7 +87,7 @@ fn header_of_place(starts: &Starts, object: ObjectKey, place: SymbolPlace) -> Re
 fn symbol_of(project: &ProjectView<'_>, entry: Entry) -> Option<Symbol>
     ensures { result ≡ symbol_of_entry project.now (entry_of (λ key. key) entry) }
 {
-    match project.object(ObjectKey(entry.key)) {
+    match project.object(ObjectPlace(entry.key)) {
         None => None,
         Some(object) => match object.symbols().get(entry.symbol as usize) {
             None => None,
@@ -110,7 +110,7 @@ fn facts_of_entry(
     match symbol_of(project, entry) {
         None => Ok(Facts { weak, ..OF_SCRIPT }),
         Some(symbol) => {
-            let section = header_of_place(starts, ObjectKey(entry.key), symbol.place)?;
+            let section = header_of_place(starts, ObjectPlace(entry.key), symbol.place)?;
             Ok(Facts {
                 weak,
                 kind: symbol.kind,
@@ -126,7 +126,7 @@ fn facts_of_block(starts: &Starts, owner: Entry, size: u64) -> Result<Facts, NoM
     ensures { IfOk result (λ f. (p : Project) (s : Layout) (align : ℕ) → AreStarts p s starts.now
         → AreFacts p s (decision_of (λ key. key) (code_case.Common owner size align)) f) }
 {
-    let object = ObjectKey(owner.key);
+    let object = ObjectPlace(owner.key);
     let part = Part::InCommon(SymbolIndex(owner.symbol));
     let section = header_of_part(starts, SectionKey { object, part })?;
     Ok(Facts {

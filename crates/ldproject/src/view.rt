@@ -11,7 +11,7 @@ ghost use Rattle.ldproject.specs.Read.{AreObjectsRead};
 
 use crate::input::InputObject;
 use elfobj::object::Object;
-use ldmodel::names::ObjectKey;
+use ldmodel::names::ObjectPlace;
 use ldmodel::options::Options;
 use ldscript::script::Script;
 use std::marker::Model;
@@ -98,7 +98,7 @@ impl<'a> ProjectView<'a> {
     }
 
     /// The name of the object of a key; no bytes for a key of none.
-    pub fn name(&self, key: ObjectKey) -> &'a [u8]
+    pub fn name(&self, key: ObjectPlace) -> &'a [u8]
         ensures { result.now ≡ object_name self.now key.0 }
     {
         match self.inputs.get(key.0) {
@@ -108,7 +108,7 @@ impl<'a> ProjectView<'a> {
     }
 
     /// The object of a key.
-    pub fn object(&self, key: ObjectKey) -> Option<&'a Object>
+    pub fn object(&self, key: ObjectPlace) -> Option<&'a Object>
         ensures { option_copied result
             ≡ option_map (λ (o : NamedObject). o.object) (slice_get self.now.objects key.0) }
     {

@@ -15,7 +15,7 @@ use elfobj::object::Object;
 use ldkept::good::Good;
 use ldkept::stays::{Last, Replaced};
 use ldmodel::memory::NoMemory;
-use ldmodel::names::ObjectKey;
+use ldmodel::names::{ObjectKey, ObjectPlace};
 use ldproject::named::NamedObject;
 use ldproject::project::{Next, Project};
 use ldproject::staged::Staged;
@@ -101,9 +101,9 @@ fn replaced_at<'a>(
             Some(object) => match new {
                 None => None,
                 Some(new) => Some(Replaced {
-                    old: ObjectKey(old),
+                    old: ObjectPlace(old),
                     object,
-                    new: ObjectKey(new),
+                    new: ObjectPlace(new),
                 }),
             },
         },

@@ -16,7 +16,7 @@ use Rattle.ldmodel.specs.Relocations.{sites_at}
 use Rattle.ldmodel.specs.Stayed.{GoodLink}
 use Rattle.ldmodel.specs.SymbolValues.{placed_part}
 use Rattle.ldmodel.specs.declared.fault.Fault as code
-use Rattle.ldmodel.specs.declared.names.ObjectKey.{ObjectKey}
+use Rattle.ldmodel.specs.declared.names.ObjectPlace.{ObjectPlace}
 use Rattle.ldmodel.specs.declared.sections.Part.TheVariants.{InTable}
 use Rattle.ldmodel.specs.declared.sections.SectionKey.{SectionKey}
 use Rattle.ldtargets.specs.Changes.{Evaluated, IsEvaluatedAt, IsSectionAdded, own_sites, section_key}
@@ -76,7 +76,7 @@ module _ (old : GoodLink) (l : KnownLink) (o : NamedObject) (x : LinkedSection) 
     sites = ap (filter (has_moved old l)) (sym no_sites);
   }
 
-  pub bare_added : (range : SectionKey → Option FileRange) (key : ObjectKey) → named_object l key ≡ Some o
+  pub bare_added : (range : SectionKey → Option FileRange) (key : ObjectPlace) → named_object l key ≡ Some o
       → (fs ps : List Patch) (gs : List code.Fault) (m : Counts) → m.fields < 2 ^ 64
       → IsSectionAdded old l range (record { object = o; section = x }) fs fs ps ps gs gs m m
   bare_added range key named fs ps gs m h = record {

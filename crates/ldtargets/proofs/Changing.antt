@@ -17,7 +17,7 @@ use Rattle.ldmodel.specs.Project.{NamedObject}
 use Rattle.ldmodel.specs.Relocations.{Site}
 use Rattle.ldmodel.specs.Stayed.{GoodLink}
 use Rattle.ldmodel.specs.declared.fault.Fault as code
-use Rattle.ldmodel.specs.declared.names.ObjectKey.{ObjectKey}
+use Rattle.ldmodel.specs.declared.names.ObjectPlace.{ObjectPlace}
 use Rattle.ldmodel.specs.declared.sections.Part.TheVariants.{InTable}
 use Rattle.ldmodel.specs.declared.sections.SectionKey.{SectionKey}
 use Rattle.ldtargets.specs.Changes.{AreChanged, Evaluated, IsEvaluatedAt, IsEvaluatedOf, IsMoved, IsSectionAdded}
@@ -45,12 +45,12 @@ flat_runs [] = refl
 flat_runs (c ∷ cs) = ap (λ r. c.run ++ r) (flat_runs cs)
 
 -- a section of an object that is known to have stayed
-pub kept_by : (range : SectionKey → Option FileRange) (key : ObjectKey) (number : SectionIndex) (r : FileRange)
+pub kept_by : (range : SectionKey → Option FileRange) (key : ObjectPlace) (number : SectionIndex) (r : FileRange)
     → Some r ≡ range (record { object = key; part = InTable number }) → IsKept range key
 kept_by range key number r e = (InTable number, ap is_some (sym e))
 
 module _ (old : GoodLink) (l : KnownLink) (range : SectionKey → Option FileRange) where
-  module _ (key : ObjectKey) (o : NamedObject) (x : LinkedSection) (number : SectionIndex)
+  module _ (key : ObjectPlace) (o : NamedObject) (x : LinkedSection) (number : SectionIndex)
       (named : named_object l key ≡ Some o) (is : number ≡ x.number) where
     abbrev own : ObjectSection
     own = record { object = o; section = x }
@@ -225,7 +225,7 @@ module _ (old : GoodLink) (l : KnownLink) (range : SectionKey → Option FileRan
       subst (λ ys. AreChanged old l range (sections_of o ys) a b) (ap (λ n. take n xs) e ∙ take-length xs) h
 
   -- all objects
-  pub whole_link : (keys : List ObjectKey) (i : ℕ) → IsOrder l keys → length keys ≤ i → i ≤ length keys
+  pub whole_link : (keys : List ObjectPlace) (i : ℕ) → IsOrder l keys → length keys ≤ i → i ≤ length keys
       → (a b : Results) → AreChanged old l range (sections_in (take i l.project.objects)) a b
       → AreChanged old l range (sections_in l.project.objects) a b
   whole_link keys i order low high a b h =

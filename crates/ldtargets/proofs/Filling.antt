@@ -16,7 +16,7 @@ use Rattle.ldmodel.specs.Project.{NamedObject}
 use Rattle.ldmodel.specs.Relocations.{Site, sites_at}
 use Rattle.ldmodel.specs.SymbolValues.{placed_part}
 use Rattle.ldmodel.specs.declared.fault.Fault as code
-use Rattle.ldmodel.specs.declared.names.ObjectKey.{ObjectKey}
+use Rattle.ldmodel.specs.declared.names.ObjectPlace.{ObjectPlace}
 use Rattle.ldmodel.specs.declared.sections.Part.TheVariants.{InTable}
 use Rattle.ldtargets.specs.Fields.{IsAdded, IsCounted, IsRun}
 use Rattle.ldtargets.specs.Filled.{EndBelow, IsOrder, IsRunAdded, IsRunAt, ObjectSection}
@@ -33,7 +33,7 @@ pub none_in : (a : Option PlacedPiece) → None ≡ start_in a → a ≡ None
 none_in None e = refl
 none_in (Some y) e = cc
 
-module _ (l : KnownLink) (key : ObjectKey) (o : NamedObject) (x : LinkedSection) (number : SectionIndex)
+module _ (l : KnownLink) (key : ObjectPlace) (o : NamedObject) (x : LinkedSection) (number : SectionIndex)
     (named : named_object l key ≡ Some o) (is : number ≡ x.number) where
   abbrev own : ObjectSection
   own = record { object = o; section = x }
@@ -81,7 +81,7 @@ module _ (l : KnownLink) (key : ObjectKey) (o : NamedObject) (x : LinkedSection)
     run_some e k = run_at placed refl (e ∙ start_is) k
 
 -- no section in the output ends past the address space
-pub not_past : (l : KnownLink) (key : ObjectKey) (o : NamedObject) (x : LinkedSection) (y : PlacedPiece)
+pub not_past : (l : KnownLink) (key : ObjectPlace) (o : NamedObject) (x : LinkedSection) (y : PlacedPiece)
     (start size : ℕ) → EndBelow l → named_object l key ≡ Some o → section_numbered o x.number ≡ Some x
     → placed_part l.layout o.name (InTable x.number) ≡ Some y → y.start ≡ start → size ≡ x.size
     → 18446744073709551615 - start < size → ⊥
@@ -96,21 +96,21 @@ module _ (l : KnownLink) where
   some_there a None e = cc
   some_there a (Some o) e = (o, same_Some _ _ e, refl)
 
-  pub in_order : (keys : List ObjectKey) (i : ℕ) (key : ObjectKey) → IsOrder l keys → slice_get keys i ≡ Some key
+  pub in_order : (keys : List ObjectPlace) (i : ℕ) (key : ObjectPlace) → IsOrder l keys → slice_get keys i ≡ Some key
       → (o : NamedObject) × (named_object l key ≡ Some o) × (slice_get l.project.objects i ≡ Some o)
   in_order keys i key order is =
       some_there (named_object l key) (slice_get l.project.objects i)
       (ap (λ a. option_map (named_object l) a) (sym is) ∙ sym (slice_get-map (named_object l) keys i)
       ∙ ap (λ r. slice_get r i) order ∙ slice_get-map Some l.project.objects i)
 
-  pub as_many : (keys : List ObjectKey) → IsOrder l keys → length keys ≡ length l.project.objects
+  pub as_many : (keys : List ObjectPlace) → IsOrder l keys → length keys ≡ length l.project.objects
   as_many keys order = sym (length-map keys (named_object l)) ∙ ap length order ∙ length-map l.project.objects Some
 
   -- the object of a key, as it is lent
-  pub not_there : (key : ObjectKey) (o : NamedObject) → None ≡ object_of l key → named_object l key ≡ Some o → ⊥
+  pub not_there : (key : ObjectPlace) (o : NamedObject) → None ≡ object_of l key → named_object l key ≡ Some o → ⊥
   not_there key o h named = let e : None ≡ Some o.object = h
       ∙ ap (λ a. option_map (λ (y : NamedObject). y.object) a) named in cc
 
-  pub lent : (key : ObjectKey) (o : NamedObject) (read : ObjectData) → Some read ≡ object_of l key → named_object l key
+  pub lent : (key : ObjectPlace) (o : NamedObject) (read : ObjectData) → Some read ≡ object_of l key → named_object l key
       ≡ Some o → o.object ≡ read
   lent key o read h named = sym (same_Some _ _ (h ∙ ap (λ a. option_map (λ (y : NamedObject). y.object) a) named))

@@ -15,7 +15,7 @@ use Rattle.elfobj.specs.declared.relocation.Relocation.{Relocation}
 use Rattle.elfobj.specs.declared.section.Section.{Section}
 use Rattle.ldmodel.specs.Image.{section_numbered}
 use Rattle.ldmodel.specs.Project.{NamedObject}
-use Rattle.ldmodel.specs.declared.names.ObjectKey.{ObjectKey}
+use Rattle.ldmodel.specs.declared.names.ObjectPlace.{ObjectPlace}
 use Rattle.ldtargets.specs.KnownLink.{KnownLink, named_object}
 use Rattle.ldtargets.specs.Sites.{IsPlaced, IsSectionOf}
 use Rattle.ldtargets.specs.SymbolTable.{IsRow}
@@ -96,7 +96,7 @@ module _ (xs : List LinkedSection) (i : ℕ) (d : Section) (ss : List Section) (
   below low = below_at (slice_get xs i) refl low
 
 -- a section of an object of the link
-pub placed_of : (l : KnownLink) (key : ObjectKey) (read : ObjectData) (m : PlacedSection) (o : NamedObject)
+pub placed_of : (l : KnownLink) (key : ObjectPlace) (read : ObjectData) (m : PlacedSection) (o : NamedObject)
     (x : LinkedSection) → named_object l key ≡ Some o → o.object ≡ read → IsSectionOf read x key m
     → IsRow l o m.values.now → IsPlaced l m o x
 placed_of l key read m o x named same h row = record {

@@ -22,7 +22,7 @@ use Rattle.ldmodel.specs.Relocations.{Site, is_evaluated, site_field, site_value
 use Rattle.ldmodel.specs.Stayed.{GoodLink}
 use Rattle.ldmodel.specs.SymbolValues.{SymbolValue, Number, NotDefined, NotInOutput, placed_part}
 use Rattle.ldmodel.specs.declared.fault.Fault as code
-use Rattle.ldmodel.specs.declared.names.ObjectKey.{ObjectKey}
+use Rattle.ldmodel.specs.declared.names.ObjectPlace.{ObjectPlace}
 use Rattle.ldmodel.specs.declared.sections.Part.TheVariants.{InTable}
 use Rattle.ldbase.specs.declared.meter.Count.TheVariants as count
 use Rattle.ldtargets.specs.Changes.{IsMoved, file_patch_at, in_file, own_sites}
@@ -145,7 +145,7 @@ module _ (old : GoodLink) (l : KnownLink) where
           ∙ take-length rs) h
 
   -- an object whose symbols are all worth what they were
-  module _ (key : ObjectKey) (o : NamedObject) (named : named_object l key ≡ Some o) (same : HasSameValues old l key)
+  module _ (key : ObjectPlace) (o : NamedObject) (named : named_object l key ≡ Some o) (same : HasSameValues old l key)
     where
       none_of : (x : LinkedSection) (start : ℕ) (rs : List Relocation)
           → filter (has_moved old l) (map (λ a. record { object = o; section = x; start = start; relocation = a }) rs)
@@ -169,7 +169,7 @@ module _ (old : GoodLink) (l : KnownLink) where
           (none_at x (placed_part l.layout o.name (InTable x.number))) none.patches none.counts
 
   -- a section by where it starts, if it is in the output
-  module _ (r : FileRange) (key : ObjectKey) (o : NamedObject) (x : LinkedSection) (number : SectionIndex)
+  module _ (r : FileRange) (key : ObjectPlace) (o : NamedObject) (x : LinkedSection) (number : SectionIndex)
       (named : named_object l key ≡ Some o) (is : number ≡ x.number) where
     abbrev placed : Option PlacedPiece
     placed = placed_part l.layout o.name (InTable x.number)

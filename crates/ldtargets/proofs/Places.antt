@@ -8,7 +8,7 @@ use Rattle.std.proofs.lemmas.List.{get_or-map, get_or-set_other, get_or-set_same
 use Rattle.std.proofs.lemmas.List.Folds.{list_any_more}
 use Rattle.slab.specs.Slab.{entries_from, values}
 use Rattle.ldmodel.specs.declared.fault.SiteKey.{SiteKey}
-use Rattle.ldmodel.specs.declared.names.ObjectKey.{ObjectKey}
+use Rattle.ldmodel.specs.declared.names.ObjectPlace.{ObjectPlace}
 use Rattle.ldtargets.specs.Index.{IsSound, cleared, cleared_one, has_spot, is_of_object, is_owner, is_spot, room_at}
 use Rattle.ldtargets.specs.Index.{room_of, slot, slots_at}
 use Rattle.ldtargets.specs.declared.bucket.Bucket.{Bucket}
@@ -112,23 +112,23 @@ module _ (ts us : List Bucket) (os : List (List Spot)) (o : ℕ) (h : IsSound ts
   }
 
 -- the sites that are left are those of the other objects
-abbrev others : ObjectKey → List SiteKey → List SiteKey
+abbrev others : ObjectPlace → List SiteKey → List SiteKey
 others object xs = filter (λ s. not (is_of_object object s)) xs
 
-kept_if : (object : ObjectKey) (a : SiteKey) (y : Option SiteKey) (vs ws : List SiteKey) (b : Bool)
+kept_if : (object : ObjectPlace) (a : SiteKey) (y : Option SiteKey) (vs ws : List SiteKey) (b : Bool)
     → nat_eq a.object.0 object.0 ≡ b
     → y ≡ (if nat_eq a.object.0 object.0 then None else Some a) → ws ≡ others object vs → cons_option y ws
     ≡ others object (a ∷ vs)
 kept_if object a y vs ws true e is h = rw (is, e) h
 kept_if object a y vs ws false e is h = rw (is, e) (ap (λ l. a ∷ l) h)
 
-kept_one : (object : ObjectKey) (x y : Option SiteKey) (vs ws : List SiteKey) → y
+kept_one : (object : ObjectPlace) (x y : Option SiteKey) (vs ws : List SiteKey) → y
     ≡ (if is_owner object.0 x then None else x) → ws ≡ others object vs
     → cons_option y ws ≡ others object (cons_option x vs)
 kept_one object None y vs ws is h = rw is h
 kept_one object (Some a) y vs ws is h = kept_if object a y vs ws (nat_eq a.object.0 object.0) refl is h
 
-kept_values : (object : ObjectKey) (xs ys : List (Option SiteKey)) → length ys ≡ length xs
+kept_values : (object : ObjectPlace) (xs ys : List (Option SiteKey)) → length ys ≡ length xs
     → ((k : ℕ) → get_or ys k None ≡ (if is_owner object.0 (get_or xs k None) then None else get_or xs k None))
     → filter_map (λ s. s) ys ≡ others object (filter_map (λ s. s) xs)
 kept_values object [] [] e h = refl
@@ -145,7 +145,7 @@ bucket_values [] t = refl
 bucket_values (b ∷ ts) zero = refl
 bucket_values (b ∷ ts) (suc t) = bucket_values ts t
 
-module _ (ts us : List Bucket) (os : List (List Spot)) (object : ObjectKey) (h : IsSound ts os) (n : (t : ℕ)
+module _ (ts us : List Bucket) (os : List (List Spot)) (object : ObjectPlace) (h : IsSound ts os) (n : (t : ℕ)
     → length (slots_at us t) ≡ length (slots_at ts t))
     (c : (t k : ℕ) → slot us t k ≡ cleared t k (get_or os object.0 []) (slot ts t k)) where
   pub dropped_sites : (t : ℕ) → get_or (map (λ (b : Bucket). values b.sites) us) t []
@@ -155,7 +155,7 @@ module _ (ts us : List Bucket) (os : List (List Spot)) (object : ObjectKey) (h :
       (kept_values object (slots_at ts t) (slots_at us t) (n t) (λ k. left ts us os object.0 h c t k))
 
 -- an object that knows no place has no sites
-pub nothing_dropped : (ts : List Bucket) (os : List (List Spot)) (object : ObjectKey) → IsSound ts os
+pub nothing_dropped : (ts : List Bucket) (os : List (List Spot)) (object : ObjectPlace) → IsSound ts os
     → length os ≤ object.0
     → (t : ℕ) → get_or (map (λ (b : Bucket). values b.sites) ts) t []
     ≡ others object (get_or (map (λ (b : Bucket). values b.sites) ts) t [])

@@ -11,7 +11,7 @@ use Rattle.elfobj.specs.declared.symbol.Symbol.{Symbol}
 use Rattle.ldmodel.specs.Project.{NamedObject}
 use Rattle.ldmodel.specs.SymbolValues as model
 use Rattle.ldmodel.specs.Targets.{referenced_value}
-use Rattle.ldmodel.specs.declared.names.ObjectKey.{ObjectKey}
+use Rattle.ldmodel.specs.declared.names.ObjectPlace.{ObjectPlace}
 use Rattle.ldtargets.specs.KnownLink.{KnownLink, named_object}
 use Rattle.ldtargets.specs.SymbolTable.{HasSymbolValues, IsRow, row_at}
 use Rattle.ldtargets.specs.Values.{value_of}
@@ -28,7 +28,7 @@ short : {X : Type 0} (n : ℕ) (xs : List X) → length (take n xs) ≤ n
 short n xs = omega (arith, length-take n xs)
 
 -- the row of the object of a key has the values of the object's symbols
-pub row_is : (l : KnownLink) (t : SymbolTable) (key : ObjectKey) (o : NamedObject) (read : ObjectData)
+pub row_is : (l : KnownLink) (t : SymbolTable) (key : ObjectPlace) (o : NamedObject) (read : ObjectData)
     (symbols : List Symbol) (row : List code.SymbolValue) → HasSymbolValues l t → named_object l key ≡ Some o
     → o.object ≡ read → symbols ≡ map (λ (y : NamedSymbol). y.symbol) read.symbols
     → row ≡ row_at t key.0 (length symbols) → IsRow l o row

@@ -22,7 +22,7 @@ use Rattle.ldmodel.specs.Relocations.{Site, is_evaluated, sites, sites_at, sites
 use Rattle.ldmodel.specs.Stayed.{GoodLink, LinkedPiece, has_stayed, linked_pieces, pieces_in, sites_in, sites_in_part}
 use Rattle.ldmodel.specs.Stayed.{sites_in_section}
 use Rattle.ldmodel.specs.SymbolValues.{SymbolValue, Number, NotDefined, NotInOutput, placed_part}
-use Rattle.ldmodel.specs.declared.names.ObjectKey.{ObjectKey}
+use Rattle.ldmodel.specs.declared.names.ObjectPlace.{ObjectPlace}
 use Rattle.ldmodel.specs.declared.sections.Part.{Part}
 use Rattle.ldmodel.specs.declared.sections.Part.TheVariants.{InTable, InCommon}
 use Rattle.ldmodel.specs.declared.sections.SectionKey.{SectionKey}
@@ -182,7 +182,7 @@ module _ (old : GoodLink) (l : KnownLink) where
     own t c = own_at (placed_part l.layout s.object.name (InTable s.section.number)) t c
 
     -- its input section is that of the key
-    pub keyed : (key : ObjectKey) → named_object l key ≡ Some s.object → (t : Site) → Contains (own_sites l s) t
+    pub keyed : (key : ObjectPlace) → named_object l key ≡ Some s.object → (t : Site) → Contains (own_sites l s) t
         → (h : Home t) → IsPieceOf l (section_key key s) h.piece
     keyed key named t c h =
         let of_own = own t c in
@@ -200,7 +200,7 @@ module _ (old : GoodLink) (l : KnownLink) where
       (flat_map (sites_in l.project) (linked_pieces l.project l.layout)))
       (settled : (x : LinkedPiece) (t : Site) → Contains (pieces_in (good_link l)) x → has_stayed old x ≡ true
       → Contains (sites_in l.project x) t → HasSameValue old (good_link l) t → HasField (good_link l) t) where
-    faults_at : (key : ObjectKey) (s : ObjectSection) (c : Evaluated) (r : Option FileRange)
+    faults_at : (key : ObjectPlace) (s : ObjectSection) (c : Evaluated) (r : Option FileRange)
         → named_object l key ≡ Some s.object → IsEvaluatedAt old l (section_key key s) r s c
         → ((t : Site) → Contains (own_sites l s) t → Contains (sites l.project l.layout) t)
         → filter_map (fault_at l) c.sites ≡ filter_map (fault_at l) (own_sites l s)
@@ -253,7 +253,7 @@ module _ (old : GoodLink) (l : KnownLink) where
         ∙ ap (has_part_stayed old (good_link l) h.piece.object) (sym h.belongs_to.part)
         ∙ by_part h.piece h.among
 
-    due_at : (key : ObjectKey) (s : ObjectSection) (c : Evaluated) (r : Option FileRange)
+    due_at : (key : ObjectPlace) (s : ObjectSection) (c : Evaluated) (r : Option FileRange)
         → named_object l key ≡ Some s.object → range (section_key key s) ≡ r
         → IsEvaluatedAt old l (section_key key s) r s c
         → ((t : Site) → Contains (own_sites l s) t → Contains (sites l.project l.layout) t)

@@ -17,7 +17,7 @@ use Rattle.ldmodel.specs.SymbolValues.{placed_part, value_if_named}
 use Rattle.ldmodel.specs.Targets.{Target, Name, Section, Fixed, or_weak, referenced_value, target_number}
 use Rattle.ldmodel.specs.declared.names.Case.{Case}
 use Rattle.ldmodel.specs.declared.names.NameKey.{NameKey}
-use Rattle.ldmodel.specs.declared.names.ObjectKey.{ObjectKey}
+use Rattle.ldmodel.specs.declared.names.ObjectPlace.{ObjectPlace}
 use Rattle.ldmodel.specs.declared.sections.Part.TheVariants.{InTable}
 use Rattle.elfobj.specs.declared.relocation.SymbolIndex.{SymbolIndex}
 use Rattle.ldtargets.specs.KnownLink.{AreNameValues, IsEntryCase, IsNameOf, IsSymbolOf, KnownLink, name_of_object}
@@ -85,7 +85,7 @@ module _ (l : KnownLink) where
       ≡ Some name → value_of (value_under values k) ≡ name_value l.project l.layout name
   under values k name all e = found (slice_get values k.0) (name_value l.project l.layout name) (all k.0 name e)
 
-  module _ (object : ObjectKey) (index : SymbolIndex) (symbol : Symbol) (o : NamedObject) (x : NamedSymbol)
+  module _ (object : ObjectPlace) (index : SymbolIndex) (symbol : Symbol) (o : NamedObject) (x : NamedSymbol)
       (h : IsSymbolOf l object index symbol o x) where
     name_is : name_of_object l object ≡ o.name
     name_is = ap (λ (a : Option NamedObject). option_map_or (λ (y : NamedObject). y.name) a []) h.object_is
@@ -125,7 +125,7 @@ module _ (l : KnownLink) where
         ≡ target_number l.project l.layout t
     number_of_name values k all is h = named (l.name k.0) values k all refl is h
 
-    pub number_of_section : (object : ObjectKey) (section : SectionIndex)
+    pub number_of_section : (object : ObjectPlace) (section : SectionIndex)
         → Some (Section (name_of_object l object) section) ≡ Some t
         → n ≡ unwrap_or (start_of l (record { object = object; part = InTable section })) 0 → n
         ≡ target_number l.project l.layout t

@@ -10,7 +10,7 @@ use Rattle.ldmodel.specs.Counts.{Counts}
 use Rattle.ldmodel.specs.Relocations.{Site, sites, sites_of_section}
 use Rattle.ldmodel.specs.Stayed.{GoodLink}
 use Rattle.ldmodel.specs.declared.fault.Fault as code
-use Rattle.ldmodel.specs.declared.names.ObjectKey.{ObjectKey}
+use Rattle.ldmodel.specs.declared.names.ObjectPlace.{ObjectPlace}
 use Rattle.ldmodel.specs.declared.sections.Part.TheVariants.{InTable}
 use Rattle.ldmodel.specs.declared.sections.SectionKey.{SectionKey}
 use Rattle.ldtargets.specs.Earlier.{HasStayedAt, has_moved}
@@ -64,13 +64,13 @@ abbrev pub IsEvaluatedAt : GoodLink → KnownLink → SectionKey → Option File
 IsEvaluatedAt old l key None s c = IsRenewed l s c
 IsEvaluatedAt old l key (Some r) s c = IsRetained old l key r s c
 
-abbrev pub section_key : ObjectKey → ObjectSection → SectionKey
+abbrev pub section_key : ObjectPlace → ObjectSection → SectionKey
 section_key key s = record { object = key; part = InTable s.section.number }
 
 -- by what is known to have stayed
 pub record IsEvaluatedOf (old : GoodLink) (l : KnownLink) (range : SectionKey → Option FileRange) (s : ObjectSection)
     (c : Evaluated) : Type 0 where
-  pub key : ObjectKey
+  pub key : ObjectPlace
   pub named : named_object l key ≡ Some s.object
   pub outcome : IsEvaluatedAt old l (section_key key s) (range (section_key key s)) s c
 

@@ -4,7 +4,7 @@ use Rattle.ldmodel.specs.Relocations.{Site, site_value}
 use Rattle.ldmodel.specs.Stayed as model
 use Rattle.ldmodel.specs.Stayed.{GoodLink, LinkedPiece, has_stayed, pieces_in}
 use Rattle.ldmodel.specs.SymbolValues.{SymbolValue, Number, NotDefined, NotInOutput}
-use Rattle.ldmodel.specs.declared.names.ObjectKey.{ObjectKey}
+use Rattle.ldmodel.specs.declared.names.ObjectPlace.{ObjectPlace}
 use Rattle.ldmodel.specs.declared.sections.Part.{Part}
 use Rattle.ldmodel.specs.declared.sections.SectionKey.{SectionKey}
 use Rattle.ldtargets.specs.KnownLink.{KnownLink, name_of_object, named_object}
@@ -29,11 +29,11 @@ HasStayedAt old l key r =
     (x : LinkedPiece) → IsPieceOf l key x → (has_stayed old x ≡ true) × (x.range ≡ range_of r)
 
 -- some section of an object is known to have stayed
-abbrev pub IsKept : (SectionKey → Option FileRange) → ObjectKey → Type 0
+abbrev pub IsKept : (SectionKey → Option FileRange) → ObjectPlace → Type 0
 IsKept range key = (part : Part) × IsSome (range (record { object = key; part = part }))
 
 -- no symbol that a relocation of the object could name has another value
-abbrev pub HasSameValues : GoodLink → KnownLink → ObjectKey → Type 0
+abbrev pub HasSameValues : GoodLink → KnownLink → ObjectPlace → Type 0
 HasSameValues old l key =
     (t : Site) → named_object l key ≡ Some t.object
     → site_value old.project old.layout t ≡ site_value l.project l.layout t

@@ -9,7 +9,7 @@ use Rattle.ldmodel.specs.Project.{NamedObject}
 use Rattle.ldmodel.specs.Relocations.{sites_of_section}
 use Rattle.ldmodel.specs.SymbolValues.{placed_part}
 use Rattle.ldmodel.specs.declared.fault.Fault as code
-use Rattle.ldmodel.specs.declared.names.ObjectKey.{ObjectKey}
+use Rattle.ldmodel.specs.declared.names.ObjectPlace.{ObjectPlace}
 use Rattle.ldmodel.specs.declared.sections.Part.TheVariants.{InTable}
 use Rattle.ldtargets.specs.Fields.{IsCounted, IsRun}
 use Rattle.ldtargets.specs.KnownLink.{KnownLink, named_object}
@@ -50,10 +50,10 @@ ends_of n (run ∷ runs) = (n + length run) ∷ ends_of (n + length run) runs
 -- each input section in the output ends below 2^64, as a layout without faults has it
 abbrev pub EndBelow : KnownLink → Type 0
 EndBelow l =
-    (key : ObjectKey) (o : NamedObject) (x : LinkedSection) (y : PlacedPiece) → named_object l key ≡ Some o
+    (key : ObjectPlace) (o : NamedObject) (x : LinkedSection) (y : PlacedPiece) → named_object l key ≡ Some o
     → section_numbered o x.number ≡ Some x → placed_part l.layout o.name (InTable x.number) ≡ Some y
     → y.start + x.size < 2 ^ 64
 
 -- these are the keys of the objects, in their order
-abbrev pub IsOrder : KnownLink → List ObjectKey → Type 0
+abbrev pub IsOrder : KnownLink → List ObjectPlace → Type 0
 IsOrder l keys = map (named_object l) keys ≡ map Some l.project.objects

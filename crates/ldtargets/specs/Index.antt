@@ -6,7 +6,7 @@ use Rattle.std.specs.List.{list_any}
 use Rattle.std.specs.Option.{option_map_or}
 use Rattle.slab.specs.Slab.{slab_len}
 use Rattle.ldmodel.specs.declared.fault.SiteKey.{SiteKey}
-use Rattle.ldmodel.specs.declared.names.ObjectKey.{ObjectKey}
+use Rattle.ldmodel.specs.declared.names.ObjectPlace.{ObjectPlace}
 use Rattle.ldtargets.specs.declared.bucket.Bucket.{Bucket}
 use Rattle.ldtargets.specs.declared.index.Spot.{Spot}
 use Rattle.ldtargets.specs.declared.index.TargetSite.{TargetSite}
@@ -22,17 +22,17 @@ abbrev pub sites_at : SiteTable → ℕ → List SiteKey
 sites_at x t = slice_index_or x.targets t []
 
 -- a site of an object
-abbrev pub site_of : ObjectKey → TargetSite → SiteKey
+abbrev pub site_of : ObjectPlace → TargetSite → SiteKey
 site_of object s = record { object = object; section = s.section; entry = s.entry }
 
-abbrev pub is_of_object : ObjectKey → SiteKey → Bool
+abbrev pub is_of_object : ObjectPlace → SiteKey → Bool
 is_of_object object s = s.object.0 == object.0
 
 abbrev pub is_against : ℕ → TargetSite → Bool
 is_against t s = s.target.0 == t
 
 -- these sites of an object can be added with no memory
-pub record HasRoomFor (x : SiteTable) (object : ObjectKey) (sites : List TargetSite) : Type 0 where
+pub record HasRoomFor (x : SiteTable) (object : ObjectPlace) (sites : List TargetSite) : Type 0 where
   pub of_targets : (t : ℕ) → count_by (is_against t) sites ≤ slice_index_or x.target_room t 0
   pub of_object : length sites ≤ slice_index_or x.object_room object.0 0
 

@@ -13,7 +13,7 @@ use Rattle.ldmodel.specs.Project.{NamedObject, Project}
 use Rattle.ldmodel.specs.SymbolValues.{SymbolValue, address_in, placed_part, name_value, symbol_index}
 use Rattle.ldmodel.specs.declared.names.Case.{Case}
 use Rattle.ldmodel.specs.declared.names.NameKey.{NameKey}
-use Rattle.ldmodel.specs.declared.names.ObjectKey.{ObjectKey}
+use Rattle.ldmodel.specs.declared.names.ObjectPlace.{ObjectPlace}
 use Rattle.ldmodel.specs.declared.sections.Part.TheVariants.{InCommon}
 use Rattle.ldmodel.specs.declared.sections.SectionKey.{SectionKey}
 use Rattle.ldtargets.specs.Values.{value_of}
@@ -31,13 +31,13 @@ pub record KnownLink : Type 0 where
   pub number : ℕ → ℕ
   pub name : ℕ → Option (List ℕ)
 
-abbrev pub named_object : KnownLink → ObjectKey → Option NamedObject
+abbrev pub named_object : KnownLink → ObjectPlace → Option NamedObject
 named_object l k = slice_get l.project.objects (l.number k.0)
 
-abbrev pub object_of : KnownLink → ObjectKey → Option ObjectData
+abbrev pub object_of : KnownLink → ObjectPlace → Option ObjectData
 object_of l k = option_map (λ (o : NamedObject). o.object) (named_object l k)
 
-abbrev pub name_of_object : KnownLink → ObjectKey → List ℕ
+abbrev pub name_of_object : KnownLink → ObjectPlace → List ℕ
 name_of_object l k = object_name l.project (l.number k.0)
 
 -- where an input section starts, if it is in the output
@@ -45,7 +45,7 @@ abbrev pub start_of : KnownLink → SectionKey → Option ℕ
 start_of l k = option_map (λ (x : PlacedPiece). x.start) (placed_part l.layout (name_of_object l k.object) k.part)
 
 -- a key is that of the name of a symbol, unless the symbol is local
-abbrev pub IsNameOf : KnownLink → ObjectKey → SymbolIndex → NameKey → Type 0
+abbrev pub IsNameOf : KnownLink → ObjectPlace → SymbolIndex → NameKey → Type 0
 IsNameOf l object symbol k =
     (x : NamedSymbol) → symbol_at l.project (l.number object.0) symbol.0 ≡ Some x → is_local x.symbol.binding ≡ false
     → l.name k.0 ≡ Some x.name
@@ -77,7 +77,7 @@ abbrev pub value_under : List code.SymbolValue → NameKey → code.SymbolValue
 value_under values k = unwrap_or (slice_get values k.0) value.NotDefined
 
 -- a symbol of the object of a key, by its number
-pub record IsSymbolOf (l : KnownLink) (object : ObjectKey) (index : SymbolIndex) (symbol : Symbol) (o : NamedObject)
+pub record IsSymbolOf (l : KnownLink) (object : ObjectPlace) (index : SymbolIndex) (symbol : Symbol) (o : NamedObject)
     (x : NamedSymbol) : Type 0 where
   pub object_is : named_object l object ≡ Some o
   pub entry_is : slice_get o.object.symbols index.0 ≡ Some x

@@ -12,7 +12,7 @@ use Rattle.ldmodel.specs.Project.{NamedObject}
 use Rattle.ldmodel.specs.Relocations.{Site, field_with, is_evaluated, site_field}
 use Rattle.ldmodel.specs.SymbolValues.{SymbolValue}
 use Rattle.ldmodel.specs.declared.fault.Fault as code
-use Rattle.ldmodel.specs.declared.names.ObjectKey.{ObjectKey}
+use Rattle.ldmodel.specs.declared.names.ObjectPlace.{ObjectPlace}
 use Rattle.ldtargets.specs.KnownLink.{KnownLink, named_object}
 use Rattle.ldtargets.specs.SymbolTable.{IsRow}
 use Rattle.ldtargets.specs.declared.site.PlacedSection.{PlacedSection}
@@ -26,7 +26,7 @@ pub record IsPlaced (l : KnownLink) (m : PlacedSection) (o : NamedObject) (x : L
   pub relocations_are : m.relocations.now ≡ x.relocations
 
 -- the same by what was read of the object
-pub record IsSectionOf (o : ObjectData) (x : LinkedSection) (key : ObjectKey) (m : PlacedSection) : Type 0 where
+pub record IsSectionOf (o : ObjectData) (x : LinkedSection) (key : ObjectPlace) (m : PlacedSection) : Type 0 where
   pub key_is : m.object ≡ key
   pub number_is : find (λ (y : LinkedSection). y.number.0 == m.section.0) o.sections ≡ Some x
   pub symbols_are : m.symbols.now ≡ map (λ (y : NamedSymbol). y.symbol) o.symbols

@@ -6,7 +6,7 @@ use Rattle.ldmodel.specs.Layout.{Layout}
 use Rattle.ldmodel.specs.Project.{NamedObject, Project}
 use Rattle.ldmodel.specs.SymbolValues as model
 use Rattle.ldmodel.specs.Targets.{referenced_value}
-use Rattle.ldmodel.specs.declared.names.ObjectKey.{ObjectKey}
+use Rattle.ldmodel.specs.declared.names.ObjectPlace.{ObjectPlace}
 use Rattle.ldtargets.specs.KnownLink.{KnownLink, named_object}
 use Rattle.ldtargets.specs.Values.{value_of}
 use Rattle.ldtargets.specs.declared.symbol_table.SymbolTable.{SymbolTable}
@@ -30,7 +30,7 @@ AreSymbolValues p s t =
 -- the same where the places in the table are the keys of a link
 abbrev pub HasSymbolValues : KnownLink → SymbolTable → Type 0
 HasSymbolValues l t =
-    (key : ObjectKey) (j : ℕ) (o : NamedObject) (x : NamedSymbol) → named_object l key ≡ Some o
+    (key : ObjectPlace) (j : ℕ) (o : NamedObject) (x : NamedSymbol) → named_object l key ≡ Some o
     → slice_get o.object.symbols j ≡ Some x → value_of (value_at t key.0 j) ≡ referenced_value l.project l.layout o x
 
 -- a list has the values of the symbols of an object, under their numbers, and no others

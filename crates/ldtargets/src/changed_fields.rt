@@ -30,7 +30,7 @@ use ldfields::patch::Patch;
 use ldmodel::fault::Fault;
 use ldmodel::memory::NoMemory;
 use ldmodel::meter::Meter;
-use ldmodel::names::ObjectKey;
+use ldmodel::names::ObjectPlace;
 use ldmodel::sections::{Part, SectionKey};
 use std::alloc::Global;
 
@@ -52,7 +52,7 @@ pub struct ChangedFields {
 fn add_placed(
     alloc: Global,
     values: &[SymbolValue],
-    key: ObjectKey,
+    key: ObjectPlace,
     object: &Object,
     index: LinkedIndex,
     start: u64,
@@ -82,7 +82,7 @@ fn add_run<L: Known>(
     alloc: Global,
     link: &L,
     values: &[SymbolValue],
-    key: ObjectKey,
+    key: ObjectPlace,
     object: &Object,
     index: LinkedIndex,
     patches: &mut Vec<Patch>,
@@ -115,7 +115,7 @@ fn add_run<L: Known>(
 fn add_moved_at<E: Earlier>(
     earlier: &E,
     values: &[SymbolValue],
-    key: ObjectKey,
+    key: ObjectPlace,
     object: &Object,
     index: LinkedIndex,
     start: u64,
@@ -148,7 +148,7 @@ fn add_retained<L: Known, E: Earlier>(
     link: &L,
     earlier: &E,
     values: &[SymbolValue],
-    key: ObjectKey,
+    key: ObjectPlace,
     object: &Object,
     index: LinkedIndex,
     range: FileRange,
@@ -186,7 +186,7 @@ fn add_evaluated<L: Known, E: Earlier>(
     link: &L,
     earlier: &E,
     values: &[SymbolValue],
-    key: ObjectKey,
+    key: ObjectPlace,
     object: &Object,
     index: LinkedIndex,
     patches: &mut Vec<Patch>,
@@ -230,7 +230,7 @@ fn add_section<L: Known, E: Earlier>(
     link: &L,
     earlier: &E,
     values: &[SymbolValue],
-    key: ObjectKey,
+    key: ObjectPlace,
     object: &Object,
     index: LinkedIndex,
     fields: &mut ChangedFields,
@@ -262,7 +262,7 @@ fn add_object<L: Known, E: Earlier>(
     link: &L,
     earlier: &E,
     symbols: &SymbolTable,
-    key: ObjectKey,
+    key: ObjectPlace,
     object: &Object,
     fields: &mut ChangedFields,
     meter: &mut Meter,
@@ -291,7 +291,7 @@ fn add_of_key<L: Known, E: Earlier>(
     link: &L,
     earlier: &E,
     symbols: &SymbolTable,
-    key: ObjectKey,
+    key: ObjectPlace,
     fields: &mut ChangedFields,
     meter: &mut Meter,
 ) -> Result<(), NoMemory>
@@ -315,7 +315,7 @@ fn count_of_table(relocations: &[Relocation]) -> usize {
 }
 
 /// How many relocations with a field there are in those sections of an object that are in the output.
-fn count_of_object<L: Known>(link: &L, key: ObjectKey, object: &Object) -> usize {
+fn count_of_object<L: Known>(link: &L, key: ObjectPlace, object: &Object) -> usize {
     let mut count: usize = 0;
     for index in 0..object.sections().len() {
         let relocations = object.relocations(LinkedIndex(index));
@@ -330,7 +330,7 @@ fn count_of_object<L: Known>(link: &L, key: ObjectKey, object: &Object) -> usize
 
 /// How many fields there will be, where there is no earlier link. Beside one it is 0: to know the number, each section
 /// would have to be asked once more whether it stayed, and the list may grow as well.
-fn count_fields<L: Known, E: Earlier>(link: &L, earlier: &E, objects: &[ObjectKey]) -> usize {
+fn count_fields<L: Known, E: Earlier>(link: &L, earlier: &E, objects: &[ObjectPlace]) -> usize {
     if !earlier.is_none() {
         return 0;
     }
@@ -344,7 +344,7 @@ fn count_fields<L: Known, E: Earlier>(link: &L, earlier: &E, objects: &[ObjectKe
 }
 
 /// How many sections these objects have.
-fn count_sections<L: Known>(link: &L, objects: &[ObjectKey]) -> usize {
+fn count_sections<L: Known>(link: &L, objects: &[ObjectPlace]) -> usize {
     let mut count: usize = 0;
     for key in objects {
         if let Some(object) = link.object(*key) {
@@ -367,7 +367,7 @@ pub fn changed_fields<L: Known, E: Earlier>(
     link: &L,
     earlier: &E,
     symbols: &SymbolTable,
-    objects: &[ObjectKey],
+    objects: &[ObjectPlace],
     meter: &mut Meter,
 ) -> Result<ChangedFields, NoMemory>
     ensures { IfOk result (λ f. (old : GoodLink) (l : KnownLink) → L.knows link.now l → E.knows earlier.now old l

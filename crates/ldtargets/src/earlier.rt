@@ -14,7 +14,7 @@ ghost use Rattle.ldtargets.specs.declared.earlier.FileRange.{FileRange};
 use crate::value::SymbolValue;
 use elfobj::relocation::SymbolIndex;
 use elfobj::symbol::Symbol;
-use ldmodel::names::ObjectKey;
+use ldmodel::names::ObjectPlace;
 use ldmodel::sections::SectionKey;
 
 /// Bytes of a file.
@@ -49,12 +49,12 @@ pub trait Earlier {
 
     /// Whether a symbol of an object of which a section stayed may have another value than in the earlier link. Where
     /// the answer is no, none has.
-    fn is_marked(&self, object: ObjectKey) -> bool
+    fn is_marked(&self, object: ObjectPlace) -> bool
         ensures { (old : GoodLink) (l : KnownLink) → knows self.now old l → IsKept (range self.now) object
             → result ≡ false → HasSameValues old l object };
 
     /// What a symbol of an object of which a section stayed was worth to a relocation of its object.
-    fn value(&self, object: ObjectKey, index: SymbolIndex, symbol: &Symbol) -> SymbolValue
+    fn value(&self, object: ObjectPlace, index: SymbolIndex, symbol: &Symbol) -> SymbolValue
         ensures { (old : GoodLink) (l : KnownLink) (o : NamedObject) (x : NamedSymbol) → knows self.now old l
             → IsKept (range self.now) object → IsSymbolOf l object index symbol.now o x
             → value_of result ≡ referenced_value old.project old.layout o x };
@@ -78,11 +78,11 @@ impl Earlier for Nothing {
         None
     }
 
-    fn is_marked(&self, _object: ObjectKey) -> bool {
+    fn is_marked(&self, _object: ObjectPlace) -> bool {
         false
     }
 
-    fn value(&self, _object: ObjectKey, _index: SymbolIndex, _symbol: &Symbol) -> SymbolValue {
+    fn value(&self, _object: ObjectPlace, _index: SymbolIndex, _symbol: &Symbol) -> SymbolValue {
         SymbolValue::NotDefined
     }
 }

@@ -6,14 +6,14 @@ ghost use Rattle.std.specs.List.Sorted.{IsPermutation};
 ghost use Rattle.ldtargets.specs.Index.{HasRoomFor, cleared, cleared_one, is_against, is_of_object, site_of, room_at};
 ghost use Rattle.ldtargets.specs.Index.{sites_at, slot, slots_at, spot_room, spots_at, wanted_at};
 ghost use Rattle.ldtargets.specs.declared.index.TargetSite.{TargetSite};
-ghost use Rattle.ldmodel.specs.declared.names.ObjectKey.{ObjectKey};
+ghost use Rattle.ldmodel.specs.declared.names.ObjectPlace.{ObjectPlace};
 
 use crate::bucket::Bucket;
 use crate::walk::Sites;
 use elfobj::section::SectionIndex;
 use ldmodel::fault::SiteKey;
 use ldmodel::memory::NoMemory;
-use ldmodel::names::ObjectKey;
+use ldmodel::names::ObjectPlace;
 use std::alloc::Global;
 use std::marker::Model;
 
@@ -199,10 +199,10 @@ impl Index {
 
     /// Takes the sites of an object out. It takes no memory, and time in the number of these sites. What there was room
     /// for, of any object, there still is.
-    pub fn drop_object(&mut self, object: ObjectKey)
+    pub fn drop_object(&mut self, object: ObjectPlace)
         ensures sites { (t : ℕ) → sites_at self.new t
             ≡ filter (λ s. not (is_of_object object s)) (sites_at self.old t) }
-        ensures rooms { (o : ObjectKey) (sites : List TargetSite) → HasRoomFor self.old o sites
+        ensures rooms { (o : ObjectPlace) (sites : List TargetSite) → HasRoomFor self.old o sites
             → HasRoomFor self.new o sites }
     {
         if object.0 >= self.objects.len() {
@@ -217,7 +217,7 @@ impl Index {
     /// # Errors
     ///
     /// Where memory runs out. All sites are then as they were.
-    pub fn reserve(&mut self, object: ObjectKey, sites: &[TargetSite]) -> Result<(), NoMemory>
+    pub fn reserve(&mut self, object: ObjectPlace, sites: &[TargetSite]) -> Result<(), NoMemory>
         ensures same { (t : ℕ) → sites_at self.new t ≡ sites_at self.old t }
         ensures room { OnOk result (HasRoomFor self.new object sites.now) }
     {
@@ -227,7 +227,7 @@ impl Index {
     }
 
     /// Adds a site of an object, for which there is room.
-    fn add_one(&mut self, object: ObjectKey, site: TargetSite)
+    fn add_one(&mut self, object: ObjectPlace, site: TargetSite)
         requires target { 0 < slice_index self.old.target_room site.target.0 }
         requires object { 0 < slice_index self.old.object_room object.0 }
         ensures added { IsPermutation (site_of object site ∷ sites_at self.old site.target.0)
@@ -250,7 +250,7 @@ impl Index {
     }
 
     /// Adds sites of an object, for which there is room. It takes no memory.
-    pub fn add_reserved(&mut self, object: ObjectKey, sites: &[TargetSite])
+    pub fn add_reserved(&mut self, object: ObjectPlace, sites: &[TargetSite])
         requires { HasRoomFor self.old object sites.now }
         ensures { (t : ℕ) → IsPermutation (sites_at self.old t
             ++ map (site_of object) (filter (is_against t) sites.now)) (sites_at self.new t) }

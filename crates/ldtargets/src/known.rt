@@ -7,7 +7,7 @@ ghost use Rattle.ldtargets.specs.KnownLink.{IsCaseOf, IsNameOf, IsScriptValueOf,
 
 use elfobj::object::Object;
 use elfobj::relocation::SymbolIndex;
-use ldmodel::names::{Case, NameKey, ObjectKey};
+use ldmodel::names::{Case, NameKey, ObjectPlace};
 use ldmodel::sections::SectionKey;
 
 /// What a linker knows of a link: its objects, where their sections start, and what names stand for, under the linker's
@@ -18,7 +18,7 @@ pub trait Known {
     ghost knows: { Self → KnownLink → Type 0 };
 
     /// The object of a key, if there is one.
-    fn object(&self, key: ObjectKey) -> Option<&Object>
+    fn object(&self, key: ObjectPlace) -> Option<&Object>
         ensures { (l : KnownLink) → knows self.now l → option_copied result ≡ object_of l key };
 
     /// Where an input section starts, if it is in the output.
@@ -26,7 +26,7 @@ pub trait Known {
         ensures { (l : KnownLink) → knows self.now l → result ≡ start_of l section };
 
     /// The key of the name of a symbol that isn't local.
-    fn name_key(&self, object: ObjectKey, symbol: SymbolIndex) -> NameKey
+    fn name_key(&self, object: ObjectPlace, symbol: SymbolIndex) -> NameKey
         ensures { (l : KnownLink) → knows self.now l → IsNameOf l object symbol result };
 
     /// A number that is greater than each key of a name.

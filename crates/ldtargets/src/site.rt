@@ -19,13 +19,13 @@ use ldfields::field::evaluate::field;
 use ldfields::patch::Patch;
 use ldmodel::fault::{Fault, SiteKey};
 use ldmodel::meter::{Count, Meter};
-use ldmodel::names::ObjectKey;
+use ldmodel::names::ObjectPlace;
 
 /// An input section in the output, with what its relocations need.
 #[derive(Clone, Copy, Debug)]
 pub struct PlacedSection<'a> {
     /// The object of the section.
-    pub object: ObjectKey,
+    pub object: ObjectPlace,
     /// The number of the section among the section headers.
     pub section: SectionIndex,
     /// The address that it starts at.
@@ -41,7 +41,7 @@ pub struct PlacedSection<'a> {
 impl<'a> PlacedSection<'a> {
     /// A section of an object that starts at an address. `values` are the values of the object's symbols.
     pub fn new(
-        key: ObjectKey,
+        key: ObjectPlace,
         object: &'a Object,
         index: LinkedIndex,
         start: u64,

@@ -17,13 +17,13 @@ use elfobj::relocation::SymbolIndex;
 use elfobj::symbol::{Symbol, SymbolPlace};
 use ldmodel::fault::Fault;
 use ldmodel::memory::NoMemory;
-use ldmodel::names::{Case, Entry, NameKey, ObjectKey};
+use ldmodel::names::{Case, Entry, NameKey, ObjectPlace};
 use ldmodel::sections::{Part, SectionKey};
 use std::alloc::Global;
 
 /// The value of a symbol of an object by its own entry (gABI, "Symbol Values"): an address in its section, its number,
 /// or 0 for the null entry.
-pub fn own_value<L: Known>(link: &L, object: ObjectKey, symbol: &Symbol) -> SymbolValue
+pub fn own_value<L: Known>(link: &L, object: ObjectPlace, symbol: &Symbol) -> SymbolValue
     ensures { (l : KnownLink) → L.knows link.now l → value_of result
         ≡ own_value l.layout (name_of_object l object) symbol.now.place symbol.now.value }
 {
@@ -43,7 +43,7 @@ fn entry_value<L: Known>(link: &L, entry: Entry) -> SymbolValue
     ensures { (l : KnownLink) → L.knows link.now l → value_of result
         ≡ entry_value l.project l.layout (entry_of l.number entry) }
 {
-    let key = ObjectKey(entry.key);
+    let key = ObjectPlace(entry.key);
     let Some(object) = link.object(key) else {
         return SymbolValue::NotDefined;
     };
@@ -57,7 +57,7 @@ fn entry_value<L: Known>(link: &L, entry: Entry) -> SymbolValue
 fn common_value<L: Known>(link: &L, owner: Entry) -> SymbolValue
     ensures { (l : KnownLink) → L.knows link.now l → value_of result ≡ common_value l (entry_of l.number owner) }
 {
-    let object = ObjectKey(owner.key);
+    let object = ObjectPlace(owner.key);
     let part = Part::InCommon(SymbolIndex(owner.symbol));
     address_from(link.start(SectionKey { object, part }), 0)
 }

@@ -7,7 +7,7 @@ ghost use Rattle.ldtargets.specs.SymbolTable.{HasSymbolValues, IsRow, row_at, va
 
 use crate::value::SymbolValue;
 use elfobj::relocation::SymbolIndex;
-use ldmodel::names::ObjectKey;
+use ldmodel::names::ObjectPlace;
 
 /// What each symbol of each object is worth to the relocations of its object, under the object's key and the symbol's
 /// number.
@@ -63,7 +63,7 @@ impl SymbolTable {
     }
 
     /// The values of the symbols of the object of a key, by their numbers. The object has `count` symbols.
-    pub fn row(&self, object: ObjectKey, count: usize) -> &[SymbolValue]
+    pub fn row(&self, object: ObjectPlace, count: usize) -> &[SymbolValue]
         ensures { result.now ≡ row_at self.now object.0 count }
     {
         let start = self.starts.get(object.0).copied().unwrap_or(0);

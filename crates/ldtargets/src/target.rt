@@ -15,7 +15,7 @@ use crate::symbol::own_value;
 use crate::value::SymbolValue;
 use elfobj::relocation::SymbolIndex;
 use elfobj::symbol::{Binding, Symbol, SymbolPlace};
-use ldmodel::names::{NameKey, ObjectKey};
+use ldmodel::names::{NameKey, ObjectPlace};
 use ldmodel::sections::{Part, SectionKey};
 use ldmodel::target::Target;
 
@@ -36,7 +36,7 @@ fn is_weak(binding: Binding) -> bool
 /// What the value of a symbol of an object depends on: its name; the section that a local one lies in; or nothing.
 pub fn target_of<L: Known>(
     link: &L,
-    object: ObjectKey,
+    object: ObjectPlace,
     index: SymbolIndex,
     symbol: &Symbol,
 ) -> Target
@@ -83,7 +83,7 @@ pub fn target_number<L: Known>(link: &L, values: &[SymbolValue], target: Target)
 pub fn referenced_value<L: Known>(
     link: &L,
     values: &[SymbolValue],
-    object: ObjectKey,
+    object: ObjectPlace,
     index: SymbolIndex,
     symbol: &Symbol,
 ) -> SymbolValue

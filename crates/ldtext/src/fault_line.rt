@@ -17,7 +17,7 @@ use crate::script_names::ScriptNames;
 use elfobj::relocation::{Relocation, RelocationKind, SymbolIndex};
 use ldmodel::fault::{Definer, Fault, SiteKey};
 use ldmodel::memory::NoMemory;
-use ldmodel::names::{Entry, ObjectKey};
+use ldmodel::names::{Entry, ObjectPlace};
 
 /// A line of a code and a line of the script.
 fn put_numbered(draft: &mut Draft, code: &[u8], line: u32) -> Result<(), NoMemory>
@@ -102,7 +102,7 @@ fn put_duplicate<M: Members>(
         object_name (M.project members.now) (M.number members.now entry.key) ∷ definer_word
         (definer_of (M.project members.now) (M.number members.now) first) ∷ []))) }
 {
-    let object = ObjectKey(entry.key);
+    let object = ObjectPlace(entry.key);
     let name = symbol_name(members, object, SymbolIndex(entry.symbol));
     put_line(
         draft,

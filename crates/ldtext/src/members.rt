@@ -1,7 +1,7 @@
 //! What finds the objects of a project by their keys.
 
 use elfobj::object::Object;
-use ldmodel::names::ObjectKey;
+use ldmodel::names::ObjectPlace;
 
 /// What finds the objects of a project by their keys: that of a linker, or a table made for one link.
 pub trait Members {
@@ -17,11 +17,11 @@ pub trait Members {
     ghost number: { Self → ℕ → ℕ };
 
     /// The name of the object of a key; no bytes for a key of none.
-    fn name(&self, key: ObjectKey) -> &[u8]
+    fn name(&self, key: ObjectPlace) -> &[u8]
         ensures { result.now ≡ object_name (project self.now) (number self.now key.0) };
 
     /// The object of a key.
-    fn object(&self, key: ObjectKey) -> Option<&Object>
+    fn object(&self, key: ObjectPlace) -> Option<&Object>
         ensures { option_map (λ o. o.now) result
             ≡ option_map (λ (o : NamedObject). o.object)
             (slice_get (project self.now).objects (number self.now key.0)) };

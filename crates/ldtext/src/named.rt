@@ -9,7 +9,7 @@ use elfobj::object::Object;
 use elfobj::relocation::{Relocation, SymbolIndex};
 use elfobj::section::{LinkedIndex, SectionIndex};
 use ldmodel::fault::SiteKey;
-use ldmodel::names::ObjectKey;
+use ldmodel::names::ObjectPlace;
 use ldmodel::sections::{Part, SectionKey};
 
 /// The place of a section among those of an object.
@@ -39,7 +39,7 @@ fn find_section_near(object: &Object, number: SectionIndex, likely: usize) -> Op
 }
 
 /// The name of a section of an object; no bytes where there is none.
-pub fn section_name<M: Members>(members: &M, object: ObjectKey, section: SectionIndex) -> &[u8]
+pub fn section_name<M: Members>(members: &M, object: ObjectPlace, section: SectionIndex) -> &[u8]
     ensures { result.now ≡ name_of_section (M.project members.now) (M.number members.now object.0) section }
 {
     let Some(found) = members.object(object) else {
@@ -79,7 +79,7 @@ pub fn next_part_name<M: Members>(members: &M, section: SectionKey, last: usize)
 }
 
 /// The name of an entry of an object's symbol table; no bytes where there is none, and for a local symbol.
-pub fn symbol_name<M: Members>(members: &M, object: ObjectKey, symbol: SymbolIndex) -> &[u8]
+pub fn symbol_name<M: Members>(members: &M, object: ObjectPlace, symbol: SymbolIndex) -> &[u8]
     ensures { result.now ≡ name_of_symbol (M.project members.now) (M.number members.now object.0) symbol.0 }
 {
     let Some(found) = members.object(object) else {

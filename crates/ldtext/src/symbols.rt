@@ -10,7 +10,7 @@ use crate::draft::Draft;
 use crate::map_line::put_symbol_line;
 use crate::members::Members;
 use ldmodel::memory::NoMemory;
-use ldmodel::names::{Case, Entry, ObjectKey};
+use ldmodel::names::{Case, Entry, ObjectPlace};
 use std::cmp::Ordering;
 
 /// A name, what it stands for, and its value.
@@ -29,10 +29,10 @@ fn owner_name<M: Members>(members: &M, case: Case) -> &[u8]
     ensures { result.now ≡ owner (M.project members.now) (decision_of (M.number members.now) case) }
 {
     match case {
-        Case::Strong(Entry { key, .. }) | Case::Weak(Entry { key, .. }) => members.name(ObjectKey(
+        Case::Strong(Entry { key, .. }) | Case::Weak(Entry { key, .. }) => members.name(ObjectPlace(
             key,
         )),
-        Case::Common { owner, .. } => members.name(ObjectKey(owner.key)),
+        Case::Common { owner, .. } => members.name(ObjectPlace(owner.key)),
         Case::Script | Case::Provided | Case::Undefined | Case::Duplicate => b"script",
     }
 }

@@ -18,7 +18,7 @@ use elfobj::object::Object;
 use elfobj::relocation::SymbolIndex;
 use elfobj::symbol::Binding;
 use ldlayout::starts::Starts;
-use ldmodel::names::{Case, NameKey, ObjectKey};
+use ldmodel::names::{Case, NameKey, ObjectPlace};
 use ldmodel::sections::SectionKey;
 use ldproject::view::ProjectView;
 use ldtargets::known::Known;
@@ -34,7 +34,7 @@ fn declares(binding: Binding) -> bool
 }
 
 /// Whether there is a symbol that isn't local.
-fn sees(project: &ProjectView<'_>, object: ObjectKey, symbol: SymbolIndex) -> bool
+fn sees(project: &ProjectView<'_>, object: ObjectPlace, symbol: SymbolIndex) -> bool
     ensures { result ≡ is_seen (symbol_at project.now object.0 symbol.0) }
 {
     let Some(found) = project.object(object) else {
@@ -60,7 +60,7 @@ fn start_in(starts: &Starts, section: SectionKey) -> Option<u64>
 impl<'a, 'p> Known for LinkView<'a, 'p> {
     ghost knows = { λ v l. IsLinkView l v };
 
-    fn object(&self, key: ObjectKey) -> Option<&Object> {
+    fn object(&self, key: ObjectPlace) -> Option<&Object> {
         self.project.object(key)
     }
 
@@ -68,7 +68,7 @@ impl<'a, 'p> Known for LinkView<'a, 'p> {
         start_in(self.starts, section)
     }
 
-    fn name_key(&self, object: ObjectKey, symbol: SymbolIndex) -> NameKey {
+    fn name_key(&self, object: ObjectPlace, symbol: SymbolIndex) -> NameKey {
         if !sees(self.project, object, symbol) {
             return NameKey(0);
         }

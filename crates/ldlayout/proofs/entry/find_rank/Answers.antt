@@ -1,41 +1,34 @@
-use Rattle.std.proofs.Common.{rules, ap, sym, ◌∙◌}
+use Rattle.std.proofs.Common.{rules, sym, ◌∙◌, ℕ, Bool}
 use Rattle.std.proofs.lemmas.List.Sorted.{IsPartitionPoint-from_clause}
-use Rattle.std.specs.Option.{option_map}
 use Rattle.std.specs.Ordering.{is_lt}
-use Rattle.ldlayout.specs.Entries.{rank_cmp, rank_in}
-use Rattle.ldlayout.specs.declared.entry.Entry.{Entry}
-use Rattle.ldlayout.proofs.Ranks.{are_equal, equal}
+use Rattle.ldlayout.specs.Entries.{rank_cmp}
+use Rattle.ldlayout.proofs.Ranks.{equal}
 use Rattle.ldlayout.proofs.Searching.{found, missed, missed_at_end, parted}
 use Rattle.ldlayout.proofs.entry.find_rank.Goals as goal
 
-pub returns-in_err-entry : goal.returns-in_err-entry
-returns-in_err-entry c = λ sorted.
+pub returns-in_err-found-clause-is : goal.returns-in_err-found-clause-is
+returns-in_err-found-clause-is c = λ sorted.
     c.from_residual.ensures
-    ∙ sym (ap (option_map (λ (e : Entry). e.place)) (missed_at_end c.args.sought c.args.entries.now
-    c.partition_point-first.result
-    (IsPartitionPoint-from_clause (λ (e : Entry). is_lt (rank_cmp (rank_in e) c.args.sought)) _ _
-    c.partition_point-first.ensures.partitioned (parted c.args.sought c.args.entries.now sorted)
+    ∙ sym (missed_at_end c.args.sought c.args.ranks.now c.partition_point-first.result
+    (IsPartitionPoint-from_clause (λ (r : ℕ × Bool × ℕ). is_lt (rank_cmp r c.args.sought)) _ _
+    c.partition_point-first.ensures.partitioned (parted c.args.sought c.args.ranks.now sorted)
     (λ a r f' k. search rules))
-    c.in_err-entry.ensures.lookup.3))
+    c.in_err-found.ensures.lookup.3)
 
-pub returns-then-eq : goal.returns-then-eq
-returns-then-eq c = λ sorted.
-    sym (ap (option_map (λ (e : Entry). e.place)) (found c.args.sought c.args.entries.now
-    c.partition_point-first.result c.in_ok-entry.entry.now
-    (IsPartitionPoint-from_clause (λ (e : Entry). is_lt (rank_cmp (rank_in e) c.args.sought)) _ _
-    c.partition_point-first.ensures.partitioned (parted c.args.sought c.args.entries.now sorted)
+pub returns-then-eq-clause-is : goal.returns-then-eq-clause-is
+returns-then-eq-clause-is c = λ sorted.
+    sym (found c.args.sought c.args.ranks.now c.partition_point-first.result c.in_ok-found.field-0.now
+    (IsPartitionPoint-from_clause (λ (r : ℕ × Bool × ℕ). is_lt (rank_cmp r c.args.sought)) _ _
+    c.partition_point-first.ensures.partitioned (parted c.args.sought c.args.ranks.now sorted)
     (λ a r f' k. search rules))
-    c.in_ok-entry.ensures.lookup.3.0 c.in_ok-entry.ensures.lookup.1
-    (equal (rank_in c.in_ok-entry.entry.now) c.args.sought ∙ ap (λ r. are_equal r c.args.sought) (sym c.rank.ensures)
-    ∙ sym c.eq.ensures ∙ c.if-eq.true)))
+    c.in_ok-found.ensures.lookup.3.0 c.in_ok-found.ensures.lookup.1
+    (equal c.in_ok-found.field-0.now c.args.sought ∙ sym c.eq.ensures ∙ c.if-eq.true))
 
-pub returns-else-eq : goal.returns-else-eq
-returns-else-eq c = λ sorted.
-    sym (ap (option_map (λ (e : Entry). e.place)) (missed c.args.sought c.args.entries.now
-    c.partition_point-first.result c.in_ok-entry.entry.now sorted
-    (IsPartitionPoint-from_clause (λ (e : Entry). is_lt (rank_cmp (rank_in e) c.args.sought)) _ _
-    c.partition_point-first.ensures.partitioned (parted c.args.sought c.args.entries.now sorted)
+pub returns-else-eq-clause-is : goal.returns-else-eq-clause-is
+returns-else-eq-clause-is c = λ sorted.
+    sym (missed c.args.sought c.args.ranks.now c.partition_point-first.result c.in_ok-found.field-0.now sorted
+    (IsPartitionPoint-from_clause (λ (r : ℕ × Bool × ℕ). is_lt (rank_cmp r c.args.sought)) _ _
+    c.partition_point-first.ensures.partitioned (parted c.args.sought c.args.ranks.now sorted)
     (λ a r f' k. search rules))
-    c.in_ok-entry.ensures.lookup.3.0 c.in_ok-entry.ensures.lookup.1
-    (equal (rank_in c.in_ok-entry.entry.now) c.args.sought ∙ ap (λ r. are_equal r c.args.sought) (sym c.rank.ensures)
-    ∙ sym c.eq.ensures ∙ c.if-eq.false)))
+    c.in_ok-found.ensures.lookup.3.0 c.in_ok-found.ensures.lookup.1
+    (equal c.in_ok-found.field-0.now c.args.sought ∙ sym c.eq.ensures ∙ c.if-eq.false))

@@ -1,7 +1,5 @@
-use Rattle.std.proofs.Common.{rules, ◌∙◌, ap, filter, flat_map, length, subst, sym, List}
+use Rattle.std.proofs.Common.{rules, ◌∙◌, ap, flat_map, length, map, subst, sym, List}
 use Rattle.std.proofs.lemmas.List.{length-map}
-use Rattle.std.proofs.lemmas.List.Sorted.{answers_always}
-use Rattle.std.specs.List.Sorted.{IsStableByKey}
 use Rattle.ldlaws.specs.PlacedOnce.{Differ}
 use Rattle.ldlaws.specs.Spread.{EachLater}
 use Rattle.ldmodel.specs.FileLayout.{Each}
@@ -9,8 +7,7 @@ use Rattle.ldmodel.specs.Names.{provided}
 use Rattle.ldmodel.specs.Rows.{Piece, rows}
 use Rattle.ldproject.specs.Inputs.{shown_input}
 use Rattle.ldlayout.specs.InPlace.{IsOwned}
-use Rattle.ldlayout.specs.Entries.{is_block, rank_cmp, rank_in}
-use Rattle.ldlayout.specs.Sections.{HasSections}
+use Rattle.ldlayout.specs.SectionTable.{AreOwners, HasNumbers}
 use Rattle.ldlayout.specs.declared.entry.Entry.{Entry}
 use Rattle.ldlayout.proofs.Owned.{all_owned}
 use Rattle.ldlayout.proofs.Placing.{all_places, all_within}
@@ -42,13 +39,7 @@ returns c = λ s laid.
     })
     (placed ∙ sym c.requires)
     (c.pieces.ensures ∙ laid.places.starts) c.in_ok-entries.ensures
-    (subst (λ (l : List Entry). HasSections l c.in_ok-sections.sections) c.deref.ensures.value c.in_ok-sections.ensures)
-    (c.in_ok-sort_by_key.ensures.sorted rank_in (answers_always _ _ _ (λ f a r f' k. search rules)))
-    (subst (λ (l : List Entry). IsStableByKey rank_in rank_cmp l c.sort_by_key.new.self.items)
-    (c.in_ok-blocks.ensures ∙ ap (filter is_block) c.deref-2.ensures.value)
-    (c.in_ok-sort_by_key.ensures.stable rank_in (answers_always _ _ _ (λ f a r f' k. search rules))))
-
-pub invariant_of-result : goal.invariant_of-result
-invariant_of-result c = record {
-  sorted = c.in_ok-sort_by_key.ensures.sorted rank_in (answers_always _ _ _ (λ f a r f' k. search rules));
-}
+    (subst (HasNumbers c.in_ok-table.table) c.deref.ensures.value c.in_ok-table.ensures)
+    (subst (λ (l : List Entry). AreOwners c.in_ok-table.table l c.in_ok-owners.owners.items) c.deref-2.ensures.value
+    c.in_ok-owners.ensures)
+    (c.in_ok-places.ensures ∙ ap (map (λ (e : Entry). e.place)) c.deref-3.ensures.value)

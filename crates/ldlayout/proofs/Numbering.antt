@@ -1,0 +1,170 @@
+-- The numbers of input sections: each part has one number at most, and no two have the same one.
+use Rattle.std.proofs.Common.{◌≡◌, ◌<◌, ◌≤◌, ◌+◌, ◌⊎◌, inl, inr, ℕ, refl, sym, ap, subst, arith, ◌∙◌}
+use Rattle.std.proofs.Common.{List, length, get_or, map, filter, cond, Bool, true, false, Option, Some, None}
+use Rattle.std.proofs.lemmas.Bool.{cases_lt, false≢true, lt-ltb, ltb-false, ltb-true, true≢false}
+use Rattle.std.proofs.lemmas.List.{get_or_default}
+use Rattle.std.proofs.lemmas.List.Quantifiers.{position-Some}
+use Rattle.std.proofs.lemmas.List.Sorted.{Contains-permutation}
+use Rattle.std.proofs.lemmas.List.Sums.{fails_before_first}
+use Rattle.std.proofs.lemmas.Option.{same_Some}
+use Rattle.std.specs.List.{All, Contains, position, position_or_len}
+use Rattle.std.specs.List.Sorted.{IsPermutation}
+use Rattle.std.specs.Option.{option_map}
+use Rattle.std.specs.Ordering.{is_eq}
+use Rattle.std.specs.Prelude.{IsSome, nat_lt}
+use Rattle.ldmodel.specs.declared.sections.Part.{Part}
+use Rattle.ldmodel.specs.declared.sections.Part.TheVariants.{InTable, InCommon}
+use Rattle.ldlayout.specs.Entries.{is_block, is_block_part, is_ranked, rank_cmp, rank_in, rank_of}
+use Rattle.ldlayout.specs.Headers.{AreLaid, IsCounted, IsPartCounted, headers_of}
+use Rattle.ldlayout.specs.SectionTable.{HasNumbers, block_of, len_of, number_of, slot_of}
+use Rattle.ldlayout.specs.declared.entry.Entry.{Entry}
+use Rattle.ldlayout.specs.declared.headers.Headers.{Headers}
+use Rattle.ldlayout.specs.declared.section_table.SectionTable.{SectionTable}
+use Rattle.ldlayout.proofs.Counting.{inside}
+use Rattle.ldlayout.proofs.Members.{filter_in, map_in}
+use Rattle.ldlayout.proofs.Ranks.{alike, one}
+
+-- ---- header numbers
+
+record Slot (hs : List Headers) (n k at : ℕ) : Type 0 where
+  counted : k < (headers_of hs n).count
+  is : (headers_of hs n).begin + k ≡ at
+
+slot_is : (hs : List Headers) (n k at : ℕ) → slot_of hs n k ≡ Some at → Slot hs n k at
+slot_is hs n k at e = go (nat_lt k (headers_of hs n).count) refl e
+  where
+    go : (b : Bool) → nat_lt k (headers_of hs n).count ≡ b
+        → cond b (Some ((headers_of hs n).begin + k)) None ≡ Some at → Slot hs n k at
+    go true l h = record { counted = ltb-true k (headers_of hs n).count l; is = same_Some _ _ h }
+    go false l h = absurd (let none : ⊥ = cc in none)
+
+has_slot : (hs : List Headers) (n k : ℕ) → k < (headers_of hs n).count → IsSome (slot_of hs n k)
+has_slot hs n k h =
+    subst (λ (b : Bool). IsSome (cond b (Some ((headers_of hs n).begin + k)) None))
+    (sym (lt-ltb k (headers_of hs n).count h)) refl
+
+module _ (hs : List Headers) (total : ℕ) (laid : AreLaid hs total) where
+  slot_below : (n k at : ℕ) → slot_of hs n k ≡ Some at → at < total
+  slot_below n k at e =
+      let s = slot_is hs n k at e in omega (arith, s.is, s.counted, laid.within n (inside hs n k s.counted))
+
+  one_object : (n m k l at : ℕ) → Slot hs n k at → Slot hs m l at → n ≡ m
+  one_object n m k l at s t = go (cases_lt m n) (cases_lt n m)
+    where
+      go : (m < n) ⊎ (n ≤ m) → (n < m) ⊎ (m ≤ n) → n ≡ m
+      go (inl a) b =
+          absurd (omega (arith, s.is, t.is, s.counted, t.counted, laid.apart m n a (inside hs n k s.counted)))
+      go (inr a) (inl b) =
+          absurd (omega (arith, s.is, t.is, s.counted, t.counted, laid.apart n m b (inside hs m l t.counted)))
+      go (inr a) (inr b) = omega arith
+
+  one_slot : (n m k l at : ℕ) → slot_of hs n k ≡ Some at → slot_of hs m l ≡ Some at → (n ≡ m) × (k ≡ l)
+  one_slot n m k l at e f =
+      let s = slot_is hs n k at e in
+      let t = slot_is hs m l at f in
+      let same : n ≡ m = one_object n m k l at s t in
+      let begins : (headers_of hs n).begin ≡ (headers_of hs m).begin = ap (λ i. (headers_of hs i).begin) same in
+      (same, omega (arith, s.is, t.is, begins))
+
+-- ---- common blocks
+
+some_of : {X Y : Type 0} (f : X → Y) (o : Option X) (y : Y) → option_map f o ≡ Some y → (x : X) × (o ≡ Some x) × (f x ≡ y)
+some_of f None y e = absurd (let none : ⊥ = cc in none)
+some_of f (Some x) y e = (x, refl, same_Some _ _ e)
+
+module _ (t : SectionTable) where
+  record Block (n x at : ℕ) : Type 0 where
+    place : ℕ
+    is : t.slots + place ≡ at
+    inside_is : place < length t.blocks.items
+    ranked : (d : ℕ × Bool × ℕ) → is_ranked (n, true, x) (get_or t.blocks.items place d) ≡ true
+
+  block_is : (n x at : ℕ) → block_of t n x ≡ Some at → Block n x at
+  block_is n x at e =
+      let w = some_of (λ (j : ℕ). t.slots + j) (position (is_ranked (n, true, x)) t.blocks.items) at e in
+      let first = position-Some (is_ranked (n, true, x)) t.blocks.items w.0 (n, true, x) w.1 in
+      record {
+        place = w.0;
+        is = w.2;
+        inside_is = first.0;
+        ranked = λ d. (position-Some (is_ranked (n, true, x)) t.blocks.items w.0 d w.1).1;
+      }
+
+  one_block : (n m x y at : ℕ) → block_of t n x ≡ Some at → block_of t m y ≡ Some at
+      → is_eq (rank_cmp (n, true, x) (m, true, y)) ≡ true
+  one_block n m x y at e f =
+      let s = block_is n x at e in
+      let r = block_is m y at f in
+      let places : s.place ≡ r.place = omega (arith, s.is, r.is) in
+      let there : ℕ × Bool × ℕ = get_or t.blocks.items s.place (n, true, x) in
+      let first : there ≡ (n, true, x) = one there (n, true, x) (s.ranked (n, true, x)) in
+      let second : is_ranked (m, true, y) there ≡ true =
+      ap (λ j. is_ranked (m, true, y) (get_or t.blocks.items j (n, true, x))) places ∙ r.ranked (n, true, x) in
+      subst (λ (z : ℕ × Bool × ℕ). is_ranked (m, true, y) z ≡ true) first second
+
+has_place : {X : Type 0} (p : X → Bool) (xs : List X) (x : X) → Contains xs x → p x ≡ true → IsSome (position p xs)
+has_place p xs x c h = go (nat_lt (position_or_len p xs) (length xs)) refl
+  where
+    go : (b : Bool) → nat_lt (position_or_len p xs) (length xs) ≡ b
+        → IsSome (cond b (Some (position_or_len p xs)) None)
+    go true e = refl
+    go false e =
+        let past : length xs ≤ position_or_len p xs = ltb-false (position_or_len p xs) (length xs) e in
+        let fails : p (get_or xs c.0 x) ≡ false = fails_before_first p xs c.0 x (omega (arith, c.1, past)) in
+        absurd (true≢false (sym h ∙ ap p (sym c.2) ∙ fails))
+
+map_some : {X Y : Type 0} (f : X → Y) (o : Option X) → IsSome o → IsSome (option_map f o)
+map_some f None h = h
+map_some f (Some x) h = h
+
+-- ---- all of them
+
+module _ (t : SectionTable) where
+  below : (n : ℕ) (q : Part) (at : ℕ) → number_of t n q ≡ Some at → at < len_of t
+  below n (InTable k) at e =
+      let low = slot_below t.headers.items t.slots t.laid n k.0 at e in omega (arith, low)
+  below n (InCommon x) at e = let b = block_is t n x.0 at e in omega (arith, b.is, b.inside_is)
+
+  never : (n k m x at : ℕ) → slot_of t.headers.items n k ≡ Some at → block_of t m x ≡ Some at → ⊥
+  never n k m x at e f =
+      let low = slot_below t.headers.items t.slots t.laid n k at e in
+      let b = block_is t m x at f in
+      omega (arith, low, b.is)
+
+  apart : (n m : ℕ) (q r : Part) (at : ℕ) → number_of t n q ≡ Some at → number_of t m r ≡ Some at
+      → is_eq (rank_cmp (rank_of n q) (rank_of m r)) ≡ true
+  apart n m (InTable k) (InTable l) at e f =
+      let same = one_slot t.headers.items t.slots t.laid n m k.0 l.0 at e f in
+      subst (λ (i : ℕ). is_eq (rank_cmp (n, false, k.0) (m, false, i)) ≡ true) same.1
+      (subst (λ (i : ℕ). is_eq (rank_cmp (n, false, k.0) (i, false, k.0)) ≡ true) same.0 (alike (n, false, k.0)))
+  apart n m (InTable k) (InCommon x) at e f = absurd (never n k.0 m x.0 at e f)
+  apart n m (InCommon x) (InTable k) at e f = absurd (never m k.0 n x.0 at f e)
+  apart n m (InCommon x) (InCommon y) at e f = one_block t n m x.0 y.0 at e f
+
+module _ (t : SectionTable) (entries : List Entry) (counted : All (IsCounted t.headers.items) entries)
+    (same : IsPermutation (map rank_in (filter is_block entries)) t.blocks.items) where
+  -- a common block among the entries is among those of the table
+  has_block : (e : Entry) → Contains entries e → is_block e ≡ true
+      → IsSome (position (is_ranked (rank_in e)) t.blocks.items)
+  has_block e c b =
+      has_place (is_ranked (rank_in e)) t.blocks.items (rank_in e)
+      (Contains-permutation (map rank_in (filter is_block entries)) t.blocks.items (rank_in e) same
+      (map_in rank_in (filter is_block entries) e (filter_in is_block entries e c b)))
+      (alike (rank_in e))
+
+  numbered : (e : Entry) → Contains entries e → IsCounted t.headers.items e → (part : Part) → e.part ≡ part
+      → IsSome (number_of t e.object part)
+  numbered e c h (InTable k) is =
+      has_slot t.headers.items e.object k.0 (subst (IsPartCounted t.headers.items e.object) is h)
+  numbered e c h (InCommon x) is =
+      map_some (λ (j : ℕ). t.slots + j) (position (is_ranked (e.object, true, x.0)) t.blocks.items)
+      (subst (λ (r : ℕ × Bool × ℕ). IsSome (position (is_ranked r) t.blocks.items)) (ap (rank_of e.object) is)
+      (has_block e c (ap is_block_part is)))
+
+  pub have_numbers : HasNumbers t entries
+  have_numbers = record {
+    all = λ i d h. numbered (get_or entries i d)
+        (i, h, sym (get_or_default entries i d (get_or entries i d) h)) (counted i d h) (get_or entries i d).part refl;
+    below = below t;
+    apart = apart t;
+  }
