@@ -5,7 +5,7 @@
 //!     FILE: an object with N sections, N symbols, N relocations
 //!     FILE: refused 4 N
 //!       PLACE (NAME): REASON
-//!       to do: ADVICE
+//!         to do: ADVICE
 //!
 //! on standard output, the last where there is advice. An object that gcc made for link-time optimization alone has no
 //! code, which a line `warning: ..` says. Sections and relocations are the linked ones, symbols the entries of the

@@ -118,7 +118,7 @@ impl<'a> fmt::Display for Told<'a> {
             None => write!(f, "{place}: {reason}{detail}")?,
         }
         match self.advice {
-            Some(advice) => write!(f, "\n  to do: {advice}"),
+            Some(advice) => write!(f, "\n    to do: {advice}"),
             None => Ok(()),
         }
     }
