@@ -10,7 +10,7 @@ class ProtocolTest(unittest.TestCase):
     def test_empty_project(self) -> None:
         """The image and the map of the empty project, and the status at the end."""
         session = Session()
-        self.assertEqual(len(session.image()), 64)
+        self.assertTrue(session.image().startswith(b"\x7fELF"))
         self.assertEqual(session.map(), b"entry 0000000000000000\n")
         self.assertEqual(session.faults(), b"")
         self.assertEqual(session.close(), 0)
