@@ -1,6 +1,6 @@
 //! What to do about an object that is refused.
 
-use crate::why::explain::{Explanation, Place};
+use crate::why::explain::Place;
 use crate::why::look::{entry, header, symbol_of};
 use crate::why::psabi::{SHF_GROUP, SHF_TLS, STB_GNU_UNIQUE, STT_GNU_IFUNC, STT_TLS};
 use elffile::constants::{ELFCLASS64, ET_REL};
@@ -89,26 +89,25 @@ fn of_relocation(number: u32) -> Option<&'static str> {
     }
 }
 
-/// What to do about a refusal, if anything is known.
-pub fn advice(
-    bytes: &[u8],
-    refusal: ObjectRefusal,
-    explanation: &Explanation,
-) -> Option<&'static str> {
-    match (refusal, explanation.place) {
-        (ObjectRefusal::Short | ObjectRefusal::NotElf, _) => of_format(bytes),
-        (ObjectRefusal::Machine, _) => of_machine(bytes),
-        (ObjectRefusal::SectionProfile, Place::Section(number)) => of_flags(
-            header(bytes, number).sh_flags,
-        ),
-        (ObjectRefusal::Symbol, Place::Symbol(number)) => {
+/// What to do about a refusal at a place, if anything is known.
+pub fn advice(bytes: &[u8], refusal: ObjectRefusal, place: Place) -> Option<&'static str> {
+    match place {
+        Place::Header => match refusal {
+            ObjectRefusal::Short | ObjectRefusal::NotElf => of_format(bytes),
+            ObjectRefusal::Machine => of_machine(bytes),
+            _ => None,
+        },
+        Place::Section(number) if refusal == ObjectRefusal::SectionProfile => {
+            of_flags(header(bytes, number).sh_flags)
+        }
+        Place::Symbol(number) if refusal == ObjectRefusal::Symbol => {
             let entry = symbol_of(bytes, number)?;
             of_symbol(entry.bind(), entry.kind_number())
         }
-        (ObjectRefusal::RelocationType, Place::Entry(table, number)) => {
+        Place::Entry(table, number) if refusal == ObjectRefusal::RelocationType => {
             let entry = entry(bytes, &header(bytes, table), number)?;
             of_relocation((entry.r_info & 0xffff_ffff) as u32)
         }
-        _ => None,
+        Place::Section(_) | Place::Symbol(_) | Place::Entry(_, _) => None,
     }
 }

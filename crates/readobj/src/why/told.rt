@@ -11,7 +11,7 @@ use std::fmt;
 
 /// What stands at the place of a refusal.
 #[derive(Clone, Copy, Debug)]
-enum Detail<'a> {
+enum Detail {
     /// Nothing more is said.
     Nothing,
     /// A section of this type.
@@ -22,8 +22,8 @@ enum Detail<'a> {
     Binding(u8),
     /// A symbol of this type.
     SymbolKind(u8),
-    /// A relocation of this type, against the symbol of this number and name.
-    Relocation(u32, u64, Option<&'a str>),
+    /// A relocation of this type, against the symbol of this number.
+    Relocation(u32, u64),
 }
 
 /// A number and its name, if it has one.
@@ -53,7 +53,7 @@ fn write_flags<W: fmt::Write>(f: &mut fmt::Formatter<W>, flags: u64) -> fmt::Res
     Ok(())
 }
 
-impl<'a> fmt::Display for Detail<'a> {
+impl fmt::Display for Detail {
     fn fmt<W: fmt::Write>(&self, f: &mut fmt::Formatter<W>) -> fmt::Result {
         match self {
             Detail::Nothing => Ok(()),
@@ -70,16 +70,12 @@ impl<'a> fmt::Display for Detail<'a> {
                 write!(f, ": ")?;
                 write_number(f, u32::from(*number), symbol_kind_name(*number))
             }
-            Detail::Relocation(number, symbol, name) => {
+            Detail::Relocation(number, symbol) => {
                 match relocation_name(*number) {
                     Some(kind) => write!(f, ": R_X86_64_{kind} ({number})")?,
                     None => write!(f, ": {number}")?,
                 }
-                write!(f, ", symbol {symbol}")?;
-                match name {
-                    Some(name) => write!(f, " ({name})"),
-                    None => Ok(()),
-                }
+                write!(f, ", symbol {symbol}")
             }
         }
     }
@@ -91,7 +87,9 @@ pub struct Told<'a> {
     explanation: Explanation,
     /// The name of the section or the symbol.
     name: Option<&'a str>,
-    detail: Detail<'a>,
+    detail: Detail,
+    /// The name of the symbol that a relocation is against.
+    symbol: Option<&'a str>,
     advice: Option<&'static str>,
 }
 
@@ -117,6 +115,9 @@ impl<'a> fmt::Display for Told<'a> {
             Some(name) => write!(f, "{place} ({name}): {reason}{detail}")?,
             None => write!(f, "{place}: {reason}{detail}")?,
         }
+        if let Some(symbol) = self.symbol {
+            write!(f, " ({symbol})")?;
+        }
         match self.advice {
             Some(advice) => write!(f, "\n    to do: {advice}"),
             None => Ok(()),
@@ -134,7 +135,7 @@ fn place_name(bytes: &[u8], place: Place) -> Option<&str> {
 }
 
 /// What is to be said of a section outside of the profile.
-fn section_detail(bytes: &[u8], number: u16) -> Detail<'static> {
+fn section_detail(bytes: &[u8], number: u16) -> Detail {
     let header = header(bytes, number);
     if SectionKind::of_type(header.sh_type).is_none() {
         Detail::SectionType(header.sh_type)
@@ -146,7 +147,7 @@ fn section_detail(bytes: &[u8], number: u16) -> Detail<'static> {
 }
 
 /// What is to be said of a symbol outside of the profile.
-fn symbol_detail(bytes: &[u8], number: u64) -> Detail<'static> {
+fn symbol_detail(bytes: &[u8], number: u64) -> Detail {
     match symbol_of(bytes, number) {
         Some(entry) if entry.bind() > STB_WEAK => Detail::Binding(entry.bind()),
         Some(entry) if entry.kind_number() > STT_COMMON => Detail::SymbolKind(entry.kind_number()),
@@ -155,29 +156,52 @@ fn symbol_detail(bytes: &[u8], number: u64) -> Detail<'static> {
 }
 
 /// What is to be said of an entry of a relocation section.
-fn entry_detail(bytes: &[u8], table: u16, number: u64) -> Detail<'_> {
+fn entry_detail(bytes: &[u8], table: u16, number: u64) -> Detail {
     match entry(bytes, &header(bytes, table), number) {
         Some(entry) => {
-            let symbol = entry.r_info >> 32;
             let kind = (entry.r_info & 0xffff_ffff) as u32;
-            Detail::Relocation(kind, symbol, symbol_name(bytes, symbol))
+            Detail::Relocation(kind, entry.r_info >> 32)
         }
         None => Detail::Nothing,
     }
 }
 
+/// The name of the symbol that a relocation is against, where the place is one.
+fn target_name(bytes: &[u8], place: Place) -> Option<&str> {
+    match place {
+        Place::Entry(table, number) => {
+            let entry = entry(bytes, &header(bytes, table), number)?;
+            symbol_name(bytes, entry.r_info >> 32)
+        }
+        _ => None,
+    }
+}
+
+/// What is said of a place for a refusal.
+fn detail_of(bytes: &[u8], refusal: ObjectRefusal, place: Place) -> Detail {
+    match place {
+        Place::Header => Detail::Nothing,
+        Place::Section(number) if refusal == ObjectRefusal::SectionProfile => {
+            section_detail(bytes, number)
+        }
+        Place::Symbol(number) if refusal == ObjectRefusal::Symbol => symbol_detail(bytes, number),
+        Place::Section(_) | Place::Symbol(_) => Detail::Nothing,
+        Place::Entry(table, number) => entry_detail(bytes, table, number),
+    }
+}
+
 /// What is said of bytes that are refused so, for this reason.
 pub fn tell(bytes: &[u8], refusal: ObjectRefusal, explanation: Explanation) -> Told<'_> {
-    let detail = match (refusal, explanation.place) {
-        (ObjectRefusal::SectionProfile, Place::Section(number)) => section_detail(bytes, number),
-        (ObjectRefusal::Symbol, Place::Symbol(number)) => symbol_detail(bytes, number),
-        (_, Place::Entry(table, number)) => entry_detail(bytes, table, number),
-        _ => Detail::Nothing,
-    };
+    let place = explanation.place;
+    let name = place_name(bytes, place);
+    let detail = detail_of(bytes, refusal, place);
+    let symbol = target_name(bytes, place);
+    let advice = advice(bytes, refusal, place);
     Told {
         explanation,
-        name: place_name(bytes, explanation.place),
+        name,
         detail,
-        advice: advice(bytes, refusal, &explanation),
+        symbol,
+        advice,
     }
 }
