@@ -166,7 +166,8 @@ fn plain_word(context: &Context<'_>, word: &Piece<'_>, next: &Piece<'_>) -> Outs
     if let Some(word) = input(word.bytes) {
         return Some((Foreign::Word(word), Table::InputStatements));
     }
-    let is_file = context.open == 0 && is_free_name(word.bytes) && !is(&context.last, "INCLUDE");
+    let follows_key = is(&context.last, "INCLUDE") || !is_free_name(context.last.bytes);
+    let is_file = context.open == 0 && is_free_name(word.bytes) && !follows_key;
     let ends = (is_word(next) && !is(next, "-"))
         || is_mark(next, Mark::Semicolon)
         || is_mark(next, Mark::CloseBrace);
