@@ -38,9 +38,7 @@ impl<'a> Walk<'a> {
             if self.passes(Mark::CloseBrace) {
                 break;
             }
-            let start = self.tokens.copy();
-            let outcome = self.pass_input();
-            self.recover(start, outcome)?;
+            self.pass_input()?;
         }
         Ok(())
     }
@@ -111,14 +109,7 @@ impl<'a> Walk<'a> {
 
     /// An output section
     pub fn pass_section(&mut self) -> Result<(), Stop> {
-        let line = self.tokens.line();
-        let has_load = match self.pass_head() {
-            Ok(has_load) => has_load,
-            Err(stop) => {
-                self.recover_head(line, stop)?;
-                false
-            }
-        };
+        let has_load = self.pass_head()?;
         for _ in 0..=self.tokens.len() {
             if self.passes(Mark::Semicolon) {
                 continue;
@@ -126,9 +117,7 @@ impl<'a> Walk<'a> {
             if self.passes(Mark::CloseBrace) {
                 break;
             }
-            let start = self.tokens.copy();
-            let outcome = self.pass_body_statement();
-            self.recover(start, outcome)?;
+            self.pass_body_statement()?;
         }
         self.pass_tail(has_load)
     }
