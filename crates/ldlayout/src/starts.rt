@@ -57,11 +57,7 @@ fn has_unnamed(inputs: &[InputObject<'_>]) -> bool
 
 /// For each number of a table which entry is the first one of it; the number of entries where none is. Fails where
 /// memory runs out.
-fn owners(
-    alloc: Global,
-    table: &SectionTable,
-    entries: &[Entry],
-) -> Result<Vec<u32>, NoMemory>
+fn owners(alloc: Global, table: &SectionTable, entries: &[Entry]) -> Result<Vec<u32>, NoMemory>
     ensures { IfOk result (λ v. AreOwners table.now entries.now v.items) }
 {
     let Ok(none) = u32::try_from(entries.len()) else {

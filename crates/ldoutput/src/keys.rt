@@ -28,7 +28,10 @@ fn as_read(object: &Object)
 /// # Errors
 ///
 /// Where memory runs out.
-pub(crate) fn keys_of(alloc: Global, project: &ProjectView<'_>) -> Result<Vec<ObjectPlace>, NoMemory>
+pub(crate) fn keys_of(
+    alloc: Global,
+    project: &ProjectView<'_>,
+) -> Result<Vec<ObjectPlace>, NoMemory>
     ensures keys { IfOk result (λ keys. AreKeysOf project.now.objects project.now.objects keys.items) }
     ensures read { IfOk result (λ keys. All (λ (o : NamedObject). IsRead o.object) project.now.objects) }
     ensures distinct { AreNamesDistinct project.now.objects }

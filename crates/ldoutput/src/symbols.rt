@@ -70,7 +70,11 @@ fn header_of_part(starts: &Starts, section: SectionKey) -> Result<u32, NoMemory>
 }
 
 /// The number of the header of the output section that a symbol of an object stands in, or `SHN_ABS`.
-fn header_of_place(starts: &Starts, object: ObjectPlace, place: SymbolPlace) -> Result<u32, NoMemory>
+fn header_of_place(
+    starts: &Starts,
+    object: ObjectPlace,
+    place: SymbolPlace,
+) -> Result<u32, NoMemory>
     ensures { IfOk result (λ n. (p : Project) (s : Layout) → AreStarts p s starts.now
         → n ≡ header_of_place s (object_name p object.0) place) }
 {
