@@ -1,6 +1,6 @@
 //! What is printed of a file that the command line names.
 
-use crate::why::explain::explain;
+use crate::places::{push_places, push_warnings};
 use filearg::file::{NamedFile, print_too_long};
 use ldscript::refusal::ScriptRefusal;
 use ldscript::script::Script;
@@ -13,6 +13,20 @@ const READ: u8 = 0;
 /// The file is refused.
 const REFUSED: u8 = 1;
 
+/// That a file is a script, and what of it has another meaning to GNU ld.
+fn print_read<W: Write>(
+    alloc: Global,
+    out: &mut W,
+    file: &NamedFile,
+    script: &Script,
+) -> io::Result<()> {
+    let count = script.statements().len();
+    writeln!(out, "{}: a script of {count} statements", file.name)?;
+    let mut lines = String::new(alloc);
+    push_warnings(alloc, &mut lines, script)?;
+    out.write_all(lines.as_bytes())
+}
+
 /// That a file is refused, with the numbers that `ldi` says of it, and where and why.
 fn print_refused<W: Write>(
     alloc: Global,
@@ -21,10 +35,9 @@ fn print_refused<W: Write>(
     refusal: ScriptRefusal,
 ) -> io::Result<()> {
     writeln!(out, "{}: refused 5 {}", file.name, refusal.number())?;
-    match explain(alloc, &file.bytes)? {
-        Some(explanation) => writeln!(out, "  {explanation}"),
-        None => Ok(()),
-    }
+    let mut lines = String::new(alloc);
+    push_places(alloc, &mut lines, &file.bytes)?;
+    out.write_all(lines.as_bytes())
 }
 
 /// Says of a file that it is read, or where and why it is refused, and gives the status to end with.
@@ -39,8 +52,7 @@ pub fn show_file<W: Write>(alloc: Global, out: &mut W, file: &NamedFile) -> io::
     }
     match Script::read(alloc, &file.bytes) {
         Ok(script) => {
-            let count = script.statements().len();
-            writeln!(out, "{}: a script of {count} statements", file.name)?;
+            print_read(alloc, out, file, &script)?;
             Ok(READ)
         }
         Err(ScriptRefusal::NoMemory) => Err(ErrorKind::OutOfMemory.into()),

@@ -24,8 +24,8 @@ pub fn push_script(alloc: Global, out: &mut String, text: &[u8]) -> Result<(), A
         Err(refusal) => {
             let number = refusal.number();
             writeln!(out, "refused {number}")?;
-            if let Some(explanation) = explain(alloc, text)? {
-                writeln!(out, "  {explanation}")?;
+            if let Some(finding) = explain(alloc, text)?.refusal {
+                writeln!(out, "  {finding}")?;
             }
         }
     }

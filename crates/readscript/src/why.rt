@@ -1,15 +1,23 @@
-//! Why a text is no script, for people: on which line, and what is wrong there. It walks over the tokens once more with
-//! the rules of the grammar, and nothing but its safety is proved.
+//! Why a text is no script, for people: on which lines, and what is wrong there. A scan looks for GNU ld's language
+//! outside of the profile, and a walk goes over the tokens once more with the rules of the grammar. Nothing but their
+//! safety is proved.
 
 mod body;
 mod clash;
+mod context;
+mod counts;
 pub mod explain;
 mod expression;
+pub mod finding;
+mod foreign;
 mod front;
 mod input;
 mod lines;
 mod pattern;
+mod pieces;
 pub mod reason;
+mod recover;
+mod scan;
 mod section;
 mod statement;
 mod walk;

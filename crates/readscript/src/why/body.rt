@@ -29,7 +29,7 @@ impl<'a> Walk<'a> {
                     self.note_dot(
                         line,
                         "here `.` is set by `e` without `.`, by `. + e` or by `ALIGN(e)`, and in no other way",
-                    );
+                    )?;
                 }
             }
             return Ok(());

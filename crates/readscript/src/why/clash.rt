@@ -55,18 +55,19 @@ fn clash_of<'a>(
     Ok(if is_new { None } else { Some(reason) })
 }
 
-/// The first of these notes that clashes with those before it.
-pub fn first_clash(alloc: Global, notes: &[Note<'_>]) -> Result<Option<Explanation>, AllocError> {
+/// All of these notes that clash with those before them, in their order.
+pub fn clashes(alloc: Global, notes: &[Note<'_>]) -> Result<Vec<Explanation>, AllocError> {
     let mut given = Given {
         commands: BTreeMap::new(alloc),
         sections: BTreeMap::new(alloc),
         symbols: BTreeMap::new(alloc),
         regions: BTreeMap::new(alloc),
     };
+    let mut found = Vec::new(alloc);
     for note in notes {
         if let Some(reason) = clash_of(&mut given, note)? {
-            return Ok(Some(Explanation::on_line(note.line, reason)));
+            found.push(Explanation::on_line(note.line, reason))?;
         }
     }
-    Ok(None)
+    Ok(found)
 }

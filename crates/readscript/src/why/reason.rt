@@ -3,7 +3,7 @@
 use std::fmt;
 
 /// Where a text is refused, and why.
-#[derive(Clone, Copy, Debug)]
+#[derive(Clone, Copy, Debug, PartialEq, Eq)]
 pub struct Explanation {
     /// The line, from 1; `None` says that the whole of the text is meant.
     pub line: Option<u32>,

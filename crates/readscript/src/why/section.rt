@@ -38,7 +38,9 @@ impl<'a> Walk<'a> {
             if self.passes(Mark::CloseBrace) {
                 break;
             }
-            self.pass_input()?;
+            let start = self.tokens.copy();
+            let outcome = self.pass_input();
+            self.recover(start, outcome)?;
         }
         Ok(())
     }
@@ -109,7 +111,14 @@ impl<'a> Walk<'a> {
 
     /// An output section
     pub fn pass_section(&mut self) -> Result<(), Stop> {
-        let has_load = self.pass_head()?;
+        let line = self.tokens.line();
+        let has_load = match self.pass_head() {
+            Ok(has_load) => has_load,
+            Err(stop) => {
+                self.recover_head(line, stop)?;
+                false
+            }
+        };
         for _ in 0..=self.tokens.len() {
             if self.passes(Mark::Semicolon) {
                 continue;
@@ -117,7 +126,9 @@ impl<'a> Walk<'a> {
             if self.passes(Mark::CloseBrace) {
                 break;
             }
-            self.pass_body_statement()?;
+            let start = self.tokens.copy();
+            let outcome = self.pass_body_statement();
+            self.recover(start, outcome)?;
         }
         self.pass_tail(has_load)
     }

@@ -8,6 +8,45 @@ use ldtokens::token::{Mark, Mode};
 /// What is noted under `ENTRY`, `MEMORY` and `SECTIONS`, which a script has once at most.
 const COMMANDS: [&[u8]; 3] = [b"ENTRY", b"MEMORY", b"SECTIONS"];
 
+/// What is wrong after the name of a region.
+const NO_COLON: &str =
+    "`:` is expected after the name of a memory region (attributes are not taken)";
+
+/// A field of a memory region.
+struct Field {
+    /// The word before `=`.
+    word: &'static [u8],
+    /// A word that GNU ld takes for it.
+    long: &'static [u8],
+    /// Another one.
+    short: &'static [u8],
+    /// What is wrong where the word does not stand.
+    missing: &'static str,
+    /// What is wrong where `=` does not follow.
+    no_mark: &'static str,
+}
+
+/// Where a region begins.
+const ORIGIN: Field = Field {
+    word: b"ORIGIN",
+    long: b"org",
+    short: b"o",
+    missing: "ORIGIN is expected here (`org` and `o` are not taken)",
+    no_mark: "`=` is expected after ORIGIN",
+};
+
+/// How many bytes a region has.
+const LENGTH: Field = Field {
+    word: b"LENGTH",
+    long: b"len",
+    short: b"l",
+    missing: "LENGTH is expected here (`len` and `l` are not taken)",
+    no_mark: "`=` is expected after LENGTH",
+};
+
+/// The most tokens of a region's attributes that are passed over.
+const MOST_ATTRIBUTES: usize = 16;
+
 /// Whether an expression has `.`, or an `ALIGN` of one argument, which stands for one with `.`.
 pub fn uses_dot(value: &Expr) -> bool {
     value.has_dot() || value.has_align_dot()
@@ -24,31 +63,65 @@ impl<'a> Walk<'a> {
         )
     }
 
+    /// The attributes of a region, which the profile does not have, up to and with their `)`
+    fn pass_attributes(&mut self, line: u32) -> Result<(), Stop> {
+        if self.tokens.copy().mark(Mark::OpenParenthesis).is_none() {
+            return Ok(());
+        }
+        let stop = self.wrong(NO_COLON);
+        self.note_stop(line, stop)?;
+        for _ in 0..=MOST_ATTRIBUTES {
+            if self.passes(Mark::CloseParenthesis) {
+                break;
+            }
+            self.pass_token();
+        }
+        Ok(())
+    }
+
+    /// The word of a field and `=`; what GNU ld takes for the word is noted.
+    fn pass_field(&mut self, field: &Field) -> Result<(), Stop> {
+        if !self.passes_key(Mode::Expression, field.word) {
+            let stop = self.wrong(field.missing);
+            let front = self.front_word(Mode::Expression).unwrap_or(&[]);
+            if front != field.long && front != field.short {
+                return Err(stop);
+            }
+            let line = self.tokens.line();
+            self.note_stop(line, stop)?;
+            self.pass_token();
+        }
+        self.pass(Mark::Assign, field.no_mark)
+    }
+
     /// NAME `: ORIGIN =` e `, LENGTH =` e
     fn pass_region(&mut self) -> Result<(), Stop> {
         let line = self.tokens.line();
         let name = self.pass_name(Mode::Expression)?;
-        self.pass(
-            Mark::Colon,
-            "`:` is expected after the name of a memory region (attributes are not taken)",
-        )?;
-        if !self.passes_key(Mode::Expression, b"ORIGIN") {
-            return Err(self.wrong("ORIGIN is expected here (`org` and `o` are not taken)"));
-        }
-        self.pass(Mark::Assign, "`=` is expected after ORIGIN")?;
+        self.pass_attributes(line)?;
+        self.pass(Mark::Colon, NO_COLON)?;
+        self.pass_field(&ORIGIN)?;
         let origin = self.pass_ended(Mark::Comma, "`,` is expected before LENGTH")?;
-        if !self.passes_key(Mode::Expression, b"LENGTH") {
-            return Err(self.wrong("LENGTH is expected here (`len` and `l` are not taken)"));
-        }
-        self.pass(Mark::Assign, "`=` is expected after LENGTH")?;
+        self.pass_field(&LENGTH)?;
         let extent = self.pass_expression()?;
         if uses_dot(&origin) || uses_dot(&extent) {
             self.note_dot(
                 line,
                 "`.`, or ALIGN with one argument, may not stand in MEMORY",
-            );
+            )?;
         }
         self.note(Use::Declared, name, line)
+    }
+
+    /// `,` between regions, which the profile does not have
+    fn pass_separator(&mut self) -> Result<(), Stop> {
+        if self.tokens.copy().mark(Mark::Comma).is_some() {
+            let line = self.tokens.line();
+            let stop = self.wrong("a name is expected here");
+            self.note_stop(line, stop)?;
+            self.pass_token();
+        }
+        Ok(())
     }
 
     /// `MEMORY {` {region} `}`, after the first word
@@ -58,7 +131,10 @@ impl<'a> Walk<'a> {
             if self.passes(Mark::CloseBrace) {
                 break;
             }
-            self.pass_region()?;
+            let start = self.tokens.copy();
+            let outcome = self.pass_region();
+            self.recover(start, outcome)?;
+            self.pass_separator()?;
         }
         Ok(())
     }
@@ -72,12 +148,20 @@ impl<'a> Walk<'a> {
         self.pass_ended(end, reason)
     }
 
+    /// Notes a symbol that is given, before its `=`.
+    fn note_given(&mut self, name: &'a [u8], line: u32) -> Result<(), Stop> {
+        if self.tokens.copy().mark(Mark::Assign).is_none() {
+            return Ok(());
+        }
+        self.note(Use::Symbol, name, line)
+    }
+
     /// `PROVIDE (NAME = e)`, after the first word
     fn pass_provide(&mut self) -> Result<Expr, Stop> {
         let line = self.tokens.line();
         self.pass(Mark::OpenParenthesis, "`(` is expected after PROVIDE")?;
         let name = self.pass_name(Mode::Expression)?;
-        self.note(Use::Symbol, name, line)?;
+        self.note_given(name, line)?;
         self.pass_value(
             Mark::CloseParenthesis,
             "`)` is expected after the expression of PROVIDE",
@@ -96,7 +180,7 @@ impl<'a> Walk<'a> {
             self.note_dot(
                 line,
                 "`.`, or ALIGN with one argument, may not stand in ASSERT",
-            );
+            )?;
         }
         match self.tokens.copy().text_in_quotes() {
             Some((_, rest)) => self.tokens = rest,
@@ -118,14 +202,14 @@ impl<'a> Walk<'a> {
             self.pass_provide()?
         } else {
             let name = self.pass_name(mode)?;
-            self.note(Use::Symbol, name, line)?;
+            self.note_given(name, line)?;
             self.pass_value(Mark::Semicolon, "`;` is expected after the expression")?
         };
         if is_top && uses_dot(&value) {
             self.note_dot(
                 line,
                 "`.`, or ALIGN with one argument, may not stand outside of SECTIONS",
-            );
+            )?;
         }
         Ok(())
     }
@@ -178,7 +262,9 @@ impl<'a> Walk<'a> {
             if self.passes(Mark::CloseBrace) {
                 break;
             }
-            self.pass_item()?;
+            let start = self.tokens.copy();
+            let outcome = self.pass_item();
+            self.recover(start, outcome)?;
         }
         Ok(())
     }
@@ -213,7 +299,9 @@ impl<'a> Walk<'a> {
             if self.tokens.is_empty() {
                 break;
             }
-            self.pass_statement()?;
+            let start = self.tokens.copy();
+            let outcome = self.pass_statement();
+            self.recover(start, outcome)?;
         }
         Ok(())
     }

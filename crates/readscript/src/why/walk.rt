@@ -45,7 +45,16 @@ pub struct Note<'a> {
     pub line: u32,
 }
 
-/// The walk: the tokens to come, what was noted on the way, and the first `.` that is misplaced.
+/// Where a statement stops being one of the grammar.
+#[derive(Clone, Copy, Debug)]
+pub struct Stopped {
+    /// The line on which the statement begins.
+    pub from: u32,
+    /// What is wrong.
+    pub explanation: Explanation,
+}
+
+/// The walk: the tokens to come, and what was noted on the way.
 #[derive(Drop)]
 pub struct Walk<'a> {
     /// For what it keeps.
@@ -56,8 +65,10 @@ pub struct Walk<'a> {
     pub last_line: u32,
     /// What the script does with names, in the order of the text.
     pub notes: Vec<Note<'a>>,
-    /// The first misplaced `.`.
-    pub misplaced: Option<Explanation>,
+    /// The statements that are none, in the order of the text.
+    pub stops: Vec<Stopped>,
+    /// Each misplaced `.`, in the order of the text.
+    pub misplaced: Vec<Explanation>,
 }
 
 impl<'a> Walk<'a> {
@@ -68,7 +79,8 @@ impl<'a> Walk<'a> {
             tokens,
             last_line,
             notes: Vec::new(alloc),
-            misplaced: None,
+            stops: Vec::new(alloc),
+            misplaced: Vec::new(alloc),
         }
     }
 
@@ -90,9 +102,10 @@ impl<'a> Walk<'a> {
     }
 
     /// Notes a misplaced `.` on a line.
-    pub fn note_dot(&mut self, line: u32, reason: &'static str) {
-        if self.misplaced.is_none() {
-            self.misplaced = Some(Explanation::on_line(line, reason));
+    pub fn note_dot(&mut self, line: u32, reason: &'static str) -> Result<(), Stop> {
+        match self.misplaced.push(Explanation::on_line(line, reason)) {
+            Ok(()) => Ok(()),
+            Err(_) => Err(Stop::NoMemory),
         }
     }
 
