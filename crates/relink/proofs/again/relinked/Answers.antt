@@ -63,6 +63,8 @@ returns-clause-ended c =
     let k = h.known in
     let s = k.layout in
     let same = c.in_ok-drawn.ensures.image s k.laying in
+    let valued = c.in_ok-values.ensures.good.placed in
+    let seen = valued.known in
     record {
       layout = s;
       link = sym (ends_well p s _ _ same (c.in_ok-map.ensures s h.naming k.laying h.values) all.rest);
@@ -72,8 +74,11 @@ returns-clause-ended c =
         rows = c.in_ok-rows.ensures.rows;
         laying = k.laying;
         starts = c.in_ok-starts.ensures s k.laying;
-        symbols = c.in_ok-symbols.ensures s h.naming k.view
-            (subst (AreNameValues (known_link p s h.naming)) (sym c.deref-3.ensures.value) h.values.names);
+        symbols = subst (λ (z : Layout). AreSymbolValues p z c.in_ok-symbols.symbols)
+            (one_placement p seen.layout s seen.laying.placed k.laying.placed)
+            (c.in_ok-symbols.ensures seen.layout valued.naming seen.view
+            (subst (AreNameValues (known_link p seen.layout valued.naming)) (sym c.deref-3.ensures.value)
+            valued.values.names));
       };
       image = same;
     }
