@@ -89,7 +89,11 @@ pub(crate) fn gathered(lent: Lent<'_, '_>) -> Result<Vec<Vec<Piece>>, Stop>
 
 /// Layout: where everything stands. That of the earlier link, if there is one of the same script, is resumed at the
 /// first row that differs.
-pub(crate) fn laid(lent: Lent<'_, '_>, rows: &[Vec<Piece>], meter: &mut Meter) -> Result<Laying, Stop>
+pub(crate) fn laid(
+    lent: Lent<'_, '_>,
+    rows: &[Vec<Piece>],
+    meter: &mut Meter,
+) -> Result<Laying, Stop>
     requires lent { IsLent lent }
     requires rows { rows_in (project_of lent) rows.now ≡ model.rows (project_of lent) }
     requires rest { link (project_of lent) ≡ placed (project_of lent) (layout (project_of lent)) }
@@ -172,7 +176,15 @@ pub(crate) fn relocated(
     stays.is_complete();
     is_good(lent.project, stays.laying);
     let _inputs = lent.project.inputs();
-    let relocated = Relocated::of(lent.alloc, lent.project, view, stays, values, symbols, meter)?;
+    let relocated = Relocated::of(
+        lent.alloc,
+        lent.project,
+        view,
+        stays,
+        values,
+        symbols,
+        meter,
+    )?;
     match end_if_faulty(lent.alloc, lent.project, &relocated.faults) {
         Ok(()) => Ok(relocated),
         Err(stop) => Err(stop),
