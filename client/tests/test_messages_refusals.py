@@ -2,6 +2,7 @@
 from __future__ import annotations
 
 import os
+import re
 import subprocess
 import tempfile
 import unittest
@@ -38,13 +39,16 @@ def stored_objects() -> Iterator[bytes]:
 
 
 def said(program: str, data: bytes) -> list[str]:
-    """What a program says of a file with these bytes, without the line of the refusal."""
+    """What a program says of a file with these bytes, without the line of the refusal: a text for each place.
+
+    A line that is indented deeper than a place goes on with the one above.
+    """
     with tempfile.NamedTemporaryFile() as file:
         file.write(data)
         file.flush()
         words = [find_program(program), file.name]
         output = subprocess.run(words, capture_output=True, check=False, timeout=60).stdout.decode()
-    return [line.strip() for line in output.splitlines()[1:]]
+    return re.sub(r"\n {3,}", "; ", output).replace("\n  ", "\n").splitlines()[1:]
 
 
 class RefusalTest(unittest.TestCase):
@@ -123,8 +127,8 @@ class RefusalTest(unittest.TestCase):
 
     def test_other_files(self) -> None:
         """What files are that are no ELF files."""
-        for start, what in [(b"!<arch>\n", "it is an archive: take its objects out, with `ar x`"),
-                            (b"BC\xc0\xde", "it is LLVM's bitcode, which has no code: compile without -flto")]:
+        for start, what in [(b"!<arch>\n", "it is an archive: `ar x` unpacks its objects"),
+                            (b"BC\xc0\xde", "compile without -flto")]:
             data = start + bytes(100)
             message = refusal_message("a.o", self.refused(self.session.add(b"a.o", 0, data)), data)
             self.assertTrue(message.sentence.endswith(what), message.sentence)
