@@ -40,7 +40,7 @@ use Rattle.ldvalues.specs.declared.link_view.LinkView.{LinkView}
 use Rattle.ldvalues.specs.declared.values.Values.{Values}
 use Rattle.relink.specs.Counted.{AreEvaluated, HasEvaluated}
 use Rattle.relink.specs.Ended.{HasLast}
-use Rattle.relink.specs.Phases.{AreBeside, ArePatches, HasOld, IsBeside, IsFilled, IsShort}
+use Rattle.relink.specs.Phases.{AreBeside, ArePatches, HasOld, IsFilled, IsShort}
 use Rattle.relink.specs.Reads.{ReadsNothing}
 use Rattle.relink.proofs.Reading.{fields_read_nothing}
 
@@ -70,7 +70,7 @@ pub record IsKnownBeside (p : Project) (s : Layout) (a : NamingState) (y : Stays
   pub reads : ReadsNothing before after
 
 -- the new link, and the earlier one
-pub are_stays : (p : Project) (l : Laying) (y : Stays) (w : LinkView) (v : Values) (is : IsShort p l w v)
+are_stays : (p : Project) (l : Laying) (y : Stays) (w : LinkView) (v : Values) (is : IsShort p l w v)
     → AreBeside p is.placed.known.layout y → AreNamesDistinct p.objects → (old : GoodLink)
     → IfSome (last_of y.last) (IsLastOf old p)
     → AreStays y old (known_link p is.placed.known.layout is.placed.naming)
@@ -166,11 +166,6 @@ one_placement p s t e f =
     let same : s ≡ t = cc both in
     same
 
--- so tables that are beside those of an earlier link at one are so at each
-pub beside_at : (p : Project) (l : Laying) (y : Stays) (s : Layout) → IsLaying p s l → AreBeside p s y → IsBeside p l y
-beside_at p l y s is h =
-    λ t laying. subst (λ (z : Layout). AreBeside p z y) (one_placement p s t is.placed laying.placed) h
-
 -- patches that end within the image at one end within it at each
 pub end_within : (p : Project) (s t : Layout) (qs : List Patch) → placement p.script (rows p) (provided p) ≡ Ok s
     → placement p.script (rows p) (provided p) ≡ Ok t → All (EndsBy (image_length p s)) qs
@@ -178,22 +173,27 @@ pub end_within : (p : Project) (s t : Layout) (qs : List Patch) → placement p.
 end_within p s t qs e f h =
     subst (λ (z : Layout). All (EndsBy (image_length p z)) qs) (one_placement p s t e f) h
 
--- and what is counted at one is counted at each
-pub evaluated_at : (p : Project) (l : Laying) (y : Stays) (r : Relocated) (before after : Counts) (s : Layout)
-    → IsLaying p s l → AreEvaluated p s y r before after → HasEvaluated p l y r before after
-evaluated_at p l y r before after s is h =
+-- what is counted at one is counted at each
+pub evaluated_at : (p : Project) (y : Stays) (r : Relocated) (before after : Counts) (s : Layout)
+    → IsLaying p s y.laying.now → AreEvaluated p s y r before after → HasEvaluated p y r before after
+evaluated_at p y r before after s is h =
     λ t laying.
     subst (λ (z : Layout). AreEvaluated p z y r before after) (one_placement p s t is.placed laying.placed) h
 
 -- a link that is filled can be drawn
-pub drawable_at : (p : Project) (l : Laying) (y : Stays) (w : LinkView) (v : Values) (r : Relocated)
-    (f : IsFilled p l y w v r)
-    → IsDrawableAt p f.short.placed.known.layout f.short.placed.naming l y.starts.now v r
+pub drawable_at : (p : Project) (y : Stays) (v : Values) (r : Relocated) (f : IsFilled p y v r)
+    → IsDrawableAt p f.short.placed.known.layout f.short.placed.naming y.laying.now y.starts.now v r
     (λ k. is_some (range_of y k))
-drawable_at p l y w v r f = record {
+drawable_at p y v r f = record {
   laying = f.short.placed.known.laying;
   starts = f.beside.starts;
   values = f.short.placed.values;
   fields = f.fields;
   short = f.short.length;
 }
+
+-- and its tables are those of the new link beside each that the earlier one may be
+pub stays_of : (p : Project) (y : Stays) (v : Values) (r : Relocated) (f : IsFilled p y v r) (old : GoodLink)
+    → IfSome (last_of y.last) (IsLastOf old p)
+    → AreStays y old (known_link p f.short.placed.known.layout f.short.placed.naming)
+stays_of p y v r f old last = are_stays p _ y _ v f.short f.beside f.names old last

@@ -21,7 +21,7 @@ use Rattle.ldmodel.specs.WorkBound.{IsImageWork, bytes_stayed, retargeted_bytes,
 use Rattle.ldoutput.specs.Beside.{new_link}
 use Rattle.ldoutput.specs.declared.relocated.Relocated.{Relocated}
 use Rattle.place.specs.Counted.{CountsPieces}
-use Rattle.relink.specs.Counted.{AreDrawn, AreEvaluated, ArePlaced, CountsFields}
+use Rattle.relink.specs.Counted.{AreDrawn, AreEvaluated, ArePlaced, CountsFields, IsWritten}
 use Rattle.relink.specs.Worked.{IsLinkWork}
 
 -- ---- counts that rise
@@ -85,16 +85,11 @@ some_last : (l : Option Last) (x : LastState) → last_of l ≡ Some x → IsSom
 some_last None x e = absurd (let none : ⊥ = cc in none)
 some_last (Some l) x e = refl
 
-pub are_drawn : (p : Project) (t : Layout) (y : Stays) (r : Relocated) (m0 m1 m2 : Counts) → m0.bytes < 2 ^ 64
+pub are_drawn : (p : Project) (t : Layout) (y : Stays) (r : Relocated) (m0 m1 m2 : Counts)
     → layout p ≡ of_length (image_length p t) t → IsGood (new_link p t) → AreEvaluated p t y r m0 m1
-    → (k : ℕ) × (m2 ≡ raised m1 counts.Bytes k)
-    → ((old : GoodLink) → IfSome (last_of y.last) (IsLastOf old p) → IsSome y.last
-    → patch_bytes r.retargeted.items ≤ retargeted_bytes old (new_link p t)
-    → m2.bytes + bytes_stayed old (new_link p t)
-    ≤ m1.bytes + (image_length p t + retargeted_bytes old (new_link p t)))
-    → AreDrawn p (last_of y.last) m0 m2
-are_drawn p t y r m0 m1 m2 small is good h bytes work = record {
-  pieces = ap (λ (m : Counts). m.pieces) bytes.1 ∙ ap (λ (m : Counts). m.pieces) h.fields.1;
+    → IsWritten p t y r m1 m2 → AreDrawn p (last_of y.last) m0 m2
+are_drawn p t y r m0 m1 m2 is good h w = record {
+  pieces = ap (λ (m : Counts). m.pieces) w.bytes.1 ∙ ap (λ (m : Counts). m.pieces) h.fields.1;
   image = λ old x s e last laid.
       subst (λ (z : Layout). IsImageWork old (new_link p z) (m2.fields - m0.fields) (m2.bytes - m0.bytes))
       (own_layout p s t is laid)
@@ -102,11 +97,15 @@ are_drawn p t y r m0 m1 m2 small is good h bytes work = record {
       last.table.good);
 }
   where
+    small : m0.bytes < 2 ^ 64
+    small = omega (arith, w.small, ap (λ (m : Counts). m.bytes) h.fields.1)
+
     at_own : (old : GoodLink) → IfSome (last_of y.last) (IsLastOf old p) → IsSome y.last → IsGood old
         → IsImageWork old (new_link p t) (m2.fields - m0.fields) (m2.bytes - m0.bytes)
     at_own old last some old_good =
         let counted = h.beside old last some old_good good in
-        image_work old (new_link p t) r m0 m1 m2 bytes.0 small counted bytes.1 (work old last some counted.few)
+        image_work old (new_link p t) r m0 m1 m2 w.bytes.0 small counted w.bytes.1
+        (w.work old last some counted.few)
 
 -- ---- the link
 

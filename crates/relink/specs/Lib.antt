@@ -1,6 +1,7 @@
 pub mod Applied
 pub mod Counted
 pub mod Ended
+pub mod Lent
 pub mod Phases
 pub mod Reads
 pub mod Worked

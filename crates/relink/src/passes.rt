@@ -1,7 +1,6 @@
-//! The phases of a link that may have faults, each with an early end.
+//! The passes of a link, each with what holds after it.
 
-ghost use Rattle.std.specs.Prelude.{◌≡◌, IfErr, IfOk, IfSome, OnOk, map};
-ghost use Rattle.gather.specs.ProjectMatches.{AreMatched};
+ghost use Rattle.std.specs.Prelude.{◌≡◌, IfErr, IfOk, IfSome, OnErr, OnOk, map};
 ghost use Rattle.ldkept.specs.Stays.{last_of};
 ghost use Rattle.ldkept.specs.SymbolTable.{AreSymbolValues};
 ghost use Rattle.ldlayout.specs.Laying.{HasLayout, IsLaying};
@@ -9,34 +8,34 @@ ghost use Rattle.ldmodel.specs.Layout.{Layout};
 ghost use Rattle.ldmodel.specs.Link.{gathering_faults, layout, link, placed, unless};
 ghost use Rattle.ldmodel.specs.Rows as model;
 ghost use Rattle.ldmodel.specs.declared.fault.Fault.TheVariants.{Orphan};
-ghost use Rattle.ldnaming.specs.Naming.{IsNaming};
 ghost use Rattle.ldproject.specs.ByPlace.{rows_in};
 ghost use Rattle.ldvalues.specs.Given.{IsGiven};
-ghost use Rattle.relink.specs.Counted.{ArePlaced, HasEvaluated};
-ghost use Rattle.relink.specs.Phases.{HasOld, IsArranged, IsBeside, IsFaultless, IsFilled, IsKnown, IsPlaced, IsShort};
+ghost use Rattle.relink.specs.Counted.{ArePlaced, HasEvaluated, HasWritten};
+ghost use Rattle.relink.specs.Ended.{HasLast};
+ghost use Rattle.relink.specs.Lent.{IsLent, project_of};
+ghost use Rattle.relink.specs.Phases.{HasOld, IsBeside, IsFaultless, IsFilled, IsImage, IsKnown, IsPlaced, IsShort};
 ghost use Rattle.relink.specs.Reads.{EndsReadingNothing, ReadsNothing};
 ghost use Rattle.relink.specs.Stops.{IsStop};
 
+use crate::lent::Lent;
 use crate::stop::{Stop, end_if_faulty};
 use gather::gathering::Gathering;
-use gather::matches::Matches;
+use ldfields::canvas::Canvas;
 use ldkept::first::resumed;
-use ldkept::stays::{Last, Stays};
+use ldkept::stays::Stays;
 use ldkept::symbol_table::SymbolTable;
 use ldlayout::laying::{LayFault, Laying};
 use ldlayout::length::length_fault;
-use ldlayout::starts::Starts;
 use ldmodel::fault::Fault;
 use ldmodel::memory::NoMemory;
 use ldmodel::meter::Meter;
 use ldmodel::rows::Piece;
 use ldmodel::sections::SectionKey;
-use ldnaming::naming::Naming;
 use ldoutput::fault_lines::fault_text;
 use ldoutput::good::is_good;
+use ldoutput::image::draw_image;
 use ldoutput::length::image_length;
 use ldoutput::relocated::Relocated;
-use ldproject::view::ProjectView;
 use ldvalues::asserting::assertion_faults;
 use ldvalues::given::GivenValues;
 use ldvalues::link_view::LinkView;
@@ -45,14 +44,15 @@ use std::alloc::Global;
 
 /// Names: no fault of names ends the link.
 #[tactic(auto, unfolding(ldmodel::specs::Link::link))]
-pub(crate) fn named(alloc: Global, project: &ProjectView<'_>, naming: &Naming) -> Result<(), Stop>
-    requires { IsNaming project.now naming.now }
-    ensures rest { OnOk result (link project.now
-        ≡ unless (gathering_faults project.now) (placed project.now (layout project.now))) }
-    ensures stop { IfErr result (λ stop. IsStop (link project.now) stop) }
+pub(crate) fn named(lent: Lent<'_, '_>) -> Result<(), Stop>
+    requires { IsLent lent }
+    ensures rest { OnOk result (link (project_of lent.entry)
+        ≡ unless (gathering_faults (project_of lent.entry))
+        (placed (project_of lent.entry) (layout (project_of lent.entry)))) }
+    ensures stop { IfErr result (λ stop. IsStop (link (project_of lent.entry)) stop) }
 {
-    let faults = naming.faults(alloc, project)?;
-    match end_if_faulty(alloc, project, &faults) {
+    let faults = lent.naming.faults(lent.alloc, lent.project)?;
+    match end_if_faulty(lent.alloc, lent.project, &faults) {
         Ok(()) => Ok(()),
         Err(stop) => Err(stop),
     }
@@ -70,23 +70,18 @@ fn orphan_faults(alloc: Global, orphans: &[SectionKey]) -> Result<Vec<Fault>, No
 }
 
 /// Gathering: the row of each output section.
-pub(crate) fn gathered(
-    alloc: Global,
-    project: &ProjectView<'_>,
-    naming: &Naming,
-    matches: &[&Matches],
-) -> Result<Vec<Vec<Piece>>, Stop>
-    requires naming { IsNaming project.now naming.now }
-    requires matches { AreMatched project.now (map (λ x. x.now) matches.now) }
-    requires rest { link project.now
-        ≡ unless (gathering_faults project.now) (placed project.now (layout project.now)) }
-    ensures rows { IfOk result (λ v. rows_in project.now v.items ≡ model.rows project.now) }
-    ensures rest { OnOk result (link project.now ≡ placed project.now (layout project.now)) }
-    ensures stop { IfErr result (λ stop. IsStop (link project.now) stop) }
+pub(crate) fn gathered(lent: Lent<'_, '_>) -> Result<Vec<Vec<Piece>>, Stop>
+    requires lent { IsLent lent }
+    requires rest { link (project_of lent)
+        ≡ unless (gathering_faults (project_of lent)) (placed (project_of lent) (layout (project_of lent))) }
+    ensures rows { IfOk result (λ v. rows_in (project_of lent.entry) v.items ≡ model.rows (project_of lent.entry)) }
+    ensures rest { OnOk result (link (project_of lent.entry)
+        ≡ placed (project_of lent.entry) (layout (project_of lent.entry))) }
+    ensures stop { IfErr result (λ stop. IsStop (link (project_of lent.entry)) stop) }
 {
-    let gathering = Gathering::of(alloc, project, naming, matches)?;
-    let faults = orphan_faults(alloc, &gathering.orphans)?;
-    match end_if_faulty(alloc, project, &faults) {
+    let gathering = Gathering::of(lent.alloc, lent.project, lent.naming, lent.matches)?;
+    let faults = orphan_faults(lent.alloc, &gathering.orphans)?;
+    match end_if_faulty(lent.alloc, lent.project, &faults) {
         Ok(()) => Ok(gathering.rows),
         Err(stop) => Err(stop),
     }
@@ -94,92 +89,44 @@ pub(crate) fn gathered(
 
 /// Layout: where everything stands. That of the earlier link, if there is one of the same script, is resumed at the
 /// first row that differs.
-pub(crate) fn laid(
-    alloc: Global,
-    project: &ProjectView<'_>,
-    naming: &Naming,
-    rows: &[Vec<Piece>],
-    last: Option<Last<'_>>,
-    meter: &mut Meter,
-) -> Result<Laying, Stop>
-    requires naming { IsNaming project.now naming.now }
-    requires rows { rows_in project.now rows.now ≡ model.rows project.now }
-    requires rest { link project.now ≡ placed project.now (layout project.now) }
-    requires last { IfSome (last_of last) (HasOld project.now) }
-    ensures good { IfOk result (λ laying. HasLayout project.now laying) }
-    ensures stop { IfErr result (λ stop. IsStop (link project.now) stop) }
+pub(crate) fn laid(lent: Lent<'_, '_>, rows: &[Vec<Piece>], meter: &mut Meter) -> Result<Laying, Stop>
+    requires lent { IsLent lent }
+    requires rows { rows_in (project_of lent) rows.now ≡ model.rows (project_of lent) }
+    requires rest { link (project_of lent) ≡ placed (project_of lent) (layout (project_of lent)) }
+    requires last { IfSome (last_of lent.last) (HasOld (project_of lent)) }
+    ensures good { IfOk result (λ laying. HasLayout (project_of lent.entry) laying) }
+    ensures stop { IfErr result (λ stop. IsStop (link (project_of lent.entry)) stop) }
     ensures reads { ReadsNothing meter.old meter.new }
-    ensures counted { OnOk result (ArePlaced project.now (last_of last.entry) meter.old meter.new) }
+    ensures counted { OnOk result
+        (ArePlaced (project_of lent.entry) (last_of lent.entry.last) meter.old meter.new) }
 {
-    let kept = resumed(last, project, rows);
-    match Laying::of(alloc, project, naming, rows, kept, meter) {
+    let kept = resumed(lent.last, lent.project, rows);
+    match Laying::of(lent.alloc, lent.project, lent.naming, rows, kept, meter) {
         Ok(laying) => Ok(laying),
         Err(LayFault::NoMemory) => Err(Stop::NoMemory),
         Err(LayFault::Faulty(faults)) => {
-            let lines = fault_text(alloc, project, &faults)?;
+            let lines = fault_text(lent.alloc, lent.project, &faults)?;
             Err(Stop::Faulty(lines))
         }
     }
 }
 
-/// A link whose parts have their places.
-#[derive(Drop)]
-pub(crate) struct Arrangement {
-    /// The row of each output section.
-    pub rows: Vec<Vec<Piece>>,
-    /// Where everything stands.
-    pub laying: Laying,
-    /// Where each input section starts.
-    pub starts: Starts,
-}
-
-/// Names, gathering and layout: where everything stands, over names that are decided, matches that are found, and an
-/// earlier link, if there is one.
-pub(crate) fn arranged(
-    alloc: Global,
-    project: &ProjectView<'_>,
-    naming: &Naming,
-    matches: &[&Matches],
-    last: Option<Last<'_>>,
-    meter: &mut Meter,
-) -> Result<Arrangement, Stop>
-    requires naming { IsNaming project.now naming.now }
-    requires matches { AreMatched project.now (map (λ x. x.now) matches.now) }
-    requires last { IfSome (last_of last) (HasOld project.now) }
-    ensures good { IfOk result (λ x. IsArranged project.now x) }
-    ensures stop { IfErr result (λ stop. IsStop (link project.now) stop) }
-    ensures reads { OnOk result (ReadsNothing meter.old meter.new) }
-    ensures counted { OnOk result (ArePlaced project.now (last_of last.entry) meter.old meter.new) }
-    ensures early { IfErr result (λ stop. EndsReadingNothing meter.old meter.new stop) }
-{
-    named(alloc, project, naming)?;
-    let rows = gathered(alloc, project, naming, matches)?;
-    let laying = laid(alloc, project, naming, &rows, last, meter)?;
-    let starts = Starts::of(alloc, project, &rows, &laying)?;
-    Ok(Arrangement {
-        rows,
-        laying,
-        starts,
-    })
-}
-
 /// The end of layout: the image is not too long.
 fn fits(
-    alloc: Global,
-    project: &ProjectView<'_>,
+    lent: Lent<'_, '_>,
     laying: &Laying,
     view: &LinkView<'_, '_>,
     values: &Values<'_>,
 ) -> Result<(), Stop>
-    requires { IsPlaced project.now laying.now view.now values.now }
-    ensures good { OnOk result (IsShort project.now laying.now view.now values.now) }
-    ensures stop { IfErr result (λ stop. IsStop (link project.now) stop) }
+    requires { IsPlaced (project_of lent) laying.now view.now values.now }
+    ensures good { OnOk result (IsShort (project_of lent.entry) laying.now view.now values.now) }
+    ensures stop { IfErr result (λ stop. IsStop (link (project_of lent.entry)) stop) }
 {
-    let length = image_length(alloc, project, laying, values)?;
+    let length = image_length(lent.alloc, lent.project, laying, values)?;
     match length_fault(length) {
         None => Ok(()),
         Some(fault) => {
-            let lines = fault_text(alloc, project, &[fault])?;
+            let lines = fault_text(lent.alloc, lent.project, &[fault])?;
             Err(Stop::Faulty(lines))
         }
     }
@@ -187,97 +134,101 @@ fn fits(
 
 /// Values: what the symbols are worth, and so the length of the image.
 pub(crate) fn valued<'a>(
-    alloc: Global,
-    project: &'a ProjectView<'_>,
-    naming: &'a Naming,
+    lent: Lent<'a, '_>,
     laying: &Laying,
     view: &LinkView<'_, '_>,
     given: &GivenValues<'a>,
 ) -> Result<Values<'a>, Stop>
-    requires naming { IsNaming project.now naming.now }
-    requires given { IsGiven project.now naming.now laying.now given.now }
-    requires known { IsKnown project.now naming.now laying.now view.now }
-    ensures good { IfOk result (λ values. IsShort project.now laying.now view.now values) }
-    ensures stop { IfErr result (λ stop. IsStop (link project.now) stop) }
+    requires lent { IsLent lent }
+    requires given { IsGiven (project_of lent) lent.naming.now laying.now given.now }
+    requires known { IsKnown (project_of lent) lent.naming.now laying.now view.now }
+    ensures good { IfOk result (λ values. IsShort (project_of lent.entry) laying.now view.now values) }
+    ensures stop { IfErr result (λ stop. IsStop (link (project_of lent.entry)) stop) }
 {
-    let values = Values::of(alloc, project, naming, view, given)?;
-    fits(alloc, project, laying, view, &values)?;
+    let values = Values::of(lent.alloc, lent.project, lent.naming, view, given)?;
+    fits(lent, laying, view, &values)?;
     Ok(values)
 }
 
 /// Relocation: the fields of all relocations, but those of what stayed whose symbols have the values that they had.
-fn relocated(
-    alloc: Global,
-    project: &ProjectView<'_>,
-    laying: &Laying,
+pub(crate) fn relocated(
+    lent: Lent<'_, '_>,
     stays: &Stays<'_>,
     view: &LinkView<'_, '_>,
     values: &Values<'_>,
     symbols: &SymbolTable,
     meter: &mut Meter,
 ) -> Result<Relocated, Stop>
-    requires short { IsShort project.now laying.now view.now values.now }
-    requires beside { IsBeside project.now laying.now stays.now }
-    requires symbols { (s : Layout) → IsLaying project.now s laying.now → AreSymbolValues project.now s symbols.now }
-    ensures good { IfOk result (λ r. IsFilled project.now laying.now stays.now view.now values.now r) }
-    ensures stop { IfErr result (λ stop. IsStop (link project.now) stop) }
+    requires short { IsShort (project_of lent) stays.now.laying.now view.now values.now }
+    requires beside { IsBeside (project_of lent) stays.now }
+    requires symbols { (s : Layout) → IsLaying (project_of lent) s stays.now.laying.now
+        → AreSymbolValues (project_of lent) s symbols.now }
+    ensures good { IfOk result (λ r. IsFilled (project_of lent.entry) stays.now values.now r) }
+    ensures stop { IfErr result (λ stop. IsStop (link (project_of lent.entry)) stop) }
     ensures reads { OnOk result (ReadsNothing meter.old meter.new) }
-    ensures counted { IfOk result (λ r. HasEvaluated project.now laying.now stays.now r meter.old meter.new) }
+    ensures counted { IfOk result (λ r. HasEvaluated (project_of lent.entry) stays.now r meter.old meter.new) }
     ensures early { IfErr result (λ stop. EndsReadingNothing meter.old meter.new stop) }
 {
     stays.is_complete();
-    is_good(project, laying);
-    let _inputs = project.inputs();
-    let relocated = Relocated::of(alloc, project, view, stays, values, symbols, meter)?;
-    match end_if_faulty(alloc, project, &relocated.faults) {
+    is_good(lent.project, stays.laying);
+    let _inputs = lent.project.inputs();
+    let relocated = Relocated::of(lent.alloc, lent.project, view, stays, values, symbols, meter)?;
+    match end_if_faulty(lent.alloc, lent.project, &relocated.faults) {
         Ok(()) => Ok(relocated),
         Err(stop) => Err(stop),
     }
 }
 
 /// Assertions: each holds.
-fn asserted(
-    alloc: Global,
-    project: &ProjectView<'_>,
-    laying: &Laying,
+pub(crate) fn asserted(
+    lent: Lent<'_, '_>,
     stays: &Stays<'_>,
-    view: &LinkView<'_, '_>,
     values: &Values<'_>,
     fields: &Relocated,
 ) -> Result<(), Stop>
-    requires { IsFilled project.now laying.now stays.now view.now values.now fields.now }
-    ensures good { OnOk result (IsFaultless project.now laying.now stays.now view.now values.now fields.now) }
-    ensures stop { IfErr result (λ stop. IsStop (link project.now) stop) }
+    requires { IsFilled (project_of lent) stays.now values.now fields.now }
+    ensures good { OnOk result (IsFaultless (project_of lent.entry) stays.now values.now fields.now) }
+    ensures stop { IfErr result (λ stop. IsStop (link (project_of lent.entry)) stop) }
 {
-    let faults = assertion_faults(alloc, project, laying, values)?;
-    match end_if_faulty(alloc, project, &faults) {
+    let faults = assertion_faults(lent.alloc, lent.project, stays.laying, values)?;
+    match end_if_faulty(lent.alloc, lent.project, &faults) {
         Ok(()) => Ok(()),
         Err(stop) => Err(stop),
     }
 }
 
-/// Evaluation: the fields of relocations, but those of what stayed whose symbols have the values that they had, and the
-/// assertions.
-pub(crate) fn evaluated(
-    alloc: Global,
-    project: &ProjectView<'_>,
-    laying: &Laying,
+/// The image, drawn over that of the earlier link. Where memory runs out, the canvas is as it was.
+pub(crate) fn drawn(
+    lent: Lent<'_, '_>,
+    canvas: &mut Canvas,
+    rows: &[Vec<Piece>],
     stays: &Stays<'_>,
-    view: &LinkView<'_, '_>,
     values: &Values<'_>,
-    symbols: &SymbolTable,
+    fields: &Relocated,
     meter: &mut Meter,
-) -> Result<Relocated, Stop>
-    requires short { IsShort project.now laying.now view.now values.now }
-    requires beside { IsBeside project.now laying.now stays.now }
-    requires symbols { (s : Layout) → IsLaying project.now s laying.now → AreSymbolValues project.now s symbols.now }
-    ensures good { IfOk result (λ r. IsFaultless project.now laying.now stays.now view.now values.now r) }
-    ensures stop { IfErr result (λ stop. IsStop (link project.now) stop) }
+) -> Result<(), NoMemory>
+    requires rows { rows_in (project_of lent) rows.now ≡ model.rows (project_of lent) }
+    requires filled { IsFilled (project_of lent) stays.now values.now fields.now }
+    requires last { IfSome (last_of stays.now.last) (HasLast (project_of lent) canvas.old.bytes) }
+    ensures image { OnOk result (IsImage (project_of lent.entry) stays.now canvas.new.bytes) }
     ensures reads { OnOk result (ReadsNothing meter.old meter.new) }
-    ensures counted { IfOk result (λ r. HasEvaluated project.now laying.now stays.now r meter.old meter.new) }
-    ensures early { IfErr result (λ stop. EndsReadingNothing meter.old meter.new stop) }
+    ensures counted { OnOk result (HasWritten (project_of lent.entry) stays.now fields.now meter.old meter.new) }
+    ensures unchanged { OnErr result (canvas.new.bytes ≡ canvas.old.bytes) }
 {
-    let fields = relocated(alloc, project, laying, stays, view, values, symbols, meter)?;
-    asserted(alloc, project, laying, stays, view, values, &fields)?;
-    Ok(fields)
+    stays.is_complete();
+    let _bytes = meter.bytes();
+    draw_image(
+        lent.alloc,
+        canvas,
+        lent.project,
+        rows,
+        stays.laying,
+        stays.starts,
+        values,
+        fields,
+        stays,
+        &fields.retargeted,
+        meter,
+    )?;
+    Ok(())
 }

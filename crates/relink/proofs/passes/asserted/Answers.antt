@@ -7,7 +7,7 @@ use Rattle.relink.proofs.passes.asserted.Goals as goal
 
 pub returns-in-Ok-clause-good : goal.returns-in-Ok-clause-good
 returns-in-Ok-clause-good c =
-    let p = c.args.project.now in
+    let p = c.args.lent.project.now in
     let h = c.requires.short.placed in
     let s = h.known.layout in
     record {
@@ -19,7 +19,7 @@ returns-in-Ok-clause-good c =
 
 pub returns-clause-stop : goal.returns-clause-stop
 returns-clause-stop c =
-    let p = c.args.project.now in
+    let p = c.args.lent.project.now in
     let h = c.requires.short.placed in
     let s = h.known.layout in
     subst (λ (l : Link). IsStop l c.in-Err.stop) (sym c.requires.rest)

@@ -10,7 +10,7 @@ use Rattle.relink.proofs.passes.fits.Goals as goal
 
 pub returns-in-None-clause-good : goal.returns-in-None-clause-good
 returns-in-None-clause-good c =
-    let p = c.args.project.now in
+    let p = c.args.lent.project.now in
     let k = c.requires.known in
     let s = k.layout in
     let n : ℕ = c.in_ok-length.length in
@@ -29,7 +29,7 @@ returns-in-None-clause-good c =
 
 pub returns-in_ok-lines-in-Some-clause-stop : goal.returns-in_ok-lines-in-Some-clause-stop
 returns-in_ok-lines-in-Some-clause-stop c =
-    let p = c.args.project.now in
+    let p = c.args.lent.project.now in
     let k = c.requires.known in
     let s = k.layout in
     let n : ℕ = c.in_ok-length.length in

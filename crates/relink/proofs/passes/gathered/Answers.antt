@@ -8,7 +8,7 @@ use Rattle.relink.proofs.passes.gathered.Goals as goal
 
 pub returns-in-Ok-clause-rest : goal.returns-in-Ok-clause-rest
 returns-in-Ok-clause-rest c =
-    let p = c.args.project.now in
+    let p = c.args.lent.project.now in
     let keys = c.in_ok-gathering.gathering.orphans.items in
     c.requires.rest
     ∙ c.in-Ok.ensures.good (gathering_faults p) (placed p (layout p))
@@ -17,7 +17,7 @@ returns-in-Ok-clause-rest c =
 
 pub returns-in-Err-clause-stop : goal.returns-in-Err-clause-stop
 returns-in-Err-clause-stop c =
-    let p = c.args.project.now in
+    let p = c.args.lent.project.now in
     let keys = c.in_ok-gathering.gathering.orphans.items in
     subst (λ (l : Link). IsStop l c.in-Err.stop) (sym c.requires.rest)
     (c.in-Err.ensures.stop (gathering_faults p) (placed p (layout p))

@@ -6,13 +6,13 @@ use Rattle.relink.proofs.passes.named.Goals as goal
 pub returns-in-Ok-clause-rest : goal.returns-in-Ok-clause-rest
 unfolding link
 returns-in-Ok-clause-rest c =
-    let p = c.args.project.now in
+    let p = c.args.lent.project.now in
     c.in-Ok.ensures.good (name_faults p) (unless (gathering_faults p) (placed p (layout p)))
     (ap (faults_in p) c.deref.ensures.value ∙ c.in_ok-faults.ensures)
 
 pub returns-clause-stop : goal.returns-clause-stop
 unfolding link
 returns-clause-stop c =
-    let p = c.args.project.now in
+    let p = c.args.lent.project.now in
     c.in-Err.ensures.stop (name_faults p) (unless (gathering_faults p) (placed p (layout p)))
     (ap (faults_in p) c.deref.ensures.value ∙ c.in_ok-faults.ensures)

@@ -11,7 +11,7 @@ use Rattle.relink.proofs.passes.relocated.Goals as goal
 
 pub returns-in-Ok-clause-good : goal.returns-in-Ok-clause-good
 returns-in-Ok-clause-good c =
-    let p = c.args.project.now in
+    let p = c.args.lent.project.now in
     let h = c.requires.short.placed.known in
     let s = h.layout in
     let b = known_beside p _ _ _ _ c.args.symbols.now _ _ _ c.requires.short (c.requires.beside s h.laying)
@@ -21,7 +21,9 @@ returns-in-Ok-clause-good c =
     let new = c.is_good.ensures s h.laying c.requires.short.length
     (none_of (relocation_faults p s) (λ next. c.in-Ok.ensures.good (relocation_faults p s) next same)) in
     record {
+      known_by = c.args.view.now;
       short = c.requires.short;
+      names = c.inputs-inputs.ensures.distinct;
       beside = c.requires.beside s h.laying;
       fields = b.fields;
       patches = b.patches new;
@@ -32,7 +34,7 @@ returns-in-Ok-clause-good c =
 
 pub returns-in-Err-clause-stop : goal.returns-in-Err-clause-stop
 returns-in-Err-clause-stop c =
-    let p = c.args.project.now in
+    let p = c.args.lent.project.now in
     let h = c.requires.short.placed.known in
     let s = h.layout in
     let b = known_beside p _ _ _ _ c.args.symbols.now _ _ _ c.requires.short (c.requires.beside s h.laying)
@@ -56,7 +58,7 @@ returns-in-Ok-clause-counted c =
     let b = known_beside _ _ _ _ _ c.args.symbols.now _ _ _ c.requires.short (c.requires.beside k.layout k.laying)
     (c.requires.symbols k.layout k.laying) c.inputs-inputs.ensures.distinct c.in_ok-relocated.ensures
     c.is_complete.ensures.complete c.is_complete.ensures.none in
-    evaluated_at _ _ _ _ _ _ k.layout k.laying b.counted
+    evaluated_at _ _ _ _ _ k.layout k.laying b.counted
 
 pub returns-in-Err-clause-early : goal.returns-in-Err-clause-early
 returns-in-Err-clause-early c =

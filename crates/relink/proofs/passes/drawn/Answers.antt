@@ -1,0 +1,76 @@
+use Rattle.std.proofs.Common.{◌≡◌, ◌<◌, ◌≤◌, ◌^◌, ℕ, List, refl, subst, sym}
+use Rattle.std.specs.List.{All}
+use Rattle.ldfields.specs.declared.patch.Patch.{Patch}
+use Rattle.ldimage.specs.Kept.{ArePatchesOf}
+use Rattle.ldimage.specs.Stretches.{EndsBy, patch_bytes}
+use Rattle.ldmodel.specs.Image.{image}
+use Rattle.ldmodel.specs.Layout.{Layout}
+use Rattle.ldmodel.specs.SectionHeaders.{image_length}
+use Rattle.ldmodel.specs.WorkBound.{retargeted_bytes}
+use Rattle.ldoutput.specs.Beside.{new_link}
+use Rattle.ldvalues.specs.LinkView.{known_link}
+use Rattle.relink.specs.Counted.{IsWritten}
+use Rattle.relink.specs.Lent.{project_of}
+use Rattle.relink.proofs.Beside.{drawable_at, drawn_image, end_within, one_placement, stays_of}
+use Rattle.relink.proofs.Reading.{bytes_read_nothing}
+use Rattle.relink.proofs.passes.drawn.Goals as goal
+
+pub draw_image-requires-clause-drawable : goal.draw_image-requires-clause-drawable
+draw_image-requires-clause-drawable c =
+    let h = c.requires.filled.short.placed in
+    record {
+      layout = h.known.layout;
+      names = h.naming;
+      is = drawable_at (project_of c.args.lent) _ _ _ c.requires.filled;
+    }
+
+pub draw_image-requires-clause-patches : goal.draw_image-requires-clause-patches
+draw_image-requires-clause-patches c =
+    λ s laying.
+    let p = project_of c.args.lent in
+    let k = c.requires.filled.short.placed.known in
+    subst (All (EndsBy (image_length p s))) (sym c.deref.ensures.value)
+    (end_within p k.layout s c.args.fields.now.retargeted.items k.laying.placed laying.placed
+    c.requires.filled.patches.ends)
+
+pub returns-clause-image : goal.returns-clause-image
+returns-clause-image c =
+    λ t laying.
+    let p = project_of c.args.lent in
+    let f = c.requires.filled in
+    let k = f.short.placed.known in
+    let s = k.layout in
+    let a = f.short.placed.naming in
+    let drawable = drawable_at p _ _ _ f in
+    subst (λ (z : Layout). c.draw_image.new.canvas.bytes ≡ image p z)
+    (one_placement p s t k.laying.placed laying.placed)
+    (drawn_image p s a _ c.args.fields.now c.args.canvas.now.bytes c.draw_image.new.canvas.bytes
+    c.requires.last c.is_complete.ensures.none
+    (λ old last. c.is_complete.ensures.sound old (known_link p s a) (stays_of p _ _ _ f old last))
+    f.patches (λ nothing. c.in_ok-draw_image.ensures.image s a drawable nothing)
+    (λ old good sound patches before. c.in_ok-draw_image.ensures.redrawn old (new_link p s) a refl drawable good f.good
+    sound (subst (ArePatchesOf old (new_link p s)) (sym c.deref.ensures.value) patches) before))
+
+pub returns-clause-reads : goal.returns-clause-reads
+returns-clause-reads c =
+    let drawn = c.in_ok-draw_image.ensures.counted in bytes_read_nothing _ _ drawn.0 drawn.1
+
+pub returns-clause-counted : goal.returns-clause-counted
+returns-clause-counted c =
+    λ t laying.
+    let p = project_of c.args.lent in
+    let f = c.requires.filled in
+    let k = f.short.placed.known in
+    let s = k.layout in
+    let a = f.short.placed.naming in
+    subst (λ (z : Layout). IsWritten p z c.args.stays.now c.args.fields.now c.args.meter.now c.draw_image.new.meter)
+    (one_placement p s t k.laying.placed laying.placed)
+    (record {
+      small = subst (λ (n : ℕ). n < 2 ^ 64) c.bytes-bytes.ensures c.bytes-bytes.type_inv;
+      bytes = c.in_ok-draw_image.ensures.counted;
+      work = λ old last some few.
+          c.in_ok-draw_image.ensures.work old (new_link p s) a refl (drawable_at p _ _ _ f) f.good
+          (c.is_complete.ensures.complete old (known_link p s a) (stays_of p _ _ _ f old last) some)
+          (subst (λ (qs : List Patch). patch_bytes qs ≤ retargeted_bytes old (new_link p s))
+          (sym c.deref.ensures.value) few);
+    })
