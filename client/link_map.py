@@ -52,14 +52,15 @@ class BadMap(Exception):
     """A text that is no map of `ldi`; the text says at which line."""
 
 
-def read_map(text: bytes) -> LinkMap:
+def read_map(data: bytes) -> LinkMap:
     """The map of a text."""
     result = LinkMap()
-    for number, line in enumerate(text.splitlines(), 1):
+    for number, line in enumerate(data.splitlines(), 1):
         try:
             _take(result, line.split(b" "))
         except (ValueError, IndexError):
-            raise BadMap(f"line {number} is no line of a map: {line[:80].decode(errors='replace')}") from None
+            text = "".join(char if char.isprintable() else "?" for char in line[:80].decode(errors="replace"))
+            raise BadMap(f"line {number} is no line of a map: {text}") from None
     return result
 
 

@@ -12,6 +12,7 @@ from client.adapt.objects import Objects
 from client.adapt.patterns import has_wildcard
 from client.adapt.parser import expression_of, parse
 from client.adapt.sections import Sections
+from client.adapt.segments import Segments, segments_of
 from client.adapt.source import NoParse, Source
 from client.adapt.statements import Statements
 from client.adapt.structure import Structure
@@ -25,15 +26,17 @@ __all__ = ["Adapted", "NoParse", "Note", "adapt", "CHANGED", "DROPPED", "LEFT", 
 class Adapted:
     """The script for `ldi`, what was done, and where each of its lines came from."""
 
-    __slots__ = ("text", "report", "lines", "valued")
+    __slots__ = ("text", "report", "lines", "valued", "segments")
 
     def __init__(self, text: bytes, report: list[Note], lines: tuple[tuple[str, int], ...],
-                 valued: frozenset[str] = frozenset()) -> None:
+                 valued: frozenset[str] = frozenset(), segments: Segments | None = None) -> None:
         self.text, self.report = text, report
         self.lines = lines
         """For each line of `text`, from 0: the file and the line (from 1) that it came from."""
         self.valued = valued
         """The symbols of objects whose addresses expressions outside of ASSERT want."""
+        self.segments = segments
+        """What PHDRS and the `:NAME`s ask for, which `text` does not have."""
 
     @property
     def status(self) -> int:
@@ -62,6 +65,16 @@ def adapt(script: os.PathLike[str] | str | bytes, defsyms: Sequence[tuple[str, s
         with open(path, "rb") as file:
             script = file.read()
     data = script.encode() if isinstance(script, str) else script
+    try:
+        return _adapted(data, defsyms, objects, include_path, path, orphans, values)
+    except RecursionError:
+        reason = "an expression of the script has hundreds of signs: use symbols for its parts"
+        raise NoParse(path, 1, reason) from None
+
+
+def _adapted(data: bytes, defsyms: Sequence[tuple[str, str]], objects: Mapping[str, bytes] | Iterable[str] | None,
+             include_path: Sequence[str], path: str, orphans: bool, values: Mapping[str, int] | None) -> Adapted:
+    """The same, of a text."""
     front = "".join(f"{_checked(name, value)} = {value}; " for name, value in defsyms)
     source = Source(path, front.encode("latin-1", "replace") + data, tuple(include_path))
     nodes, hashes = parse(source)
@@ -80,7 +93,7 @@ def adapt(script: os.PathLike[str] | str | bytes, defsyms: Sequence[tuple[str, s
     for at in long[:1]:
         where = lines[text.count("\n", 0, at)]
         model.note(LEFT, 0, f"an expression at {where[0]}:{where[1]} has more than 64 signs: use symbols for its parts")
-    return Adapted(text.encode("latin-1"), model.report(), lines, frozenset(model.valued))
+    return Adapted(text.encode("latin-1"), model.report(), lines, frozenset(model.valued), segments_of(model))
 
 
 def _checked(name: str, value: str) -> str:

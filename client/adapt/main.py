@@ -88,12 +88,23 @@ def main(words: list[str]) -> int:
         sys.stderr.write(f"ldi-adapt: {fault}\n{USAGE}")
         return 2
     except OSError as fault:
-        sys.stderr.write(f"ldi-adapt: {fault.filename}: {fault.strerror}\n")
+        sys.stderr.write(f"ldi-adapt: {fault.filename or 'standard output'}: {fault.strerror}\n")
         return 2
+
+
+def _is_object(name: str) -> bool:
+    """Whether a file begins as an ELF-64 file does."""
+    with open(name, "rb") as file:
+        return file.read(5) == b"\x7fELF\x02"
 
 
 def _run(call: Call) -> int:
     from client.adapt.adapt import NoParse, adapt
+    from client.ld.output import TEXT, write_file
+    for name in call.objects or []:
+        if not _is_object(name):
+            sys.stderr.write(f"ldi-adapt: {name}: no object of ELF-64; of an archive, give the members\n")
+            return 2
     try:
         with open(call.script, "rb") as file:
             data = file.read()
@@ -104,8 +115,7 @@ def _run(call: Call) -> int:
     for note in result.report:
         sys.stderr.write(f"{note}\n")
     if call.out:
-        with open(call.out, "wb") as file:
-            file.write(result.text)
+        write_file(call.out, result.text, TEXT)
     else:
         sys.stdout.buffer.write(result.text)
         sys.stdout.flush()

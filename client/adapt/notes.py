@@ -10,6 +10,9 @@ CHANGED = "changed"
 LEFT = "left"
 """Nothing can be written for it; the text says what to do."""
 
+SEGMENTS = "segments follow addresses, sizes and flags"
+"""What is said of PHDRS and of `:NAME`."""
+
 
 class Note:
     """One line of the report: what became of a construct of the script. (No dataclass: those take long to import.)"""

@@ -5,10 +5,11 @@ from client.adapt import expressions as ex
 from client.adapt.heads import Heads
 from client.adapt.loads import Loads
 from client.adapt.model import Model, Step
-from client.adapt.notes import CHANGED, DROPPED, LEFT, REWRITTEN, Left
+from client.adapt.notes import CHANGED, DROPPED, LEFT, REWRITTEN, SEGMENTS, Left
+from client.adapt.objects import NOBITS
 from client.adapt.patterns import is_name
 from client.adapt.statements import needs_writing
-from client.adapt.taking import flags_of, row
+from client.adapt.taking import flags_of, inputs, row
 from client.adapt.tree import Assign, Command, Data, Expr, Input, Part, Region, Section
 from client.adapt.values import Place
 
@@ -123,10 +124,11 @@ class Sections(Heads):
         items = row(model, section)
         if not word:
             self.blank(part, DROPPED, f"() of {section.name} says nothing")
-        elif model.objects is not None and not _has_contents(section) \
-                and (not items or word == "NOLOAD" and flags_of(model, section)[2]):
-            what = "without file bytes in these objects" if items else "takes nothing of these objects"
-            self.blank(part, DROPPED, f"({word}) of {section.name}: it {what}")
+        elif word == "NOLOAD" and self._has_no_bytes(section):
+            where = " in these objects" if inputs(section) else ""
+            self.blank(part, DROPPED, f"(NOLOAD) of {section.name}: it has no file bytes{where}")
+        elif model.objects is not None and not _has_contents(section) and not items:
+            self.blank(part, DROPPED, f"({word}) of {section.name}: it takes nothing of these objects")
         elif word == "NOLOAD":
             self.blank(part, CHANGED, f"(NOLOAD) of {section.name}: what has file bytes is loaded; sections of type "
                         "NOBITS have none")
@@ -134,6 +136,13 @@ class Sections(Heads):
             self.blank(part, CHANGED, f"({word}) of {section.name}: it is loaded, if it is not empty")
         else:
             self.blank(part, CHANGED, f"({word}) of {section.name}: type and flags follow the input sections")
+
+    def _has_no_bytes(self, section: Section) -> bool:
+        """Whether a section is one of gaps and of NOBITS alone, as far as the objects are known."""
+        if any(isinstance(node, Data) for node in section.body):
+            return False
+        return not inputs(section) or self.model.objects is not None \
+            and all(item.type == NOBITS for item in row(self.model, section))
 
     def _words(self, section: Section) -> None:
         for part in section.head:
@@ -158,8 +167,7 @@ class Sections(Heads):
         region = ""
         for part in section.tail:
             if part.word == ":":
-                self.blank(part, CHANGED, f":{part.name} of {section.name}: segments follow addresses, sizes and "
-                            "flags")
+                self.blank(part, CHANGED, f":{part.name} of {section.name}: {SEGMENTS}")
                 continue
             if part.word in (">", "AT>"):
                 name = model.aliases.get(part.name, part.name)

@@ -3,7 +3,7 @@ from __future__ import annotations
 
 from client.adapt import expressions as ex
 from client.adapt.model import Model, blocks, commands
-from client.adapt.notes import CHANGED, DROPPED, LEFT, REWRITTEN
+from client.adapt.notes import CHANGED, DROPPED, LEFT, REWRITTEN, SEGMENTS
 from client.adapt.patterns import is_name
 from client.adapt.taking import all_sections, flags_of, inputs, is_outside, row, takes, taking, words
 from client.adapt.tree import Assert, Assign, Block, Command, Expr, Input, Node, Section
@@ -73,7 +73,7 @@ class Structure:
             self._drop(node, REWRITTEN, f"{text}: numbers are never relative to a section")
         elif word == "PHDRS":
             model.headers = node.args.count(";")
-            self._drop(node, CHANGED, "PHDRS: segments follow addresses, sizes and flags of the output sections")
+            self._drop(node, CHANGED, f"PHDRS: {SEGMENTS} of the output sections")
         elif word in ("INPUT", "GROUP", "STARTUP"):
             self._objects(node, text)
         elif word == "EXTERN":

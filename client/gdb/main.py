@@ -25,7 +25,7 @@ def parser() -> argparse.ArgumentParser:
         allow_abbrev=False,
     )
     words.add_argument("map", metavar="MAP", help="the map of the link")
-    words.add_argument("addresses", metavar="ADDRESS", nargs="*", help="with --lines: addresses in hexadecimal")
+    words.add_argument("addresses", metavar="ADDRESS", nargs="*", default=[], help="with --lines: addresses in hexadecimal")
     words.add_argument("-o", dest="output", metavar="OUT", help="the file to write in place of standard output")
     words.add_argument("--objects", metavar="FOLDER", default=".",
                        help="the folder that the names of objects count from; the current one by default")
@@ -88,14 +88,16 @@ def print_lines(text: bytes, options: argparse.Namespace) -> int:
         paths[placed.name] = member_path(name, options.members or ".") if member else object_path(name, options.objects)
     if options.members is not None:
         unpack_members(link_map, Objects(options.objects), options.members)
+    status = GOOD
     for word in options.addresses or sys.stdin.read().split():
         try:
             address = int(word, 16)
         except ValueError:
             say(f"{word} is no address")
-            return REFUSED
-        print(describe(places, address, paths), flush=True)
-    return GOOD
+            status = REFUSED
+        else:
+            print(describe(places, address, paths), flush=True)
+    return status
 
 
 def run(options: argparse.Namespace) -> int:
@@ -109,7 +111,7 @@ def run(options: argparse.Namespace) -> int:
 
 def main(words: Sequence[str]) -> int:
     """Runs the program with these words; gives its exit status."""
-    options = parser().parse_args(words)
+    options = parser().parse_intermixed_args(words)
     if options.symbols is not None and options.output is None:
         parser().error("--symbols needs -o OUT")
     if options.addresses and not options.lines:

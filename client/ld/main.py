@@ -2,12 +2,12 @@
 from __future__ import annotations
 
 import os
-import re
 import signal
 import subprocess
 import sys
 from types import FrameType
 
+from client.adapt.segments import about_segments
 from client.ld.command import Command, read_command
 from client.ld.fallback import hand_over
 from client.ld.flat import NoFlatImage, flat_binary
@@ -16,7 +16,8 @@ from client.ld.inputs import BadInput, CannotLink, Loader, MissingInput, Object
 from client.ld.link import Result, link, options_of
 from client.ld.options import WordsRefused
 from client.ld.output import PROGRAM, TEXT, write_file
-from client.ld.page_size import TooFar, with_pages
+from client.ld.page_size import PAGE, TooFar, with_pages
+from client.ld.phdrs import NotWritten, with_program_headers
 from client.ld.reports import memory_usage, removed_sections
 from client.ld.script import Script, Source, find_script, write_script
 from client.ld.valued import with_values
@@ -92,9 +93,12 @@ def print_asked(command: Command, source: Source | None) -> None:
 
 
 def report_script(script: Script, verbose: bool) -> None:
-    """Prints what was done to the script: what is changed always, the rest where it is asked for."""
+    """Prints what was done to the script: what is changed always, the rest where it is asked for.
+
+    What is said of PHDRS is not: they are written after the link (`Link._elf`).
+    """
     for note in script.report:
-        if verbose or note.kind in ("changed", "left"):
+        if (verbose or note.kind in ("changed", "left")) and not about_segments(note):
             print(note, file=sys.stderr)
 
 
@@ -165,7 +169,7 @@ class Link:
         if result.status:
             print_faults(result.faults, inputs)
             return FAULTS
-        self._write(result, files)
+        self._write(script, result, files)
         self._report(session, script, result)
         return GOOD
 
@@ -192,14 +196,23 @@ class Link:
             return path.replace("%", self.command.output, 1) + (".map" if path.endswith("%") else "")
         return path
 
-    def _image(self, image: bytes) -> bytes:
+    def _image(self, script: Script, image: bytes) -> bytes:
         """The image in the form that the command asks for."""
         if self.command.output_format == "binary":
             return flat_binary(image)
-        has_phdrs = re.search(r"\bPHDRS\s*\{", self.source.text) is not None
-        return with_pages(image, self.command.page_size or 0, in_file_order=has_phdrs)
+        return self._elf(script, image)
 
-    def _write(self, result: Result, files: list[str]) -> None:
+    def _elf(self, script: Script, image: bytes) -> bytes:
+        """The image with the program headers of PHDRS, else with those of `ldi`; its segments on pages."""
+        page = self.command.page_size or PAGE
+        if script.segments is not None:
+            try:
+                return with_program_headers(image, script.segments, page)
+            except NotWritten as fault:
+                say(f"{script.path}: PHDRS: {fault}: segments follow addresses, sizes and flags of the output sections")
+        return with_pages(image, page, in_file_order=script.segments is not None)
+
+    def _write(self, script: Script, result: Result, files: list[str]) -> None:
         """Writes the map, then the image."""
         command = self.command
         path = self._map_path()
@@ -208,7 +221,7 @@ class Link:
             sys.stdout.flush()
         if path is not None and path != "-":
             write_file(path, result.map, TEXT)
-        image = self._image(result.image)
+        image = self._image(script, result.image)
         write_file(command.output, image, PROGRAM)
         if command.dependency_file is not None:
             names = [*files, *command.scripts]

@@ -6,6 +6,7 @@ The segments' places in the file, and `p_align`, become what N asks for: p_offse
 from __future__ import annotations
 
 import struct
+from collections.abc import Mapping
 from dataclasses import dataclass
 
 from client.object_file import ALLOC, Header, ObjectFile
@@ -72,7 +73,7 @@ def with_pages(image: bytes, page: int, in_file_order: bool) -> bytes:
     """The image with segments aligned to `page`, a power of two.
 
     The program headers are in the order of addresses, as the gABI has them; with `in_file_order` in that of the script,
-    as of a script that writes its PHDRS.
+    as of a script that has PHDRS (`client/ld/phdrs.py`) which cannot be written.
     """
     if page <= PAGE:
         return image
@@ -87,14 +88,15 @@ def with_pages(image: bytes, page: int, in_file_order: bool) -> bytes:
     result += bytes(end - len(result))
     for one in segments:
         result[one.place : one.place + one.file_size] = image[one.offset : one.offset + one.file_size]
-    return bytes(_with_tail(image, result, segments))
+    places = {index: moved(header, segments) for index, header in enumerate(ObjectFile(image).headers)}
+    return bytes(with_tail(image, result, places))
 
 
-def _with_tail(image: bytes, result: bytearray, segments: list[Segment]) -> bytearray:
-    """Adds what is not loaded, and the section headers."""
+def with_tail(image: bytes, result: bytearray, places: Mapping[int, int | None]) -> bytearray:
+    """Adds what is not loaded, and the section headers; `places` has the new place of each section that is loaded."""
     headers = []
-    for header in ObjectFile(image).headers:
-        place = moved(header, segments)
+    for index, header in enumerate(ObjectFile(image).headers):
+        place = places.get(index)
         if place is None and header.size and not header.flags & ALLOC:
             result += bytes(-len(result) % 8)
             place = len(result)

@@ -9,6 +9,8 @@ from collections.abc import Mapping
 from dataclasses import dataclass
 
 from client.adapt.adapt import CHANGED, LEFT, Adapted, NoParse, Note, adapt
+from client.adapt.objects import Objects as Known
+from client.adapt.segments import Segments
 from client.ld.command import Command, number
 from client.ld.default_script import DEFAULT
 from client.ld.inputs import BadInput, MissingInput, Object
@@ -83,6 +85,8 @@ class Script:
     """The entry symbol where the script cannot name it, for the session's option."""
     valued: frozenset[str] = frozenset()
     """The symbols of objects whose addresses expressions of the script want."""
+    segments: Segments | None = None
+    """The program headers that PHDRS asks for."""
 
     @property
     def left(self) -> list[Note]:
@@ -133,14 +137,30 @@ def write_script(
         if changed is None:
             command.note(f"the address of {section}: the script has no such section")
         text = changed or text
-    if command.entry is None and not outline(text).has_entry:
-        command.note("no entry symbol: the image's e_entry is 0 (GNU ld takes the start of .text)")
     if command.entry is None:
-        return Script(source.path, text, adapted.lines, adapted.report, valued=adapted.valued)
-    entry = os.fsencode(command.entry)
+        text, entry = _default_entry(text, command, objects)
+    else:
+        entry = os.fsencode(command.entry)
+    if entry is None:
+        return Script(source.path, text, adapted.lines, adapted.report, None, adapted.valued, adapted.segments)
     if entry[:1].isdigit():
-        text = b"%s = 0x%x; %s" % (NUMBER_ENTRY, number(command.entry, "-e"), text)
+        text = b"%s = 0x%x; %s" % (NUMBER_ENTRY, number(os.fsdecode(entry), "-e"), text)
         entry = NUMBER_ENTRY
     written = with_entry(text, entry)
-    option = command.entry if written is None else None
-    return Script(source.path, written or text, adapted.lines, adapted.report, option, adapted.valued)
+    option = os.fsdecode(entry) if written is None else None
+    return Script(source.path, written or text, adapted.lines, adapted.report, option, adapted.valued,
+                  adapted.segments)
+
+
+def _default_entry(text: bytes, command: Command, objects: list[Object]) -> tuple[bytes, bytes | None]:
+    """Where neither ENTRY nor -e says it: the symbol `start` of an object, else the start of .text, as for GNU ld."""
+    found = outline(text)
+    if found.has_entry:
+        return text, None
+    if not command.gc_sections:
+        if Known({item.name.decode(): item.data for item in objects}).definition("start") is not None:
+            return text, b"start"
+        if any(head.name == b".text" for head in found.sections):
+            return text + b" %s = ADDR(.text);" % NUMBER_ENTRY, NUMBER_ENTRY
+    command.note("no entry symbol: the image's e_entry is 0")
+    return text, None

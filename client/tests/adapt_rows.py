@@ -106,6 +106,9 @@ MEMORY = [
 HEADS = [
     _row("two of one name", ".text : { *(.text) } . = 0x410000; .text : { *(.text.*) a = .; } b = SIZEOF(.text); REST "
          + TAIL, "c"),
+    _row("NOLOAD of gaps", "REST .heap (NOLOAD) : { low = .; . += 64; . = ALIGN(32); } .stack (NOLOAD) : { . += 16; high "
+         "= .; } " + TAIL, "d"),
+    _row("NOLOAD of gaps and NOBITS", ".b (NOLOAD) : { . = ALIGN(32); *(.bss) . += 8; } REST " + TAIL, "d", known=True),
     _row("NOLOAD", ".nothing (NOLOAD) : { *(.bss) *(COMMON) } REST " + TAIL, "d", known=True),
     _row("types", ".got.plt (INFO) : { *(.got.plt) } .x (COPY) : { *(.xx) } .y (DSECT) : { *(.yy) } .z (OVERLAY) : { "
          "*(.zz) } .w () : { *(.ww) } REST " + TAIL, "d", known=True),

@@ -73,6 +73,8 @@ class AdaptTest(unittest.TestCase):
                               ("SECTIONS {\n x = ;\n}", "script:2: an expression is expected, not `;`"),
                               ("a = 1\nb = 2;", "script:2: `;` is expected"),
                               ("/* open", "script:1: this comment has no end"),
+                              (f"x = {'(' * 3000}1{')' * 3000};", "hundreds of signs"),
+                              (f"x = {'1 + ' * 5000}1;", "hundreds of signs"),
                               ("SECTIONS { .a : { *(.a) }", "script:1: this `{` of SECTIONS has no `}`")):
             with self.assertRaisesRegex(NoParse, message):
                 adapt(text)
@@ -134,8 +136,8 @@ class ProgramTest(unittest.TestCase):
     def test_words(self) -> None:
         """Words that are refused, and those that are not."""
         for words in ((), ("s.ld", "t.ld"), ("s.ld", "--none"), ("s.ld", "--defsym", "x"), ("none.ld",),
-                      ("s.ld", "-o")):
-            status, out, report = self.run_program(*words)
+                      ("s.ld", "-o"), ("s.ld", "-o", "/dev/full"), ("s.ld", "--objects", "s.ld")):
+            status, out, report = self.run_program(*words, text="x = 1;")
             self.assertEqual((status, out), (2, ""))
             self.assertTrue(report.startswith("ldi-adapt: "), report)
         self.assertEqual(self.run_program("--help")[0], 0)

@@ -104,6 +104,9 @@ class GdbTest(ImageTest):
         place = next(line.split() for line in self.run_tool("nm", "hello").splitlines() if " write_line" in line)
         text = self.run_tool(LDI_GDB, "--lines", "hello.map", place[0], "1")
         self.assertRegex(text, r"write_line at .*text\.c:7 \(text\.o \.text\.write_line\+0x0\)\n0x1: in no section\n")
+        done = self.run_program(LDI_GDB, "--lines", "hello.map", "--objects", ".", "zzz", place[0])
+        self.assertEqual((done.returncode, done.stderr), (2, "ldi-gdb: zzz is no address\n"))
+        self.assertIn("write_line at ", done.stdout)
 
 
 class SymbolsTest(ImageTest):

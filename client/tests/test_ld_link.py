@@ -227,6 +227,18 @@ class RefusedTest(LinkTest):
                 self.assertIn(text, done.stderr)
                 self.assertNotIn("Traceback", done.stderr)
 
+    def test_no_entry(self) -> None:
+        """Without ENTRY and -e: the symbol `start`, else the start of .text, as GNU ld does; 0 without .text."""
+        script = "SECTIONS { . = 0x401000; .ro : { *(.rodata) } %s : { *(.text) } }\n"
+        for name, output in (("start", ".text"), ("other", ".text"), ("other", ".code")):
+            with self.subTest(name=name, output=output):
+                self.write("t.ld", script % output)
+                self.compile("a.s", f".section .rodata\n.byte 1\n.text\nnop\n.globl {name}\n{name}: nop\n")
+                self.links("-T", "t.ld", "a.o", "-o", "own")
+                self.run_tool("ld.bfd", "-T", "t.ld", "a.o", "-o", "other")
+                own, other = ((self.folder / image).read_bytes()[24:32] for image in ("own", "other"))
+                self.assertEqual(own, other)
+
     def test_faults(self) -> None:
         """Faults are said, the status is 1, and the old image stays."""
         objects = self.compile_example()

@@ -23,6 +23,23 @@ class FolderTest(unittest.TestCase):
         return watching
 
 
+class GdbTest(FolderTest):
+    """--gdb."""
+
+    def test_script_of_each_image(self) -> None:
+        """The script for gdb names each object, and is written anew with each image."""
+        watching = self.watch("--gdb", "image.gdb")
+        self.assertEqual(watching.next()["event"], "linked")
+        script = self.folder / "image.gdb"
+        first = script.read_text()
+        for name in self.folder.names:
+            self.assertIn(name, first)
+        script.unlink()
+        self.folder.put(self.folder.names[1], numbered(1, 2, 3))
+        self.assertEqual(watching.next()["event"], "linked")
+        self.assertTrue(script.exists())
+
+
 class MakeTest(FolderTest):
     """--make and --sources."""
 

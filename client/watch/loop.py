@@ -369,7 +369,8 @@ class Watch:
             return
         assert self.kept.session is not None
         image = self.kept.session.image()
-        map_text = self.kept.session.map() if self.map is not None else b""
+        wants_map = self.map is not None or self.words.gdb is not None
+        map_text = self.kept.session.map() if wants_map else b""
         if self.compare and self.image.holds(image) and (self.map is None or self.map.holds(map_text)):
             self._placed(len(image), written=False)
             return
@@ -378,6 +379,7 @@ class Watch:
             self._prepare(image, map_text)
             if not self._begins_anew(look.result()):
                 self._commit()
+                self._write_gdb(map_text)
                 self._placed(len(image), written=True)
         except OSError as fault:
             self._set_state(Waiting(((self.words.image, f"it cannot be written: {fault.strerror or fault}"),)))
@@ -409,6 +411,21 @@ class Watch:
             if self.map is not None:
                 self.map.commit()
             self.image.commit()
+
+    def _write_gdb(self, map_text: bytes) -> None:
+        """Writes the script of --gdb for the image that was put in place."""
+        if self.words.gdb is None:
+            return
+        from client.gdb.script import gdb_script  # only where it is wanted: it takes time to start
+
+        output = Output(self.words.gdb, MAP_MODE)
+        try:
+            output.prepare(gdb_script(map_text, ".").encode(errors="surrogateescape"))
+            output.commit()
+        except OSError as fault:
+            self.teller.note(self.words.gdb, f"it cannot be written: {fault.strerror or fault}")
+        finally:
+            output.drop()
 
     def _drop(self) -> None:
         self.image.drop()

@@ -7,7 +7,8 @@ from client.protocol import Options
 
 USAGE = """\
 usage: ldi-watch -T SCRIPT -o IMAGE [--Map MAP] [--gc-sections] [-e SYMBOL] [--orphan-handling HANDLING]
-                 [--make COMMAND [--sources PATTERN..]] [--run COMMAND] [--json] [--once] OBJECT.. | @LIST
+                 [--make COMMAND [--sources PATTERN..]] [--run COMMAND] [--gdb FILE] [--json] [--once]
+                 OBJECT.. | @LIST
 
 Keeps IMAGE up to date while the script and the objects change. The words of `ldi link` mean what they mean there.
 
@@ -16,6 +17,7 @@ Keeps IMAGE up to date while the script and the objects change. The words of `ld
   --sources PATTERN..  the sources: words up to the next option, or several in one word; without it
                        *.c *.h *.s *.S *.cc *.rs *.ld Makefile, below this folder
   --run COMMAND        is run after each new image; what ran before is ended first
+  --gdb FILE           a script for gdb that goes with each new image, as of ldi-gdb
   --json               one object a line on standard output in place of the lines for people
   --once               ends after the first link: 0 a good image, 1 faults or a failed COMMAND, 2 a refusal,
                        3 a file cannot be read or written, 4 out of memory
@@ -25,7 +27,7 @@ Keeps IMAGE up to date while the script and the objects change. The words of `ld
 DEFAULT_SOURCES = ("*.c", "*.h", "*.s", "*.S", "*.cc", "*.rs", "*.ld", "Makefile")
 
 SHORT = ("-T", "-o", "-e")
-LONG = ("--Map", "--orphan-handling", "--make", "--run")
+LONG = ("--Map", "--orphan-handling", "--make", "--run", "--gdb")
 FLAGS = ("--gc-sections", "--json", "--once")
 
 
@@ -52,6 +54,7 @@ class Words:
     make: str | None = None
     sources: tuple[str, ...] = DEFAULT_SOURCES
     run: str | None = None
+    gdb: str | None = None
     json: bool = False
     once: bool = False
 
@@ -152,6 +155,7 @@ def read_words(words: list[str]) -> Words:
         make=reader.values.get("--make"),
         sources=tuple(reader.sources or DEFAULT_SOURCES),
         run=reader.values.get("--run"),
+        gdb=reader.values.get("--gdb"),
         json="--json" in reader.flags,
         once="--once" in reader.flags,
     )

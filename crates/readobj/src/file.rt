@@ -1,6 +1,7 @@
 //! What is printed of a file that the command line names.
 
 use crate::why::explain::explain;
+use crate::why::lto::is_slim;
 use elfobj::object::Object;
 use elfobj::refusal::ObjectRefusal;
 use elfobj::section::LinkedIndex;
@@ -15,7 +16,7 @@ const READ: u8 = 0;
 /// The file is refused.
 const REFUSED: u8 = 1;
 
-/// That a file is an object, and how much is in it.
+/// That a file is an object, and how much is in it, or that it has nothing to link.
 fn print_read<W: Write>(out: &mut W, name: &str, object: &Object) -> io::Result<()> {
     let sections = object.sections().len();
     let symbols = object.symbols().len();
@@ -26,7 +27,14 @@ fn print_read<W: Write>(out: &mut W, name: &str, object: &Object) -> io::Result<
     writeln!(
         out,
         "{name}: an object with {sections} sections, {symbols} symbols, {relocations} relocations"
-    )
+    )?;
+    if is_slim(object) {
+        writeln!(
+            out,
+            "  warning: it has neither code nor data, only what link-time optimization takes: compile without -flto"
+        )?;
+    }
+    Ok(())
 }
 
 /// That a file is refused, with the numbers that `ldi` says of it, and where and why.

@@ -4,12 +4,14 @@
 //!
 //!     FILE: an object with N sections, N symbols, N relocations
 //!     FILE: refused 4 N
-//!       PLACE: REASON
+//!       PLACE (NAME): REASON
+//!         to do: ADVICE
 //!
-//! on standard output. Sections and relocations are the linked ones, symbols the entries of the symbol table from
-//! entry 0 on. N after `refused 4` is the reader's number; a file that is too long for `ldi` is `refused 6 0`. It ends
-//! with status 0 where the file is an object, with 1 where it is refused, with 2 where there are more words, with 3
-//! where the file cannot be read or standard output cannot be written, and with 4 out of memory.
+//! on standard output, the last where there is advice. An object that gcc made for link-time optimization alone has no
+//! code, which a line `warning: ..` says. Sections and relocations are the linked ones, symbols the entries of the
+//! symbol table from entry 0 on. N after `refused 4` is the reader's number; a file that is too long for `ldi` is
+//! `refused 6 0`. It ends with status 0 where the file is an object, with 1 where it is refused, with 2 where there are
+//! more words, with 3 where the file cannot be read or standard output cannot be written, and with 4 out of memory.
 //!
 //! Without a word it reads a stream of objects from standard input, each of which is a line `object LEN` or
 //! `object LEN TITLE` and LEN bytes right after it. For each it prints a line `object TITLE`, then one line for each
@@ -26,7 +28,7 @@
 //! SYMBOL the number of the entry that it names. A local symbol has no NAME.
 //!
 //! Of bytes that are no object it prints `refused N` with the reader's number instead, and a line with two spaces and
-//! the place and the reason, for people.
+//! the place and the reason, and perhaps one with advice, for people.
 //!
 //! `variants` in place of `object` asks what the reader says of all beginnings of the object, from the empty one to the
 //! whole one, and of the object with one byte set to 00, 7F or FF, for every byte. It prints a line `variants TITLE`,

@@ -1,26 +1,24 @@
 //! Why bytes are refused, for people: where in the file, and what is wrong there. It looks at the file anew, and
 //! nothing but its safety is proved.
 
-ghost use Rattle.std.specs.Prelude.{◌≡◌, IfSome, length};
-
+use crate::why::look::{entry, header, header_count, is_name_at, symbol, symbol_table};
+use crate::why::told::{Told, tell};
 use elffile::constants::{
-    EHDR_SIZE, ELFCLASS64, ELFDATA2LSB, EM_X86_64, ET_REL, EV_CURRENT, MAX_NAME_LENGTH,
-    MAX_SECTION_HEADERS, MAX_SECTION_SIZE, PROFILE_FLAGS, RELA_SIZE, SHDR_SIZE, SHN_ABS,
-    SHN_COMMON, SHN_UNDEF, SHT_NOBITS, SHT_NULL, SHT_REL, SHT_STRTAB, STB_GLOBAL, STB_WEAK,
-    STT_COMMON, STT_FILE, STT_SECTION, SYM_SIZE,
+    EHDR_SIZE, ELFCLASS64, ELFDATA2LSB, EM_X86_64, ET_REL, EV_CURRENT, MAX_SECTION_HEADERS,
+    MAX_SECTION_SIZE, PROFILE_FLAGS, RELA_SIZE, SHDR_SIZE, SHN_ABS, SHN_COMMON, SHN_UNDEF,
+    SHT_NOBITS, SHT_NULL, SHT_REL, SHT_STRTAB, STB_GLOBAL, STB_WEAK, STT_COMMON, STT_FILE,
+    STT_SECTION, SYM_SIZE,
 };
-use elffile::elf_header::{name_table_number, section_count, section_table_offset};
-use elffile::names::is_graphic;
+use elffile::elf_header::name_table_number;
 use elffile::numbers::{read_u16, read_u32};
-use elffile::relocation_entry::{RelocationEntry, read_relocation_entry};
-use elffile::section_header::{NULL_HEADER, SectionHeader, read_header};
-use elffile::symbol_entry::{SymbolEntry, read_symbol_entry};
+use elffile::relocation_entry::RelocationEntry;
+use elffile::section_header::SectionHeader;
+use elffile::symbol_entry::SymbolEntry;
 use elfobj::field::{is_outside, put_in_order};
 use elfobj::refusal::ObjectRefusal;
 use elfobj::relocation::Relocation;
 use elfobj::section::{Section, SectionIndex, SectionKind};
 use std::alloc::{AllocError, Global};
-use std::fmt;
 
 /// What a refusal is about.
 #[derive(Clone, Copy, Debug)]
@@ -35,17 +33,6 @@ pub enum Place {
     Entry(u16, u64),
 }
 
-impl fmt::Display for Place {
-    fn fmt<W: fmt::Write>(&self, f: &mut fmt::Formatter<W>) -> fmt::Result {
-        match self {
-            Place::Header => write!(f, "the ELF header"),
-            Place::Section(number) => write!(f, "section {number}"),
-            Place::Symbol(number) => write!(f, "symbol {number}"),
-            Place::Entry(section, number) => write!(f, "entry {number} of section {section}"),
-        }
-    }
-}
-
 /// Where a file is refused, and why.
 #[derive(Clone, Copy, Debug)]
 pub struct Explanation {
@@ -53,72 +40,6 @@ pub struct Explanation {
     pub place: Place,
     /// What is wrong with it.
     pub reason: &'static str,
-}
-
-impl fmt::Display for Explanation {
-    fn fmt<W: fmt::Write>(&self, f: &mut fmt::Formatter<W>) -> fmt::Result {
-        let place = &self.place;
-        let reason = self.reason;
-        write!(f, "{place}: {reason}")
-    }
-}
-
-/// The `size` bytes from an offset on, if the file has them.
-fn part(bytes: &[u8], offset: u64, size: usize) -> Option<&[u8]>
-    ensures { IfSome result (λ s. length s.now ≡ size) }
-{
-    let rest = bytes.get(offset as usize..)?;
-    rest.get(..size)
-}
-
-fn header(bytes: &[u8], number: u16) -> SectionHeader {
-    if number == 0 || bytes.len() < usize::from(EHDR_SIZE) {
-        return NULL_HEADER;
-    }
-    let offset = u64::from(SHDR_SIZE) * u64::from(number);
-    match part(
-        bytes,
-        section_table_offset(bytes).saturating_add(offset),
-        64,
-    ) {
-        Some(bytes) => read_header(bytes, 0),
-        None => NULL_HEADER,
-    }
-}
-
-fn header_count(bytes: &[u8]) -> u16 {
-    if bytes.len() < usize::from(EHDR_SIZE) {
-        return 0;
-    }
-    section_count(bytes)
-}
-
-fn symbol(bytes: &[u8], table: &SectionHeader, number: u64) -> Option<SymbolEntry> {
-    let offset = (SYM_SIZE as u64).saturating_mul(number);
-    let bytes = part(bytes, table.sh_offset.saturating_add(offset), 24)?;
-    Some(read_symbol_entry(bytes, 0))
-}
-
-fn entry(bytes: &[u8], table: &SectionHeader, number: u64) -> Option<RelocationEntry> {
-    let offset = (RELA_SIZE as u64).saturating_mul(number);
-    let bytes = part(bytes, table.sh_offset.saturating_add(offset), 24)?;
-    Some(read_relocation_entry(bytes, 0))
-}
-
-/// Whether a name begins at an offset of a string table.
-fn is_name_at(bytes: &[u8], table: &SectionHeader, at: u32) -> bool {
-    let size = table.sh_size.saturating_sub(u64::from(at)) as usize;
-    let Some(text) = part(bytes, table.sh_offset.saturating_add(u64::from(at)), size) else {
-        return false;
-    };
-    match text.iter().position(|b| *b == 0) {
-        Some(end) => {
-            end > 0
-                && end <= usize::from(MAX_NAME_LENGTH)
-                && text[..end].iter().all(|b| is_graphic(*b))
-        }
-        None => false,
-    }
 }
 
 // The ELF header
@@ -231,10 +152,6 @@ fn profile(bytes: &[u8]) -> Option<Explanation> {
 }
 
 // The symbol table
-
-fn symbol_table(bytes: &[u8]) -> Option<u16> {
-    (0..header_count(bytes)).find(|number| header(bytes, *number).is_symbol_table())
-}
 
 fn symbol_table_reason(bytes: &[u8], table: &SectionHeader) -> Option<&'static str> {
     let count = table.sh_size / SYM_SIZE as u64;
@@ -502,8 +419,8 @@ fn overlap(alloc: Global, bytes: &[u8]) -> Result<Option<Explanation>, AllocErro
     Ok(None)
 }
 
-/// Where and why `Object::read` refused these bytes with this refusal, for people; none where it did not.
-pub fn explain(
+/// Where and why these bytes are refused so.
+fn find_explanation(
     alloc: Global,
     bytes: &[u8],
     refusal: ObjectRefusal,
@@ -532,4 +449,17 @@ pub fn explain(
         place: Place::Header,
         reason,
     }))
+}
+
+/// Where and why `Object::read` refused these bytes with this refusal, and what to do, for people; none where it did
+/// not.
+pub fn explain(
+    alloc: Global,
+    bytes: &[u8],
+    refusal: ObjectRefusal,
+) -> Result<Option<Told<'_>>, AllocError> {
+    match find_explanation(alloc, bytes, refusal)? {
+        Some(explanation) => Ok(Some(tell(bytes, refusal, explanation))),
+        None => Ok(None),
+    }
 }
