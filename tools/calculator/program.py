@@ -64,12 +64,12 @@ def link_files(given, options):
 
 
 def write_files(given, linked):
-    """The image and the map; or the fault lines on standard error, and no file."""
+    """The map and then the image; or the fault lines on standard error, and no file."""
     if linked.status != 0:
         sys.stderr.buffer.write(linked.faults)
         return linked.status
     try:
-        for file, data in ((given.o, linked.image), (given.Map, linked.map)):
+        for file, data in ((given.Map, linked.map), (given.o, linked.image)):
             if file is not None:
                 with open(file, "wb") as out:
                     out.write(data)

@@ -3,13 +3,13 @@
 use ldmodel::edit::MAX_PAYLOAD;
 use relink::file::ObjectFile;
 use std::fs::{File, OpenOptions};
-use std::io;
 use std::io::{ErrorKind, Read, Write};
 use std::os::unix::fs::OpenOptionsExt;
+use std::{fs, io};
 
 /// The permission bits of an image that is made: all may read and run it. The system takes away the bits of the umask,
 /// as of each file that is made.
-pub const IMAGE_MODE: u32 = 0o755;
+const IMAGE_MODE: u32 = 0o755;
 /// The permission bits of a map that is made: all may read it.
 pub const MAP_MODE: u32 = 0o644;
 
@@ -75,11 +75,27 @@ pub fn read_objects(rt: &HostRuntime, names: &[String]) -> io::Result<Vec<Object
     Ok(files)
 }
 
+/// Whether a name is that of a regular file itself: not of a link, a device or a folder.
+fn is_regular(rt: &HostRuntime, name: &str) -> bool {
+    match fs::symlink_metadata(rt, name) {
+        Ok(metadata) => metadata.is_file(),
+        Err(_) => false,
+    }
+}
+
+/// Takes away a regular file. One that may not be taken away stays.
+fn take_away(rt: &HostRuntime, name: &str) {
+    if is_regular(rt, name) {
+        let _ = fs::remove_file(rt, name);
+    }
+}
+
 /// Writes a file: a new one with these permission bits, or in place of what it held.
 ///
 /// # Errors
 ///
-/// Where the file can't be written. It may hold a beginning of the bytes then.
+/// Where the file can't be written. No part of the bytes is left of it then: a regular file is taken away, and what may
+/// not be taken away, or stands behind a link, is emptied.
 pub fn write_file(rt: &HostRuntime, name: &str, mode: u32, bytes: &[u8]) -> io::Result<()> {
     let mut file = OpenOptions::new()
         .write(true)
@@ -87,5 +103,22 @@ pub fn write_file(rt: &HostRuntime, name: &str, mode: u32, bytes: &[u8]) -> io::
         .truncate(true)
         .mode(mode)
         .open(rt, name)?;
-    file.write_all(bytes)
+    let written = file.write_all(bytes);
+    if written.is_err() {
+        // a device has no length to set
+        let _ = file.set_len(0);
+        take_away(rt, name);
+    }
+    written
+}
+
+/// Writes an image in place of a file of its name. A regular one is taken away first: a program that runs keeps the file
+/// that it began with, and the image is a new one.
+///
+/// # Errors
+///
+/// As `write_file`.
+pub fn write_image(rt: &HostRuntime, name: &str, bytes: &[u8]) -> io::Result<()> {
+    take_away(rt, name);
+    write_file(rt, name, IMAGE_MODE, bytes)
 }

@@ -1,6 +1,6 @@
 //! `ldi link`: reads the files, the script first, links once, and writes the image and the map.
 
-use crate::files::{IMAGE_MODE, MAP_MODE, read_file, read_objects, write_file};
+use crate::files::{MAP_MODE, read_file, read_objects, write_file, write_image};
 use crate::{DEVICE, NO_MEMORY};
 use ldmodel::options::Options;
 use relink::ending::{exit_status, message};
@@ -25,13 +25,12 @@ pub struct FileNames {
     pub objects: Vec<String>,
 }
 
-/// Writes the image and the map.
+/// Writes the map and then the image: where the map can't be written, an old image stays as it is.
 fn write_output(rt: &HostRuntime, names: &FileNames, output: &Output) -> io::Result<()> {
-    write_file(rt, names.image.as_str(), IMAGE_MODE, output.image())?;
-    match &names.map {
-        Some(map) => write_file(rt, map.as_str(), MAP_MODE, output.map()),
-        None => Ok(()),
+    if let Some(map) = &names.map {
+        write_file(rt, map.as_str(), MAP_MODE, output.map())?;
     }
+    write_image(rt, names.image.as_str(), output.image())
 }
 
 /// Reads all files, links, and writes the image and the map of a good link, or what else there is to say on standard
