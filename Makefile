@@ -5,8 +5,8 @@ LDI ?= $(CURDIR)/crates/ldi/out/ldi
 PREFIX ?= /usr/local
 export LDI
 
-.PHONY: help demo ldi install check test fmt examples bench check-real check-images check-model check-link \
-        check-readers check-session check-counts check-memory mutants
+.PHONY: help demo ldi install check test test-client fmt examples bench check-real check-images check-model \
+        check-link check-readers check-session check-counts check-memory mutants
 
 help: ## this list
 	@awk -F ':.*## ' '/^[a-z-]+:.*## / { printf "make %-14s %s\n", $$1, $$2 }' Makefile
@@ -19,16 +19,17 @@ demo: ## builds ldi without its proofs, links the smallest program and shows the
 ldi: ## proves every crate that the program stands on, and builds it: crates/ldi/out/ldi
 	@tools/build-ldi
 
-install: ## puts the program that `make ldi` built into PREFIX/bin; PREFIX is /usr/local by default
-	@test -x crates/ldi/out/ldi || { echo "crates/ldi/out/ldi is not built: run 'make ldi' first" >&2; exit 1; }
-	install -d "$(DESTDIR)$(PREFIX)/bin"
-	install -m 755 crates/ldi/out/ldi "$(DESTDIR)$(PREFIX)/bin/ldi"
+install: ## puts what `make ldi` built and the client's programs into PREFIX; PREFIX is /usr/local by default
+	@tools/install "$(DESTDIR)$(PREFIX)"
 
 check: ## proves every crate, over what earlier runs have proved
 	rt all check
 
 test: ## the merge gate: every proof from nothing, the edits that must fail, the tests and the stored runs
 	rt ci
+
+test-client: ## the tests of the client's programs, over the program that `make ldi` built
+	@tools/test-client
 
 fmt: ## lays out the files of every crate, and prints those that changed, and what crates.txt names without need
 	@tools/fmt

@@ -1,0 +1,174 @@
+"""The session's protocol: commands to `ldi session` through a pipe, and its answers.
+
+All that the client's programs rest on of `ldi` stands in this file. docs/manual.md, 'Commands' and 'Answers', defines
+it. Handles allow the linker no waiting and no processes; that is why the programs here are not written in Rattle.
+"""
+from __future__ import annotations
+
+import os
+import subprocess
+from dataclasses import dataclass
+from typing import IO, cast
+
+GREATEST_PAYLOAD = 1 << 26
+"""The bytes that an object or a script has at most."""
+
+GREATEST_NAME = 255
+"""The bytes that an object's name has at most; each is from `!` to `~`."""
+
+
+@dataclass(frozen=True)
+class Options:
+    """The options of a session, by the words of `ldi session` and `ldi link`."""
+
+    gc_sections: bool = False
+    entry: str | None = None
+    orphan_handling: str | None = None
+
+    def words(self) -> list[str]:
+        """The options as words of a command line."""
+        words = ["--gc-sections"] if self.gc_sections else []
+        if self.entry is not None:
+            words += [f"-e={self.entry}"]
+        if self.orphan_handling is not None:
+            words += [f"--orphan-handling={self.orphan_handling}"]
+        return words
+
+
+@dataclass(frozen=True)
+class Linked:
+    """An edit was accepted: the status of its link (0 good, 1 with faults) and the length of the image in bytes."""
+
+    status: int
+    length: int
+
+
+@dataclass(frozen=True)
+class Refused:
+    """An edit was refused, and changed nothing: `refused number inner` (docs/manual.md, 'Refusals')."""
+
+    number: int
+    inner: int
+
+
+Answer = Linked | Refused
+
+
+class SessionEnded(Exception):
+    """The session's process ended, or wrote what is no answer."""
+
+
+def is_name(name: bytes) -> bool:
+    """Whether the session takes this as an object's name."""
+    return 1 <= len(name) <= GREATEST_NAME and all(0x21 <= byte <= 0x7E for byte in name)
+
+
+def find_program(name: str = "ldi") -> str:
+    """The path of a program of the linker: $LDI and its neighbours, else the one on PATH.
+
+    `LDI` names `ldi` itself; `readobj` and `readscript` are looked for beside it, then in the crates of a repository
+    (`crates/NAME/out/NAME`), then on PATH.
+    """
+    ldi = os.environ.get("LDI")
+    if name == "ldi":
+        return ldi or "ldi"
+    if ldi:
+        folder = os.path.dirname(os.path.realpath(ldi))
+        for path in (os.path.join(folder, name), os.path.join(folder, "..", "..", name, "out", name)):
+            if os.access(path, os.X_OK):
+                return os.path.normpath(path)
+    return name
+
+
+class Session:
+    """A running `ldi session`. Each call sends one command and reads its answer; SessionEnded where it has ended."""
+
+    def __init__(self, options: Options = Options(), program: str | None = None) -> None:
+        self.process = subprocess.Popen(
+            [program or find_program(), "session", *options.words()],
+            stdin=subprocess.PIPE,
+            stdout=subprocess.PIPE,
+            start_new_session=True,
+        )
+        self._to = cast(IO[bytes], self.process.stdin)
+        self._from = cast(IO[bytes], self.process.stdout)
+
+    def add(self, name: bytes, position: int, data: bytes) -> Answer:
+        """Adds an object before `position`, counted from 0."""
+        return self._edit(b"add %s %d %d" % (name, position, len(data)), data)
+
+    def replace(self, name: bytes, data: bytes) -> Answer:
+        """The object of that name becomes another, in its place."""
+        return self._edit(b"replace %s %d" % (name, len(data)), data)
+
+    def move(self, name: bytes, position: int) -> Answer:
+        """Takes the object out, and puts it before `position` of the others."""
+        return self._edit(b"move %s %d" % (name, position))
+
+    def remove(self, name: bytes) -> Answer:
+        """Takes the object out."""
+        return self._edit(b"remove %s" % name)
+
+    def script(self, data: bytes) -> Answer:
+        """Sets the script."""
+        return self._edit(b"script %d" % len(data), data)
+
+    def image(self) -> bytes:
+        """The image of the last link; empty where that has faults."""
+        return self._query(b"image")
+
+    def map(self) -> bytes:
+        """The map of the last link; empty where that has faults."""
+        return self._query(b"map")
+
+    def faults(self) -> bytes:
+        """The fault lines of the last link; empty where that has none."""
+        return self._query(b"faults")
+
+    def close(self) -> int:
+        """Ends the session; gives its status."""
+        try:
+            self._to.close()
+        except OSError:
+            pass
+        self._from.close()
+        return self.process.wait()
+
+    def kill(self) -> None:
+        """Ends the session at once."""
+        self.process.kill()
+        self.close()
+
+    def _send(self, line: bytes, payload: bytes = b"") -> list[bytes]:
+        try:
+            self._to.write(line + b"\n")
+            self._to.write(payload)
+            self._to.flush()
+            answer = self._from.readline()
+        except (OSError, ValueError) as fault:
+            raise SessionEnded(str(fault)) from fault
+        if not answer.endswith(b"\n"):
+            raise SessionEnded("the session ended")
+        return answer.split()
+
+    def _edit(self, line: bytes, payload: bytes = b"") -> Answer:
+        words = self._send(line, payload)
+        match words:
+            case [b"linked", status, length]:
+                return Linked(int(status), int(length))
+            case [b"refused", number, inner]:
+                return Refused(int(number), int(inner))
+        raise SessionEnded(f"not an answer to an edit: {b' '.join(words)!r}")
+
+    def _query(self, line: bytes) -> bytes:
+        words = self._send(line)
+        if len(words) != 2 or words[0] != b"bytes":
+            raise SessionEnded(f"not an answer to a query: {b' '.join(words)!r}")
+        length = int(words[1])
+        try:
+            data = self._from.read(length)
+        except (OSError, ValueError) as fault:
+            raise SessionEnded(str(fault)) from fault
+        if len(data) != length:
+            raise SessionEnded("the session ended in an answer")
+        return data

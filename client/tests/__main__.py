@@ -1,0 +1,25 @@
+"""Runs the client's tests, and ends with the line `N passed, N failed`, with `, N skipped` where some were.
+
+Words name modules of this folder; without words all are run.
+"""
+import os
+import sys
+import unittest
+
+
+def main() -> int:
+    """Runs the tests that the words name; gives the exit status."""
+    folder = os.path.dirname(os.path.abspath(__file__))
+    loader = unittest.TestLoader()
+    if len(sys.argv) > 1:
+        suite = loader.loadTestsFromNames([f"client.tests.{word}" for word in sys.argv[1:]])
+    else:
+        suite = loader.discover(folder, top_level_dir=os.path.join(folder, "..", ".."))
+    result = unittest.TextTestRunner(verbosity=2).run(suite)
+    failed = len(result.failures) + len(result.errors) + len(result.unexpectedSuccesses)
+    skipped = len(result.skipped)
+    print(f"{result.testsRun - failed - skipped} passed, {failed} failed{f', {skipped} skipped' if skipped else ''}")
+    return 1 if failed else 0
+
+
+sys.exit(main())
