@@ -1,10 +1,11 @@
 -- Sites that were evaluated one after another.
 use Rattle.std.proofs.Common.{◌≡◌, ◌<◌, ◌≤◌, ◌^◌, ℕ, ◌+◌, List, [], ◌∷◌, ◌++◌, length, map, filter, take, get_or, false}
-use Rattle.std.proofs.Common.{ap, sym, ◌∙◌, arith, add-one, append_assoc, append-nil, length-append, subst, take-suc}
+use Rattle.std.proofs.Common.{ap, sym, ◌∙◌, arith, add-one, append_assoc, append-nil, subst, take-suc}
 use Rattle.std.proofs.Math.Seq.{take-length}
 use Rattle.std.specs.List.{All, filter_map}
 use Rattle.std.proofs.lemmas.List.{map-append}
 use Rattle.std.proofs.lemmas.List.Elements.{filter-append, filter_map-append}
+use Rattle.std.proofs.lemmas.List.Sums.{sum_by-append}
 use Rattle.elfobj.specs.Sections.{LinkedSection}
 use Rattle.elfobj.specs.declared.relocation.Relocation.{Relocation}
 use Rattle.ldfields.specs.Patches.{AreInOrder, IsWithin, patched_byte}
@@ -12,10 +13,11 @@ use Rattle.ldfields.specs.declared.patch.Patch.{Patch}
 use Rattle.ldmodel.specs.Counts.{Counts, capped}
 use Rattle.ldmodel.specs.Project.{NamedObject}
 use Rattle.ldmodel.specs.Raised.{raised}
-use Rattle.ldmodel.specs.Relocations.{Site, is_evaluated}
+use Rattle.ldmodel.specs.Relocations.{Site, is_evaluated, site_value}
 use Rattle.ldmodel.specs.declared.fault.Fault as code
 use Rattle.ldbase.specs.declared.meter.Count.TheVariants as count
-use Rattle.ldtargets.specs.Fields.{AreFieldsOf, IsAdded, IsCounted, IsTried, fault_at, faults_of, field_at, sites_among}
+use Rattle.ldtargets.specs.Fields.{AreFieldsOf, IsAdded, IsCounted, IsTried, evaluations, fault_at, faults_of}
+use Rattle.ldtargets.specs.Fields.{field_at, sites_among, work_of}
 use Rattle.ldtargets.specs.KnownLink.{KnownLink}
 use Rattle.ldtargets.specs.Sites.{IsPlaced}
 use Rattle.ldtargets.specs.declared.site.PlacedSection.{PlacedSection}
@@ -54,8 +56,10 @@ module _ (l : KnownLink) where
         ∙ append_assoc (faults_of l g0) (filter_map (fault_at l) a) (filter_map (fault_at l) b)
         ∙ ap (λ fs. faults_of l g0 ++ fs) (sym (filter_map-append (fault_at l) a b));
     counted =
-        q.counted ∙ ap (λ m. raised m count.Fields (length b)) p.counted ∙ raise_both m0 (length a) (length b)
-        ∙ ap (raised m0 count.Fields) (sym (length-append a b));
+        q.counted ∙ ap (λ m. raised m count.Fields (evaluations l b)) p.counted
+        ∙ raise_both m0 (evaluations l a) (evaluations l b)
+        ∙ ap (raised m0 count.Fields)
+        (sym (sum_by-append (λ (t : Site). work_of (site_value l.project l.layout t)) a b));
   }
 
   pub tried_more : (a b : List Site) (f0 f1 f2 : List Patch) (g0 g1 g2 : List code.Fault) (m0 m1 m2 : Counts)
