@@ -83,10 +83,11 @@ fn drawn_over(
     let Arrangement { rows, laying, .. } = arranged;
     stays.is_complete();
     let _inputs = project.inputs();
-    let _bytes = meter.bytes();
     let fields = evaluated(
         alloc, &*project, laying, stays, view, values, symbols, meter,
     )?;
+    // so that the range of the count is known
+    let _bytes = meter.bytes();
     let map = map_text(alloc, project, rows, laying, values)?;
     // the last call that may fail, since it changes the canvas
     draw_image(
@@ -184,9 +185,9 @@ fn relinked(
 /// image the canvas holds. Where the project has no faults, the canvas then holds its image: of what stayed, only the
 /// fields are written whose symbols have other values. Where it has faults, the canvas is as it was.
 ///
-/// The layout of the earlier link is resumed where its script was the same. Where the project has no faults, no more is
-/// counted than what did not stay: the input sections that are placed from the first row on that differs, the fields
-/// outside of what stayed and those in it whose symbols have other values, and the bytes of both.
+/// The layout of the earlier link is resumed where its script was the same. Where the project has no faults, exactly this
+/// is counted: the input sections that are placed from the first row on that differs, the fields outside of what stayed
+/// and those in it whose symbols have other values, and the bytes of both.
 ///
 /// # Errors
 ///

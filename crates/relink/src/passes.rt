@@ -23,6 +23,7 @@ use gather::matches::Matches;
 use ldkept::first::resumed;
 use ldkept::stays::{Last, Stays};
 use ldkept::symbol_table::SymbolTable;
+use ldlaws::layout::placed_are_rows;
 use ldlayout::laying::{LayFault, Laying};
 use ldlayout::length::length_fault;
 use ldlayout::starts::Starts;
@@ -111,6 +112,9 @@ pub(crate) fn laid(
     ensures reads { ReadsNothing meter.old meter.new }
     ensures counted { OnOk result (ArePlaced project.now (last_of last.entry) meter.old meter.new) }
 {
+    placed_are_rows();
+    // so that the range of the count is known
+    let _pieces = meter.pieces();
     let kept = resumed(last, project, rows);
     match Laying::of(alloc, project, naming, rows, kept, meter) {
         Ok(laying) => Ok(laying),
@@ -228,6 +232,8 @@ fn relocated(
     stays.is_complete();
     is_good(project, laying);
     let _inputs = project.inputs();
+    // so that the range of the count is known
+    let _fields = meter.fields();
     let relocated = Relocated::of(alloc, project, view, stays, values, symbols, meter)?;
     match end_if_faulty(alloc, project, &relocated.faults) {
         Ok(()) => Ok(relocated),

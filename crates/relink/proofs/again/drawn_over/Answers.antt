@@ -1,9 +1,11 @@
-use Rattle.std.proofs.Common.{◌<◌, ◌≤◌, ◌^◌, ℕ, List, refl, subst, sym}
+use Rattle.std.proofs.Common.{◌∙◌, ◌+◌, ◌-◌, List, ap, arith, refl, subst, sym}
 use Rattle.std.specs.List.{All}
 use Rattle.ldfields.specs.declared.patch.Patch.{Patch}
+use Rattle.ldbase.specs.Raised.{raised}
+use Rattle.ldbase.specs.declared.meter.Count.TheVariants.{Bytes}
 use Rattle.ldimage.specs.Stretches.{EndsBy, patch_bytes}
 use Rattle.ldmodel.specs.SectionHeaders.{image_length}
-use Rattle.ldmodel.specs.WorkBound.{retargeted_bytes}
+use Rattle.ldmodel.specs.WorkBound.{bytes_stayed}
 use Rattle.ldimage.specs.Kept.{ArePatchesOf}
 use Rattle.ldoutput.specs.Beside.{new_link}
 use Rattle.ldtargets.specs.KnownLink.{AreNameValues}
@@ -62,7 +64,9 @@ returns-clause-good c =
 pub returns-clause-reads : goal.returns-clause-reads
 returns-clause-reads c =
     let drawn = c.in_ok-draw_image.ensures.counted in
-    reads_then _ _ _ c.in_ok-fields.ensures.reads (bytes_read_nothing _ _ drawn.0 drawn.1)
+    let reads = c.in_ok-fields.ensures.reads in
+    reads_then _ _ _ reads
+    (bytes_read_nothing _ _ drawn.0 (omega (arith, c.bytes-bytes.type_inv, c.bytes-bytes.ensures)) drawn.1)
 
 pub returns-clause-worked : goal.returns-clause-worked
 returns-clause-worked c =
@@ -72,11 +76,12 @@ returns-clause-worked c =
     let s = k.layout in
     let a = f.short.placed.naming in
     let names = c.inputs-inputs.ensures.distinct in
-    are_drawn p s _ c.in_ok-fields.fields _ _ _
-    (subst (λ (n : ℕ). n < 2 ^ 64) c.bytes-bytes.ensures c.bytes-bytes.type_inv) k.laying.layout f.good
+    are_drawn p s _ c.in_ok-fields.fields _ _ _ k.laying.layout f.good
     (c.in_ok-fields.ensures.counted s k.laying) c.in_ok-draw_image.ensures.counted
-    (λ old last some few.
-    c.in_ok-draw_image.ensures.work old (new_link p s) a refl (drawable_at p _ _ _ _ _ f) f.good
-    (c.is_complete.ensures.complete old (known_link p s a) (are_stays p _ _ _ _ f.short f.beside names old last) some)
-    (subst (λ (qs : List Patch). patch_bytes qs ≤ retargeted_bytes old (new_link p s)) (sym c.deref-3.ensures.value)
-    few))
+    (λ old last some.
+    let stays = are_stays p _ _ _ _ f.short f.beside names old last in
+    c.in_ok-draw_image.ensures.spent old (new_link p s) a refl (drawable_at p _ _ _ _ _ f) f.good
+    (c.is_complete.ensures.complete old (known_link p s a) stays some)
+    (c.is_complete.ensures.sound old (known_link p s a) stays)
+    ∙ ap (λ (qs : List Patch). raised c.evaluated.new.meter Bytes
+    (patch_bytes qs + (image_length p s - bytes_stayed old (new_link p s)))) c.deref-3.ensures.value)
