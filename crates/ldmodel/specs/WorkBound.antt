@@ -1,8 +1,9 @@
--- What an incremental link has to do anew (this project's own): the relocations outside of input sections that stayed; and
--- how many bytes it need not write, but for the fields of relocations whose symbol has another value.
-use Rattle.std.specs.Prelude.{ℕ, List, filter, flat_map, not, sum_by}
+-- How much an incremental link may do, by count (this project's own): of relocations evaluated and of image bytes
+-- written. The counts of objects, names and input sections stand with the session.
+use Rattle.std.specs.Prelude.{ℕ, ◌+◌, ◌≤◌, List, filter, flat_map, length, sum_by, not}
 use Rattle.elfobj.specs.RelocationKinds.{width}
 use Rattle.ldmodel.specs.Relocations.{Site}
+use Rattle.ldmodel.specs.SectionHeaders.{image_length}
 use Rattle.ldmodel.specs.Stayed.{GoodLink, LinkedPiece, pieces_in, has_stayed, stayed, retargeted, sites_in}
 
 -- the sites of the new link outside input sections that stayed
@@ -10,10 +11,15 @@ abbrev pub sites_outside : GoodLink → GoodLink → List Site
 sites_outside old new =
     flat_map (sites_in new.project) (filter (λ (x : LinkedPiece). not (has_stayed old x)) (pieces_in new))
 
--- the bytes in the image of the input sections that stayed
 abbrev pub bytes_stayed : GoodLink → GoodLink → ℕ
 bytes_stayed old new = sum_by (λ (x : LinkedPiece). x.range.length) (stayed old new)
 
--- the bytes of the fields in them of symbols of another value
 abbrev pub retargeted_bytes : GoodLink → GoodLink → ℕ
 retargeted_bytes old new = sum_by (λ (t : Site). width t.relocation.kind) (retargeted old new)
+
+-- relocations evaluated: at most as many as there are sites outside input sections that stayed, and sites in them whose
+-- symbol has another value. Bytes written: at most those of the image less those of the input sections that stayed, and
+-- the fields of the sites in these whose symbol has another value
+pub record IsImageWork (old new : GoodLink) (relocations bytes : ℕ) : Type 0 where
+  pub evaluated : relocations ≤ length (sites_outside old new) + length (retargeted old new)
+  pub written : bytes + bytes_stayed old new ≤ image_length new.project new.layout + retargeted_bytes old new
