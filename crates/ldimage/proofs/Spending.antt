@@ -78,17 +78,18 @@ sum_most f g h (x ∷ xs) =
 sum_found : {X : Type 0} (test : X → Bool) (f : X → ℕ) (xs : List X) (y : X) → find test xs ≡ Some y
     → (test y ≡ true → 1 ≤ f y) → 1 ≤ sum_by f xs
 sum_found test f [] y e h = absurd (let none : ⊥ = cc in none)
-sum_found {X} test f (x ∷ xs) y e h = go (test x) refl e
+sum_found {X} test f (x ∷ xs) y e h = go (test x) refl e (λ k. sum_found test f xs y k h)
   where
-    go : (b : Bool) → test x ≡ b → cond b (Some x) (find test xs) ≡ Some y → 1 ≤ sum_by f (x ∷ xs)
-    go true t k =
+    go : (b : Bool) → test x ≡ b → cond b (Some x) (find test xs) ≡ Some y
+        → (find test xs ≡ Some y → 1 ≤ sum_by f xs) → 1 ≤ sum_by f (x ∷ xs)
+    go true t k later =
         let is : x ≡ y = cc in
         let some = h (sym (ap test is) ∙ t) in
         let same : f x ≡ f y = ap f is in
         let all = sum_by-cons f x xs in
         omega (arith, some, same, all)
-    go false t k =
-        let rest = sum_found test f xs y k h in
+    go false t k later =
+        let rest = later k in
         let all = sum_by-cons f x xs in
         omega (arith, rest, all)
 
@@ -109,13 +110,14 @@ zip_filtered : {X Y : Type 0} (R : X → Y → Type 0) (p : X → Bool) (xs : Li
     → AllZip R (filter p xs) ys → AllZip (λ x y. (p x ≡ true) × R x y) (filter p xs) ys
 zip_filtered R p [] [] h = tt
 zip_filtered R p [] (y ∷ ys) h = absurd h
-zip_filtered {X} {Y} R p (x ∷ xs) ys h = go (p x) refl ys h
+zip_filtered {X} {Y} R p (x ∷ xs) ys h = go (p x) refl ys h (λ zs k. zip_filtered R p xs zs k)
   where
     go : (b : Bool) → p x ≡ b → (zs : List Y) → AllZip R (cond b (x ∷ filter p xs) (filter p xs)) zs
+        → ((us : List Y) → AllZip R (filter p xs) us → AllZip (λ x y. (p x ≡ true) × R x y) (filter p xs) us)
         → AllZip (λ x y. (p x ≡ true) × R x y) (cond b (x ∷ filter p xs) (filter p xs)) zs
-    go true e [] k = absurd k
-    go true e (z ∷ zs) k = ((e, k.0), zip_filtered R p xs zs k.1)
-    go false e zs k = zip_filtered R p xs zs k
+    go true e [] k rest = absurd k
+    go true e (z ∷ zs) k rest = ((e, k.0), rest zs k.1)
+    go false e zs k rest = rest zs k
 
 -- ---- bytes of input sections that are kept
 
@@ -228,16 +230,15 @@ module _ (d : Drawing) where
 
   least_below : (n : ℕ) → n ≤ count_unstayed (drawing_spot d) n + all_below n
   least_below zero = omega arith
-  least_below (suc n) = go (drawing_spot d n).stays refl
+  least_below (suc n) = go (drawing_spot d n).stays refl (least_below n)
     where
-      go : (b : Bool) → (drawing_spot d n).stays ≡ b
+      go : (b : Bool) → (drawing_spot d n).stays ≡ b → n ≤ count_unstayed (drawing_spot d) n + all_below n
           → suc n ≤ count_unstayed (drawing_spot d) n + cond b 0 1 + all_below (suc n)
-      go true e =
-          let rest = least_below n in
+      go true e rest =
           let more = one_more n in
           let one = stays_in n e in
           omega (arith, rest, more, one)
-      go false e = let rest = least_below n in let more = one_more n in omega (arith, rest, more)
+      go false e rest = let more = one_more n in omega (arith, rest, more)
 
   most_below : (n : ℕ) → all_below n ≤ sum_by kept_bytes d.sections.now
   unfolding all_below

@@ -81,12 +81,12 @@ rows_are_same (x ∷ xs) (y ∷ ys) e =
 pub same_before : (xs ys : List (List Piece)) → take (first_changed xs ys) xs ≡ take (first_changed xs ys) ys
 same_before [] ys = refl
 same_before (x ∷ xs) [] = refl
-same_before (x ∷ xs) (y ∷ ys) = go (same_row x y) refl
+same_before (x ∷ xs) (y ∷ ys) = go (same_row x y) refl (same_before xs ys)
   where
-    go : (b : Bool) → same_row x y ≡ b
+    go : (b : Bool) → same_row x y ≡ b → take (first_changed xs ys) xs ≡ take (first_changed xs ys) ys
         → take (cond b (suc (first_changed xs ys)) 0) (x ∷ xs) ≡ take (cond b (suc (first_changed xs ys)) 0) (y ∷ ys)
-    go true e = ap (λ z. z ∷ take (first_changed xs ys) xs) (rows_are_same x y e) ∙ ap (λ zs. y ∷ zs) (same_before xs ys)
-    go false e = refl
+    go true e rest = ap (λ z. z ∷ take (first_changed xs ys) xs) (rows_are_same x y e) ∙ ap (λ zs. y ∷ zs) rest
+    go false e rest = refl
 
 -- there are no more entries from a row on than from the first
 pub fewer : (rows : List (List Piece)) (k : ℕ) → entries_from k rows ≤ entries_from 0 rows
