@@ -2,7 +2,8 @@
 use Rattle.std.proofs.Common.{◌≡◌, ℕ, zero, suc, ◌+◌, ◌≤◌, ◌<◌, max, List, [], ◌∷◌, ◌++◌, length, get_or, map}
 use Rattle.std.proofs.Common.{Option, Some, None, IfSome, IfNone, drop, ◌∙◌, subst, sym}
 use Rattle.std.proofs.Common.{Result, Ok, Err, OnOk, refl, ap, arith}
-use Rattle.std.specs.List.{sum}
+use Rattle.std.specs.Prelude.{sum_by}
+use Rattle.std.proofs.lemmas.List.Sums.{sum_by-append, sum_by-cons}
 use Rattle.std.proofs.lemmas.List.{drop-append-le, drop_all, length-map, map-append}
 use Rattle.ldbase.specs.Counts.{Counts, capped}
 use Rattle.ldbase.specs.Raised.{raised}
@@ -102,26 +103,26 @@ along_none (Some s) x y z m n k h g = tt
 along_still : (x n : ℕ) → CountsAlong x x n n
 along_still x n = record { more = omega arith; least = omega arith; most = omega arith }
 
-sum_append : (xs ys : List ℕ) → sum (xs ++ ys) ≡ sum xs + sum ys
-sum_append [] ys = omega arith
-sum_append (x ∷ xs) ys = omega (arith, sum_append xs ys)
+abbrev own : ℕ → ℕ
+own n = n
 
 -- up to the first output section that is not taken over none is placed anew
 pub none_placed : (k : ℕ) (xs : List KeyedSection) → length xs ≤ k → placed_from k (counts_in xs) ≡ 0
 none_placed k xs few =
-    ap sum (drop_all k (counts_in xs)
+    ap (sum_by own) (drop_all k (counts_in xs)
     (omega (arith, few, length-map xs (λ (x : KeyedSection). length x.pieces))))
 
 -- from there on those of each more
 placed_more : (k : ℕ) (xs : List KeyedSection) (x : KeyedSection) → k ≤ length xs
     → placed_from k (counts_in (xs ++ x ∷ [])) ≡ placed_from k (counts_in xs) + length x.pieces
 placed_more k xs x past =
-    ap (λ (l : List ℕ). sum (drop k l)) (map-append (λ (y : KeyedSection). length y.pieces) xs (x ∷ []))
-    ∙ ap sum (drop-append-le k (counts_in xs) (length x.pieces ∷ [])
+    ap (λ (l : List ℕ). sum_by own (drop k l)) (map-append (λ (y : KeyedSection). length y.pieces) xs (x ∷ []))
+    ∙ ap (sum_by own) (drop-append-le k (counts_in xs) (length x.pieces ∷ [])
     (omega (arith, past, length-map xs (λ (y : KeyedSection). length y.pieces))))
-    ∙ sum_append (drop k (counts_in xs)) (length x.pieces ∷ [])
-    ∙ (let one : placed_from k (counts_in xs) + sum (length x.pieces ∷ [])
-    ≡ placed_from k (counts_in xs) + length x.pieces = omega arith in one)
+    ∙ sum_by-append own (drop k (counts_in xs)) (length x.pieces ∷ [])
+    ∙ (let last = sum_by-cons own (length x.pieces) [] in
+    let one : placed_from k (counts_in xs) + sum_by own (length x.pieces ∷ [])
+    ≡ placed_from k (counts_in xs) + length x.pieces = omega (arith, last) in one)
 
 -- one more output section
 pub section_adds : {T K : Type 0} (starts : Option K) (r : Result T Stop) (i : Input) (old new : Here)
@@ -179,3 +180,17 @@ pub raises_exactly : (m n : Counts) (anew k : ℕ) → CountsAlong 0 anew 0 k �
 raises_exactly m n anew k h e =
     let same : capped m.pieces anew ≡ capped m.pieces k = omega (arith, h.least, h.most) in
     e ∙ ap (λ (c : ℕ). record m { pieces = c }) same
+
+-- the same output sections
+pub along_same : (x y n z m k : ℕ) → CountsAlong x y 0 n → z ≡ y → m ≡ n → k ≡ x → CountsAlong k z 0 m
+along_same x y n z m k h e f g = record {
+  more = omega arith;
+  least = omega (arith, e, f, g, h.least);
+  most = omega (arith, e, f, g, h.most);
+}
+
+-- the number of the first output section that is not taken over
+pub first_is : {K : Type 0} (kept : Option (K × ℕ)) (first : ℕ) → IfSome kept (λ k. first ≡ k.1)
+    → IfNone kept (first ≡ 0) → first ≡ first_of kept
+first_is None first some none = none
+first_is (Some k) first some none = some

@@ -1,6 +1,6 @@
 -- How many input sections are placed anew.
 use Rattle.std.specs.Prelude.{◌≡◌, ℕ, zero, suc, ◌+◌, ◌-◌, ◌≤◌, ◌^◌, max, min, List, [], ◌∷◌, ◌++◌, length, map, ◌⊎◌}
-use Rattle.std.specs.Prelude.{IfNone, IfSome, Option, drop, sum}
+use Rattle.std.specs.Prelude.{IfNone, IfSome, Option, drop, sum_by}
 use Rattle.std.specs.Option.{option_map_or}
 use Rattle.ldbase.specs.Counts.{Counts}
 use Rattle.ldbase.specs.Raised.{raised}
@@ -23,6 +23,12 @@ pub record CountsAlong (old new from to : ℕ) : Type 0 where
 pub record Entered (old new : Here) (f : Frame) : Type 0 where
   pub script : new.symbols.script ≡ old.symbols.script
   pub anew : CountsAlong old.anew new.anew (length old.pieces.items) (length new.pieces.items)
+  pub within : length old.pieces.items ≤ length f.row.now → length new.pieces.items ≤ length f.row.now
+
+-- the script stays, and so does what was placed
+pub record StaysThere (old new : Here) (f : Frame) : Type 0 where
+  pub script : new.symbols.script ≡ old.symbols.script
+  pub more : length old.pieces.items ≤ length new.pieces.items
   pub within : length old.pieces.items ≤ length f.row.now → length new.pieces.items ≤ length f.row.now
 
 -- and none is placed anew where it is known where they start
@@ -55,7 +61,7 @@ Resumes i old new before after = new.anew + left_after i after ≤ old.anew + le
 
 -- the input sections of the output sections from a number on, by how many each has
 abbrev pub placed_from : ℕ → List ℕ → ℕ
-placed_from k counts = sum (drop k counts)
+placed_from k counts = sum_by (λ (n : ℕ). n) (drop k counts)
 
 -- the number of the first output section that is not taken over from an earlier layout
 abbrev pub first_of : {K : Type 0} → Option (K × ℕ) → ℕ

@@ -8,7 +8,7 @@ ghost use Rattle.ldmodel.specs.Body.{piece_placed, piece_start, pieces_placed, s
 ghost use Rattle.ldmodel.specs.Chain.{run};
 ghost use Rattle.ldscope.specs.Naming.{Naming, piece_named, row_named};
 ghost use Rattle.place.specs.Alongside.{BodyAlongside, IfInput, StartAt, StartsThere};
-ghost use Rattle.place.specs.Counted.{Counted, CountsAlong, Entered};
+ghost use Rattle.place.specs.Counted.{Counted, CountsAlong, Entered, StaysThere};
 ghost use Rattle.place.specs.State.{body_of, Gives};
 
 use crate::state::{Frame, Here};
@@ -110,7 +110,7 @@ impl<'d, 'a> Frame<'d, 'a> {
             (pieces_placed line number (body_of naming here.old self.now)
             (row_named naming (drop (length here.old.pieces.items) self.now.row.now)))
             (body_of naming here.new self.now) result }
-        ensures counted { Counted here.old here.new self.now }
+        ensures there { StaysThere here.old here.new self.now }
         ensures anew { here.new.anew ≡ here.old.anew }
     {
         while here.pieces.len() < self.row.len() {

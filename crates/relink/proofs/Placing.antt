@@ -1,9 +1,10 @@
 -- Input sections that a link places beside an earlier one.
 use Rattle.std.proofs.Common.{◌≡◌, ◌∙◌, ◌+◌, ◌<◌, ℕ, zero, suc, false, List, [], ◌∷◌, drop, length, map, Option, None, Some}
 use Rattle.std.proofs.Common.{ap, arith, refl}
-use Rattle.std.specs.List.{flat_map, sum}
+use Rattle.std.specs.List.{flat_map}
 use Rattle.std.specs.Prelude.{IfSome, IsNone, IsSome}
 use Rattle.std.proofs.lemmas.List.{length-append, length-map}
+use Rattle.std.proofs.lemmas.List.Sums.{sum_by-cons}
 use Rattle.ldbase.specs.Counts.{Counts}
 use Rattle.ldbase.specs.Raised.{raised}
 use Rattle.ldbase.specs.declared.meter.Count.TheVariants.{Pieces}
@@ -37,6 +38,7 @@ as_many zero (q ∷ qs) =
     let rest : List Piece = flat_map (λ (row : List Piece). row) (map entries_in qs) in
     omega (
       arith,
+      sum_by-cons (λ (n : ℕ). n) (length q.pieces) (map count_of qs),
       length-append (entries_in q) rest,
       length-map q.pieces (λ (x : PlacedPiece). x.piece),
       as_many zero qs,
