@@ -167,10 +167,10 @@ ended_anew None old new y n before after h e pushed = record {
   section = pushed.0;
   pushed = pushed.1;
   counted = record {
-      more = omega arith;
-      least = omega (arith, e, pushed.2, h.least);
-      most = omega (arith, e, pushed.2, h.most);
-    };
+    more = omega arith;
+    least = omega (arith, e, pushed.2, h.least);
+    most = omega (arith, e, pushed.2, h.most);
+  };
 }
 ended_anew (Some s) old new y n before after h e pushed = tt
 
