@@ -17,5 +17,6 @@ pub mod Patching
 pub mod Planned
 pub mod Settling
 pub mod Sparing
+mod Spending
 pub mod Standing
 pub mod Walking

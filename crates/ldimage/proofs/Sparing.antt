@@ -89,10 +89,10 @@ spared_then f from mid to m n h k = (omega (arith, h.0, k.0), omega (arith, h.1,
 
 -- ---- of an output section as it is drawn
 
-abbrev kept_size : ImagePiece → ℕ
+abbrev pub kept_size : ImagePiece → ℕ
 kept_size v = cond v.stays v.size 0
 
-abbrev kept_bytes : ImageSection → ℕ
+abbrev pub kept_bytes : ImageSection → ℕ
 kept_bytes y = sum_by kept_size y.pieces.now
 
 module _ (y : ImageSection) (orderly : IsOrderly y) where
@@ -289,17 +289,17 @@ few_patches old new sites others patches p z =
     omega (arith, wide, all, parts)
 
 module _ (old new : GoodLink) where
-  abbrev s : Layout
+  abbrev pub s : Layout
   s = new.layout
 
-  abbrev gs : List Segment
+  abbrev pub gs : List Segment
   gs = segments s.sections
 
-  abbrev counted : LinkedPiece → ℕ
+  abbrev pub counted : LinkedPiece → ℕ
   counted x = cond (has_stayed old x) x.range.length 0
 
   -- the bytes of those of an output section that stayed
-  abbrev stayed_in : PlacedSection → ℕ
+  abbrev pub stayed_in : PlacedSection → ℕ
   stayed_in q = sum_by (λ u. counted (linked_in new q u)) q.pieces
 
   by_section : bytes_stayed old new ≡ sum_by stayed_in s.sections
@@ -365,7 +365,7 @@ module _ (old new : GoodLink) where
   module _ (all_in_file : (sections : List PlacedSection)
       → map (λ (x : SectionInFile). x.section) (in_file (segments sections)) ≡ nonempty sections)
       (good : IsGood new) where
-    by_loaded : bytes_stayed old new ≡ sum_by (λ (x : SectionInFile). stayed_in x.section) (loaded s)
+    pub by_loaded : bytes_stayed old new ≡ sum_by (λ (x : SectionInFile). stayed_in x.section) (loaded s)
     by_loaded =
         by_section
         ∙ sum_passing stayed_in (λ (q : PlacedSection). not (q.size == 0)) s.sections

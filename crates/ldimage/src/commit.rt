@@ -2,11 +2,12 @@
 
 ghost use Rattle.std.specs.Prelude.{◌≡◌, ◌≤◌, ◌<◌, ◌+◌, ◌-◌, ℕ, All, length, slice_index, true, false};
 ghost use Rattle.ldbase.specs.Raised.{raised};
+ghost use Rattle.ldbase.specs.declared.meter.Count.TheVariants.{Bytes};
 ghost use Rattle.ldimage.specs.Stretches.{EndsBy, Fills, IsPatchOf, IsPlanFor, Stand, content_byte, drawn_byte};
 ghost use Rattle.ldimage.specs.Stretches.{is_patched, patch_bytes, stays_at, written, written_in};
 
 use crate::stretch::{Content, Stretch};
-use ldbase::meter::{Count, Meter};
+use ldbase::meter::Meter;
 use ldfields::canvas::Canvas;
 use ldfields::patch::{Patch, write_patched};
 use ldfields::run::write_run;
@@ -27,7 +28,7 @@ fn write_content(
     ensures after { (o : ℕ) → end ≤ o → slice_index canvas.new.bytes o ≡ slice_index canvas.old.bytes o }
     ensures len { length canvas.new.bytes ≡ length canvas.old.bytes }
     ensures room { canvas.new.room ≡ canvas.old.room }
-    ensures counted { meter.new ≡ raised meter.old Count.Bytes (end - from) }
+    ensures counted { meter.new ≡ raised meter.old Bytes (end - from) }
 {
     match content {
         Content::Fill(pattern) => write_run(canvas, from, end - from, pattern, meter),
@@ -51,8 +52,8 @@ fn write_stretch(canvas: &mut Canvas, from: usize, x: &Stretch<'_>, meter: &mut 
     ensures after { (o : ℕ) → x.now.end ≤ o → slice_index canvas.new.bytes o ≡ slice_index canvas.old.bytes o }
     ensures len { length canvas.new.bytes ≡ length canvas.old.bytes }
     ensures room { canvas.new.room ≡ canvas.old.room }
-    ensures counted { (n : ℕ) → raised meter.new Count.Bytes n
-        ≡ raised meter.old Count.Bytes (written_in from x.now + n) }
+    ensures counted { (n : ℕ) → raised meter.new Bytes n
+        ≡ raised meter.old Bytes (written_in from x.now + n) }
 {
     if x.stays {
         return;
@@ -91,8 +92,8 @@ fn write_stretches(canvas: &mut Canvas, stretches: &[Stretch<'_>], end: usize, m
     ensures kept { (o : ℕ) → o < end → stays_at stretches.now o ≡ true
         → slice_index canvas.new.bytes o ≡ slice_index canvas.old.bytes o }
     ensures len { length canvas.new.bytes ≡ end }
-    ensures counted { (n : ℕ) → raised meter.new Count.Bytes n
-        ≡ raised meter.old Count.Bytes (written 0 stretches.now + n) }
+    ensures counted { (n : ℕ) → raised meter.new Bytes n
+        ≡ raised meter.old Bytes (written 0 stretches.now + n) }
 {
     let mut done = 0;
     for x in stretches {
@@ -115,8 +116,8 @@ fn write_patches(canvas: &mut Canvas, patches: &[Patch], end: usize, meter: &mut
         → slice_index canvas.new.bytes o ≡ image o }
     ensures short { length canvas.new.bytes ≤ end }
     ensures room { end ≤ canvas.new.room }
-    ensures counted { (n : ℕ) → raised meter.new Count.Bytes n
-        ≡ raised meter.old Count.Bytes (patch_bytes patches.now + n) }
+    ensures counted { (n : ℕ) → raised meter.new Bytes n
+        ≡ raised meter.old Bytes (patch_bytes patches.now + n) }
 {
     let _len = canvas.len();
     for patch in patches {
@@ -143,11 +144,11 @@ pub(crate) fn write_image(
         → slice_index canvas.new.bytes o ≡ drawn_byte stretches.now o }
     ensures image { (image : ℕ → ℕ) → IsPlanFor image stretches.now end patches.now canvas.old.bytes → (o : ℕ)
         → o < end → slice_index canvas.new.bytes o ≡ image o }
-    ensures counted { meter.new ≡ raised meter.old Count.Bytes (patch_bytes patches.now + written 0 stretches.now) }
+    ensures counted { meter.new ≡ raised meter.old Bytes (patch_bytes patches.now + written 0 stretches.now) }
 {
     canvas.resize_reserved(canvas.len().min(end));
     write_patches(canvas, patches, end, meter);
     write_stretches(canvas, stretches, end, meter);
-    // adds nothing: so the count is known exactly where nothing was written, too
-    meter.raise(Count::Bytes, 0);
+    // so that the range of the count is known
+    let _bytes = meter.bytes();
 }

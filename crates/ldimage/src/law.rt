@@ -1,6 +1,6 @@
 //! Laws of drawings.
 
-ghost use Rattle.std.specs.Prelude.{◌≡◌, ◌≤◌, ◌<◌, ◌+◌, ◌++◌, ◌^◌, ℕ, All, List, Ok, false, length, slice_index};
+ghost use Rattle.std.specs.Prelude.{◌≡◌, ◌≤◌, ◌<◌, ◌+◌, ◌-◌, ◌++◌, ◌^◌, ℕ, All, List, Ok, false, length, slice_index};
 ghost use Rattle.std.specs.List.{AllZip};
 ghost use Rattle.std.specs.List.Sorted.{IsPermutation};
 ghost use Rattle.elfobj.specs.RelocationKinds.{width};
@@ -19,7 +19,7 @@ ghost use Rattle.ldmodel.specs.WorkBound.{bytes_stayed, retargeted_bytes};
 ghost use Rattle.ldtree.specs.declared.statement.Statement.{Statement};
 ghost use Rattle.ldimage.specs.Drawing.{IsDrawing, drawing_end, drawing_spot};
 ghost use Rattle.ldimage.specs.InMemory.{AreFilled, IsInMemory};
-ghost use Rattle.ldimage.specs.Kept.{ArePatchesOf, EachPiece, IsKept, IsRedrawing};
+ghost use Rattle.ldimage.specs.Kept.{ArePatchesOf, EachPiece, HasStayed, IsKept, IsRedrawing};
 ghost use Rattle.ldimage.specs.OfLink.{AreUnstayed, IsDrawingOf};
 ghost use Rattle.ldimage.specs.Plan.{IsDrawnFor, count_unstayed};
 ghost use Rattle.ldimage.specs.Stretches.{EndsBy, patch_bytes};
@@ -84,6 +84,16 @@ pub fn kept_is_not_drawn()
     ensures { (old new : GoodLink) (d : Drawing) → IsGood new → IsDrawing d → IsDrawingOf new.project new.layout d
         → EachPiece (IsKept old new) new.layout d → count_unstayed (drawing_spot d) (drawing_end d)
         + bytes_stayed old new ≤ image_length new.project new.layout }
+{
+    sections_in_file();
+}
+
+/// Where the input sections that are kept are all those that stayed, what does not stay is what the image has besides.
+pub fn kept_is_what_stayed()
+    ensures { (old new : GoodLink) (d : Drawing) → IsGood new → IsDrawing d → IsDrawingOf new.project new.layout d
+        → EachPiece (IsKept old new) new.layout d → EachPiece (HasStayed old new) new.layout d
+        → count_unstayed (drawing_spot d) (drawing_end d)
+        ≡ image_length new.project new.layout - bytes_stayed old new }
 {
     sections_in_file();
 }

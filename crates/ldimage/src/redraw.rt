@@ -1,6 +1,6 @@
 //! The image of a link, over what the canvas holds of the image of an earlier one.
 
-ghost use Rattle.std.specs.Prelude.{◌≡◌, ◌≤◌, ◌+◌, All, OnErr, OnOk};
+ghost use Rattle.std.specs.Prelude.{◌≡◌, ◌≤◌, ◌+◌, ◌-◌, All, OnErr, OnOk};
 ghost use Rattle.ldbase.specs.Raised.{raised};
 ghost use Rattle.ldbase.specs.declared.meter.Count.TheVariants as counts;
 ghost use Rattle.ldlaws.specs.Untouched.{IsGood};
@@ -11,12 +11,12 @@ ghost use Rattle.ldmodel.specs.SectionHeaders.{image_length};
 ghost use Rattle.ldmodel.specs.Stayed.{GoodLink};
 ghost use Rattle.ldmodel.specs.WorkBound.{bytes_stayed, retargeted_bytes};
 ghost use Rattle.ldimage.specs.Drawing.{IsDrawing, drawing_end, drawing_spot};
-ghost use Rattle.ldimage.specs.Kept.{EachPiece, IsKept, IsRedrawing};
+ghost use Rattle.ldimage.specs.Kept.{EachPiece, HasStayed, IsKept, IsRedrawing};
 ghost use Rattle.ldimage.specs.OfLink.{AreUnstayed, IsDrawingOf};
 ghost use Rattle.ldimage.specs.Plan.{count_unstayed};
 ghost use Rattle.ldimage.specs.Stretches.{EndsBy, patch_bytes};
 
-use crate::law::drawing_is_image;
+use crate::law::{drawing_is_image, kept_is_what_stayed};
 use crate::plan::plan_image;
 use crate::section::Drawing;
 use ldbase::meter::Meter;
@@ -31,8 +31,8 @@ use std::alloc::Global;
 ///
 /// Where nothing stays, the canvas may hold anything before. Where the canvas holds the image of an old link, only
 /// input sections that stayed are kept, and the patches are the fields of their sites whose symbol has another value,
-/// the canvas then holds the image of the new link. Where all input sections that stayed are kept, no more bytes are
-/// written than the image has outside of them and these fields have.
+/// the canvas then holds the image of the new link. Where all input sections that stayed are kept, and no others, as many
+/// bytes are written as the image has outside of them and these fields have.
 ///
 /// # Errors
 ///
@@ -55,11 +55,16 @@ pub fn redraw(
         → EachPiece (IsKept old new) new.layout drawing.now → patch_bytes patches.now ≤ retargeted_bytes old new
         → meter.new.bytes + bytes_stayed old new
         ≤ meter.old.bytes + (image_length new.project new.layout + retargeted_bytes old new)) }
+    ensures spent { OnOk result ((old new : GoodLink) → IsGood new → IsDrawingOf new.project new.layout drawing.now
+        → EachPiece (IsKept old new) new.layout drawing.now → EachPiece (HasStayed old new) new.layout drawing.now
+        → meter.new ≡ raised meter.old counts.Bytes
+        (patch_bytes patches.now + (image_length new.project new.layout - bytes_stayed old new))) }
     ensures counted { OnOk result (meter.new ≡ raised meter.old counts.Bytes
         (patch_bytes patches.now + count_unstayed (drawing_spot drawing.now) (drawing_end drawing.now))) }
     ensures unchanged { OnErr result (canvas.new.bytes ≡ canvas.old.bytes) }
 {
     drawing_is_image();
+    kept_is_what_stayed();
     let plan = plan_image(alloc, canvas, drawing, patches)?;
     plan.commit(canvas, meter);
     Ok(())

@@ -1,5 +1,8 @@
-use Rattle.std.proofs.Common.{◌≡◌, ◌<◌, ◌∙◌, ◌⊎◌, inl, inr, refl, Bool, true, false, length, arith}
-use Rattle.ldimage.specs.Stretches.{is_patched, stays_at}
+use Rattle.std.proofs.Common.{◌≡◌, ◌+◌, ◌<◌, ◌^◌, ◌∙◌, ◌⊎◌, inl, inr, refl, Bool, true, false, length, ap, arith}
+use Rattle.ldbase.specs.Counts.{Counts, capped}
+use Rattle.ldbase.specs.Raised.{raised}
+use Rattle.ldbase.specs.declared.meter.Count.TheVariants.{Bytes}
+use Rattle.ldimage.specs.Stretches.{is_patched, patch_bytes, stays_at, written}
 use Rattle.ldimage.proofs.commit.write_image.Goals as goal
 
 bool_cases : (b : Bool) → (b ≡ true) ⊎ (b ≡ false)
@@ -18,3 +21,17 @@ returns-clause-image c = λ image plan o l.
       ])
       | inr s ↦ r.written o l s ∙ plan.drawn o l s
     ]
+
+raised_none : (m : Counts) → m.bytes < 2 ^ 64 → m ≡ raised m Bytes 0
+raised_none m h =
+    let e : m.bytes ≡ capped m.bytes 0 = omega arith in
+    ap (λ n. record m { bytes = n }) e
+
+pub returns-clause-counted : goal.returns-clause-counted
+returns-clause-counted c =
+    let all : patch_bytes c.args.patches.now + (written 0 c.args.stretches.now + 0)
+    ≡ patch_bytes c.args.patches.now + written 0 c.args.stretches.now = omega arith in
+    raised_none c.write_stretches.new.meter (omega (arith, c.bytes-bytes.type_inv, c.bytes-bytes.ensures))
+    ∙ c.write_stretches.ensures.counted 0
+    ∙ c.write_patches.ensures.counted (written 0 c.args.stretches.now + 0)
+    ∙ ap (raised c.args.meter.now Bytes) all

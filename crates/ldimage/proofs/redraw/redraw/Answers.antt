@@ -1,5 +1,8 @@
 -- What the plan's commit leaves.
-use Rattle.std.proofs.Common.{◌∙◌, arith}
+use Rattle.std.proofs.Common.{◌∙◌, ◌+◌, ℕ, ap, arith}
+use Rattle.ldbase.specs.Raised.{raised}
+use Rattle.ldbase.specs.declared.meter.Count.TheVariants.{Bytes}
+use Rattle.ldimage.specs.Stretches.{patch_bytes}
 use Rattle.ldimage.proofs.redraw.redraw.Goals as goal
 
 pub returns-clause-image : goal.returns-clause-image
@@ -25,3 +28,9 @@ returns-clause-work c = λ old new good is kept low.
 pub returns-clause-counted : goal.returns-clause-counted
 returns-clause-counted c =
     c.commit.ensures.counted c.args.drawing.now c.args.patches.now c.in_ok-plan.ensures.plan
+
+pub returns-clause-spent : goal.returns-clause-spent
+returns-clause-spent c = λ old new good is kept stayed.
+    c.commit.ensures.counted c.args.drawing.now c.args.patches.now c.in_ok-plan.ensures.plan
+    ∙ ap (λ (n : ℕ). raised c.args.meter.now Bytes (patch_bytes c.args.patches.now + n))
+    (c.kept_is_what_stayed.ensures old new c.args.drawing.now good c.requires.drawing is kept stayed)
