@@ -118,6 +118,7 @@ def _rules(model: Model) -> None:
     unused(model)
     _order_of_files(model)
     _starts_and_stops(model)
+    _entry(model)
 
 
 def _order_of_files(model: Model) -> None:
@@ -137,6 +138,16 @@ def _order_of_files(model: Model) -> None:
         files = ", ".join(named[:4]) + (", .." if len(named) > 4 else "")
         model.note(CHANGED, first, f"{files}: where -T stands before the objects, GNU ld takes the files that a script "
                    "names before all others: give the objects in this order")
+
+
+def _entry(model: Model) -> None:
+    """Says where nothing defines the symbol of ENTRY."""
+    if model.objects is None or model.entry is None:
+        return
+    name = model.entry.args[0]
+    if model.objects.definition(name) is None and not model.definitions.get(name):
+        model.note(CHANGED, model.entry.start, f"ENTRY({name}): nothing defines it (F2, unless -e names another); GNU "
+                   "ld begins at the start of .text then")
 
 
 def _starts_and_stops(model: Model) -> None:

@@ -4,13 +4,15 @@ from __future__ import annotations
 import re
 
 from client.adapt.lexer import EXPRESSION, SCRIPT, Lexer, number_of
+from client.adapt.notes import Left
 from client.adapt.tree import Expr
 
 LEVELS = {"*": 1, "/": 1, "%": 1, "+": 2, "-": 2, "<<": 3, ">>": 3, "<": 4, "<=": 4, ">": 4, ">=": 4, "==": 5,
           "!=": 5, "&": 6, "^": 7, "|": 8, "&&": 9, "||": 10}
 COND = 11
 LONG = 56
-"""An expression of more signs is shortened; the profile's limit is 64 in a run."""
+MOST = 62
+"""An expression of more signs than LONG is shortened, one of more than MOST left; the profile's limit is 64 in a run."""
 _SIGNS = re.compile(r"<<|>>|<=|>=|==|!=|&&|\|\||(?<![A-Za-z0-9_.$])-|[(!~*/%+<>&|?]")
 _ONE = frozenset(("ABSOLUTE", "ALIGN", "BLOCK", "NEXT", "DATA_SEGMENT_END", "LOG2CEIL"))
 _TWO = frozenset(("ALIGN", "MAX", "MIN", "DATA_SEGMENT_ALIGN", "DATA_SEGMENT_RELRO_END"))
@@ -255,4 +257,8 @@ def folded(e: Expr) -> Expr:
 def short(e: Expr) -> str:
     """The text of an expression; a long one has numbers for what is made of numbers."""
     text = write(e)
-    return text if sign_count(text) <= LONG else write(folded(e))
+    if sign_count(text) > LONG:
+        text = write(folded(e))
+    if sign_count(text) > MOST:
+        raise Left("has more than 64 signs: use symbols for its parts")
+    return text

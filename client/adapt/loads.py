@@ -199,7 +199,10 @@ class Loads(Heads):
         if with_input is not None:
             model.edits.blank(with_input.start, with_input.end)
         if with_input is not None and load != region:
-            self._with_input(section, region, load, part)
+            if section.address is None:
+                self._with_input(section, region, load, part)
+            else:
+                self._unaligned(section, load, part, None)
             return
         if load == region:
             self._same_region(section, region, part)
@@ -210,7 +213,7 @@ class Loads(Heads):
             head = 4096
         if model.objects is not None:
             if alignment_of(model, section) > (head or 1):
-                self._unaligned(section, region, load, part, align)
+                self._unaligned(section, load, part, align)
         elif (head or 1) < 16 and not flags_of(model, section)[2]:
             model.note(CHANGED, section.start, f"{section.name} AT>{load}: its load address is aligned as the section "
                        "is; GNU ld aligns it by the head's ALIGN alone (--objects says whether that differs)")
@@ -230,16 +233,16 @@ class Loads(Heads):
         """ALIGN_WITH_INPUT: the load address moves on as the address does."""
         model = self.model
         name = model.fresh("ldi.load." + section.name.lstrip("."))
-        model.edits.insert(section.start, f"{name} : {{ }} >{region} AT>{load} ", order=10 ** 6)
+        self._before_load(section, f"{name} : {{ }} >{region} AT>{load} ")
         self._after_load(section, load, part)
         model.note(REWRITTEN, section.start, f"ALIGN_WITH_INPUT of {section.name}: an empty section {name} before it "
                    f"has the distance, and an empty one after it moves {load} on")
 
-    def _unaligned(self, section: Section, region: str, load: str, part: Part | None, align: Part | None) -> None:
+    def _unaligned(self, section: Section, load: str, part: Part | None, align: Part | None) -> None:
         """AT>r where the section is aligned more than its head says."""
         model = self.model
         name = model.fresh("ldi.load." + section.name.lstrip("."))
-        model.edits.insert(section.start, f"{name} : {{ }} >{load} ", order=10 ** 6)
+        self._before_load(section, f"{name} : {{ }} >{load} ")
         where: Expr = Expr("call", "ADDR", name=name)
         if align is not None and align.value is not None:
             where = Expr("call", "ALIGN", (where, align.value))
@@ -247,6 +250,14 @@ class Loads(Heads):
         self._after_load(section, load, part)
         model.note(REWRITTEN, section.start, f"{section.name} AT>{load}: its load address is not aligned as the "
                    f"section is: it is that of an empty section {name}")
+
+    def _before_load(self, section: Section, text: str) -> None:
+        """An empty section before one whose head may name `.`, which keeps its value."""
+        heads = [section.address] + [part.value for part in section.head]
+        if any(e is not None and ex.uses_dot(e) for e in heads):
+            place = self.model.fresh("ldi.at." + section.name.lstrip("."))
+            text = f"{place} = .; {text}. = {place}; "
+        self.model.edits.insert(section.start, text, order=10 ** 6)
 
     def _after_load(self, section: Section, load: str, part: Part | None) -> None:
         """An empty section after one that is loaded in a region, which moves the region on."""

@@ -32,7 +32,7 @@ class Definition:
     """An assignment of a symbol: one version of it."""
 
     __slots__ = ("name", "step", "section", "provide", "emitted", "ready", "moved", "used", "plain", "kind_known",
-                 "busy")
+                 "either", "busy")
 
     def __init__(self, name: str, step: Step, provide: bool) -> None:
         self.name, self.step, self.section, self.provide = name, step, step.section, provide
@@ -46,6 +46,8 @@ class Definition:
         self.plain = False
         """A PROVIDE that becomes an assignment."""
         self.kind_known: tuple[str, object] | None = None
+        self.either = False
+        """Whether its value is a number or an address depends on a condition."""
         self.busy = False
 
 
@@ -83,6 +85,8 @@ class Model:
         self.externs: set[str] = set()
         self.taken: object = None
         """The rows of the output sections over the objects (taking.py)."""
+        self.entry: Command | None = None
+        """The ENTRY that counts."""
         self.memory_at = -1
         """Where MEMORY stands, where it was moved."""
         self.gone: set[str] = set()
@@ -143,7 +147,7 @@ class Model:
 
     def _own_start(self, section: Section) -> str | None:
         """The symbol of an assignment of `.` at the front of a section's body."""
-        for node in section.body:
+        for node in section.body[:1]:
             if not isinstance(node, Assign) or node.name == ".":
                 return None
             found = [d for d in self.definitions.get(node.name, ()) if d.step.node is node]

@@ -197,7 +197,7 @@ class Parser:
         opening = lexer.accept(SCRIPT, "(")
         if opening:
             while not lexer.accept(SCRIPT, ")"):
-                region.flags += lexer.take(SCRIPT).text
+                region.flags += self._inside(opening, SCRIPT)
             region.attributes = Node(opening.start, lexer.last)
         lexer.expect(SCRIPT, ":")
         region.origin_word = self._word(("ORIGIN", "org", "o"))
@@ -209,6 +209,13 @@ class Parser:
         region.length = expressions.read(lexer)
         region.end = lexer.last
         return region
+
+    def _inside(self, opening: Token, mode: int) -> str:
+        """The next token's text, inside of parentheses."""
+        token = self.lexer.take(mode)
+        if token.kind == "end":
+            raise self.source.fail(opening.start, "this `(` has no `)`")
+        return token.text
 
     def _word(self, words: tuple[str, ...]) -> Node:
         token = self.lexer.take(SCRIPT)
@@ -413,9 +420,9 @@ class Parser:
             lexer.expect(WILD, "(")
         flags: list[str] = []
         if lexer.accept(WILD, "INPUT_SECTION_FLAGS"):
-            lexer.expect(WILD, "(")
+            opening = lexer.expect(WILD, "(")
             while not lexer.accept(WILD, ")"):
-                flags.append(lexer.take(WILD).text)
+                flags.append(self._inside(opening, WILD))
         if lexer.peek(WILD).text == "[":
             node = self._bare(token.start)
         else:

@@ -9,7 +9,7 @@ from client.adapt.notes import CHANGED, DROPPED, LEFT, REWRITTEN, Left
 from client.adapt.patterns import is_name
 from client.adapt.statements import needs_writing
 from client.adapt.taking import flags_of, row
-from client.adapt.tree import Assign, Data, Expr, Input, Part, Region, Section
+from client.adapt.tree import Assign, Command, Data, Expr, Input, Part, Region, Section
 from client.adapt.values import Place
 
 
@@ -97,7 +97,10 @@ class Sections(Heads):
                 place.notes = place.notes or ["as " + ex.short(folded)]
             self.report(section.start, f"the address of {section.name}:", place)
             known = folded
-        if align is not None and align.value is not None:
+        if align is not None and address is None and self._empty(section):
+            self.blank(align, REWRITTEN, f"ALIGN of {section.name}: it takes nothing of these objects, so that GNU ld "
+                       "leaves it out")
+        elif align is not None and align.value is not None:
             self.write(align.value, Place(step.index, None), f"ALIGN of {section.name}:")
         region = self._tail(section)
         self.loads.run(step, section, region, known)
@@ -105,6 +108,11 @@ class Sections(Heads):
         self._fill(section)
         self._order(section)
         self._comma(section)
+
+    def _empty(self, section: Section) -> bool:
+        """Whether a section has nothing but input statements, and these take nothing of the objects."""
+        return (self.model.objects is not None and not row(self.model, section)
+                and all(isinstance(node, (Input, Command)) for node in section.body))
 
     def _type(self, section: Section) -> None:
         """NOLOAD and its like."""

@@ -5,10 +5,10 @@ import re
 
 from client.adapt import expressions as ex
 from client.adapt.model import Definition, Model, Step
-from client.adapt.notes import CHANGED, LEFT, REWRITTEN, Left
+from client.adapt.notes import CHANGED, DROPPED, LEFT, REWRITTEN, Left
 from client.adapt.patterns import is_name
 from client.adapt.symbols import expressions_of
-from client.adapt.tree import Assert, Assign, Block, Data, Expr, Node, Section
+from client.adapt.tree import Assert, Assign, Block, Data, Expr, Node, Region, Section
 from client.adapt.values import NUMBER, Place, Translator, Value
 
 _GLUED = re.compile(r"(?<![A-Za-z0-9_.$])(?!\.-)[A-Za-z_.$][A-Za-z0-9_.$]*-")
@@ -50,9 +50,20 @@ class Statements:
             rule(step)
         except Left as left:
             node = step.node
+            if self._is_idle(step):
+                self.model.edits.blank(node.start, node.end)
+                self.model.note(DROPPED, node.start, f"{self.model.text(node)} has no effect: no object uses it")
+                return
             name = node.name if isinstance(node, Assign) and node.name != "." else "NAME"
             text = str(left).replace("NAME", name)
             self.model.note(LEFT, node.start, f"{self.model.text(node)} {text}")
+
+    def _is_idle(self, step: Step) -> bool:
+        """Whether a statement is a PROVIDE of a symbol that neither the script nor an object uses."""
+        objects = self.model.objects
+        return objects is not None and any(
+            d.step is step and d.provide and not d.plain and not objects.refers(name)
+            for name, versions in self.model.definitions.items() for d in versions)
 
     def _report(self, step: Step, place: Place, what: str = "") -> None:
         """The lines of the report for a statement whose text is another."""
@@ -152,7 +163,12 @@ class Statements:
         order = 50 + int((d.moved - whole) * 1e4) if d.moved < whole + 0.25 and d.moved >= whole else 0
         if d.moved >= whole:
             target = model.steps[whole].node
-            model.edits.insert(target.end, " " + text, order=order)
+            if not isinstance(target, Region):
+                model.edits.insert(target.end, " " + text, order=order)
+            elif model.memory_at >= 0:
+                model.edits.insert(model.memory_at, text + " ", order=order - 9 * 10 ** 4)
+            else:
+                model.edits.insert(model.steps[whole].item.end, " " + text, order=order)
             return
         target = model.steps[whole].item
         at, rank = target.start, 1 + int((d.moved - whole + 0.5) * 1e4)

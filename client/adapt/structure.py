@@ -168,6 +168,7 @@ class Structure:
         for node, _ in entries[:-1]:
             self._drop(node, DROPPED, f"{model.text(node)}: a later ENTRY counts")
         for node, inside in entries[-1:]:
+            model.entry = node
             self._entry(node, inside)
 
     def _entry(self, node: Command, inside: bool) -> None:

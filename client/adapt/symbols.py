@@ -16,9 +16,13 @@ class Symbols:
         self.model = model
         self._count = 0
         self._uses: dict[str, list[Step]] = {}
+        self.declared: dict[str, float] = {}
+        """By memory region: the last step of MEMORY."""
 
     def run(self) -> None:
         """All of it."""
+        regions = [step for step in self.model.steps if isinstance(step.node, Region)]
+        self.declared = {getattr(step.node, "name"): float(regions[-1].index) for step in regions}
         self._collect()
         self._decide()
         self._provides()
@@ -64,8 +68,10 @@ class Symbols:
                 self.model.folded[id(e)] = self._folded(e, step, False)
 
     def _self_assigned(self, node: Assign, step: Step) -> None:
-        """`x = x`, which is what DEFINED left: x is defined elsewhere."""
+        """`x = x`, which is what DEFINED left: x is defined elsewhere. In a section it may be another value."""
         model = self.model
+        if step.section is not None and any(d.step.index < step.index for d in model.definitions[node.name]):
+            return
         model.definitions[node.name] = [d for d in model.definitions[node.name] if d.step is not step]
         model.edits.blank(node.start, node.end)
         model.note(REWRITTEN, node.start, f"{model.text(node)} goes: {node.name} is defined")
@@ -212,7 +218,7 @@ class Symbols:
                 latest = max(latest, float(step.index))
             elif needed.ready >= step.index and not self._hoist(needed, step):
                 latest = max(latest, needed.ready)
-        latest = max(latest, self._sections_known(step))
+        latest = max(latest, self._sections_known(step), self._regions_known(step))
         d.busy = False
         d.ready = latest
         if latest > step.index:
@@ -228,6 +234,12 @@ class Symbols:
                 if section is not None and not (x.word == "ADDR" and section is step.section):
                     latest = max(latest, float(self.model.closed.get(id(section), 0)))
         return latest
+
+    def _regions_known(self, step: Step) -> float:
+        """Where the memory regions that an expression names are declared."""
+        names = {x.name for x in ex.walk(step.expr) if x.kind == "call" and x.word in ("ORIGIN", "LENGTH")} \
+            if step.expr is not None else set()
+        return max((self.declared.get(self.model.aliases.get(name, name), 0) for name in names), default=0)
 
     def _hoist(self, d: Definition, user: Step) -> bool:
         """Moves an assignment of what is known early to before the statement that uses it."""
@@ -260,8 +272,8 @@ class Symbols:
         if ex.uses_dot(e) or any(x.kind == "call" and x.word in ("SIZEOF", "ADDR", "LOADADDR", "ALIGNOF",
                                                                  "DATA_SEGMENT_ALIGN") for x in ex.walk(e)):
             return False
-        if any(x.kind == "call" and x.word in ("ORIGIN", "LENGTH") for x in ex.walk(e)) \
-                and isinstance(user.node, Region):
+        if self._regions_known(d.step) > user.index or isinstance(user.node, Region) \
+                and any(x.kind == "call" and x.word in ("ORIGIN", "LENGTH") for x in ex.walk(e)):
             return False
         for name in _symbols(e):
             needed = self.model.version(name, d.step.index)

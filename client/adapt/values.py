@@ -132,6 +132,7 @@ class Translator:
                 kind = (value.kind, value.section)
                 if value.cases:
                     kind = (value.cases[1].kind, value.cases[1].section)
+                    definition.either = True
             except Left:
                 kind = (ABSOLUTE, None)
             finally:
@@ -163,6 +164,9 @@ class Translator:
         definition.used = True
         kind, section = self.kind_of(definition)
         own = e if definition.emitted == e.word else ex.symbol(definition.emitted)
+        if definition.either and place.section is not None:
+            place.worry.append(f"{e.word} may be a number or an address to GNU ld, by its condition: here it is "
+                               f"{'an address' if kind == RELATIVE else 'a number'}")
         if kind == RELATIVE:
             return Value(RELATIVE, own, section)
         return Value(NUMBER if place.section is not None or model.sane else ABSOLUTE, own)
@@ -231,14 +235,15 @@ class Translator:
         kind = ABSOLUTE if ABSOLUTE in (left.kind, right.kind) else left.kind
         section = left.section
         if left.kind == RELATIVE:
-            if operator in ("-", "==", "!=", "<", "<=", ">", ">="):
+            near = _near(left.e) and _near(right.e)
+            if operator in ("-", "==", "!=") or near and operator in ("<", "<=", ">", ">="):
                 result = self._operate(e, operator, left.e, right.e, place)
                 return Value(NUMBER if inside or operator in COMPARISONS else ABSOLUTE, result)
-            if operator in ("MAX", "MIN"):
+            if operator in ("MAX", "MIN") and near:
                 return Value(RELATIVE, self._operate(e, operator, left.e, right.e, place), section)
             place.notes.append(f"{operator} works on distances from the section's start")
             result = self._operate(e, operator, self.raw(left, place), self.raw(right, place), place)
-            if operator == "ALIGN":
+            if operator in ("ALIGN", "MAX", "MIN"):
                 return Value(RELATIVE, ex.add(self.start(section, place), result), section)
             return Value(NUMBER if inside or operator in COMPARISONS else ABSOLUTE, result)
         result = self._operate(e, operator, left.e, right.e, place)
@@ -439,3 +444,11 @@ class Translator:
             raise Left("LOG2CEIL(e) has nothing in its place: write the number")
         place.notes.append("LOG2CEIL(e) as the number")
         return self._plain(place, ex.number(max(value - 1, 0).bit_length()))
+
+
+def _near(e: Expr) -> bool:
+    """Whether an address is surely not before its section, so that addresses compare as distances do."""
+    if e.kind == "binary" and e.word == "+":
+        value = ex.constant(e.args[1])
+        return _near(e.args[0]) and value is not None and value < 1 << 32
+    return e.kind == "name" or e.kind == "call" and e.word in ("ADDR", "ALIGN")

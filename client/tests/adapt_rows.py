@@ -84,6 +84,18 @@ MEMORY = [
     _row("AT> of the same region", "MEMORY { ram : ORIGIN = 0x8003, LENGTH = 1M } SECTIONS { .b : { *(.bss) } >ram "
          "AT>ram .heap : { . += 0x20; } >ram AT>ram .d : { *(.data) } >ram a = LOADADDR(.b); b = LOADADDR(.d); REST >ram "
          + TAIL + " }", "r"),
+    _row("`.` around AT>r", "MEMORY { rom : ORIGIN = 0x1001, LENGTH = 4K ram : ORIGIN = 0x8003, LENGTH = 1M } SECTIONS "
+         "{ .text : { *(.text) } >rom . = 0x8100; .data . : { *(.data) } >ram AT>rom after = .; .ro ALIGN(64) : "
+         "ALIGN_WITH_INPUT { *(.rodata) } >ram AT>rom last = .; a = LOADADDR(.data); b = LOADADDR(.ro); REST >ram "
+         "AT>ram " + TAIL + " }", "r", known=True),
+    _row("regions before MEMORY", "top = ORIGIN(ram) + LENGTH(ram); low = top - 16; MEMORY { rom : ORIGIN = 0x1000, "
+         "LENGTH = 4K ram : ORIGIN = 0x8000, LENGTH = 1M } SECTIONS { .text : { *(.text) } >rom a = low; REST >ram "
+         + TAIL + " }", "r"),
+    _row("regions before MEMORY after SECTIONS", "top = ORIGIN(ram); SECTIONS { . = 0x1000; a = top + 1; .text : { "
+         "*(.text) } >ram REST >ram " + TAIL + " } MEMORY { ram : ORIGIN = 0x8000, LENGTH = 1M }", "r"),
+    _row("AT>r of one's own region", "MEMORY { rom : ORIGIN = 0x1000, LENGTH = 4K ram : ORIGIN = 0x8000, LENGTH = 1M } "
+         "SECTIONS { .text : { *(.text) } >ram AT>rom .b : { *(.bss) } >ram AT>ram .heap : { . += 64; } >ram AT>ram "
+         ".data : { *(.data) } >ram AT>ram .none : { *(.none) } >ram REST >ram " + TAIL + " }", "r", known=True),
     _row("AT> alone", "MEMORY { rom : ORIGIN = 0x1000, LENGTH = 1M } SECTIONS { REST AT>rom " + TAIL + " }", "r"),
     _row("DEFINED in MEMORY", "MEMORY { ram : ORIGIN = DEFINED(base) ? base : 0x1000, LENGTH = size } SECTIONS { REST "
          ">ram " + TAIL + " } size = 1M;", "r", defsyms=(("base", "0x3000"),)),
@@ -95,6 +107,8 @@ HEADS = [
     _row("types", ".got.plt (INFO) : { *(.got.plt) } .x (COPY) : { *(.xx) } .y (DSECT) : { *(.yy) } .z (OVERLAY) : { "
          "*(.zz) } .w () : { *(.ww) } REST " + TAIL, "d", known=True),
     _row("ALIGN and an address", ".text 0x400003 : ALIGN(64) { *(.text) } REST " + TAIL, "r"),
+    _row("ALIGN of an empty section", ".e : ALIGN(4096) { *(.none) } a = .; .f : ALIGN(64) { k = .; } b = .; REST "
+         + TAIL, "r", known=True),
     _row("SUBALIGN", ".t : SUBALIGN(8) { *(.data) } REST " + TAIL, "c", different=("section", "symbol", "load")),
     _row("ONLY_IF_RO", ".x : ONLY_IF_RO { *(.rodata) } .x : ONLY_IF_RW { *(.rodata) q = .; } .y : ONLY_IF_RO { "
          "*(.data) } .y : ONLY_IF_RW { *(.data) r = .; } REST " + TAIL, "rd", known=True),
@@ -162,6 +176,7 @@ DOT = [
     _row("compound assignments", "a = 3; a += 4; a -= 1; b = a; a *= 2; a /= 3; a <<= 2; a >>= 1; a &= 14; a |= 1; "
          ". -= 0x1000; . |= 0x10; . *= 1; REST " + TAIL),
     _row("assigned twice", "a = .; b = a + 1; REST a = . + 2; c = a; " + TAIL),
+    _row("assigned to itself in a section", "a = 0x20; .t : { *(.text) a = a; } b = a; REST " + TAIL),
     _row("assigned twice, unused", "a = 1; REST a = 2; " + TAIL, "d"),
     _row("commas after assignments", "a = 1, b = 2, REST " + TAIL),
     _row("`. = symbol + n`", ".t : { *(.text) mark = .; . = mark + 0x20; *(.text.*) at = .; . = at + 3 + 4; x = .; } "
@@ -223,6 +238,7 @@ VALUES = [
          "origin = 0x5000; pad = 16;"),
     _row("SIZEOF before, in `.`", ". = . + SIZEOF(.rest); REST " + TAIL, "l"),
     _row("PROVIDE that the script uses", "PROVIDE(gap = 0x30); . = . + gap; REST " + TAIL),
+    _row("PROVIDE that nothing uses", "PROVIDE(idle = nowhere + 1); REST " + TAIL, "d", known=True),
     _row("PROVIDE twice", "PROVIDE(provided = 3); PROVIDE(provided = 4); REST _end = .; end = .; __stack = 2;", "d"),
     _row("PROVIDE and an assignment", "PROVIDE(provided = 3); provided = 4; REST _end = .; end = .; __stack = 2;", "d"),
     _row("many signs", 'REST ' + TAIL + " " + " ".join(f'ASSERT((_end > {n}) && (_end != {n}), "m")'

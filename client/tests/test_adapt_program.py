@@ -90,6 +90,8 @@ class AdaptTest(unittest.TestCase):
         with tempfile.TemporaryDirectory() as folder:
             paths = make(folder)
             result = adapt("x = DEFINED(main) ? 1 : 2;\nSECTIONS { .text : { *(.text) } }", objects=paths)
+            entry = adapt("ENTRY(none) SECTIONS { .t : { *(*) } }", objects=paths)
+        self.assertTrue(any("ENTRY(none): nothing defines it" in note.text for note in entry.report))
         self.assertIn("x = 1;", result.text.decode())
         self.assertEqual(result.status, 2)
         self.assertTrue(any("no statement takes .rodata of" in note.text for note in result.report))
