@@ -24,6 +24,7 @@ use Rattle.ldscope.specs.Naming.{Naming, piece_named, row_named}
 use Rattle.ldscope.specs.SectionTable.{keyed_piece}
 use Rattle.ldlaws.specs.Alike.{AreAlike, AreBodiesAlike, BodiesStayAlike, HeadsAgree, given_names, names_given}
 use Rattle.ldlaws.specs.Alike.{with_symbols}
+use Rattle.place.proofs.Counting.{along_none}
 use Rattle.place.proofs.Adding.{end_is}
 use Rattle.place.proofs.Beginning.{begins_mapped, begins_on, begins_same}
 use Rattle.place.proofs.Ending.{Chained, address_is, chained}
@@ -237,6 +238,8 @@ counted_on a b c f h k = record {
   anew = omega (arith, h.anew, k.anew);
   within = λ l. k.within (h.within l);
   none = both f.starts h.none k.none;
+  all = along_none f.starts a.anew b.anew c.anew (length a.pieces.items) (length b.pieces.items)
+      (length c.pieces.items) h.all k.all;
 }
   where
     both : (o : Option (Bor (List ℕ))) → IfSome o (λ s. b.anew ≡ a.anew) → IfSome o (λ s. c.anew ≡ b.anew)

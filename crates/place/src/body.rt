@@ -1,6 +1,6 @@
 //! The body of an output section.
 
-ghost use Rattle.std.specs.Prelude.{◌≤◌, ◌≡◌, ◌+◌, length, drop, OnOk, IfSome};
+ghost use Rattle.std.specs.Prelude.{◌≤◌, ◌≡◌, ◌+◌, length, drop, OnErr, OnOk, IfSome};
 ghost use Rattle.ldterms.specs.DotForms.{dot_form};
 ghost use Rattle.ldterms.specs.Expressions.{expr_of};
 ghost use Rattle.ldmodel.specs.Body.{advanced, body_command_step, body_step, data_step, input_step, moved};
@@ -8,7 +8,7 @@ ghost use Rattle.ldmodel.specs.Body.{piece_placed, piece_start, pieces_placed, s
 ghost use Rattle.ldmodel.specs.Chain.{run};
 ghost use Rattle.ldscope.specs.Naming.{Naming, piece_named, row_named};
 ghost use Rattle.place.specs.Alongside.{BodyAlongside, IfInput, StartAt, StartsThere};
-ghost use Rattle.place.specs.Counted.{Counted, Entered};
+ghost use Rattle.place.specs.Counted.{Counted, CountsAlong, Entered, StaysThere};
 ghost use Rattle.place.specs.State.{body_of, Gives};
 
 use crate::state::{Frame, Here};
@@ -39,6 +39,7 @@ impl<'d, 'a> Frame<'d, 'a> {
         ensures dot { OnOk result (here.new.dot ≡ start + piece.now.size) }
         ensures one { OnOk result (length here.new.pieces.items ≡ length here.old.pieces.items + 1) }
         ensures anew { here.new.anew ≡ here.old.anew }
+        ensures none { OnErr result (length here.new.pieces.items ≡ length here.old.pieces.items) }
         ensures few { length here.old.pieces.items ≤ length here.new.pieces.items }
         ensures no_more { length here.new.pieces.items ≤ length here.old.pieces.items + 1 }
     {
@@ -60,7 +61,8 @@ impl<'d, 'a> Frame<'d, 'a> {
             (body_of naming here.new self.now) result }
         ensures script { here.new.symbols.script ≡ here.old.symbols.script }
         ensures one { OnOk result (length here.new.pieces.items ≡ length here.old.pieces.items + 1) }
-        ensures anew { here.new.anew + length here.old.pieces.items ≤ here.old.anew + length here.new.pieces.items }
+        ensures anew { CountsAlong here.old.anew here.new.anew (length here.old.pieces.items)
+            (length here.new.pieces.items) }
         ensures few { length here.new.pieces.items ≤ length here.old.pieces.items + 1 }
     {
         let Some(start) = here.dot.checked_next_multiple_of(piece.alignment.max(1)) else {
@@ -108,7 +110,7 @@ impl<'d, 'a> Frame<'d, 'a> {
             (pieces_placed line number (body_of naming here.old self.now)
             (row_named naming (drop (length here.old.pieces.items) self.now.row.now)))
             (body_of naming here.new self.now) result }
-        ensures counted { Counted here.old here.new self.now }
+        ensures there { StaysThere here.old here.new self.now }
         ensures anew { here.new.anew ≡ here.old.anew }
     {
         while here.pieces.len() < self.row.len() {

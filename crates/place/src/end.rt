@@ -1,11 +1,11 @@
 //! The end of an output section.
 
-ghost use Rattle.std.specs.Prelude.{◌+◌, length, OnOk, ◌≡◌, ◌==◌, ◌&&◌, ◌||◌, if◌then◌else◌, not};
+ghost use Rattle.std.specs.Prelude.{◌+◌, ◌++◌, [], ◌∷◌, length, OnOk, ◌≡◌, ◌==◌, ◌&&◌, ◌||◌, if◌then◌else◌, not};
 ghost use Rattle.std.specs.Option.{option_copied, option_and_then};
 ghost use Rattle.ldmodel.specs.Layout.{region_named};
 ghost use Rattle.ldmodel.specs.SectionEnd.{freed_from, has_file_bytes, has_flag, is_within};
 ghost use Rattle.ldmodel.specs.SectionEnd.{load_region, placed_section, section_end, with_room};
-ghost use Rattle.ldscope.specs.Keyed.{section_of};
+ghost use Rattle.ldscope.specs.Keyed.{KeyedSection, section_of};
 ghost use Rattle.ldscope.specs.Naming.{Naming};
 ghost use Rattle.ldscope.specs.Outputs.{IsOutput};
 ghost use Rattle.ldscope.specs.RegionTable.{region_of};
@@ -147,6 +147,7 @@ impl<'a> Here<'a> {
         ensures value { section_of naming (keyed result)
             ≡ placed_section output.now (head_from head) (body_alone naming self.old) }
         ensures fits { Fits (keyed result) }
+        ensures pieces { length (keyed result).pieces ≡ length self.old.pieces.items }
         ensures output { result.output.now ≡ output.now }
         ensures dot { self.new.dot ≡ self.old.dot }
         ensures dots { self.new.dots.items ≡ self.old.dots.items }
@@ -187,6 +188,9 @@ impl<'a> Here<'a> {
         ensures anew { self.new.anew ≡ self.old.anew }
         ensures script { self.new.symbols.script ≡ self.old.symbols.script }
         ensures outputs { done.new.sections.script ≡ done.old.sections.script }
+        ensures pushed { OnOk result ((section : KeyedSection)
+            × (done.new.sections.list ≡ done.old.sections.list ++ section ∷ [])
+            × (length section.pieces ≡ length self.old.pieces.items)) }
         ensures one { OnOk result (length done.new.sections.list ≡ length done.old.sections.list + 1) }
         ensures gives { Gives (section_end line output.now (head_from head) (ended_body naming self.old done.old))
             (layout_of naming self.new done.new) result }

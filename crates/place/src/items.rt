@@ -9,10 +9,10 @@ ghost use Rattle.ldmodel.specs.Layout.{noted};
 ghost use Rattle.ldmodel.specs.Placement.{free_dot_step, item_command_step, item_step};
 ghost use Rattle.ldscope.specs.Earlier.{earlier_of, AreStartsOf};
 ghost use Rattle.ldscope.specs.Naming.{Naming};
-ghost use Rattle.ldscope.specs.Wholes.{starts_in};
+ghost use Rattle.ldscope.specs.Wholes.{counts_in, starts_in};
 ghost use Rattle.place.specs.Alongside.{IsAlongside, ItemsAlongside};
 ghost use Rattle.place.specs.Boundaries.{AreBoundaries, IsAt};
-ghost use Rattle.place.specs.Counted.{Resumes, entries};
+ghost use Rattle.place.specs.Counted.{Adds, CountsAlong, Resumes, entries, placed_from};
 ghost use Rattle.place.specs.Earlier.{Earlier};
 ghost use Rattle.place.specs.Inputs.{rows_of};
 ghost use Rattle.place.specs.Next.{AreFirst, IsNext};
@@ -135,6 +135,8 @@ impl<'i, 'a> Input<'i, 'a> {
             ≤ here.old.anew + entries (length done.old.sections.list) (map (λ v. v.items) self.now.rows.now)) }
         ensures resumed { OnOk result
             (Resumes self.now here.old here.new done.old.sections.list done.new.sections.list) }
+        ensures added { OnOk result
+            (Adds self.now here.old here.new done.old.sections.list done.new.sections.list) }
         ensures outputs { done.new.sections.script ≡ done.old.sections.script }
         ensures gives { Gives
             (item_command_step (rows_of naming self.now) self.now.provided.now line
@@ -179,6 +181,8 @@ impl<'i, 'a> Input<'i, 'a> {
             ≤ here.old.anew + entries (length done.old.sections.list) (map (λ v. v.items) self.now.rows.now)) }
         ensures resumed { OnOk result
             (Resumes self.now here.old here.new done.old.sections.list done.new.sections.list) }
+        ensures added { OnOk result
+            (Adds self.now here.old here.new done.old.sections.list done.new.sections.list) }
         ensures outputs { done.new.sections.script ≡ done.old.sections.script }
         ensures gives { Gives
             (item_step (rows_of naming self.now) self.now.provided.now (layout_of naming here.old done.old) item.now)
@@ -208,6 +212,8 @@ impl<'i, 'a> Input<'i, 'a> {
         ensures anew { here.new.anew ≤ here.old.anew + entries 0 (map (λ v. v.items) self.now.rows.now) }
         ensures resumed { OnOk result (here.new.anew ≤ here.old.anew
             + entries self.now.kept.first (map (λ v. v.items) self.now.rows.now)) }
+        ensures added { OnOk result (CountsAlong here.old.anew here.new.anew 0
+            (placed_from self.now.kept.first (counts_in done.new.sections.list))) }
         ensures gives { Gives
             (run (item_step (rows_of naming self.now) self.now.provided.now) (layout_of naming here.old done.old)
             items.now) (layout_of naming here.new done.new) result }

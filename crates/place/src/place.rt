@@ -1,9 +1,10 @@
 //! The layout of a script.
 
 ghost use Rattle.std.specs.Prelude.{◌≡◌, [], map, IfErr, IfOk, IfSome};
+ghost use Rattle.ldbase.specs.Raised.{raised};
 ghost use Rattle.ldscope.specs.Naming.{Naming, rows_named};
 ghost use Rattle.ldscope.specs.ProvidedTable.{provided_names};
-ghost use Rattle.place.specs.Counted.{CountsPieces, entries};
+ghost use Rattle.place.specs.Counted.{CountsPieces, entries, first_of, placed_from};
 ghost use Rattle.place.specs.Kept.{IsKept};
 ghost use Rattle.place.specs.Outcomes.{IsGood, IsWhy, Stops};
 ghost use Rattle.place.specs.Places.{IsPlacement};
@@ -88,6 +89,8 @@ fn lay_out(
     ensures resumed { IfOk result (λ _. IfSome kept.entry (λ k.
         IsKept script.now (rows_named naming (map (λ v. v.items) rows.now)) k.0.now k.1
         → CountsPieces meter.old meter.new (entries k.1 (map (λ v. v.items) rows.now)))) }
+    ensures exact { IfOk result (λ p. meter.new
+        ≡ raised meter.old Count.Pieces (placed_from (first_of kept.entry) p.counts)) }
     ensures placed { IfOk result (λ p.
         IsPlacement script.now (rows_named naming (map (λ v. v.items) rows.now))
         (provided_names script.now provided.now) p) }
@@ -147,6 +150,8 @@ pub fn place(
     ensures resumed { IfOk result (λ _. IfSome kept.entry (λ k.
         IsKept script.now (rows_named naming (map (λ v. v.items) rows.now)) k.0.now k.1
         → CountsPieces meter.old meter.new (entries k.1 (map (λ v. v.items) rows.now)))) }
+    ensures exact { IfOk result (λ p. meter.new
+        ≡ raised meter.old Count.Pieces (placed_from (first_of kept.entry) p.counts)) }
     ensures placed { IfOk result (λ p.
         IsPlacement script.now (rows_named naming (map (λ v. v.items) rows.now))
         (provided_names script.now provided.now) p) }

@@ -5,9 +5,10 @@ ghost use Rattle.ldmodel.specs.Chain.{run};
 ghost use Rattle.ldmodel.specs.Placement.{statement_step};
 ghost use Rattle.ldscope.specs.Earlier.{earlier_of};
 ghost use Rattle.ldscope.specs.Naming.{Naming};
+ghost use Rattle.ldscope.specs.Wholes.{counts_in};
 ghost use Rattle.place.specs.Alongside.{ScriptAlongside};
 ghost use Rattle.place.specs.Boundaries.{AreBoundariesOf};
-ghost use Rattle.place.specs.Counted.{entries};
+ghost use Rattle.place.specs.Counted.{CountsAlong, entries, placed_from};
 ghost use Rattle.place.specs.Earlier.{EarlierScript};
 ghost use Rattle.place.specs.Inputs.{rows_of};
 ghost use Rattle.place.specs.State.{layout_of, Gives};
@@ -108,6 +109,8 @@ impl<'i, 'a> Input<'i, 'a> {
         ensures anew { here.new.anew ≤ here.old.anew + entries 0 (map (λ v. v.items) self.now.rows.now) }
         ensures resumed { OnOk result (here.new.anew ≤ here.old.anew
             + entries self.now.kept.first (map (λ v. v.items) self.now.rows.now)) }
+        ensures added { OnOk result (CountsAlong here.old.anew here.new.anew 0
+            (placed_from self.now.kept.first (counts_in done.new.sections.list))) }
         ensures gives { Gives
             (run (statement_step (rows_of naming self.now) self.now.provided.now) (layout_of naming here.old done.old)
             statements.now) (layout_of naming here.new done.new) result }

@@ -1,12 +1,13 @@
 //! An output section.
 
-ghost use Rattle.std.specs.Prelude.{◌≡◌, ◌≤◌, ◌+◌, [], length, OnOk, IfErr, IfSome};
+ghost use Rattle.std.specs.Prelude.{◌≡◌, ◌≤◌, ◌+◌, [], length, OnOk, IfErr, IfNone, IfSome};
 ghost use Rattle.ldmodel.specs.Body.{body_step};
 ghost use Rattle.ldmodel.specs.Chain.{run};
 ghost use Rattle.ldmodel.specs.Placement.{opened, section_step};
 ghost use Rattle.ldscope.specs.Naming.{Naming, row_named};
 ghost use Rattle.ldscope.specs.Outputs.{IsOutput};
 ghost use Rattle.place.specs.Alongside.{BodyAlongside, SectionAlongside};
+ghost use Rattle.place.specs.Counted.{CountsAlong, PlacesAnew};
 ghost use Rattle.place.specs.Heads.{head_from};
 ghost use Rattle.place.specs.State.{body_from, layout_of, Gives};
 ghost use Rattle.place.specs.declared.stop.Stop.TheVariants.{NoMemory};
@@ -56,6 +57,8 @@ impl<'a> Here<'a> {
         ensures script { self.new.symbols.script ≡ self.old.symbols.script }
         ensures anew { self.new.anew ≤ self.old.anew + length row.now }
         ensures none { IfSome starts.entry (λ s. self.new.anew ≡ self.old.anew) }
+        ensures all { OnOk result (IfNone starts.entry
+            (CountsAlong self.old.anew self.new.anew 0 (length self.new.pieces.items))) }
         ensures gives { Gives
             (run (body_step provided.now)
             (opened (layout_of naming self.old done.now) (row_named naming row.now) (head_from head)) output.now.body)
@@ -93,6 +96,8 @@ impl<'a> Here<'a> {
         ensures outputs { done.new.sections.script ≡ done.old.sections.script }
         ensures anew { self.new.anew ≤ self.old.anew + length row.now }
         ensures none { IfSome starts.entry (λ s. self.new.anew ≡ self.old.anew) }
+        ensures all { OnOk result (IfNone starts.entry
+            (PlacesAnew self.old self.new done.old.sections.list done.new.sections.list)) }
         ensures one { OnOk result (length done.new.sections.list ≡ length done.old.sections.list + 1) }
         ensures gives { Gives
             (section_step provided.now (row_named naming row.now) (layout_of naming self.old done.old) line output.now)

@@ -1,14 +1,17 @@
-use Rattle.std.proofs.Common.{ℕ, List, map, sym, ap, ◌∙◌, inl, inr, subst, arith}
+use Rattle.std.proofs.Common.{ℕ, List, map, sym, ap, ◌∙◌, inl, inr, refl, subst, arith}
 use Rattle.ldtree.specs.declared.statement.Statement.{Statement}
 use Rattle.ldmodel.specs.Chain.{run}
 use Rattle.ldmodel.specs.Placement.{statement_step}
+use Rattle.ldscope.specs.Keyed.{KeyedSection}
 use Rattle.ldscope.specs.Naming.{rows_named}
 use Rattle.ldscope.specs.ProvidedTable.{provided_names}
+use Rattle.place.proofs.Counting.{along_same, first_is, raises_exactly}
+use Rattle.place.proofs.Wholes.{counts_whole}
 use Rattle.place.proofs.Good.{begins, nothing_there, stops_at}
 use Rattle.place.proofs.Keeping.{kept_alongside, kept_earlier}
 use Rattle.place.proofs.Options.{by_option, for_some}
 use Rattle.place.proofs.place.lay_out.Goals as goal
-use Rattle.place.specs.Counted.{entries}
+use Rattle.place.specs.Counted.{entries, placed_from}
 use Rattle.place.specs.State.{layout_of}
 use Rattle.place.specs.declared.state.Done.{Done}
 
@@ -80,3 +83,16 @@ place_script-laid-requires g c =
         ),
       ),
     )
+
+pub returns-in-Ok-clause-exact : goal.returns-in-Ok-clause-exact
+returns-in-Ok-clause-exact g c =
+    let list : List KeyedSection = c.place_script-laid.new.done.sections.list in
+    let first = first_is c.args.kept c.new-kept.result.first
+    (for_some c.args.kept _ _ c.new-kept.ensures.some (λ k keeps. keeps.first_is)) c.new-kept.ensures.none in
+    let counts = c.in_ok-whole-in-Ok.ensures.places.counts ∙ sym (counts_whole g.naming list) in
+    raises_exactly _ _ c.place_script-laid.new.here.anew _
+    (along_same _ _ _ _ _ _ c.in-Ok.ensures.added refl
+    (ap (λ (k : ℕ). placed_from k c.in_ok-whole-in-Ok.field-0.counts) (sym first)
+    ∙ ap (λ (ns : List ℕ). placed_from c.new-kept.result.first ns) counts)
+    (sym c.in_ok-here.ensures.anew))
+    c.raise.ensures

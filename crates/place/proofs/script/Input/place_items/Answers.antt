@@ -4,7 +4,7 @@ use Rattle.std.proofs.lemmas.List.{length-map}
 use Rattle.ldscope.specs.Keyed.{section_of}
 use Rattle.place.proofs.Alongside.{from_here}
 use Rattle.place.proofs.AlongsideItems.{items_go_on, next_alongside}
-use Rattle.place.proofs.Counting.{entries_fewer, left_at_first}
+use Rattle.place.proofs.Counting.{along_on, entries_fewer, left_at_first, none_placed}
 use Rattle.place.proofs.Noting.{all_there, comes_on, is_next, more_by, noted_more, stands_at, stops_there}
 use Rattle.place.specs.Alongside.{ItemsAlongside}
 use Rattle.place.specs.Boundaries.{AreNoted}
@@ -27,6 +27,13 @@ loop-number-init g c = record {
   resumed =
       let f = left_at_first c.args.self.now c.resume.new.done.sections.list c.in_ok-resumed.ensures.few in
       omega (arith, f, c.resume.ensures.anew);
+  added =
+      let none = none_placed c.args.self.now.kept.first c.resume.new.done.sections.list c.in_ok-resumed.ensures.few in
+      record {
+        more = omega arith;
+        least = omega (arith, none, c.resume.ensures.anew);
+        most = omega (arith, none, c.resume.ensures.anew);
+      };
   alongside = λ other some few.
       let same = c.in_ok-resumed.ensures.none other in
       let there : layout_of g.naming c.resume.new.here c.resume.new.done
@@ -109,6 +116,7 @@ loop-number-preserved g c = record {
   script = c.place_item.ensures.script ∙ c.loop-number.invariant.script;
   anew = omega (arith, c.loop-number.invariant.anew, c.in_ok-place_item.ensures.left);
   resumed = omega (arith, c.loop-number.invariant.resumed, c.in_ok-place_item.ensures.resumed);
+  added = along_on _ _ _ _ _ _ c.loop-number.invariant.added c.in_ok-place_item.ensures.added;
   alongside = λ other some few.
       let more = more_by g.naming (rows_of g.naming c.args.self.now) c.args.self.now.provided.now
       (layout_of g.naming c.args.here.now c.args.done.now) c.args.items.now c.loop-number.here c.loop-number.done

@@ -1,9 +1,10 @@
 use Rattle.std.proofs.Common.{◌≡◌, ◌+◌, ◌≤◌, ◌<◌, length, map, take, drop, Ok, false}
 use Rattle.ldmodel.specs.Chain.{run}
 use Rattle.ldmodel.specs.Placement.{item_step}
+use Rattle.ldscope.specs.Wholes.{counts_in}
 use Rattle.place.specs.Alongside.{ItemsAlongside}
 use Rattle.place.specs.Boundaries.{AreNoted}
-use Rattle.place.specs.Counted.{entries, left_after}
+use Rattle.place.specs.Counted.{CountsAlong, entries, left_after, placed_from}
 use Rattle.place.specs.Inputs.{rows_of}
 use Rattle.place.specs.State.{layout_of}
 use Rattle.place.proofs.script.Input.place_items.Given as goal
@@ -29,6 +30,7 @@ invariant-loop-number g l = record {
       ≤ l.fn.here.anew + entries 0 (map (λ v. v.items) l.self.rows.now);
   resumed : l.here.anew + left_after l.self l.done.sections.list
       ≤ l.fn.here.anew + entries l.self.kept.first (map (λ v. v.items) l.self.rows.now);
+  added : CountsAlong l.fn.here.anew l.here.anew 0 (placed_from l.self.kept.first (counts_in l.done.sections.list));
   alongside : l.self.kept.same_provided ≡ false → 0 < l.self.kept.first
       → length l.done.sections.list ≤ l.self.kept.first
       → ItemsAlongside g.naming l.self l.fn.here.symbols.script (layout_of g.naming l.here l.done)

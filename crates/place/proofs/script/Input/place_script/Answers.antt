@@ -11,6 +11,9 @@ use Rattle.place.proofs.Following.{are_first}
 use Rattle.place.specs.Inputs.{rows_of}
 use Rattle.place.specs.Next.{AreFirst}
 use Rattle.place.specs.State.{fault_of, layout_of}
+use Rattle.place.proofs.Counting.{along_same}
+use Rattle.place.specs.Counted.{placed_from}
+use Rattle.ldscope.specs.Wholes.{counts_in}
 use Rattle.place.proofs.script.Input.place_script.Goals as goal
 
 pub returns-in_err-place_statements-clause-gives : goal.returns-in_err-place_statements-clause-gives
@@ -127,3 +130,10 @@ returns-clause-boundaries g c = record {
       (layout_of g.naming c.place_statements.new.here c.place_statements.new.done) items
       c.in_ok-boundaries.boundaries.items) c.of-parts.ensures.items c.in_ok-boundaries.ensures.boundaries;
 }
+
+pub returns-clause-added : goal.returns-clause-added
+returns-clause-added g c =
+    along_same _ _ _ _ _ _ c.in_ok-boundaries.ensures.added c.place_statements-2.ensures.anew
+    (ap (λ (z : Outputs). placed_from c.args.self.now.kept.first (counts_in z.list))
+    c.place_statements-2.ensures.sections)
+    (sym c.place_statements.ensures.anew)

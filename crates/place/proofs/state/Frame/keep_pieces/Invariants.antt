@@ -2,7 +2,7 @@ use Rattle.std.proofs.Common.{◌≡◌, ◌-◌, ◌≤◌, drop, length}
 use Rattle.ldmodel.specs.Body.{pieces_placed}
 use Rattle.ldscope.specs.Naming.{row_named}
 use Rattle.place.specs.Alongside.{StartAt}
-use Rattle.place.specs.Counted.{Entered}
+use Rattle.place.specs.Counted.{StaysThere}
 use Rattle.place.specs.State.{body_of}
 use Rattle.place.proofs.state.Frame.keep_pieces.Given as goal
 
@@ -15,7 +15,7 @@ invariant-loop-here g l = record {
       (row_named g.naming (drop (length l.fn.here.pieces.items) l.self.row.now))
       ≡ pieces_placed l.line l.number (body_of g.naming l.here l.self)
       (row_named g.naming (drop (length l.here.pieces.items) l.self.row.now));
-  entered : Entered l.fn.here l.here l.self;
+  there : StaysThere l.fn.here l.here l.self;
   anew : l.here.anew ≡ l.fn.here.anew;
   kept : StartAt l.number l.here.dot (row_named g.naming (drop (length l.here.pieces.items) l.self.row.now))
       (drop (length l.here.pieces.items) l.starts);
