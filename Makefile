@@ -6,7 +6,8 @@ PREFIX ?= /usr/local
 export LDI
 
 .PHONY: help demo ldi install check test test-client fmt examples bench check-real check-images check-model \
-        check-link check-readers check-session check-counts check-memory mutants
+        check-link check-readers check-session check-counts check-memory mutants soak-client
+.PHONY: self dist dist-test
 
 help: ## this list
 	@awk -F ':.*## ' '/^[a-z-]+:.*## / { printf "make %-14s %s\n", $$1, $$2 }' Makefile
@@ -16,11 +17,21 @@ help: ## this list
 demo: ## builds ldi without its proofs, links the smallest program and shows the image
 	@tools/demo
 
-ldi: ## proves every crate that the program stands on, and builds it: crates/ldi/out/ldi
+ldi: ## proves what ldi, readobj and readscript stand on, and builds them: crates/NAME/out/NAME
 	@tools/build-ldi
+
+self: ## links `ldi` by `ldi` as one static file, and runs the stored runs and streams with it: examples/self
+	@tools/self-test
+
+dist: ## makes the packages: dist/ldi-VERSION-x86_64-linux.tar.gz and dist/ldi_VERSION_amd64.deb
+	@tools/dist
+
+dist-test: ## tries the packages in a minimal Debian, as root
+	@tools/dist-test
 
 install: ## puts what `make ldi` built and the client's programs into PREFIX; PREFIX is /usr/local by default
 	@tools/install "$(DESTDIR)$(PREFIX)"
+	@env -u PYTHONDONTWRITEBYTECODE /usr/bin/python3 -m compileall -q "$(DESTDIR)$(PREFIX)/lib/ldi" || true
 
 check: ## proves every crate, over what earlier runs have proved
 	rt all check
@@ -30,6 +41,9 @@ test: ## the merge gate: every proof from nothing, the edits that must fail, the
 
 test-client: ## the tests of the client's programs, over the program that `make ldi` built
 	@tools/test-client
+
+soak-client: ## runs ldi-watch over 2,000 rounds of random rewrites, and judges every image: half an hour
+	@/usr/bin/python3 -m client.tests.soak 2000
 
 fmt: ## lays out the files of every crate, and prints those that changed, and what crates.txt names without need
 	@tools/fmt

@@ -4,41 +4,43 @@ The defined line follows in brackets. What is not certain is left out.
 """
 from __future__ import annotations
 
-from collections.abc import Mapping
-from dataclasses import dataclass, field
-
+from client.fault_lines import count_lines, fault_lines
+from client.faults import FaultSentences
+from client.inputs import Inputs, Message
 from client.protocol import Refused
+from client.refusals import refusal_sentences
+
+__all__ = ["Inputs", "Message", "fault_messages", "refusal_message", "refusal_messages"]
 
 
-@dataclass(frozen=True)
-class Inputs:
-    """What a link was made of, to look names and lines up in."""
-
-    script_path: str
-    script: bytes
-    objects: Mapping[str, bytes] = field(default_factory=dict)
-    """The objects' bytes under the names that the linker knows them by."""
-    script_lines: tuple[tuple[str, int], ...] = ()
-    """Where the script was made of another text: for each of its lines, the file and line that it came from."""
-
-
-@dataclass(frozen=True)
-class Message:
-    """A sentence for people, and the line of `ldi` that it says."""
-
-    sentence: str
-    line: str
-
-    def __str__(self) -> str:
-        return f"{self.sentence} [{self.line}]"
+def fault_messages(faults: bytes, inputs: Inputs, limit: int | None = None) -> list[Message]:
+    """The messages of a link's fault lines, in their order. With a limit that there are more than, the first ones, and
+    one without a line that says how many more there are."""
+    sentences = FaultSentences(inputs)
+    messages: list[Message] = []
+    for fault in fault_lines(faults):
+        if limit is not None and len(messages) == limit:
+            messages.append(Message(f".. and {count_lines(faults) - limit} more", ""))
+            break
+        messages.append(Message(sentences.sentence(fault), fault.text))
+    return messages
 
 
-def fault_messages(faults: bytes, inputs: Inputs) -> list[Message]:
-    """The messages of a link's fault lines, in their order."""
-    return [Message(line, line) for line in faults.decode(errors="replace").splitlines()]
+def refusal_message(
+    name: str, refused: Refused, data: bytes | None = None, script_lines: tuple[tuple[str, int], ...] = ()
+) -> Message:
+    """The message of a refused edit of the object `name`, or of the script; `data` is its payload. `script_lines` is
+    that of `Inputs`. Of several places it has the first, and says how many more there are."""
+    first, *others = refusal_messages(name, refused, data, script_lines)
+    if not others:
+        return first
+    more = "1 more place" if len(others) == 1 else f"{len(others)} more places"
+    return Message(f"{first.sentence}; and {more}", first.line)
 
 
-def refusal_message(name: str, refused: Refused, data: bytes | None = None) -> Message:
-    """The message of a refused edit of the object `name`, or of the script; `data` is its payload."""
+def refusal_messages(
+    name: str, refused: Refused, data: bytes | None = None, script_lines: tuple[tuple[str, int], ...] = ()
+) -> list[Message]:
+    """The same with a message for each place that `readobj` or `readscript` names; at least one."""
     line = f"{name}: refused {refused.number} {refused.inner}"
-    return Message(line, line)
+    return [Message(sentence, line) for sentence in refusal_sentences(name, refused, data, script_lines)]

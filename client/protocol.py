@@ -5,8 +5,11 @@ it. Handles allow the linker no waiting and no processes; that is why the progra
 """
 from __future__ import annotations
 
+import fcntl
 import os
+import select
 import subprocess
+import sys
 from dataclasses import dataclass
 from typing import IO, cast
 
@@ -55,7 +58,7 @@ Answer = Linked | Refused
 
 
 class SessionEnded(Exception):
-    """The session's process ended, or wrote what is no answer."""
+    """The session's process ended, gave no answer in time, or wrote what is no answer."""
 
 
 def is_name(name: bytes) -> bool:
@@ -64,26 +67,42 @@ def is_name(name: bytes) -> bool:
 
 
 def find_program(name: str = "ldi") -> str:
-    """The path of a program of the linker: $LDI and its neighbours, else the one on PATH.
+    """The path of a program of the linker: $LDI and its neighbours, else the one beside the program that runs, as
+    `make install` puts it there, else the one on PATH.
 
-    `LDI` names `ldi` itself; `readobj` and `readscript` are looked for beside it, then in the crates of a repository
-    (`crates/NAME/out/NAME`), then on PATH.
+    `LDI` names `ldi` itself; `readobj` and `readscript` are looked for beside it, and in the crates of a repository
+    (`crates/NAME/out/NAME`).
     """
     ldi = os.environ.get("LDI")
-    if name == "ldi":
-        return ldi or "ldi"
-    if ldi:
-        folder = os.path.dirname(os.path.realpath(ldi))
-        for path in (os.path.join(folder, name), os.path.join(folder, "..", "..", name, "out", name)):
-            if os.access(path, os.X_OK):
-                return os.path.normpath(path)
+    if ldi and name == "ldi":
+        return ldi
+    folder = os.path.dirname(os.path.realpath(ldi or sys.argv[0]))
+    for path in (os.path.join(folder, name), os.path.join(folder, "..", "..", name, "out", name)):
+        if os.path.isfile(path) and os.access(path, os.X_OK):
+            return os.path.normpath(path)
     return name
 
 
-class Session:
-    """A running `ldi session`. Each call sends one command and reads its answer; SessionEnded where it has ended."""
+PIPE_BYTES = 1 << 20
+"""The bytes that the session's pipes are asked to hold; with the system's 64 KiB an image takes longer."""
 
-    def __init__(self, options: Options = Options(), program: str | None = None) -> None:
+
+OWN_END = 1.0
+"""Seconds in which a session that has closed its pipes ends, and leaves its status."""
+
+
+class Session:
+    """A running `ldi session`. Each call sends one command and reads its answer; SessionEnded where it has ended.
+
+    With `timeout`, an answer that has not begun after so many seconds ends it too. OSError where it cannot be started.
+    """
+
+    def __init__(
+        self, options: Options = Options(), program: str | None = None, timeout: float | None = None
+    ) -> None:
+        self.timeout = timeout
+        self._is_closed = False
+        """Whether the session has closed a pipe, as it does when it ends."""
         self.process = subprocess.Popen(
             [program or find_program(), "session", *options.words()],
             stdin=subprocess.PIPE,
@@ -92,6 +111,15 @@ class Session:
         )
         self._to = cast(IO[bytes], self.process.stdin)
         self._from = cast(IO[bytes], self.process.stdout)
+        for pipe in (self._to, self._from):
+            try:
+                fcntl.fcntl(pipe, fcntl.F_SETPIPE_SZ, PIPE_BYTES)
+            except OSError:
+                pass
+
+    def fileno(self) -> int:
+        """A descriptor that has something to read, between two commands, only where the session has ended."""
+        return self._from.fileno()
 
     def add(self, name: bytes, position: int, data: bytes) -> Answer:
         """Adds an object before `position`, counted from 0."""
@@ -134,20 +162,29 @@ class Session:
         self._from.close()
         return self.process.wait()
 
-    def kill(self) -> None:
-        """Ends the session at once."""
+    def kill(self) -> int:
+        """Ends the session at once, whatever it does; gives its status, negative where a signal ended it."""
+        if self._is_closed:
+            try:
+                self.process.wait(OWN_END)
+            except subprocess.TimeoutExpired:
+                pass
         self.process.kill()
-        self.close()
+        return self.close()
 
     def _send(self, line: bytes, payload: bytes = b"") -> list[bytes]:
         try:
             self._to.write(line + b"\n")
             self._to.write(payload)
             self._to.flush()
+            if self.timeout is not None and not select.select([self._from], [], [], self.timeout)[0]:
+                raise SessionEnded(f"the session gave no answer for {self.timeout:g} s")
             answer = self._from.readline()
         except (OSError, ValueError) as fault:
+            self._is_closed = True
             raise SessionEnded(str(fault)) from fault
         if not answer.endswith(b"\n"):
+            self._is_closed = True
             raise SessionEnded("the session ended")
         return answer.split()
 

@@ -16,7 +16,9 @@ def main() -> int:
     else:
         suite = loader.discover(folder, top_level_dir=os.path.join(folder, "..", ".."))
     result = unittest.TextTestRunner(verbosity=2).run(suite)
-    failed = len(result.failures) + len(result.errors) + len(result.unexpectedSuccesses)
+    # a test whose subtests fail several times is one that failed
+    bad = {getattr(test, "test_case", test).id() for test, _ in (*result.failures, *result.errors)}
+    failed = len(bad) + len(result.unexpectedSuccesses)
     skipped = len(result.skipped)
     print(f"{result.testsRun - failed - skipped} passed, {failed} failed{f', {skipped} skipped' if skipped else ''}")
     return 1 if failed else 0

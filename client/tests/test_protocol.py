@@ -1,7 +1,8 @@
 """The session's protocol, over the program itself."""
+import signal
 import unittest
 
-from client.protocol import Linked, Options, Refused, Session, is_name
+from client.protocol import Linked, Options, Refused, Session, SessionEnded, is_name
 
 
 class ProtocolTest(unittest.TestCase):
@@ -10,7 +11,7 @@ class ProtocolTest(unittest.TestCase):
     def test_empty_project(self) -> None:
         """The image and the map of the empty project, and the status at the end."""
         session = Session()
-        self.assertEqual(len(session.image()), 64)
+        self.assertTrue(session.image().startswith(b"\x7fELF"))
         self.assertEqual(session.map(), b"entry 0000000000000000\n")
         self.assertEqual(session.faults(), b"")
         self.assertEqual(session.close(), 0)
@@ -23,6 +24,28 @@ class ProtocolTest(unittest.TestCase):
         self.assertEqual(session.add(b"a.o", 0, b"none"), Refused(4, 1))
         self.assertEqual(session.remove(b"a.o"), Refused(2, 0))
         self.assertEqual(session.close(), 1)
+
+    def test_killed(self) -> None:
+        """A session that was killed gives no answer, and its signal as the status."""
+        session = Session()
+        session.process.send_signal(signal.SIGKILL)
+        with self.assertRaises(SessionEnded):
+            session.script(b"")
+            session.script(b"x = 1;")
+        self.assertEqual(session.kill(), -signal.SIGKILL)
+
+    def test_timeout(self) -> None:
+        """A session that stands still is given up, and can be ended."""
+        session = Session(timeout=0.2)
+        session.process.send_signal(signal.SIGSTOP)
+        with self.assertRaises(SessionEnded):
+            session.script(b"")
+        self.assertEqual(session.kill(), -signal.SIGKILL)
+
+    def test_cannot_start(self) -> None:
+        """A program that is not there."""
+        with self.assertRaises(OSError):
+            Session(program="/nowhere/ldi")
 
     def test_names(self) -> None:
         """The names that an object may have."""

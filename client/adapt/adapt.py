@@ -1,0 +1,180 @@
+"""A script of GNU ld's language as one of the profile: the function for other programs."""
+from __future__ import annotations
+
+import os
+from collections.abc import Iterable, Mapping, Sequence
+
+from client.adapt.inputs import inputs
+from client.adapt.limits import parted
+from client.adapt.model import Model
+from client.adapt.notes import CHANGED, DROPPED, LEFT, REWRITTEN, Note
+from client.adapt.objects import Objects
+from client.adapt.patterns import has_wildcard
+from client.adapt.parser import expression_of, parse
+from client.adapt.sections import Sections
+from client.adapt.source import NoParse, Source
+from client.adapt.statements import Statements
+from client.adapt.structure import Structure
+from client.adapt.symbols import Symbols, unused
+from client.adapt.taking import all_sections, row, taking
+from client.adapt.tree import Input
+
+__all__ = ["Adapted", "NoParse", "Note", "adapt", "CHANGED", "DROPPED", "LEFT", "REWRITTEN"]
+
+
+class Adapted:
+    """The script for `ldi`, what was done, and where each of its lines came from."""
+
+    __slots__ = ("text", "report", "lines", "valued")
+
+    def __init__(self, text: bytes, report: list[Note], lines: tuple[tuple[str, int], ...],
+                 valued: frozenset[str] = frozenset()) -> None:
+        self.text, self.report = text, report
+        self.lines = lines
+        """For each line of `text`, from 0: the file and the line (from 1) that it came from."""
+        self.valued = valued
+        """The symbols of objects whose addresses expressions outside of ASSERT want."""
+
+    @property
+    def status(self) -> int:
+        """0: nothing is left or changed; 1: something is changed; 2: something is left."""
+        kinds = {note.kind for note in self.report}
+        return 2 if LEFT in kinds else 1 if CHANGED in kinds else 0
+
+
+def adapt(script: os.PathLike[str] | str | bytes, defsyms: Sequence[tuple[str, str]] = (),
+          objects: Mapping[str, bytes] | Iterable[str] | None = None,
+          include_path: Sequence[str] = (), path: str = "script", orphans: bool = True,
+          values: Mapping[str, int] | None = None) -> Adapted:
+    """Rewrites `script` into the profile.
+
+    `script` is a file's path as a `Path`, or a text (`str` or `bytes`), whose name in the report is then `path`.
+    `defsyms` are pairs of a symbol and its expression. `objects` are the objects of the link in their order: names and
+    bytes, or paths of files; with `None` nothing is known of them. A member of an archive is named `lib.a(member.o)`.
+    `include_path` are the folders where INCLUDE looks after the current one. With `orphans`, and objects, input
+    sections that no statement takes are reported as left. `values` are addresses of objects' symbols that an earlier
+    link of the same objects gave: where an expression outside of ASSERT names one, which is left otherwise, its number
+    is written (0 where there is none); the caller links again until the numbers stay (`Adapted.valued`). Raises
+    `NoParse`, and `OSError` where a file cannot be read.
+    """
+    if isinstance(script, os.PathLike):
+        path = os.fspath(script)
+        with open(path, "rb") as file:
+            script = file.read()
+    data = script.encode() if isinstance(script, str) else script
+    front = "".join(f"{_checked(name, value)} = {value}; " for name, value in defsyms)
+    source = Source(path, front.encode("latin-1", "replace") + data, tuple(include_path))
+    nodes, hashes = parse(source)
+    model = Model(source, nodes, None if objects is None else Objects(objects))
+    model.values = values
+    for start, end in hashes:
+        inside = source.text[start + 1:end].strip().replace("*/", "* /")
+        model.edits.replace(start, end, f"/* {inside} */")
+        model.note(REWRITTEN, start, "a comment of `#` as /* */")
+    _report_front(model, defsyms)
+    _rules(model)
+    if orphans:
+        _orphans(model)
+    text, lines = model.edits.render()
+    text, long = parted(text)
+    for at in long[:1]:
+        where = lines[text.count("\n", 0, at)]
+        model.note(LEFT, 0, f"an expression at {where[0]}:{where[1]} has more than 64 signs: use symbols for its parts")
+    return Adapted(text.encode("latin-1"), model.report(), lines, frozenset(model.valued))
+
+
+def _checked(name: str, value: str) -> str:
+    """The symbol of --defsym, if its expression is one."""
+    expression_of(value, f"--defsym {name}")
+    return name
+
+
+def _report_front(model: Model, defsyms: Sequence[tuple[str, str]]) -> None:
+    for path, line, found in model.source.included:
+        model.note(REWRITTEN, _offset(model, path, line), f"INCLUDE {found}: its text is read in")
+    for name, value in defsyms:
+        model.note(REWRITTEN, 0, f"--defsym {name}={value} as an assignment")
+
+
+def _offset(model: Model, path: str, line: int) -> int:
+    """An offset in a line of a file."""
+    at = 0
+    for origin in model.source.origins:
+        if origin == (path, line):
+            return at
+        at = model.source.text.find("\n", at) + 1
+    return 0
+
+
+def _rules(model: Model) -> None:
+    """All rules, in the order in which they need one another."""
+    Structure(model).run()
+    Symbols(model).run()
+    Statements(model).run()
+    Sections(model).run()
+    for section in all_sections(model.nodes):
+        if id(section) not in model.dropped:
+            inputs(model, section)
+    unused(model)
+    _order_of_files(model)
+    _starts_and_stops(model)
+    _entry(model)
+
+
+def _order_of_files(model: Model) -> None:
+    """Says where files that a script names are linked first by GNU ld."""
+    named: list[str] = []
+    first = 0
+    for section in all_sections(model.nodes):
+        for node in section.body:
+            if not isinstance(node, Input) or has_wildcard(node.file.word) or ":" in node.file.word:
+                continue
+            known_file = model.objects is None or node.file.word in model.objects.names
+            if known_file and node.file.word not in named:
+                named.append(node.file.word)
+                first = first or node.start
+    known = model.objects.names if model.objects else []
+    if named and (not known or known[:len(named)] != named):
+        files = ", ".join(named[:4]) + (", .." if len(named) > 4 else "")
+        model.note(CHANGED, first, f"{files}: where -T stands before the objects, GNU ld takes the files that a script "
+                   "names before all others: give the objects in this order")
+
+
+def _entry(model: Model) -> None:
+    """Says where nothing defines the symbol of ENTRY."""
+    if model.objects is None or model.entry is None:
+        return
+    name = model.entry.args[0]
+    if model.objects.definition(name) is None and not model.definitions.get(name):
+        model.note(CHANGED, model.entry.start, f"ENTRY({name}): nothing defines it (F2, unless -e names another); GNU "
+                   "ld begins at the start of .text then")
+
+
+def _starts_and_stops(model: Model) -> None:
+    """Writes the symbols that GNU ld defines for a section named as a C identifier, where an object uses them."""
+    if model.objects is None:
+        return
+    for section in model.order:
+        if not section.name.isidentifier() or not section.name.isascii() or not row(model, section):
+            continue
+        for word, at in (("__start_", section.open + 1), ("__stop_", section.close)):
+            name = word + section.name
+            if name not in model.definitions and model.objects.refers(name) \
+                    and model.objects.definition(name) is None:
+                model.edits.insert(at, f" PROVIDE({name} = .) ", order=-5 if at == section.open + 1 else 10 ** 7)
+                model.note(REWRITTEN, section.start, f"{name}, which GNU ld defines by itself, is PROVIDEd")
+
+
+def _orphans(model: Model) -> None:
+    """Says which input sections no statement takes: GNU ld places them, `ldi` does not."""
+    if model.objects is None:
+        return
+    found: dict[str, list[str]] = {}
+    for item in taking(model).orphans:
+        if item.size:
+            found.setdefault(item.name, []).append(item.object)
+    for name, objects in found.items():
+        more = f" and {len(objects) - 1} more" if len(objects) > 1 else ""
+        model.note(LEFT, max(len(model.source.text) - 1, 0), f"no statement takes {name} of {objects[0]}{more} (F3): "
+                   f"GNU ld places it after others; write `{name} : {{ *({name}) }}`, /DISCARD/ it, or link with "
+                   "--orphan-handling discard")

@@ -1,0 +1,149 @@
+"""Tokens of GNU ld's scripts. What a token is depends on where the parser stands: three modes."""
+from __future__ import annotations
+
+import re
+
+from client.adapt.source import Source
+
+SCRIPT, EXPRESSION, WILD, FILES = range(4)
+
+_SPACE = re.compile(r"(?:[ \t\r\n\f\v]+|/\*.*?\*/|#[^\n]*)*", re.DOTALL)
+_COMMENT = re.compile(r"/\*.*?\*/|#[^\n]*", re.DOTALL)
+_STRING = r'(?P<string>"[^"]*")'
+_SET = r"\[[^\]\s]*\]"
+_MODES = (
+    # outside of output sections
+    re.compile(_STRING + r"""
+        |(?P<number>(?:0[xX][0-9A-Fa-f]+|\$[0-9A-Fa-f]+|[0-9]+)[MKmk]?)
+        |(?P<name>(?!/=)[_a-zA-Z/.\\$~](?:[_a-zA-Z0-9.\\$~\[\]]|[-+/](?![*=])|:(?=[_a-zA-Z0-9/]))*)
+        |(?P<mark><<=|>>=|[-+*/&|]=|[-+~!><,=(){}:;])""", re.VERBOSE),
+    # in expressions
+    re.compile(_STRING + r"""
+        |(?P<name>/DISCARD/)
+        |(?P<hex>\$[0-9A-Fa-f]+(?![MKmk])|[0-9A-Fa-f]+[HhXxBbOoDd](?![_a-zA-Z0-9.$]))
+        |(?P<number>(?:0[xX][0-9A-Fa-f]+|\$[0-9A-Fa-f]+|[0-9]+)[MKmk]?)
+        |(?P<symbol>[_a-zA-Z.\\$][_a-zA-Z0-9.\\$]*)
+        |(?P<mark><<=|>>=|\|\||&&|[=!<>]=|<<|>>|[-+*/&|]=|[-+*/%&|^~!?<>,=(){}:;])""", re.VERBOSE),
+    # between the braces of an output section
+    re.compile(_STRING + r"""
+        |(?P<mark><<=|>>=|[-+*/&|]=|[=&(){};]|\[(?=\s)|\])
+        |(?P<name>(?:[_a-zA-Z0-9/.$~:?^!,]|\\[!-~]|[-+*](?!=)|%s)+)""" % _SET, re.VERBOSE),
+    # lists of files
+    re.compile(_STRING + r"""
+        |(?P<mark>[(),])
+        |(?P<name>(?:=?[_a-zA-Z/.\\$~]|-l)[_a-zA-Z0-9/.\\$~\-+:\[\]=*?]*|[_a-zA-Z0-9/.\-+:=*?]+)""", re.VERBOSE),
+)
+_BASES = {"h": 16, "x": 16, "o": 8, "b": 2, "d": 10}
+
+
+class Token:
+    """A token: its kind (string, number, name, mark, or end), its text, its span."""
+
+    __slots__ = ("kind", "text", "start", "end")
+
+    def __init__(self, kind: str, text: str, start: int, end: int) -> None:
+        self.kind, self.text, self.start, self.end = kind, text, start, end
+
+    def __str__(self) -> str:
+        return "the end" if self.kind == "end" else f"`{self.text}`"
+
+
+class Lexer:
+    """Reads a source token by token."""
+
+    def __init__(self, source: Source) -> None:
+        self.source, self.text = source, source.text
+        self.at = 0
+        self.last = 0
+        """Where the last token taken ends."""
+        self._seen: tuple[int, int, Token] | None = None
+        self.hashes: set[tuple[int, int]] = set()
+        """The spans of comments that begin with `#`."""
+
+    def peek(self, mode: int) -> Token:
+        """The next token, as the mode reads it."""
+        if self._seen and self._seen[0] == self.at and self._seen[1] == mode:
+            return self._seen[2]
+        start = _SPACE.match(self.text, self.at).end()  # type: ignore[union-attr]
+        if self.text.find("#", self.at, start) >= 0:
+            self._comments(start)
+        if start >= len(self.text):
+            token = Token("end", "", len(self.text), len(self.text))
+        elif self.text.startswith("/*", start):
+            raise self.source.fail(start, "this comment has no end")
+        else:
+            match = _MODES[mode].match(self.text, start)
+            if match is None:
+                raise self.source.fail(start, f"`{self.text[start]}` begins nothing of the language here")
+            kind = match.lastgroup or ""
+            text = match.group()
+            if kind == "hex":
+                number = _MODES[EXPRESSION].match(self.text, start)
+                kind = "number" if number else kind
+            token = Token(_kind(kind), text, start, match.end())
+        self._seen = (self.at, mode, token)
+        return token
+
+    def _comments(self, end: int) -> None:
+        """Notes the comments of `#` before an offset."""
+        for match in _COMMENT.finditer(self.text, self.at, end):
+            if match.group()[0] == "#":
+                self.hashes.add(match.span())
+
+    def take(self, mode: int) -> Token:
+        """The next token, taken."""
+        token = self.peek(mode)
+        self.at = self.last = token.end
+        return token
+
+    def accept(self, mode: int, text: str) -> Token | None:
+        """The next token if it is this mark or word."""
+        token = self.peek(mode)
+        if token.text == text and token.kind in ("mark", "name"):
+            return self.take(mode)
+        return None
+
+    def expect(self, mode: int, text: str) -> Token:
+        """The next token, which must be this mark or word."""
+        token = self.peek(mode)
+        if token.text != text or token.kind not in ("mark", "name"):
+            raise self.source.fail(token.start, f"`{text}` is expected, not {token}")
+        return self.take(mode)
+
+    def name(self, mode: int) -> Token:
+        """The next token, which must be a name; quotes are no part of its text."""
+        token = self.peek(mode)
+        if token.kind == "string":
+            self.take(mode)
+            return Token("string", token.text[1:-1], token.start, token.end)
+        if token.kind != "name":
+            raise self.source.fail(token.start, f"a name is expected, not {token}")
+        return self.take(mode)
+
+
+def _kind(group: str) -> str:
+    return {"symbol": "name", "hex": "number"}.get(group, group)
+
+
+def number_of(text: str) -> int:
+    """The value of a number's spelling, as GNU ld reads it."""
+    digits, base, scale = text, 0, 1
+    if text[0] == "$":
+        digits, base = text[1:], 16
+    last = text[-1]
+    is_hex = text[:2] in ("0x", "0X")
+    if last in "KkMm":
+        scale, digits = (1024 if last in "Kk" else 1024 * 1024), digits[:-1]
+    elif last.lower() in _BASES and not is_hex and text[0] != "$":
+        base, digits = _BASES[last.lower()], digits[:-1]
+    if base == 0:
+        base = 16 if digits[:2] in ("0x", "0X") else 8 if digits[:1] == "0" else 10
+    if base == 16 and digits[:2] in ("0x", "0X"):
+        digits = digits[2:]
+    value = 0
+    for digit in digits:
+        code = int(digit, 16)
+        if code >= base:
+            break
+        value = value * base + code
+    return value * scale & (1 << 64) - 1

@@ -1,0 +1,112 @@
+"""The program `ldi-adapt`: a script of GNU ld's language as one of the profile."""
+from __future__ import annotations
+
+import sys
+
+USAGE = """usage: ldi-adapt SCRIPT [-o OUT] [-L DIR].. [--defsym SYMBOL=EXPRESSION].. [--objects OBJECT.. | @LIST]
+
+Rewrites a linker script of GNU ld into the profile of ldi, and reports on standard error what it did:
+dropped, rewritten, changed, left. Status 0: nothing is changed or left; 1: changed; 2: left, or no parse.
+
+  -o OUT                      the file to write; without it standard output
+  -L DIR                      where INCLUDE looks, after the current folder
+  --defsym SYMBOL=EXPRESSION  an assignment before the script's
+  --objects OBJECT..          the objects of the link: all words that follow, up to the next option
+  --objects @LIST             the same, a path to each line of the file LIST
+  -h, --help                  this text
+"""
+
+
+class Words(Exception):
+    """Words of the command line that are refused."""
+
+
+class Call:
+    """The command line."""
+
+    def __init__(self, words: list[str]) -> None:
+        self.script = ""
+        self.out = ""
+        self.folders: list[str] = []
+        self.defsyms: list[tuple[str, str]] = []
+        self.objects: list[str] | None = None
+        rest = list(words)
+        while rest:
+            self._word(rest)
+        if not self.script:
+            raise Words("no SCRIPT is given")
+
+    def _word(self, rest: list[str]) -> None:
+        word = rest.pop(0)
+        if word == "-o" or word == "-L":
+            value = self._value(word, rest)
+            self.out, self.folders = (value, self.folders) if word == "-o" else (self.out, [*self.folders, value])
+        elif word.startswith("-L") and len(word) > 2:
+            self.folders.append(word[2:])
+        elif word == "--defsym" or word.startswith("--defsym="):
+            self._defsym(word[9:] if "=" in word else self._value(word, rest))
+        elif word == "--objects":
+            self._list(rest)
+        elif word.startswith("-") and word != "-":
+            raise Words(f"{word} is no option")
+        elif self.script:
+            raise Words(f"{word} is a word too many")
+        else:
+            self.script = word
+
+    @staticmethod
+    def _value(option: str, rest: list[str]) -> str:
+        if not rest:
+            raise Words(f"{option} has no value")
+        return rest.pop(0)
+
+    def _defsym(self, text: str) -> None:
+        name, equals, value = text.partition("=")
+        if not name or not equals or not value.strip():
+            raise Words(f"--defsym {text}: SYMBOL=EXPRESSION is expected")
+        self.defsyms.append((name.strip(), value.strip()))
+
+    def _list(self, rest: list[str]) -> None:
+        self.objects = self.objects or []
+        while rest and not rest[0].startswith("-"):
+            word = rest.pop(0)
+            if word.startswith("@"):
+                with open(word[1:], encoding="utf-8") as file:
+                    self.objects.extend(line.strip() for line in file if line.strip())
+            else:
+                self.objects.append(word)
+
+
+def main(words: list[str]) -> int:
+    """Runs the program; gives its status."""
+    if any(word in ("-h", "--help") for word in words):
+        sys.stdout.write(USAGE)
+        return 0
+    try:
+        return _run(Call(words))
+    except Words as fault:
+        sys.stderr.write(f"ldi-adapt: {fault}\n{USAGE}")
+        return 2
+    except OSError as fault:
+        sys.stderr.write(f"ldi-adapt: {fault.filename}: {fault.strerror}\n")
+        return 2
+
+
+def _run(call: Call) -> int:
+    from client.adapt.adapt import NoParse, adapt
+    try:
+        with open(call.script, "rb") as file:
+            data = file.read()
+        result = adapt(data, call.defsyms, call.objects, call.folders, path=call.script)
+    except NoParse as fault:
+        sys.stderr.write(f"{fault}\n")
+        return 2
+    for note in result.report:
+        sys.stderr.write(f"{note}\n")
+    if call.out:
+        with open(call.out, "wb") as file:
+            file.write(result.text)
+    else:
+        sys.stdout.buffer.write(result.text)
+        sys.stdout.flush()
+    return result.status

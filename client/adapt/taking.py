@@ -1,0 +1,151 @@
+"""Which sections of the objects a statement takes, where the objects are known."""
+from __future__ import annotations
+
+from client.adapt.model import Model
+from client.adapt.objects import EXEC, NOBITS, WRITE, InputSection
+from client.adapt.patterns import has_wildcard, matcher
+from client.adapt.tree import Input, Node, Pattern, Section
+
+_OUTSIDE = (".debug", ".zdebug", ".comment", ".stab", ".line", ".gnu.linkonce.wi.", ".symtab", ".strtab", ".shstrtab",
+            ".gnu.build.attributes", ".note.GNU-stack", ".GCC.command.line", ".mdebug", ".gnu.attributes", ".SUNW_",
+            ".gnu.lto_", ".gnu.debuglto_", ".ctf", ".gdb_index", ".annobin", ".rela.debug", ".rel.debug",
+            ".stabstr", ".gnu_debuglink", ".group", ".pdr", ".llvm.", ".llvm_addrsig", ".gnu.object_only")
+
+
+def is_outside(pattern: str) -> bool:
+    """Whether a pattern is one of names that sections without ALLOC have."""
+    return pattern.startswith(_OUTSIDE)
+
+
+def file_names(name: str) -> tuple[str, str]:
+    """The archive and the file of an object's name; `lib.a(member.o)` is a member of `lib.a`."""
+    if name.endswith(")") and "(" in name:
+        archive, member = name[:-1].split("(", 1)
+        return archive, member
+    return "", name
+
+
+def file_matches(pattern: str, name: str) -> bool:
+    """Whether GNU ld takes the object for the pattern."""
+    archive, member = file_names(name)
+    if ":" in pattern:
+        left, right = pattern.split(":", 1)
+        if not left:
+            return not archive and bool(matcher(right).fullmatch(member))
+        return bool(archive) and bool(matcher(left).fullmatch(archive)) \
+            and (not right or bool(matcher(right).fullmatch(member)))
+    return bool(matcher(pattern).fullmatch(member))
+
+
+def takes(node: Input, section: InputSection) -> Pattern | None:
+    """The pattern of a statement that takes a section."""
+    if node.file.word != "*" and not file_matches(node.file.word, section.object):
+        return None
+    if any(file_matches(word, section.object) for word in node.file.exclude):
+        return None
+    for pattern in node.patterns or [Pattern("*", [], [], 0, 0, False)]:
+        if matcher(pattern.word).fullmatch(section.name) \
+                and not any(file_matches(word, section.object) for word in pattern.exclude):
+            return pattern
+    return None
+
+
+class Taking:
+    """The rows of a script over its objects: each section goes to the first statement that takes it."""
+
+    def __init__(self, model: Model, sections: list[Section]) -> None:
+        self.rows: dict[int, list[InputSection]] = {id(section): [] for section in sections}
+        self.by_input: dict[int, list[InputSection]] = {}
+        self.orphans: list[InputSection] = []
+        if model.objects is None:
+            return
+        names: dict[str, list[tuple[Section, Input]]] = {}
+        statements = [(section, node) for section in sections for node in section.body if isinstance(node, Input)]
+        for item in model.objects.sections():
+            if item.name not in names:
+                names[item.name] = [entry for entry in statements if _may_take(entry[1], item.name)]
+            for section, node in names[item.name]:
+                if takes(node, item):
+                    self.rows[id(section)].append(item)
+                    self.by_input.setdefault(id(node), []).append(item)
+                    break
+            else:
+                self.orphans.append(item)
+
+
+def _may_take(node: Input, name: str) -> bool:
+    return node.patterns is None or any(matcher(pattern.word).fullmatch(name) for pattern in node.patterns)
+
+
+def taking(model: Model) -> Taking:
+    """The rows of the model's sections, made once."""
+    found = getattr(model, "taken", None)
+    if found is None:
+        found = Taking(model, [s for s in all_sections(model.nodes) if id(s) not in model.dropped])
+        model.taken = found
+    return found
+
+
+def taken_at(model: Model, name: str, section: str) -> tuple[int, int] | None:
+    """Where in the text the statement stands that takes a section of an object, and the section's alignment."""
+    rows = taking(model)
+    for output in model.order:
+        for node in inputs(output):
+            for item in rows.by_input.get(id(node), ()):
+                if item.object == name and item.name == section:
+                    return node.start, item.align
+    return None
+
+
+def all_sections(nodes: list[Node]) -> list[Section]:
+    """All output sections and `/DISCARD/`s of a script, in their order."""
+    result: list[Section] = []
+    for node in nodes:
+        for item in getattr(node, "items", ()):
+            if isinstance(item, Section):
+                result.extend(x for x in item.body if isinstance(x, Section))
+                result.append(item)
+    return result
+
+
+def row(model: Model, section: Section) -> list[InputSection]:
+    """The input sections that an output section takes."""
+    return taking(model).rows.get(id(section), [])
+
+
+def alignment_of(model: Model, section: Section) -> int:
+    """The greatest alignment of a section's row."""
+    return max([item.align for item in row(model, section)], default=1)
+
+
+def inputs(section: Section) -> list[Input]:
+    """The input statements of a section."""
+    return [node for node in section.body if isinstance(node, Input)]
+
+
+def words(section: Section) -> list[str]:
+    """The patterns of a section's input statements."""
+    return [pattern.word for node in inputs(section) for pattern in node.patterns or []]
+
+
+def flags_of(model: Model, section: Section) -> tuple[bool, bool, bool]:
+    """Whether a section is writable, executable, without file bytes: by the objects, else by its patterns' names."""
+    if model.objects is not None and row(model, section):
+        items = row(model, section)
+        flags = 0
+        for item in items:
+            flags |= item.flags
+        return bool(flags & WRITE), bool(flags & EXEC), all(item.type == NOBITS for item in items)
+    names = words(section) or [section.name]
+    code = any(name.startswith((".text", ".init", ".fini", ".plt")) and not name.startswith((".init_a", ".fini_a"))
+               for name in names)
+    bss = all(name.startswith((".bss", "COMMON", ".dynbss", ".gnu.linkonce.b", ".sbss", ".lbss")) or name == "COMMON"
+              for name in names)
+    data = bss or any(name.startswith((".data", ".tdata", ".sdata", ".ctors", ".dtors", ".init_array", ".got"))
+                      for name in names)
+    return data, code, bss
+
+
+def literal(pattern: Pattern) -> bool:
+    """Whether a pattern is one name."""
+    return not has_wildcard(pattern.word)

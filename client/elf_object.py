@@ -1,0 +1,258 @@
+"""The names in an object: its sections, symbols and relocations, by their numbers.
+
+Only what messages need, and quick: tables are read at once, names when they are asked for. Whatever the bytes are,
+there is an answer; what is not in the file is left out.
+"""
+from __future__ import annotations
+
+import struct
+import zlib
+from bisect import bisect_right
+from collections.abc import Iterator
+from functools import cached_property
+from typing import NamedTuple
+
+SHT_SYMTAB = 2
+SHT_RELA = 4
+SHT_NOBITS = 8
+LINKED_TYPES = frozenset({1, 7, 8, 14, 15, 16, 0x70000001})
+SHF_ALLOC = 2
+SHF_COMPRESSED = 0x800
+ELFCOMPRESS_ZLIB = 1
+
+SHN_UNDEF = 0
+SHN_ABS = 0xFFF1
+SHN_COMMON = 0xFFF2
+STB_LOCAL = 0
+STB_GLOBAL = 1
+STB_WEAK = 2
+STT_OBJECT = 1
+STT_FUNC = 2
+STT_SECTION = 3
+
+R_X86_64_NONE = 0
+R_X86_64_64 = 1
+R_X86_64_32 = 10
+FIELD_BYTES = {R_X86_64_64: 8, R_X86_64_32: 4}
+
+LONGEST_NAME = 4096
+"""A longer name is left out: it says nothing to people."""
+
+LONGEST_DEBUG_SECTION = 1 << 28
+"""A compressed section that would be longer is left out."""
+
+
+class Section(NamedTuple):
+    """A section header."""
+
+    name: int
+    kind: int
+    flags: int
+    address: int
+    offset: int
+    size: int
+    link: int
+    info: int
+    alignment: int
+    entry_size: int
+
+
+class Symbol(NamedTuple):
+    """An entry of the symbol table."""
+
+    name: int
+    info: int
+    other: int
+    place: int
+    value: int
+    size: int
+
+    @property
+    def binding(self) -> int:
+        """LOCAL, GLOBAL or WEAK."""
+        return self.info >> 4
+
+    @property
+    def kind(self) -> int:
+        """NOTYPE, OBJECT, FUNC, SECTION, FILE or COMMON."""
+        return self.info & 15
+
+    @property
+    def is_defined(self) -> bool:
+        """Whether the object has what the symbol stands for; a common block counts."""
+        return self.place != SHN_UNDEF
+
+
+class Relocation(NamedTuple):
+    """An entry of a table of relocations."""
+
+    kind: int
+    symbol: int
+    addend: int
+
+
+def plain(name: bytes) -> str:
+    """A name as text of one line, whatever its bytes are."""
+    text = name.decode("utf-8", errors="backslashreplace")
+    if text.isprintable():
+        return text
+    return "".join(c if c.isprintable() else c.encode("unicode_escape").decode("ascii") for c in text)
+
+
+class ElfObject:
+    """The tables of an object."""
+
+    def __init__(self, data: bytes) -> None:
+        self.data = data
+        self.sections = _section_headers(data)
+
+    def contents(self, number: int) -> bytes:
+        """The bytes of a section, out of their compression; empty where the file has none."""
+        if not 0 < number < len(self.sections) or self.sections[number].kind == SHT_NOBITS:
+            return b""
+        section = self.sections[number]
+        data = self.data[section.offset : section.offset + section.size]
+        return _decompressed(data) if section.flags & SHF_COMPRESSED else data
+
+    def section_name(self, number: int) -> str:
+        """The name of a section; empty where it has none."""
+        if not 0 < number < len(self.sections):
+            return ""
+        return plain(_text_at(self._section_names, self.sections[number].name))
+
+    def symbol_name(self, number: int) -> str:
+        """The name of a symbol, that of its section for a section's symbol; empty where it has none."""
+        if not 0 < number < len(self.symbols):
+            return ""
+        symbol = self.symbols[number]
+        if symbol.kind == STT_SECTION:
+            return self.section_name(symbol.place)
+        return plain(_text_at(self._symbol_names, symbol.name))
+
+    @cached_property
+    def linked(self) -> dict[str, list[int]]:
+        """The numbers of the linked sections of each name."""
+        found: dict[str, list[int]] = {}
+        for number, section in enumerate(self.sections):
+            if number and section.flags & SHF_ALLOC and section.kind in LINKED_TYPES:
+                found.setdefault(self.section_name(number), []).append(number)
+        return found
+
+    @cached_property
+    def symbols(self) -> list[Symbol]:
+        """The entries of the symbol table."""
+        table = self.contents(self._symbol_table)
+        table = table[: len(table) - len(table) % 24]
+        return [Symbol._make(entry) for entry in struct.iter_unpack("<IBBHQQ", table)]
+
+    def relocations(self, section: int) -> dict[int, Relocation]:
+        """The relocations of a section, but for NONE, by the offsets of their fields."""
+        if section not in self._relocations:
+            self._relocations[section] = dict(self._read_relocations(section))
+        return self._relocations[section]
+
+    def definitions(self, name: str) -> list[int]:
+        """The numbers of the symbols of this name, without local ones, that the object defines."""
+        return self._definitions.get(name, [])
+
+    @cached_property
+    def _definitions(self) -> dict[str, list[int]]:
+        found: dict[str, list[int]] = {}
+        for number, symbol in enumerate(self.symbols):
+            if number and symbol.info >> 4 != STB_LOCAL and symbol.place != SHN_UNDEF:
+                found.setdefault(self.symbol_name(number), []).append(number)
+        return found
+
+    @cached_property
+    def defined_names(self) -> frozenset[str]:
+        """The names, without local ones, that the object defines."""
+        return frozenset(self._definitions)
+
+    def enclosing(self, section: int, offset: int) -> int:
+        """The number of the function or variable whose bytes the offset lies in; 0 where there is none, or several."""
+        spans = self._spans.get(section, [])
+        at = bisect_right(spans, (offset, len(self.symbols))) - 1
+        if at < 0 or (at > 0 and spans[at - 1][0] == spans[at][0]):
+            return 0
+        start, number = spans[at]
+        return number if offset < start + self.symbols[number].size else 0
+
+    @cached_property
+    def _spans(self) -> dict[int, list[tuple[int, int]]]:
+        found: dict[int, list[tuple[int, int]]] = {}
+        for number, symbol in enumerate(self.symbols):
+            if number and symbol.size and symbol.kind in (STT_OBJECT, STT_FUNC) and symbol.place < SHN_ABS:
+                found.setdefault(symbol.place, []).append((symbol.value, number))
+        for spans in found.values():
+            spans.sort()
+        return found
+
+    @cached_property
+    def _relocations(self) -> dict[int, dict[int, Relocation]]:
+        return {}
+
+    def _read_relocations(self, section: int) -> Iterator[tuple[int, Relocation]]:
+        for number in self._relocation_tables.get(section, []):
+            table = self.contents(number)
+            for offset, info, addend in struct.iter_unpack("<QQq", table[: len(table) - len(table) % 24]):
+                if info & 0xFFFFFFFF != R_X86_64_NONE:
+                    yield offset, Relocation(info & 0xFFFFFFFF, info >> 32, addend)
+
+    @cached_property
+    def _relocation_tables(self) -> dict[int, list[int]]:
+        found: dict[int, list[int]] = {}
+        for number, section in enumerate(self.sections):
+            if section.kind == SHT_RELA:
+                found.setdefault(section.info, []).append(number)
+        return found
+
+    @cached_property
+    def _symbol_table(self) -> int:
+        return next((n for n, section in enumerate(self.sections) if section.kind == SHT_SYMTAB), 0)
+
+    @cached_property
+    def _symbol_names(self) -> bytes:
+        return self.contents(self.sections[self._symbol_table].link) if self._symbol_table else b""
+
+    @cached_property
+    def _section_names(self) -> bytes:
+        return self.contents(struct.unpack_from("<H", self.data, 62)[0]) if self.sections else b""
+
+    @cached_property
+    def numbers(self) -> dict[str, int]:
+        """The number of the first section of each name, linked or not."""
+        found: dict[str, int] = {}
+        for number in range(1, len(self.sections)):
+            found.setdefault(self.section_name(number), number)
+        return found
+
+
+def _section_headers(data: bytes) -> list[Section]:
+    """The section headers; none where the bytes are no ELF-64 file with the lowest byte first."""
+    if len(data) < 64 or data[:6] != b"\x7fELF\x02\x01":
+        return []
+    (first,) = struct.unpack_from("<Q", data, 40)
+    size, count = struct.unpack_from("<HH", data, 58)
+    if size != 64 or first + 64 * count > len(data):
+        return []
+    table = data[first : first + 64 * count]
+    return [Section._make(header) for header in struct.iter_unpack("<IIQQQQIIQQ", table)]
+
+
+def _text_at(table: bytes, start: int) -> bytes:
+    """The bytes of a string table from a place to the next zero byte; none where that is far, or not there."""
+    end = table.find(b"\0", start, start + LONGEST_NAME)
+    return table[start:end] if end >= 0 else b""
+
+
+def _decompressed(data: bytes) -> bytes:
+    """The bytes of a compressed section; none where they cannot be had."""
+    if len(data) < 24:
+        return b""
+    method, _, size, _ = struct.unpack_from("<IIQQ", data)
+    if method != ELFCOMPRESS_ZLIB or size > LONGEST_DEBUG_SECTION:
+        return b""
+    try:
+        return zlib.decompressobj().decompress(data[24:], size)
+    except zlib.error:
+        return b""

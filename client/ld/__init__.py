@@ -1,0 +1,1 @@
+"""GNU ld's command line in front of `ldi session`."""

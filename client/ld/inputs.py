@@ -1,0 +1,274 @@
+"""The objects of a link, from the words of a command line: files, archives, libraries, groups, in GNU ld's order."""
+from __future__ import annotations
+
+import os
+import re
+from collections.abc import Iterable, Sequence
+from dataclasses import dataclass
+
+from client.ld.archive import Archive, BadArchive, Member, is_archive, read_archive
+from client.ld.binary_object import binary_object
+from client.ld.command import Command, Flags, Input
+from client.ld.linkage import Names, read_linkage
+from client.ld.script_commands import Commands, read_commands
+from client.protocol import GREATEST_NAME
+
+STANDARD_FOLDERS = (
+    "/usr/local/lib/x86_64-linux-gnu",
+    "/lib/x86_64-linux-gnu",
+    "/usr/lib/x86_64-linux-gnu",
+    "/usr/local/lib64",
+    "/lib64",
+    "/usr/lib64",
+    "/usr/local/lib",
+    "/lib",
+    "/usr/lib",
+)
+"""Where libraries are looked for in a link without a script of its own, after the folders of `-L`."""
+
+ELF, SHARED = b"\x7fELF", b"\3\0"
+BITCODE = b"BC\xc0\xde"
+SLIM = b"__gnu_lto_slim\0"
+
+
+class CannotLink(Exception):
+    """Only another linker can do this; the text says why."""
+
+
+class BadInput(Exception):
+    """What is no input; the text says why."""
+
+
+class MissingInput(BadInput):
+    """An input that is not there or cannot be read; the text says which."""
+
+
+@dataclass(frozen=True)
+class Object:
+    """An object of the link: the name in the session, its bytes, and the file that they are from."""
+
+    name: bytes
+    data: bytes
+    path: str
+
+
+def session_name(name: str, used: set[bytes]) -> bytes:
+    """A name that the session takes, and none of those in use: other bytes are `_`, and long names lose their front."""
+    raw = bytes(byte if 0x21 <= byte <= 0x7E else 0x5F for byte in os.fsencode(name))[-GREATEST_NAME:] or b"_"
+    candidate, count = raw, 1
+    while candidate in used:
+        count += 1
+        end = b"#%d" % count
+        candidate = raw[-(GREATEST_NAME - len(end)) :] + end
+    used.add(candidate)
+    return candidate
+
+
+def read_file(path: str) -> bytes:
+    """The bytes of an input."""
+    try:
+        with open(path, "rb") as file:
+            return file.read()
+    except OSError as fault:
+        raise MissingInput(f"cannot find {path}: {fault.strerror}") from fault
+
+
+class Loader:
+    """Takes the inputs in their order; `objects` is what the link is made of."""
+
+    def __init__(self, command: Command, script: Commands | None, own_script: bool, wanted: Iterable[str] = ()) -> None:
+        """`script` has the commands of the link's script, which is the user's if `own_script`."""
+        self.command = command
+        self.script = script or Commands()
+        self.objects: list[Object] = []
+        self.files: list[str] = []
+        self.names = Names()
+        self._entered = 0
+        self._used: set[bytes] = set()
+        self._archives: dict[str, Archive] = {}
+        self._taken: dict[str, set[int]] = {}
+        standard = () if own_script or command.nostdlib else STANDARD_FOLDERS
+        self.folders = [
+            *command.folders,
+            *(self._at_sysroot(folder) for folder in self.script.folders),
+            *(command.sysroot + folder for folder in standard),
+        ]
+        for name in (*wanted, *command.undefined, *command.required, *self.script.undefined):
+            self.names.want(os.fsencode(name))
+        for defsym in command.defsyms:
+            self.names.define(os.fsencode(defsym.partition("=")[0]))
+
+    def load(self) -> list[Object]:
+        """Takes all inputs; BadInput or CannotLink where one is no input of a static link."""
+        for name in self.script.startup:
+            self._file(name, Flags(), searched=True)
+        inputs, at = self.command.inputs, 0
+        while at < len(inputs):
+            if inputs[at].kind == "start-group":
+                end = next(index for index in range(at, len(inputs)) if inputs[index].kind == "end-group")
+                self._group(inputs[at + 1 : end])
+                at = end
+            else:
+                self._input(inputs[at])
+            at += 1
+        self._enter()
+        return self.objects
+
+    def _input(self, item: Input) -> list[Archive]:
+        """Takes one input; gives the archives among it, which a group goes through again."""
+        if item.kind == "library":
+            return self._file(self._library(item.name, item.flags), item.flags)
+        if item.kind == "script":
+            return self._commands(self.script, item.flags)
+        return self._file(item.name, item.flags)
+
+    def _group(self, items: Sequence[Input]) -> None:
+        """Takes inputs, and goes through their archives until nothing new is needed."""
+        archives = [archive for item in items for archive in self._input(item)]
+        while any([self._scan(archive) for archive in archives]):
+            pass
+
+    def _commands(self, commands: Commands, flags: Flags) -> list[Archive]:
+        """Takes the inputs that a script names."""
+        archives: list[Archive] = []
+        for command, words in commands.inputs:
+            items = [self._named(word, flags) for word in words]
+            if command == "GROUP":
+                self._group(items)
+            else:
+                archives += [archive for item in items for archive in self._input(item)]
+        return archives
+
+    def _named(self, word: str, flags: Flags) -> Input:
+        """The input that a word of INPUT or GROUP names."""
+        if word.startswith("-l"):
+            return Input("library", word[2:], flags)
+        return Input("file", self._searched(word), flags)
+
+    def _at_sysroot(self, path: str) -> str:
+        return re.sub(r"^(=|\$SYSROOT)", self.command.sysroot, path)
+
+    def _searched(self, name: str) -> str:
+        """The path of a file that a script names: as it stands, or in the folders of libraries."""
+        name = self._at_sysroot(name)
+        for path in (name, *(os.path.join(folder, name) for folder in self.folders)):
+            if os.path.exists(path):
+                return path
+        return name
+
+    def _library(self, name: str, flags: Flags) -> str:
+        """The path of the library that `-l` names."""
+        names = [name[1:]] if name.startswith(":") else [f"lib{name}.a"]
+        if not flags.static and not name.startswith(":"):
+            names.insert(0, f"lib{name}.so")
+        for folder in self.folders:
+            for file in names:
+                path = os.path.join(folder, file)
+                if os.path.isfile(path):
+                    return path
+        raise MissingInput(f"cannot find -l{name}: No such file or directory")
+
+    def _file(self, path: str, flags: Flags, searched: bool = False) -> list[Archive]:
+        """Takes a file by what it is."""
+        path = self._searched(path) if searched else path
+        if path in self._archives:
+            return self._archive(self._archives[path], flags)
+        data = read_file(path)
+        self.files.append(path)
+        if flags.format == "binary":
+            self._object(path, binary_object(path, data), path)
+        elif is_archive(data):
+            try:
+                self._archives[path] = read_archive(path, data)
+            except BadArchive as fault:
+                raise BadInput(f"{path}: {fault}") from fault
+            return self._archive(self._archives[path], flags)
+        elif data.startswith(ELF) or not data:
+            self._object(path, data, path)
+        elif data.startswith(BITCODE):
+            raise CannotLink(f"{path}: bitcode of LLVM, no object")
+        else:
+            return self._text(path, data, flags)
+        return []
+
+    def _text(self, path: str, data: bytes, flags: Flags) -> list[Archive]:
+        """Takes the inputs that a text names, which is then a script of INPUT and GROUP alone."""
+        if b"\0" in data:
+            raise BadInput(f"{path}: file format not recognized")
+        commands = read_commands(data.decode(errors="surrogateescape"))
+        if commands.other is not None or not commands.inputs:
+            raise BadInput(f"{path}: no object, no archive, no script of INPUT and GROUP alone; a script is -T's")
+        return self._commands(commands, flags)
+
+    def _archive(self, archive: Archive, flags: Flags) -> list[Archive]:
+        """Takes what is needed of an archive, or all of it."""
+        if flags.whole_archive:
+            for member in archive.members:
+                self._member(member)
+            return []
+        self._scan(archive)
+        return [archive]
+
+    def _scan(self, archive: Archive) -> bool:
+        """Takes the members that define what is undefined now, as GNU ld does; says whether it took any."""
+        if not archive.has_index:
+            archive.symbols = [(name, member.offset) for member in archive.members for name in self._defines(member)]
+            archive.has_index = True
+        self._enter()
+        taken = self._taken.setdefault(archive.path, set())
+        before, count = len(taken), -1
+        while count != len(taken):
+            count = len(taken)
+            for name, offset in archive.symbols:
+                if offset not in taken and self._needs(archive, name, offset):
+                    taken.add(offset)
+                    member = archive.member_at(offset)
+                    if member is None:
+                        raise BadInput(f"{archive.path}: its symbol table names no member at {offset}")
+                    self._member(member)
+                    self._enter()
+        return len(taken) != before
+
+    def _needs(self, archive: Archive, name: bytes, offset: int) -> bool:
+        """Whether the member there is needed for this name: a block is replaced by a definition alone."""
+        if self.names.wants(name):
+            return True
+        if not self.names.has_common(name):
+            return False
+        member = archive.member_at(offset)
+        return member is not None and name in read_linkage(self._bytes(member)).defined
+
+    def _defines(self, member: Member) -> list[bytes]:
+        linkage = read_linkage(self._bytes(member))
+        return [*linkage.defined, *linkage.weak, *linkage.common]
+
+    def _bytes(self, member: Member) -> bytes:
+        try:
+            return member.read()
+        except OSError as fault:
+            text = f"cannot find {member.path}, a member of {member.archive.path}: {fault.strerror}"
+            raise MissingInput(text) from fault
+
+    def _member(self, member: Member) -> None:
+        data = self._bytes(member)
+        if is_archive(data):
+            for inner in read_archive(member.full_name, data).members:
+                self._object(inner.full_name, inner.read(), member.path)
+        else:
+            self._object(member.full_name, data, member.path)
+
+    def _object(self, name: str, data: bytes, path: str) -> None:
+        """Takes an object."""
+        if data.startswith(ELF) and data[16:18] == SHARED:
+            raise CannotLink(f"{name}: a shared library")
+        if SLIM in data:
+            raise CannotLink(f"{name}: an object of slim LTO, which has no code (-ffat-lto-objects gives it code)")
+        if self.command.trace:
+            print(name, flush=True)
+        self.objects.append(Object(session_name(name, self._used), data, path))
+
+    def _enter(self) -> None:
+        """Goes through the names of the objects taken since the last time."""
+        for entered in self.objects[self._entered :]:
+            self.names.add(read_linkage(entered.data))
+        self._entered = len(self.objects)

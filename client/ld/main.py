@@ -1,0 +1,270 @@
+"""`ld.ldi`: GNU ld's command line in front of `ldi session`, for Makefiles."""
+from __future__ import annotations
+
+import os
+import re
+import signal
+import subprocess
+import sys
+from types import FrameType
+
+from client.ld.command import Command, read_command
+from client.ld.fallback import hand_over
+from client.ld.flat import NoFlatImage, flat_binary
+from client.ld.help import HELP
+from client.ld.inputs import BadInput, CannotLink, Loader, MissingInput, Object
+from client.ld.link import Result, link, options_of
+from client.ld.options import WordsRefused
+from client.ld.output import PROGRAM, TEXT, write_file
+from client.ld.page_size import TooFar, with_pages
+from client.ld.reports import memory_usage, removed_sections
+from client.ld.script import Script, Source, find_script, write_script
+from client.ld.valued import with_values
+from client.ld.words import expand
+from client.link_map import read_map
+from client.inputs import Inputs
+from client.protocol import Refused, Session, SessionEnded, find_program
+
+GOOD, FAULTS, REFUSED, DEVICE, MEMORY = range(5)
+"""The statuses of `ldi link`."""
+
+GREATEST_LIST = 20
+"""The refused objects that are named."""
+
+GREATEST_FAULTS = 1000
+"""The faults that are said as sentences."""
+
+FOLLOWS = "2.40"
+"""The release of GNU ld whose command line this is; the last word of the version, which builds ask for."""
+
+
+class Stopped(Exception):
+    """A signal asked this program to end."""
+
+
+def say(text: str) -> None:
+    """A line for people."""
+    print(f"ld.ldi: {text}", file=sys.stderr, flush=True)
+
+
+def version() -> str:
+    """`GNU ld (ldi VERSION) RELEASE`."""
+    try:
+        done = subprocess.run([find_program(), "--version"], capture_output=True, text=True, check=False)
+        own = done.stdout.split()[-1] if done.returncode == 0 and done.stdout.split() else "unknown"
+    except OSError:
+        own = "unknown"
+    return f"GNU ld (ldi {own}) {FOLLOWS}"
+
+
+def print_refusal(name: str, refused: Refused, data: bytes, lines: tuple[tuple[str, int], ...], limit: int) -> None:
+    """Prints the first messages of a refusal. What makes messages takes long to load, and is loaded where one is."""
+    from client.messages import refusal_messages
+
+    for message in refusal_messages(name, refused, data, lines)[:limit]:
+        print(message, file=sys.stderr)
+
+
+def print_faults(faults: bytes, inputs: Inputs) -> None:
+    """Prints the messages of a link's faults."""
+    from client.messages import fault_messages
+
+    for message in fault_messages(faults, inputs, GREATEST_FAULTS):
+        print(message, file=sys.stderr)
+
+
+def print_asked(command: Command, source: Source | None) -> None:
+    """Prints what the words ask for beside a link: version, help, formats, and with --verbose the script."""
+    for ask in command.asks:
+        if ask in ("v", "V"):
+            print(version())
+        if ask == "V":
+            print("  Supported emulations:\n   elf_x86_64")
+        if ask == "help":
+            print(HELP, end="")
+        if ask == "print-output-format":
+            print("elf64-x86-64")
+        if ask == "print-sysroot":
+            print(command.sysroot)
+    if command.verbose and source is not None:
+        print(f"{version()}\nusing {'internal' if not source.own else 'external'} linker script:")
+        print(f"{'=' * 50}\n{source.text.rstrip()}\n\n{'=' * 50}", flush=True)
+
+
+def report_script(script: Script, verbose: bool) -> None:
+    """Prints what was done to the script: what is changed always, the rest where it is asked for."""
+    for note in script.report:
+        if verbose or note.kind in ("changed", "left"):
+            print(note, file=sys.stderr)
+
+
+def wanted_names(command: Command, source: Source) -> list[str]:
+    """The names that are undefined before the first object: the entry symbol."""
+    entry = command.entry or source.commands.entry
+    return [entry] if entry and not entry[0].isdigit() else []
+
+
+class Link:
+    """One link, from the command to the files."""
+
+    def __init__(self, command: Command, words: list[str]) -> None:
+        self.command = command
+        self.words = words
+        self.source = find_script(command)
+        self.objects: list[Object] = []
+
+    def run(self) -> int:
+        """Links, and gives the exit status."""
+        command = self.command
+        print_asked(command, self.source)
+        loader = Loader(command, self.source.commands, self.source.own, wanted_names(command, self.source))
+        self.objects = loader.load()
+        self._check_required(loader)
+        if self.source.commands.binary and self.source.own and command.output_format is None:
+            command.output_format = "binary"
+        script = write_script(self.source, command, self.objects)
+        if script.valued:
+            script = with_values(self.source, command, self.objects) or script
+        report_script(script, command.verbose)
+        if script.left:
+            say(f"{self.source.path}: {len(script.left)} places cannot be linked by ldi; they are named above")
+            return REFUSED
+        for note in command.notes:
+            say(note)
+        session = Session(options_of(command, script))
+        try:
+            result = link(session, script.text, self.objects)
+            return self._finish(session, script, result, loader.files)
+        finally:
+            session.kill()
+
+    def _check_required(self, loader: Loader) -> None:
+        """The names of --require-defined are defined."""
+        for name in self.command.required:
+            if loader.names.state.get(os.fsencode(name), 0) <= loader.names.UNDEFINED_WEAK:
+                raise BadInput(f"required symbol `{name}' not defined")
+
+    def _finish(self, session: Session, script: Script, result: Result, files: list[str]) -> int:
+        """Says what came of the link, and writes the files of a good one."""
+        data = {item.name.decode(): item.data for item in self.objects}
+        inputs = Inputs(script.path, script.text, data, script.lines, self.command.entry)
+        if result.refused:
+            return self._refused(result)
+        if result.script_refused:
+            return self._script_refused(result.script_refused, script)
+        if result.status:
+            print_faults(result.faults, inputs)
+            return FAULTS
+        self._write(result, files)
+        self._report(session, script, result)
+        return GOOD
+
+    def _refused(self, result: Result) -> int:
+        """Objects that are refused go to the other linker, but not for memory."""
+        for item, refused in result.refused[:GREATEST_LIST]:
+            print_refusal(item.name.decode(), refused, item.data, (), 3)
+        if any(refused.number == 7 for _, refused in result.refused):
+            return MEMORY
+        first = result.refused[0][0].name.decode()
+        others = f" and {len(result.refused) - 1} others" if len(result.refused) > 1 else ""
+        return hand_over([f"{first}{others}: outside the profile of ldi"], self.words)
+
+    def _script_refused(self, refused: Refused, script: Script) -> int:
+        print_refusal(script.path, refused, script.text, script.lines, GREATEST_LIST)
+        return MEMORY if refused.number == 7 else REFUSED
+
+    def _map_path(self) -> str | None:
+        """The file of the map: in a folder the image's name with `.map`; `%` stands for the image's path."""
+        path = self.command.map_file
+        if path is not None and os.path.isdir(path):
+            return os.path.join(path, os.path.basename(self.command.output) + ".map")
+        if path is not None and "%" in path:
+            return path.replace("%", self.command.output, 1) + (".map" if path.endswith("%") else "")
+        return path
+
+    def _image(self, image: bytes) -> bytes:
+        """The image in the form that the command asks for."""
+        if self.command.output_format == "binary":
+            return flat_binary(image)
+        has_phdrs = re.search(r"\bPHDRS\s*\{", self.source.text) is not None
+        return with_pages(image, self.command.page_size or 0, in_file_order=has_phdrs)
+
+    def _write(self, result: Result, files: list[str]) -> None:
+        """Writes the map, then the image."""
+        command = self.command
+        path = self._map_path()
+        if command.print_map or path == "-":
+            sys.stdout.write(result.map.decode(errors="surrogateescape"))
+            sys.stdout.flush()
+        if path is not None and path != "-":
+            write_file(path, result.map, TEXT)
+        image = self._image(result.image)
+        write_file(command.output, image, PROGRAM)
+        if command.dependency_file is not None:
+            names = [*files, *command.scripts]
+            lines = f"{command.output}: \\\n" + " \\\n".join(f"  {name}" for name in names) + "\n"
+            lines += "".join(f"\n{name}:\n" for name in names)
+            write_file(command.dependency_file, lines.encode(errors="surrogateescape"), TEXT)
+
+    def _report(self, session: Session, script: Script, result: Result) -> None:
+        """Prints the tables and lists that were asked for."""
+        command = self.command
+        link_map = read_map(result.map)
+        if command.gc_sections and command.print_gc_sections:
+            for line in removed_sections(self.objects, link_map):
+                say(line)
+        if command.print_memory_usage:
+            print(memory_usage(session, script.text, link_map, result.image), end="")
+
+
+def run(words: list[str]) -> int:
+    """Does what the words ask for; gives the exit status."""
+    try:
+        command = read_command(expand(words))
+    except WordsRefused as fault:
+        return hand_over([str(fault)], words)
+    if not command.inputs_named():
+        if command.asks or command.verbose:
+            print_asked(command, find_script(command))
+            return GOOD
+        say("no input files")
+        return REFUSED
+    if "help" in command.asks:
+        print_asked(command, None)
+        return GOOD
+    if command.cannot:
+        return hand_over(command.cannot, words)
+    return Link(command, words).run()
+
+
+def _stop(number: int, _frame: FrameType | None) -> None:
+    raise Stopped(number)
+
+
+def main(words: list[str]) -> int:
+    """Runs the program with these words; gives its exit status."""
+    for number in (signal.SIGTERM, signal.SIGHUP, signal.SIGINT):
+        signal.signal(number, _stop)
+    try:
+        return run(words)
+    except CannotLink as fault:
+        return hand_over([str(fault)], words)
+    except BadInput as fault:
+        say(str(fault))
+        return DEVICE if isinstance(fault, MissingInput) else REFUSED
+    except WordsRefused as fault:
+        say(str(fault))
+        return REFUSED
+    except (NoFlatImage, TooFar) as fault:
+        say(str(fault))
+        return FAULTS
+    except SessionEnded as fault:
+        say(f"the session of {find_program()} ended: {fault}")
+    except OSError as fault:
+        say(f"{fault.filename or 'device'}: {fault.strerror}")
+    except MemoryError:
+        say("out of memory")
+        return MEMORY
+    except Stopped as fault:
+        return 128 + int(fault.args[0])
+    return DEVICE

@@ -1,0 +1,146 @@
+"""The script of a link: found, adapted to the profile, with what the command line sets in it."""
+from __future__ import annotations
+
+import os
+import re
+import shutil
+import subprocess
+from collections.abc import Mapping
+from dataclasses import dataclass
+
+from client.adapt.adapt import CHANGED, LEFT, Adapted, NoParse, Note, adapt
+from client.ld.command import Command, number
+from client.ld.default_script import DEFAULT
+from client.ld.inputs import BadInput, MissingInput, Object
+from client.ld.script_commands import Commands, read_commands
+from client.ld.script_text import outline, set_address
+from client.watch.quick import with_entry
+
+NUMBER_ENTRY = b"ld.ldi.entry"
+"""The name that has the value of `-e NUMBER`."""
+
+MAX_PAGE_SIZE = re.compile(r"\bCONSTANT\s*\(\s*MAXPAGESIZE\s*\)")
+"""What `-z max-page-size=` sets in a script."""
+
+
+@dataclass(frozen=True)
+class Source:
+    """A script as it is found: its name, its text, and whether it is the user's."""
+
+    path: str
+    text: str
+    own: bool
+
+    @property
+    def commands(self) -> Commands:
+        """What it says of files and names."""
+        return read_commands(self.text)
+
+
+def find_script(command: Command) -> Source:
+    """The script of `-T`, as it stands or in a folder of `-L`; else the default one."""
+    if not command.scripts:
+        return default_script(command.omagic)
+    if len(command.scripts) > 1:
+        raise BadInput(f"-T {command.scripts[1]}: a second script after {command.scripts[0]}; a link has one")
+    name = command.scripts[0]
+    for path in (name, *(os.path.join(folder, name) for folder in command.folders)):
+        if os.path.isfile(path):
+            break
+    else:
+        path = name
+    try:
+        with open(path, encoding="utf-8", errors="surrogateescape") as file:
+            return Source(path, file.read(), own=True)
+    except OSError as fault:
+        raise MissingInput(f"cannot open linker script file {name}: {fault.strerror}") from fault
+
+
+def default_script(omagic: bool) -> Source:
+    """GNU ld's default script where GNU ld is there, else one of the same sections; `omagic` is `-N`."""
+    program = shutil.which("ld.bfd")
+    if program:
+        words = [program, "-m", "elf_x86_64", "-static", *(["-N"] if omagic else []), "--verbose"]
+        done = subprocess.run(words, capture_output=True, text=True, check=False)
+        parts = done.stdout.split("=" * 50 + "\n")
+        if done.returncode == 0 and len(parts) == 3:
+            return Source("ld.bfd's default script", parts[1], own=False)
+    text = DEFAULT
+    if omagic:
+        text = re.sub(r"(?m)^  \. = ALIGN\(4096\).*$", "", text)
+    return Source("default.ld", text, own=False)
+
+
+@dataclass(frozen=True)
+class Script:
+    """The script that is sent, where its lines came from, and what was done to it."""
+
+    path: str
+    text: bytes
+    lines: tuple[tuple[str, int], ...]
+    report: list[Note]
+    entry: str | None = None
+    """The entry symbol where the script cannot name it, for the session's option."""
+    valued: frozenset[str] = frozenset()
+    """The symbols of objects whose addresses expressions of the script want."""
+
+    @property
+    def left(self) -> list[Note]:
+        """What cannot be written in the profile."""
+        return [note for note in self.report if note.kind == LEFT]
+
+    @property
+    def changed(self) -> list[Note]:
+        """What has another meaning now."""
+        return [note for note in self.report if note.kind == CHANGED]
+
+
+def adapt_source(
+    source: Source, command: Command, objects: list[Object], values: Mapping[str, int] | None = None
+) -> Adapted:
+    """The script as `ldi-adapt` writes it; BadInput where it is no script."""
+    defsyms = []
+    for defsym in command.defsyms:
+        name, equals, value = defsym.partition("=")
+        if not equals:
+            raise BadInput(f"--defsym {defsym}: no NAME=EXPRESSION")
+        defsyms.append((name.strip(), value.strip()))
+    named = {item.name.decode(): item.data for item in objects}
+    text = source.text
+    if command.page_size is not None:
+        text = MAX_PAGE_SIZE.sub(f"0x{command.page_size:x}", text)
+    data = text.encode(errors="surrogateescape")
+    try:
+        return adapt(data, defsyms, named, command.folders, source.path, orphans=False,
+                     values=values)
+    except NoParse as fault:
+        raise BadInput(str(fault)) from fault
+    except OSError as fault:
+        raise MissingInput(f"{source.path}: {fault.filename}: {fault.strerror}") from fault
+
+
+def write_script(
+    source: Source, command: Command, objects: list[Object], values: Mapping[str, int] | None = None
+) -> Script:
+    """The script for the session, with the entry and the addresses that the command line gives.
+
+    `values` are the addresses of objects' symbols for expressions of the script (`client/ld/valued.py`).
+    """
+    adapted = adapt_source(source, command, objects, values)
+    text = adapted.text
+    for section, start in command.section_starts.items():
+        changed = set_address(text, os.fsencode(section), start)
+        if changed is None:
+            command.note(f"the address of {section}: the script has no such section")
+        text = changed or text
+    if command.entry is None and not outline(text).has_entry:
+        command.note("no entry symbol: the image's e_entry is 0 (GNU ld takes the start of .text)")
+    if command.entry is None:
+        return Script(source.path, text, adapted.lines, adapted.report, valued=adapted.valued)
+    entry = os.fsencode(command.entry)
+    if entry[:1].isdigit():
+        text = b"%s = 0x%x; %s" % (NUMBER_ENTRY, number(command.entry, "-e"), text)
+        entry = NUMBER_ENTRY
+    written = with_entry(text, entry)
+    option = command.entry if written is None else None
+    return Script(source.path, written or text, adapted.lines, adapted.report, option, adapted.valued)

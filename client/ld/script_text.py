@@ -1,0 +1,108 @@
+"""The parts of a script of the profile: its sections with their regions, its regions, its ENTRY; addresses set anew.
+
+docs/scripts.md has the language. What stands here goes through the tokens of a text and reads no expression.
+"""
+from __future__ import annotations
+
+from collections.abc import Iterator
+from dataclasses import dataclass, field
+
+from client.watch.quick import Token, tokens
+
+
+@dataclass(frozen=True)
+class Head:
+    """An output section: its name, where its address may stand, and the regions at its end."""
+
+    name: bytes
+    address: tuple[int, int]
+    region: bytes = b""
+    load_region: bytes = b""
+
+
+@dataclass
+class Outline:
+    """What a script has."""
+
+    has_entry: bool = False
+    sections: list[Head] = field(default_factory=list)
+    memory: list[bytes] = field(default_factory=list)
+    """The names of the memory regions."""
+
+
+def outline(script: bytes) -> Outline:
+    """The parts of a script; of a text that is none, those before it stops being one."""
+    found, result, block = list(tokens(script)), Outline(), b""
+    for token, following in zip(found, found[1:]):
+        if token.depth == 0 and token.text in (b"SECTIONS", b"MEMORY"):
+            block = token.text
+        result.has_entry |= token.depth == 0 and token.text == b"ENTRY"
+        if token.depth == 1 and block == b"MEMORY" and following.text == b":":
+            result.memory.append(token.text)
+    try:
+        result.sections.extend(_sections(found))
+    except (IndexError, StopIteration):
+        pass
+    return result
+
+
+def _sections(found: list[Token]) -> Iterator[Head]:
+    """The output sections of a script."""
+    begins = (index for index, token in enumerate(found) if token.text == b"SECTIONS" and token.depth == 0)
+    at = next(begins, len(found)) + 2
+    while at < len(found) and found[at].depth >= 1:
+        if found[at].text in (b";", b"}"):
+            at += 1
+        elif found[at + 1].text == b"=" or (found[at + 1].text, found[at + 2].text) == (b"+", b"="):
+            at = next(index for index in range(at, len(found)) if found[index].text == b";") + 1
+        elif found[at].text in (b"PROVIDE", b"ASSERT"):
+            at = _closing(found, at + 1) + 1
+        else:
+            head, at = _head(found, at)
+            yield head
+
+
+def _closing(found: list[Token], at: int) -> int:
+    """The parenthesis that closes the one at `at`."""
+    level = 0
+    while True:
+        level += (found[at].text == b"(") - (found[at].text == b")")
+        if level == 0:
+            return at
+        at += 1
+
+
+def _head(found: list[Token], begin: int) -> tuple[Head, int]:
+    """The output section whose name is the token `begin`, and the token after its tail."""
+    at = colon = begin
+    while found[at].text != b"{":
+        if found[at].text == b"(":
+            at = _closing(found, at)
+        elif found[at].text == b":":
+            colon = at
+        at += 1
+    while found[at].text != b"}" or found[at].depth != 2:
+        at += 1
+    at += 1
+    region = load_region = b""
+    while at < len(found):
+        if found[at].text == b">":
+            region, at = found[at + 1].text, at + 2
+        elif found[at].text == b"AT" and found[at + 1].text == b">":
+            load_region, at = found[at + 2].text, at + 3
+        elif found[at].text == b"=":
+            at += 2
+        else:
+            break
+    name = found[begin]
+    return Head(name.text, (name.start + len(name.text), found[colon].start), region, load_region), at
+
+
+def set_address(script: bytes, section: bytes, address: int) -> bytes | None:
+    """The script with this address at the head of an output section; None where the script has no such section."""
+    for head in outline(script).sections:
+        if head.name == section:
+            begin, end = head.address
+            lines = b"\n" * script.count(b"\n", begin, end)
+            return script[:begin] + b" 0x%x" % address + lines + b" " + script[end:]
+    return None

@@ -1,0 +1,151 @@
+"""Sentences for each refusal of an edit (docs/manual.md, 'Refusals')."""
+from __future__ import annotations
+
+import os
+import re
+import subprocess
+from collections.abc import Sequence
+
+from client.elf_object import plain
+from client.protocol import GREATEST_PAYLOAD, Refused, find_program, is_name
+from client.script_text import ScriptText
+
+SECONDS = 10.0
+"""How long `readobj` or `readscript` may take."""
+
+MOST_PLACES = 20
+"""The places of a refusal that are said."""
+
+NAME_IN_USE, NO_OBJECT, PAST_THE_END, NO_OBJECT_FILE, NO_SCRIPT, LIMIT, NO_MEMORY = 1, 2, 3, 4, 5, 6, 7
+
+EDITS = {
+    NAME_IN_USE: "an object of this name is there already",
+    NO_OBJECT: "there is no object of this name",
+    PAST_THE_END: "the position is past the end of the objects",
+    NO_OBJECT_FILE: "this is no object that can be linked",
+    NO_SCRIPT: "this is no script of the profile",
+    LIMIT: "there are 4,096 objects already, which is the most that a link may have",
+    NO_MEMORY: "out of memory",
+}
+
+OBJECTS = {
+    1: "the file has fewer than 64 bytes, less than an ELF header",
+    2: "the file does not begin with 7F 45 4C 46: it is no ELF file",
+    3: "the ELF header is not that of a relocatable 64-bit object for x86-64",
+    4: "the section headers are not of 64 bytes, or end past the end of the file",
+    5: "the ELF header has no section headers, too many, or a wrong number of the table of names",
+    6: "a section ends past the end of the file, is longer than 2^31 bytes or has a wrong alignment,"
+    " or the table of names is no string table",
+    7: "an allocated section has a type, a flag or a name that is not in the profile: TLS, COMDAT and the like are not",
+    8: "the symbol table is not as it must be, or there are two",
+    9: "a symbol has a binding, type, section or name that is not in the profile",
+    10: "a relocation section is not as it must be",
+    11: "a relocation has a type that is not in the profile: compile with -fno-pic, and without TLS",
+    12: "the field of a relocation ends past the end of its section",
+    13: "the fields of two relocations share a byte",
+}
+"""What docs/objects.md says of each number, for where `readobj` cannot be had."""
+
+SCRIPTS = {
+    1: "somewhere no token begins, or a comment or string has no end",
+    2: "the text does not follow the grammar",
+    3: "something is given twice, or a region is named before it is declared",
+    4: "`.' is used where it may not be",
+    5: "a limit of scripts is passed",
+}
+"""What docs/scripts.md says of each number, for where `readscript` cannot be had."""
+
+FORMS = {
+    b"BC\xc0\xde": "it is LLVM's bitcode, which has no code: compile without -flto",
+    b"\xde\xc0\x17\x0b": "it is LLVM's bitcode, which has no code: compile without -flto",
+    b"!<arch>\n": "it is an archive: take its objects out, with `ar x`",
+    b"!<thin>\n": "it is a thin archive: name its objects themselves",
+}
+"""Files that are no ELF files, by their first bytes."""
+
+DEEPER = "   "
+"""What begins a line that goes on with the one above: those of a place are indented by two spaces."""
+
+LINE = re.compile(r"line ([0-9]+): (.*)")
+
+
+def refusal_sentences(
+    name: str, refused: Refused, data: bytes | None, script_lines: Sequence[tuple[str, int]]
+) -> list[str]:
+    """The sentences of a refusal, one for each place that is known; at least one."""
+    shown = plain(name.encode(errors="surrogateescape"))
+    if refused.number == NO_OBJECT_FILE:
+        reasons = _reasons("readobj", refused, data) or [OBJECTS.get(refused.inner, EDITS[NO_OBJECT_FILE])]
+        return [f"{shown}: {reason}{_form(data)}" for reason in reasons]
+    if refused.number == NO_SCRIPT:
+        script = ScriptText(name, data or b"", script_lines)
+        reasons = _reasons("readscript", refused, data) or [SCRIPTS.get(refused.inner, EDITS[NO_SCRIPT])]
+        return [_at_line(script, reason) for reason in reasons]
+    return [f"{shown}: {_of_edit(name, refused, data)}"]
+
+
+def _of_edit(name: str, refused: Refused, data: bytes | None) -> str:
+    if refused.number != LIMIT:
+        return EDITS.get(refused.number, f"refused {refused.number} {refused.inner}")
+    if data is not None and len(data) > GREATEST_PAYLOAD:
+        return f"it has more than {GREATEST_PAYLOAD} bytes"
+    if not is_name(name.encode(errors="surrogateescape")):
+        return "an object's name has 1 to 255 bytes, each from `!' to `~' and none a space"
+    return EDITS[LIMIT]
+
+
+def _form(data: bytes | None) -> str:
+    """What a file is that is no ELF file."""
+    forms = [form for start, form in FORMS.items() if data is not None and data.startswith(start)]
+    return f"; {forms[0]}" if forms else ""
+
+
+def _at_line(script: ScriptText, reason: str) -> str:
+    """A reason of `readscript`, with the place and the text of its line."""
+    found = LINE.fullmatch(reason)
+    if found is None:
+        return f"{plain(script.path.encode(errors='surrogateescape'))}: {reason}"
+    line = int(found.group(1))
+    text = script.text(line)
+    return f"{script.place(line)}: {found.group(2)}" + (f": {text}" if text else "")
+
+
+def _reasons(program: str, refused: Refused, data: bytes | None) -> list[str]:
+    """What a program says of refused bytes, a reason for each place; none where it cannot be asked, or says another
+    number."""
+    output = _ask(program, data) if data is not None else ""
+    first, *lines = output.split("\n")
+    if not first.endswith(f": refused {refused.number} {refused.inner}"):
+        return []
+    reasons: list[str] = []
+    for line in lines:
+        text = plain(line.strip().encode(errors="surrogateescape"))
+        if reasons and text and line.startswith(DEEPER):
+            reasons[-1] += f"; {text}"
+        elif text and len(reasons) < MOST_PLACES:
+            reasons.append(text)
+    return reasons
+
+
+def _ask(program: str, data: bytes) -> str:
+    """What a program prints of a file with these bytes, which is in memory alone; nothing where it cannot be asked."""
+    try:
+        file = os.memfd_create("payload")
+    except OSError:
+        return ""
+    try:
+        with os.fdopen(os.dup(file), "wb") as out:
+            out.write(data)
+        asked = subprocess.run(
+            [find_program(program), f"/proc/self/fd/{file}"],
+            stdin=subprocess.DEVNULL,
+            capture_output=True,
+            pass_fds=(file,),
+            timeout=SECONDS,
+            check=False,
+        )
+        return asked.stdout.decode(errors="surrogateescape")
+    except (OSError, ValueError, subprocess.SubprocessError):
+        return ""
+    finally:
+        os.close(file)

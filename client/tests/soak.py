@@ -1,0 +1,274 @@
+"""A soak of `ldi-watch`: writers rewrite objects at random while a reader opens the image all the time.
+
+    python3 -m client.tests.soak [ROUNDS [LIMIT [SEED]]]
+
+In each round three writers, processes of their own, rewrite the objects of a small project: in place, by a rename, half
+and then whole, bad ones among them. Each text that they write has a version of its own, which stands in the object's
+section `.numbers`, so that an image says itself which texts it was made of. Each writer notes from when to when a text
+may have been on disk whole: from before its first byte could be seen there to after its last one could. Judged is:
+
+- each image that was read is, byte for byte, `ldi link`'s of the texts that it names;
+- these texts were on disk together: the latest beginning is before the earliest end, and before the image was read;
+- after the writers rest, the image is `ldi link`'s of what is there, within LIMIT seconds (1).
+
+Prints the figures and ends with 0 where all of it holds.
+"""
+from __future__ import annotations
+
+import multiprocessing
+import os
+import random
+import sys
+import time
+from dataclasses import dataclass, field
+from multiprocessing.connection import Connection
+from pathlib import Path
+
+from client.tests.watching import Folder, Watching, numbered, versions_in
+
+COUNT = 6
+WRITERS = 3
+Life = tuple[float, float]
+
+
+@dataclass
+class Writer:
+    """Rewrites its objects, and notes the lives of their texts."""
+
+    folder: Path
+    number: int
+    chance: random.Random
+    pace: float
+    """The longest pause, in seconds."""
+    version: int = 1
+    born: dict[int, tuple[int, float]] = field(default_factory=dict)
+    """Of each object the version that is on disk, and from when it may be."""
+    lives: list[tuple[int, int, float, float]] = field(default_factory=list)
+
+    def mine(self) -> list[int]:
+        """The numbers of the objects that this writer writes."""
+        return [number for number in range(COUNT) if number % WRITERS == self.number]
+
+    def round(self) -> None:
+        """Some rewrites; afterwards all objects are good."""
+        spoiled: set[int] = set()
+        for _ in range(self.chance.randrange(1, 4)):
+            self._pause()
+            number = self.chance.choice(self.mine())
+            if self.chance.random() < 0.2:
+                self._bad(number)
+                spoiled.add(number)
+            else:
+                self._good(number)
+                spoiled.discard(number)
+        for number in spoiled:
+            self._pause()
+            self._good(number)
+
+    def _good(self, number: int) -> None:
+        self.version += 1
+        data = numbered(number, self.version, COUNT)
+        begins = time.monotonic()
+        self.chance.choice((self._by_rename, self._in_place, self._in_halves, self._half_closed))(number, data)
+        self._dead(number, time.monotonic())
+        self.born[number] = (self.version, begins)
+
+    def _bad(self, number: int) -> None:
+        data = numbered(number, 0, COUNT)
+        data = self.chance.choice((b"", b"no object", data[: self.chance.randrange(len(data))], b"\0" * 700))
+        self.chance.choice((self._by_rename, self._in_place, self._gone))(number, data)
+        self._dead(number, time.monotonic())
+
+    def _dead(self, number: int, now: float) -> None:
+        """The text that was there cannot be seen from now on."""
+        if number in self.born:
+            version, begins = self.born.pop(number)
+            self.lives.append((number, version, begins, now))
+
+    def _path(self, number: int) -> Path:
+        return self.folder / f"o{number}.o"
+
+    def _by_rename(self, number: int, data: bytes) -> None:
+        beside = self.folder / f"w{self.number}.tmp"
+        beside.write_bytes(data)
+        os.rename(beside, self._path(number))
+
+    def _in_place(self, number: int, data: bytes) -> None:
+        self._path(number).write_bytes(data)
+
+    def _in_halves(self, number: int, data: bytes) -> None:
+        path = self._path(number)
+        over = path.exists() and self.chance.random() < 0.5
+        cut = self.chance.choice((self.chance.randrange(len(data)), self.chance.randrange(72, 112)))
+        with open(path, "r+b" if over else "wb", buffering=0) as file:
+            file.write(data[:cut])
+            self._pause()
+            file.write(data[cut:])
+            file.truncate(len(data))
+
+    def _half_closed(self, number: int, data: bytes) -> None:
+        self._path(number).write_bytes(data[: len(data) // 2])
+        self._pause()
+        with open(self._path(number), "ab") as file:
+            file.write(data[len(data) // 2 :])
+
+    def _gone(self, number: int, data: bytes) -> None:
+        self._path(number).unlink(missing_ok=True)
+
+    def _pause(self) -> None:
+        time.sleep(self.chance.choice((0.0, self.pace * self.chance.random(), self.pace)))
+
+
+def write(folder: Path, number: int, seed: int, pace: float, orders: Connection) -> None:
+    """A writer's process: a round for each order, answered by the lives that ended in it."""
+    writer = Writer(folder, number, random.Random(seed * WRITERS + number), pace)
+    writer.born = {mine: (1, 0.0) for mine in writer.mine()}
+    while orders.recv():
+        writer.lives = []
+        writer.round()
+        orders.send((writer.lives, dict(writer.born)))
+
+
+def read(image: Path, orders: Connection) -> None:
+    """The reader's process: opens the image all the time, and answers an order with the images that were new."""
+    seen: dict[bytes, float] = {}
+    opened, last = 0, b""
+    while True:
+        data = image.read_bytes()
+        opened += 1
+        if data != last:
+            seen.setdefault(data, time.monotonic())
+            last = data
+        time.sleep(0.0005)
+        if orders.poll():
+            if not orders.recv():
+                return
+            orders.send((seen, opened))
+            seen, opened = {}, 0
+
+
+@dataclass
+class Soak:
+    """The project, its watch and the processes around it, and what was found."""
+
+    limit: float
+    seed: int
+    pace: float
+    folder: Folder = field(default_factory=lambda: Folder(COUNT))
+    texts: Folder = field(default_factory=lambda: Folder(COUNT))
+    """Another folder, to link the texts of an image in."""
+    lives: dict[tuple[int, int], Life] = field(default_factory=dict)
+    images: int = 0
+    opened: int = 0
+    slowest: float = 0.0
+    wrong: list[str] = field(default_factory=list)
+
+    def run(self, rounds: int) -> None:
+        """So many rounds."""
+        watching = Watching(self.folder)
+        processes, ends = [], []
+        try:
+            watching.wait_for("linked")
+            for number in range(WRITERS + 1):
+                end, other = multiprocessing.Pipe()
+                processes.append(self._process(number, other))
+                processes[-1].start()
+                ends.append(end)
+            for number in range(rounds):
+                self._round(number, ends[:-1], ends[-1])
+        finally:
+            for end in ends:
+                end.send(False)
+            for process in processes:
+                process.join(10)
+                process.kill()
+            if watching.end() != 0 or watching.errors:
+                self.wrong.append(f"ldi-watch ended badly: {watching.errors}")
+
+    def _process(self, number: int, orders: Connection) -> multiprocessing.Process:
+        """A writer, or after them the reader."""
+        if number < WRITERS:
+            words = (self.folder.path, number, self.seed, self.pace, orders)
+            return multiprocessing.Process(target=write, args=words, daemon=True)
+        return multiprocessing.Process(target=read, args=(self.folder / "image", orders), daemon=True)
+
+    def _round(self, number: int, writers: list[Connection], reader: Connection) -> None:
+        for writer in writers:
+            writer.send(True)
+        standing: dict[tuple[int, int], Life] = {}
+        for writer in writers:
+            ended, born = writer.recv()
+            self.lives.update({(which, version): (begins, ends) for which, version, begins, ends in ended})
+            standing.update({(which, version): (begins, float("inf")) for which, (version, begins) in born.items()})
+        rest = time.monotonic()
+        self.lives.update(standing)
+        expected = self._settles(number, rest)
+        reader.send(True)
+        seen, opened = reader.recv()
+        self.opened += opened
+        for image, when in seen.items():
+            self._judge(number, image, when, expected)
+        self.lives = standing  # what ended before is in no image that is still to come
+
+    def _settles(self, number: int, rest: float) -> bytes:
+        """The image becomes that of what is there, in time; gives that image."""
+        expected = self.folder.link()
+        while self.folder.image() != expected and time.monotonic() < rest + 10 * self.limit:
+            time.sleep(0.002)
+        took = time.monotonic() - rest
+        self.slowest = max(self.slowest, took)
+        if took > self.limit:
+            self.wrong.append(f"round {number}: the image is that of the files after {took:.1f} s, not {self.limit:g}")
+        return expected
+
+    def _judge(self, number: int, image: bytes, when: float, expected: bytes) -> None:
+        """The image is `ldi link`'s of the texts that it names, and these were on disk together."""
+        self.images += 1
+        versions = versions_in(image, COUNT)
+        lives = [self.lives.get((which, version)) for which, version in enumerate(versions)]
+        if None in lives:
+            self.wrong.append(f"round {number}: an image of texts that were not there: {versions}")
+            return
+        begins = max(life[0] for life in lives if life)
+        ends = min(life[1] for life in lives if life)
+        if begins > ends or begins > when:
+            self.wrong.append(f"round {number}: an image of texts that were not there together: {versions}")
+        if image == expected:
+            return  # by `ldi link`, of the texts that are there at the round's end
+        for which, version in enumerate(versions):
+            (self.texts / f"o{which}.o").write_bytes(numbered(which, version, COUNT))
+        if self.texts.link() != image:
+            self.wrong.append(f"round {number}: an image that is not `ldi link`'s of its texts: {versions}")
+
+    def remove(self) -> None:
+        """Removes the folders."""
+        self.folder.remove()
+        self.texts.remove()
+
+
+def soak(rounds: int, limit: float = 1.0, seed: int = 1, pace: float = 0.15) -> Soak:
+    """So many rounds, judged."""
+    one = Soak(limit, seed, pace)
+    try:
+        one.run(rounds)
+    finally:
+        one.remove()
+    return one
+
+
+def main(words: list[str]) -> int:
+    """Runs a soak by the words; gives the exit status."""
+    rounds = int(words[0]) if words else 2000
+    limit = float(words[1]) if len(words) > 1 else 1.0
+    started = time.monotonic()
+    done = soak(rounds, limit, int(words[2]) if len(words) > 2 else 1)
+    print(f"{rounds} rounds in {time.monotonic() - started:.0f} s: the image was opened {done.opened} times, "
+          f"{done.images} images were judged; at rest it was that of the files after {done.slowest:.3f} s at most")
+    for line in done.wrong[:20]:
+        print(line)
+    print(f"{len(done.wrong)} wrong")
+    return 1 if done.wrong else 0
+
+
+if __name__ == "__main__":
+    sys.exit(main(sys.argv[1:]))

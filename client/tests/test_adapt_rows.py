@@ -1,0 +1,80 @@
+"""Each construct that the profile does not have, adapted, beside GNU ld."""
+from __future__ import annotations
+
+import os
+import tempfile
+import unittest
+
+from client.adapt.adapt import Adapted, adapt
+from client.protocol import Linked, Session
+from client.tests.adapt_compare import LinkFailed, differences, link_gnu, read_map
+from client.tests.adapt_objects import NAMES, make
+from client.tests.adapt_rows import LEFT, ROWS, Row
+
+
+class AdaptRowsTest(unittest.TestCase):
+    """The table of `adapt_rows.py`."""
+
+    folder: tempfile.TemporaryDirectory
+    old: str
+    session: Session
+
+    @classmethod
+    def setUpClass(cls) -> None:
+        """Makes the objects once."""
+        cls.folder = tempfile.TemporaryDirectory()
+        cls.old = os.getcwd()
+        os.chdir(cls.folder.name)
+        make(".")
+        cls.session = Session()
+        for position, name in enumerate(NAMES):
+            with open(name, "rb") as file:
+                cls.session.add(name.encode(), position, file.read())
+
+    @classmethod
+    def tearDownClass(cls) -> None:
+        """Ends the session and removes the objects."""
+        cls.session.close()
+        os.chdir(cls.old)
+        cls.folder.cleanup()
+
+    def adapted(self, row: Row) -> Adapted:
+        """The row's script, adapted."""
+        result = adapt(row.text(), row.defsyms, NAMES if row.known else None)
+        kinds = {note.kind[0] for note in result.report}
+        self.assertEqual(kinds & set("cl"), set(row.kinds) & set("cl"), [str(note) for note in result.report])
+        self.assertLessEqual(kinds, set(row.kinds), [str(note) for note in result.report])
+        self.assertEqual(len(result.lines), result.text.count(b"\n") + 1)
+        return result
+
+    def test_rows(self) -> None:
+        """The same addresses, sizes, load addresses and values, but for what the report says is changed."""
+        for row in ROWS:
+            with self.subTest(row.name):
+                self.one(row)
+
+    def one(self, row: Row) -> None:
+        """One row."""
+        result = self.adapted(row)
+        if "l" in row.kinds:
+            return
+        with open("original.ld", "w", encoding="latin-1") as file:
+            file.write(row.text())
+        options = tuple(f"--defsym={name}={value}" for name, value in row.defsyms)
+        try:
+            gnu = link_gnu("original.ld", NAMES, "gnu.out", options)
+        except LinkFailed as fault:
+            self.fail(f"GNU ld: {fault}")
+        answer = self.session.script(result.text)
+        text = result.text.decode("latin-1")
+        if not isinstance(answer, Linked) or answer.status:
+            self.fail(f"ldi: {answer} {self.session.faults()!r}\n{text}")
+        ldi = read_map(self.session.map())
+        found = [text for text in differences(gnu, ldi) if not text.startswith(row.different or ("\0",))]
+        self.assertEqual(found, [], text)
+
+    def test_left(self) -> None:
+        """What nothing can be written for."""
+        for row in LEFT:
+            with self.subTest(row.name):
+                self.adapted(row)

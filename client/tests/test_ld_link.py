@@ -1,0 +1,267 @@
+"""`ld.ldi`: links of files, beside GNU ld where it says the same."""
+from __future__ import annotations
+
+import os
+import re
+import resource
+import shutil
+import signal
+import stat
+import struct
+import subprocess
+
+from client.link_map import LinkMap, read_map
+from client.tests.linking import LD_LDI, LIMIT, LinkTest, needs
+
+FIRMWARE = """ENTRY(reset)
+MEMORY {
+  flash : ORIGIN = 0x8000, LENGTH = 16K
+  ram : ORIGIN = 0x20000, LENGTH = 3M
+  none : ORIGIN = 0, LENGTH = 1000
+}
+SECTIONS {
+  .text : { *(.text .text.*) } >flash
+  .rodata : { *(.rodata .rodata.*) . = ALIGN(64); } >flash
+  .data : { *(.data .data.*) } >ram AT>flash
+  .bss : { *(.bss .bss.*) *(COMMON) } >ram
+  /DISCARD/ : { *(.eh_frame) *(.note.*) *(.comment) }
+}
+"""
+FIRMWARE_SOURCE = """
+int table[100] = {1}, work[300];
+const int constants[5] = {1, 2, 3};
+int unused(int a) { return a; }
+void reset(void) { work[0] = table[1] + constants[2]; for (;;) ; }
+"""
+WAITING = """
+__asm__(".globl _start\\n_start: xorl %eax, %eax\\nxorl %edi, %edi\\nmovq %rsp, %rsi\\nmovl $1, %edx\\nsyscall\\n"
+        "movl $60, %eax\\nxorl %edi, %edi\\nsyscall\\n");
+"""
+PLAIN = "ENTRY(_start) SECTIONS { . = 0x401000; .text : { *(.text .text.*) } /DISCARD/ : { *(.eh_frame) *(.note.*) } }"
+
+
+class ExampleTest(LinkTest):
+    """A program of examples/linux, linked in several ways."""
+
+    def test_link_and_run(self) -> None:
+        """The program runs; the map is there; modes; what --gc-sections removed, in GNU ld's words and order."""
+        objects = self.compile_example()
+        words = ["--gc-sections", "--print-gc-sections", "-T", "linux.ld", "-o", "hello", "-Map=hello.map", *objects]
+        done = self.links(*words)
+        self.assertIn("primes below 100: 25", self.run_tool("./hello"))
+        link_map = read_map((self.folder / "hello.map").read_bytes())
+        self.assertEqual([section.name for section in link_map.sections], [b".text", b".rodata", b".data", b".bss"])
+        self.assertEqual(stat.S_IMODE((self.folder / "hello").stat().st_mode), 0o755)
+        self.assertEqual(stat.S_IMODE((self.folder / "hello.map").stat().st_mode), 0o644)
+        removed = re.findall(r"^ld\.ldi: (removing .*)$", done.stderr, re.M)
+        self.assertIn("removing unused section '.text.never_called' in file 'system.o'", removed)
+        if shutil.which("ld.bfd"):
+            gnu = self.run_program("ld.bfd", *words[:-len(objects)], *objects).stderr
+            self.assertEqual(removed, re.findall(r"^.*?: (removing .*)$", gnu, re.M))
+        self.assertIn(b"entry", self.links("-M", *words).stdout.encode()[:5])
+
+    def test_by_gcc_and_clang(self) -> None:
+        """`gcc -B`, with -fuse-ld=bfd too, `clang --ld-path=`; libraries with -l."""
+        objects = self.compile_example()
+        self.run_tool("ar", "rcs", "libtext.a", "text.o")
+        (self.folder / "tools").mkdir()
+        for name in ("ld", "ld.bfd"):
+            os.symlink(LD_LDI, self.folder / "tools" / name)
+        drivers = [["gcc", "-B", str(self.folder / "tools")], ["gcc", "-B", str(self.folder / "tools"), "-fuse-ld=bfd"]]
+        if shutil.which("clang"):
+            drivers.append(["clang", f"--ld-path={LD_LDI}"])
+        for driver in drivers:
+            done = self.run_program(*driver, "-static", "-nostdlib", "-Wl,-T,linux.ld,-Map,hello.map", "-o", "hello",
+                                    objects[0], objects[2], "-L.", "-ltext")
+            self.assertEqual(done.returncode, 0, done.stderr)
+            self.assertIn("primes below 100: 25", self.run_tool("./hello"))
+            pieces = read_map((self.folder / "hello.map").read_bytes()).pieces()
+            placed = [(piece.object, piece.section) for piece in pieces]
+            self.assertIn((b"./libtext.a(text.o)", b".text.write_line"), placed)
+            (self.folder / "hello").unlink()
+
+    def test_program_that_runs(self) -> None:
+        """A running program is linked anew; the image of a symbolic link's target is replaced; /dev/null stays."""
+        self.write("t.ld", PLAIN)
+        self.compile("wait.c", WAITING)
+        self.links("-T", "t.ld", "-o", "wait", "wait.o")
+        os.symlink("wait", self.folder / "link")
+        with subprocess.Popen([str(self.folder / "wait")], stdin=subprocess.PIPE) as running:
+            self.links("-T", "t.ld", "-o", "wait", "wait.o")
+            self.links("-T", "t.ld", "-o", "link", "wait.o")
+            self.assertIsNone(running.poll())
+            running.communicate(b"x", timeout=LIMIT)
+        self.assertEqual(running.returncode, 0)
+        self.assertTrue((self.folder / "link").is_symlink())
+        self.links("-T", "t.ld", "-o", "/dev/null", "wait.o")
+        self.assertTrue(stat.S_ISCHR(os.stat("/dev/null").st_mode))
+        names = {path.name for path in self.folder.iterdir()}
+        self.assertEqual(names, {"t.ld", "wait.c", "wait.o", "wait", "link"})
+
+
+class SettingTest(LinkTest):
+    """What the command line sets in a link."""
+
+    def test_memory_usage(self) -> None:
+        """The table is GNU ld's, to the byte."""
+        self.write("t.ld", FIRMWARE)
+        self.compile("f.c", FIRMWARE_SOURCE)
+        own = self.links("-T", "t.ld", "-o", "own", "f.o", "--print-memory-usage").stdout
+        self.assertIn("flash:", own)
+        if shutil.which("ld.bfd"):
+            gnu = self.run_tool("ld.bfd", "-T", "t.ld", "-o", "gnu", "f.o", "--print-memory-usage")
+            self.assertEqual(own, gnu)
+
+    def test_flat_image(self) -> None:
+        """`--oformat=binary` is what objcopy makes of the image."""
+        self.write("t.ld", FIRMWARE)
+        self.compile("f.c", FIRMWARE_SOURCE)
+        self.links("-T", "t.ld", "-o", "own", "f.o")
+        self.links("-T", "t.ld", "-o", "own.bin", "f.o", "--oformat=binary")
+        self.run_tool("objcopy", "-O", "binary", "own", "other.bin")
+        self.assertEqual((self.folder / "own.bin").read_bytes(), (self.folder / "other.bin").read_bytes())
+
+    def header(self, name: str) -> int:
+        """e_entry of an image."""
+        return int(struct.unpack_from("<Q", (self.folder / name).read_bytes(), 24)[0])
+
+    def test_entry_addresses_and_symbols(self) -> None:
+        """-e with a name and a number, -Ttext, --section-start, --defsym, --require-defined."""
+        self.write("t.ld", FIRMWARE)
+        self.compile("f.c", FIRMWARE_SOURCE)
+        words = ["-T", "t.ld", "-o", "own", "f.o", "-Map=own.map"]
+        self.links(*words, "-e", "unused", "-Ttext=8100")
+        unused = next(symbol for symbol in self.map().symbols if symbol.name == b"unused")
+        self.assertEqual(self.header("own"), unused.value)
+        self.assertEqual(self.map().sections[0].start, 0x8100)
+        self.links(*words, "--entry=0x8004", "--section-start=.rodata=0x9000")
+        self.assertEqual(self.header("own"), 0x8004)
+        self.assertEqual(self.map().sections[1].start, 0x9000)
+        self.links(*words, "--defsym=limit=0x1234", "--require-defined=reset")
+        self.assertIn((0x1234, b"limit"), [(symbol.value, symbol.name) for symbol in self.map().symbols])
+        done = self.ld(*words, "--require-defined=nothing")
+        self.assertEqual(done.returncode, 2)
+        self.assertIn("required symbol `nothing' not defined", done.stderr)
+
+    def map(self) -> LinkMap:
+        """The map of the last link."""
+        return read_map((self.folder / "own.map").read_bytes())
+
+    def test_without_script(self) -> None:
+        """GNU ld's default script, or where GNU ld is not there one of this package; also with -N and -Ttext."""
+        objects = self.compile_example()
+        self.write("symbols.ld", "")
+        for path in (os.environ["PATH"], ""):
+            tools = self.folder / "none"
+            tools.mkdir(exist_ok=True)
+            env = {"PATH": path or str(tools)}
+            done = self.run_program("/usr/bin/python3", LD_LDI, "-o", "hello", "--defsym=image_start=0x400000",
+                                    "--defsym=image_end=0x400000", *objects, env=env)
+            self.assertEqual(done.returncode, 0, done.stderr)
+            self.assertIn("primes below 100: 25", self.run_tool("./hello"))
+        self.compile("boot.s", ".globl boot\nboot: jmp boot\n.data\n.byte 7\n")
+        self.links("-N", "-Ttext", "0x7c00", "-e", "boot", "--oformat=binary", "-o", "boot.bin", "boot.o")
+        self.assertLess((self.folder / "boot.bin").stat().st_size, 64)
+
+    def test_version(self) -> None:
+        """The first line begins with `GNU ld (ldi ` and ends in a version, which the kernel's script takes for one."""
+        for words in (["--version"], ["-v"], ["-V"], ["-m", "elf_x86_64", "-z", "max-page-size=0x200000", "-v"]):
+            first = self.links(*words).stdout.splitlines()[0]
+            self.assertRegex(first, r"^GNU ld \(ldi [^)]+\) [0-9]+\.[0-9]+$")
+            major, minor = first.split()[-1].split(".")
+            self.assertGreaterEqual(10000 * int(major) + 100 * int(minor), 22500)
+        self.assertNotEqual(self.ld("--no-such-option", "-v").returncode, 0)
+        self.assertIn("elf_x86_64", self.links("--help").stdout)
+        self.assertIn("SECTIONS", self.links("--verbose").stdout)
+
+
+class RefusedTest(LinkTest):
+    """What is no link of this linker, and faults."""
+
+    def test_fallback(self) -> None:
+        """`-r` and objects outside the profile: refused by one line, or made by the linker of LDI_FALLBACK."""
+        self.write("t.ld", PLAIN)
+        self.compile("a.c", "extern int other; int _start(void) { return other; }\n", "-fPIC")
+        self.compile("b.c", "int other;\n")
+        for words, reason in (
+            (["-r", "-o", "out", "a.o", "b.o"], "-r: relocatable output"),
+            (["-m", "elf_i386", "-o", "out", "a.o"], "-m elf_i386: another machine"),
+            (["-T", "t.ld", "-o", "out", "a.o", "b.o"], "a.o"),
+        ):
+            done = self.ld(*words)
+            self.assertEqual(done.returncode, 2, done.stderr)
+            self.assertIn("LDI_FALLBACK names no linker", done.stderr.splitlines()[-1])
+            self.assertIn(reason, done.stderr)
+            self.assertFalse((self.folder / "out").exists())
+        other = self.write("other", "#!/bin/sh\necho \"$LDI_FALLBACK|$@\" > called\nexit 7\n")
+        other.chmod(0o755)
+        done = self.ld("-r", "-o", "out", "a.o", "@words", env={"LDI_FALLBACK": str(other)})
+        self.assertEqual(done.returncode, 7)
+        self.assertIn(f"-r: relocatable output: linked by {other}", done.stderr)
+        self.assertEqual((self.folder / "called").read_text(encoding="utf-8"), "|-r -o out a.o @words\n")
+        done = self.ld("-r", "a.o", env={"LDI_FALLBACK": "no-such-linker"})
+        self.assertEqual(done.returncode, 3)
+
+    def test_missing(self) -> None:
+        """Files that are not there, no inputs, a script that is none: a line each, and no traceback."""
+        self.write("t.ld", PLAIN)
+        self.compile("a.s", ".globl _start\n_start: nop\n")
+        self.write("bad.ld", "SECTIONS { .text : { *(.text)\n")
+        for words, status, text in (
+            (["-T", "t.ld", "none.o"], 3, "cannot find none.o: No such file or directory"),
+            (["-T", "none.ld", "a.o"], 3, "cannot open linker script file none.ld"),
+            (["-T", "t.ld", "a.o", "-lnone"], 3, "cannot find -lnone"),
+            (["-T", "t.ld"], 2, "no input files"),
+            (["-T", "t.ld", "-T", "t.ld", "a.o"], 2, "a second script"),
+            (["-T", "bad.ld", "a.o"], 2, "bad.ld"),
+            (["-T", "t.ld", "t.ld", "a.o"], 2, "a script is -T's"),
+            (["-T", "t.ld", "a.o", "-o", "none/out"], 3, "No such file"),
+        ):
+            with self.subTest(words=words):
+                done = self.ld(*words)
+                self.assertEqual(done.returncode, status, done.stderr)
+                self.assertIn(text, done.stderr)
+                self.assertNotIn("Traceback", done.stderr)
+
+    def test_faults(self) -> None:
+        """Faults are said, the status is 1, and the old image stays."""
+        objects = self.compile_example()
+        self.write("hello", "old")
+        done = self.ld("-T", "linux.ld", "-o", "hello", "--orphan-handling=warn", objects[0], objects[2])
+        self.assertEqual(done.returncode, 1)
+        self.assertIn("F12 main.o", done.stderr)
+        self.assertIn("--orphan-handling=warn: a section that no statement takes is an error", done.stderr)
+        self.assertEqual((self.folder / "hello").read_bytes(), b"old")
+
+    def test_full_disk(self) -> None:
+        """Where the image cannot be written whole, the old one stays, and nothing else."""
+        objects = self.compile_example()
+        self.write("hello", "old")
+        before = {path.name for path in self.folder.iterdir()}
+
+        def limit() -> None:
+            signal.signal(signal.SIGXFSZ, signal.SIG_IGN)
+            resource.setrlimit(resource.RLIMIT_FSIZE, (5000, 5000))
+
+        done = subprocess.run([str(LD_LDI), "-T", "linux.ld", "-o", "hello", *objects], cwd=self.folder, check=False,
+                              capture_output=True, text=True, timeout=LIMIT, preexec_fn=limit)
+        self.assertEqual(done.returncode, 3, done.stderr)
+        self.assertNotIn("Traceback", done.stderr)
+        self.assertEqual((self.folder / "hello").read_bytes(), b"old")
+        self.assertEqual({path.name for path in self.folder.iterdir()}, before)
+
+    @needs("ld.bfd")
+    def test_report_of_the_script(self) -> None:
+        """What is changed in the script is always said, the rest with --verbose, and what is left is an error."""
+        self.compile("a.s", ".globl _start\n_start: nop\n")
+        self.write("t.ld", f"OUTPUT_ARCH(i386:x86-64)\nPHDRS {{ text PT_LOAD FLAGS(7); }}\n{PLAIN}")
+        quiet = self.links("-T", "t.ld", "-o", "out", "a.o").stderr
+        loud = self.links("-T", "t.ld", "-o", "out", "a.o", "--verbose").stderr
+        self.assertNotIn("dropped", quiet)
+        self.assertIn("t.ld:1: dropped", loud)
+        self.assertEqual([line for line in loud.splitlines() if ": changed: " in line],
+                         [line for line in quiet.splitlines() if ": changed: " in line])
+        self.write("t.ld", "SECTIONS { OVERLAY 0x1000 : { .x { *(.x) } .y { *(.y) } } }\n")
+        done = self.ld("-T", "t.ld", "-o", "out2", "a.o")
+        self.assertEqual(done.returncode, 2, done.stderr)
+        self.assertFalse((self.folder / "out2").exists())

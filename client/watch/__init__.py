@@ -1,0 +1,1 @@
+"""`ldi-watch`: keeps a session open over files that change, and an image up to date (docs/watch.md)."""

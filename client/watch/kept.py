@@ -1,0 +1,194 @@
+"""The session, and what it holds: brought in step with the inputs by edits."""
+from __future__ import annotations
+
+from bisect import bisect_left
+from collections.abc import Callable, Sequence
+from contextlib import AbstractContextManager, nullcontext
+from dataclasses import dataclass, field
+
+from client.protocol import GREATEST_PAYLOAD, Answer, Linked, Options, Refused, Session, find_program
+from client.watch.quick import SCRIPT_WITHOUT_LINK, with_entry
+
+HANDFUL = 3
+"""More edits than these are sent under a script that ends a link after its names, and the script itself last.
+
+`bench/watch --handful` measures from where on that is quicker.
+"""
+
+PATIENCE = 600.0
+"""Seconds after which a session that gives no answer is taken for one that has ended."""
+
+TOO_LONG = Refused(6, 0)
+"""What `ldi link` says of a file of more than 2^26 bytes."""
+
+SCRIPT = ""
+"""The script among the names of inputs: no object has this one."""
+
+
+@dataclass(frozen=True)
+class Project:
+    """What a link is made of: the script, and the objects in their order under their names."""
+
+    script: bytes
+    objects: dict[str, bytes] = field(default_factory=dict)
+
+
+class Kept:
+    """A session that is kept in step with a project. It is started within a `shield`, which puts off signals."""
+
+    def __init__(
+        self,
+        options: Options,
+        program: str | None = None,
+        shield: Callable[[], AbstractContextManager[None]] = nullcontext,
+    ) -> None:
+        self._options = options
+        self._program = program
+        self._shield = shield
+        self.session: Session | None = None
+        self.refused: dict[str, Refused] = {}
+        """Why the inputs that were refused last were, the script under the name SCRIPT."""
+        self.status = 0
+        """The status of the last link."""
+        self.edits = 0
+        """How many edits were accepted."""
+        self._forget()
+
+    def _forget(self) -> None:
+        self._order: list[str] = []
+        self._held: dict[str, bytes] = {}
+        self._script: bytes | None = None
+        self._started_with: Options | None = None
+
+    def bring(self, project: Project) -> None:
+        """Sends what the session does not hold yet. Afterwards `refused` and `status` say what it said to it."""
+        script, options = self._script_to_send(project.script)
+        if self.session is not None and options != self._started_with:
+            self.end()
+        if self.session is None:
+            self._start(options)
+        self.refused = {}
+        in_order = self._order == list(project.objects)
+        others = [name for name, data in project.objects.items() if self._held.get(name) is not data]
+        count = len(others) + (script != self._script) + (0 if in_order else self._count_of_order(project))
+        if count > HANDFUL and options.entry is None and self._answered(
+            SCRIPT, self._running().script(SCRIPT_WITHOUT_LINK)
+        ):
+            self._script = SCRIPT_WITHOUT_LINK
+        if not in_order:
+            self._remove(project)
+            self._arrange(project)
+        self._replace(project, others)
+        if script != self._script and self._answered(SCRIPT, self._set_script(script)):
+            self._script = script
+
+    def _start(self, options: Options) -> None:
+        program = self._program or find_program()
+        try:
+            with self._shield():
+                self.session = Session(options, program, PATIENCE)
+        except OSError as fault:
+            text = f"the linker `{program}` cannot be started: {fault.strerror}; LDI=PATH names another"
+            raise OSError(text) from fault
+        self._started_with = options
+
+    def end(self) -> int:
+        """Ends the session, whatever it does; gives its status."""
+        session, self.session = self.session, None
+        self._forget()
+        return session.kill() if session else 0
+
+    def _script_to_send(self, script: bytes) -> tuple[bytes, Options]:
+        """The script with the entry symbol of the options in it, and the options that are left to the session."""
+        entry = self._options.entry
+        if entry is None:
+            return script, self._options
+        named = with_entry(script, entry.encode())
+        if named is None:
+            return script, self._options
+        return named, Options(self._options.gc_sections, None, self._options.orphan_handling)
+
+    def _count_of_order(self, project: Project) -> int:
+        """How many objects are to be removed or moved."""
+        kept = [name for name in project.objects if name in self._held]
+        return len(self._order) - len(self._staying(kept))
+
+    def _staying(self, names: Sequence[str]) -> set[str]:
+        """Of names that the session has, a greatest set that stands there in this order already."""
+        place = {name: number for number, name in enumerate(self._order)}
+        return longest_increasing({name: place[name] for name in names})
+
+    def _remove(self, project: Project) -> None:
+        session = self._running()
+        for name in [name for name in self._order if name not in project.objects]:
+            if self._answered(name, session.remove(name.encode())):
+                self._order.remove(name)
+                del self._held[name]
+
+    def _arrange(self, project: Project) -> None:
+        """Moves and adds objects, so that the session's order is the project's."""
+        session = self._running()
+        staying = self._staying([name for name in project.objects if name in self._held])
+        place = 0
+        for name, data in project.objects.items():
+            if name in staying:
+                place = self._order.index(name, place) + 1
+            elif name in self._held:
+                before = self._order.index(name)
+                place -= before < place
+                if self._answered(name, session.move(name.encode(), place)):
+                    self._order.insert(place, self._order.pop(before))
+                    place += 1
+            elif self._answered(name, self._add(name, place, data)):
+                self._order.insert(place, name)
+                self._held[name] = data
+                place += 1
+
+    def _replace(self, project: Project, others: Sequence[str]) -> None:
+        session = self._running()
+        for name in others:
+            data = project.objects[name]
+            if name in self._held and self._held[name] != data:
+                answer = TOO_LONG if len(data) > GREATEST_PAYLOAD else session.replace(name.encode(), data)
+                if self._answered(name, answer):
+                    self._held[name] = data
+
+    def _add(self, name: str, place: int, data: bytes) -> Answer:
+        if len(data) > GREATEST_PAYLOAD:
+            return TOO_LONG
+        return self._running().add(name.encode(), place, data)
+
+    def _set_script(self, script: bytes) -> Answer:
+        return TOO_LONG if len(script) > GREATEST_PAYLOAD else self._running().script(script)
+
+    def _answered(self, name: str, answer: Answer) -> bool:
+        """Keeps what the session said to an edit; says whether it accepted it."""
+        if isinstance(answer, Linked):
+            self.status = answer.status
+            self.edits += 1
+            self.refused.pop(name, None)
+            return True
+        self.refused[name] = answer
+        return False
+
+    def _running(self) -> Session:
+        assert self.session is not None
+        return self.session
+
+
+def longest_increasing(places: dict[str, int]) -> set[str]:
+    """Of names with different numbers, in their order, a longest run with rising numbers."""
+    tails: list[int] = []
+    ends: list[str] = []
+    previous: dict[str, str | None] = {}
+    for name, number in places.items():
+        at = bisect_left(tails, number)
+        previous[name] = ends[at - 1] if at else None
+        tails[at : at + 1] = [number]
+        ends[at : at + 1] = [name]
+    found: set[str] = set()
+    name_or_none = ends[-1] if ends else None
+    while name_or_none is not None:
+        found.add(name_or_none)
+        name_or_none = previous[name_or_none]
+    return found

@@ -1,0 +1,59 @@
+"""`ldi-watch`: reads the words, and watches until a signal, or with --once for one link."""
+from __future__ import annotations
+
+import os
+import sys
+
+from client.watch.listing import NamesRefused, check_names, object_names
+from client.watch.loop import STATUS_DEVICE, STATUS_REFUSED, Watch
+from client.watch.says import Teller
+from client.watch.stops import Stopped, Stops
+from client.watch.words import USAGE, ListFile, Words, WordsRefused, read_words
+
+
+def main(words: list[str]) -> int:
+    """Runs the program with these words; gives the exit status."""
+    if words in (["-h"], ["--help"]):
+        print(USAGE, end="")
+        return 0
+    try:
+        asked = read_words(words)
+        check_files(asked)
+    except WordsRefused as refused:
+        print(f"ldi-watch: {refused}\n\n{USAGE}", end="", file=sys.stderr)
+        return STATUS_REFUSED
+    except NamesRefused as refused:
+        print(f"ldi-watch: {refused}", file=sys.stderr)
+        return STATUS_REFUSED
+    stops = Stops()
+    watch = Watch(asked, stops, Teller(asked.json, asked.image))
+    try:
+        return watch.run()
+    except Stopped as stopped:
+        return 128 + stopped.number if asked.once else 0
+    except OSError as fault:
+        print(f"ldi-watch: {fault}", file=sys.stderr)
+        return STATUS_DEVICE
+    finally:
+        watch.end()
+
+
+def check_files(words: Words) -> None:
+    """Refuses names that a session would refuse, and an output that is an input, before anything is started."""
+    lists = {}
+    for item in words.objects:
+        if isinstance(item, ListFile):
+            try:
+                with open(item.path, "rb") as file:
+                    lists[item.path] = file.read()
+            except OSError:
+                lists[item.path] = b""  # it may come
+    check_names([item for item in words.objects if not isinstance(item, ListFile)])
+    names = object_names(words.objects, lists)
+    outputs = [path for path in (words.image, words.map) if path is not None]
+    inputs = {os.path.realpath(path) for path in (words.script, *lists, *names)}
+    for path in outputs:
+        if os.path.realpath(path) in inputs:
+            raise NamesRefused(f"`{path}` is an input, and so it cannot be written")
+    if len(outputs) == 2 and os.path.realpath(outputs[0]) == os.path.realpath(outputs[1]) != os.devnull:
+        raise NamesRefused(f"`{outputs[0]}` cannot be the image and the map")
