@@ -15,7 +15,7 @@ use Rattle.ldtree.specs.declared.statement.Statement.{Statement}
 use Rattle.place.specs.Kept.{IsKept}
 use Rattle.place.specs.Places.{IsPlacement}
 use Rattle.ldlayout.specs.InPlace.{IsOwned}
-use Rattle.ldkept.specs.First.{IsFirstChanged, IsNext}
+use Rattle.ldkept.specs.First.{AreSameBefore, IsFirstChanged, IsNext}
 use Rattle.ldkept.specs.SameRows.{first_changed}
 use Rattle.ldkept.specs.Stays.{IsLastOf, LastState}
 use Rattle.ldkept.proofs.SameRows.{fewest, same_before}
@@ -25,6 +25,12 @@ module _ (old : GoodLink) (new : Project) (x : LastState) (last : IsLastOf old n
   abbrev first : ℕ
   first = first_changed x new x.good.rows.items rows
 
+  pub are_same : AreSameBefore old.project new first
+  are_same k below =
+      ap (λ (r : List (List model.Piece)). slice_index_or r k []) (sym last.table.rows)
+      ∙ same_before old.project new x last.origins last.replaced x.good.rows.items rows k below
+      ∙ ap (λ (r : List (List model.Piece)). slice_index_or r k []) are
+
   pub is_kept : x.same_script ≡ true → IsKept new.script (model.rows new) x.good.laying.placement first
   is_kept same = record {
     earlier = model.rows old.project;
@@ -32,9 +38,7 @@ module _ (old : GoodLink) (new : Project) (x : LastState) (last : IsLastOf old n
     placed = subst (λ (script : List Statement).
         IsPlacement script (model.rows old.project) (provided old.project) x.good.laying.placement) (last.script same)
         last.table.laying.kept;
-    same = λ k below. ap (λ (r : List (List model.Piece)). slice_index_or r k []) (sym last.table.rows)
-        ∙ same_before old.project new x last.origins last.replaced x.good.rows.items rows k below
-        ∙ ap (λ (r : List (List model.Piece)). slice_index_or r k []) are;
+    same = are_same;
   }
 
   module _ (next : IsNext old.project new x) (placed : map entries_in old.layout.sections ≡ model.rows old.project)

@@ -1,5 +1,5 @@
 -- The first row of a link that differs from those of an earlier one.
-use Rattle.std.specs.Prelude.{◌≡◌, ◌≤◌, ℕ, true, Option, Some, None, Contains, slice_get, slice_index_or, take}
+use Rattle.std.specs.Prelude.{◌≡◌, ◌<◌, ◌≤◌, ℕ, true, [], Option, Some, None, Contains, slice_get, slice_index_or, take}
 use Rattle.ldmodel.specs.Project.{NamedObject, Project}
 use Rattle.ldmodel.specs.Rows.{rows}
 use Rattle.ldmodel.specs.SessionWork.{entries_from}
@@ -16,6 +16,11 @@ pub record IsNext (old new : Project) (x : LastState) : Type 0 where
   pub script : x.same_script ≡ true
   pub known : (i : ℕ) (o y : NamedObject) → slice_get new.objects i ≡ Some o → slice_index_or x.from i None ≡ None
       → Contains old.objects y → y.name ≡ o.name → HasReplaced x.replaced i
+
+-- no row before this one differs
+abbrev pub AreSameBefore : Project → Project → ℕ → Type 0
+AreSameBefore old new first =
+    (k : ℕ) → k < first → slice_index_or (rows old) k [] ≡ slice_index_or (rows new) k []
 
 -- from this row on, there are no more entries than from any row before which no row differs
 abbrev pub IsFirstChanged : Project → Project → ℕ → Type 0

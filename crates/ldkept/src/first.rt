@@ -1,7 +1,7 @@
 //! The first row of a link that differs from those of an earlier one.
 
-ghost use Rattle.std.specs.Prelude.{◌≡◌, IfSome, IsSome, Some};
-ghost use Rattle.ldkept.specs.First.{IsFirstChanged, IsNext};
+ghost use Rattle.std.specs.Prelude.{◌≡◌, IfSome, IsNone, IsSome, Some, false};
+ghost use Rattle.ldkept.specs.First.{AreSameBefore, IsFirstChanged, IsNext};
 ghost use Rattle.ldkept.specs.Stays.{IsLastOf, LastState, last_of};
 ghost use Rattle.ldmodel.specs.Rows as model;
 ghost use Rattle.ldmodel.specs.Stayed.{GoodLink};
@@ -25,8 +25,11 @@ pub fn resumed<'a>(
     requires rows { rows_in project.now rows.now ≡ model.rows project.now }
     ensures kept { (old : GoodLink) → IfSome (last_of last.entry) (IsLastOf old project.now)
         → IfSome result (λ k. IsKept project.now.script (model.rows project.now) k.0.now k.1) }
+    ensures same { (old : GoodLink) (x : LastState) → last_of last.entry ≡ Some x → IsLastOf old project.now x
+        → IfSome result (λ k. AreSameBefore old.project project.now k.1) }
     ensures some { (old : GoodLink) (x : LastState) → last_of last.entry ≡ Some x → IsLastOf old project.now x
         → IsNext old.project project.now x → IsSome result }
+    ensures none { (x : LastState) → last_of last.entry ≡ Some x → x.same_script ≡ false → IsNone result }
     ensures first { (old : GoodLink) (x : LastState) → last_of last.entry ≡ Some x → IsLastOf old project.now x
         → IsNext old.project project.now x
         → IfSome result (λ k. IsFirstChanged old.project project.now k.1) }

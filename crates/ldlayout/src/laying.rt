@@ -7,7 +7,9 @@ ghost use Rattle.ldmodel.specs.Rows as model;
 ghost use Rattle.ldlayout.specs.Laying.{HasLayout, HasPlaces, IsOne, IsWhy};
 ghost use Rattle.ldnaming.specs.Naming.{IsNaming};
 ghost use Rattle.ldproject.specs.ByPlace.{rows_in};
-ghost use Rattle.place.specs.Counted.{CountsPieces, entries};
+ghost use Rattle.ldbase.specs.Raised.{raised};
+ghost use Rattle.ldbase.specs.declared.meter.Count.TheVariants.{Pieces};
+ghost use Rattle.place.specs.Counted.{CountsPieces, entries, first_of, placed_from};
 ghost use Rattle.place.specs.Kept.{IsKept};
 ghost use Rattle.place.specs.Outcomes as outcomes;
 
@@ -98,6 +100,7 @@ fn place_rows(
     ensures counted { CountsPieces meter.old meter.new (entries 0 (map (λ v. v.items) rows.now)) }
     ensures resumed { IfOk result (λ _. IfSome kept.entry (λ k.
         CountsPieces meter.old meter.new (entries k.1 (map (λ v. v.items) rows.now)))) }
+    ensures exact { IfOk result (λ p. meter.new ≡ raised meter.old Pieces (placed_from (first_of kept.entry) p.counts)) }
 {
     let script = project.script();
     let provided = naming.provided(alloc, script)?;
@@ -109,10 +112,10 @@ fn place_rows(
 
 impl Laying {
     /// Lays out the rows of a project whose names are decided. The length of the image isn't looked at: it is known
-    /// only when the symbols have their values. At most the entries of the rows are counted as placed.
+    /// only when the symbols have their values. The entries of the rows are counted as placed.
     ///
     /// With `kept`, an earlier placement of the script and the number of a row before which no row differs from the
-    /// earlier ones, the layout is the same, and at most the entries of the rows from that one on are counted.
+    /// earlier ones, the layout is the same, and the entries of the rows from that one on are counted.
     ///
     /// # Errors
     ///
@@ -134,6 +137,8 @@ impl Laying {
         ensures counted { CountsPieces meter.old meter.new (entries 0 (map (λ v. v.items) rows.now)) }
         ensures resumed { IfOk result (λ _. IfSome kept.entry (λ k.
             CountsPieces meter.old meter.new (entries k.1 (map (λ v. v.items) rows.now)))) }
+        ensures exact { IfOk result (λ l. meter.new
+            ≡ raised meter.old Pieces (placed_from (first_of kept.entry) l.placement.counts)) }
     {
         outputs_are_of_script();
         let _statements = project.script().statements();

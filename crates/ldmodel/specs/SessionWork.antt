@@ -1,8 +1,11 @@
 -- How much an incremental link may do, by count (this project's own), where neither the link before an edit nor the one
--- after it has faults: objects read, names decided, input sections placed, and what `WorkBound` says of the image.
-use Rattle.std.specs.Prelude.{◌≡◌, ℕ, ◌-◌, ◌≤◌, List, [], ◌∷◌, ◌++◌, flat_map, length, take, drop, Option}
-use Rattle.std.specs.Prelude.{Some, None, Ok, option_to_list}
+-- after it has faults: the row of each count is in `IsWork`.
+use Rattle.std.specs.Prelude.{◌≡◌, ℕ, suc, ◌+◌, ◌-◌, ◌≤◌, ◌==◌, Bool, true, false, ◌&&◌, if◌then◌else◌, bytes_eq}
+use Rattle.std.specs.Prelude.{List, [], ◌∷◌, ◌++◌, flat_map, length, drop, Option, Ok, option_to_list}
 use Rattle.std.specs.Option.{option_map_or}
+use Rattle.elfobj.specs.declared.section.SectionKind.{SectionKind}
+use Rattle.elfobj.specs.declared.section.SectionKind.TheVariants.{Progbits, Nobits, Note, InitArray, FiniArray}
+use Rattle.elfobj.specs.declared.section.SectionKind.TheVariants.{PreinitArray, Unwind}
 use Rattle.ldbase.specs.Counts.{Counts}
 use Rattle.ldterms.specs.Expressions.{Expr, Number, Dot, Name, Unary, Binary, Choice, OfRegion, OfSection, AlignDot}
 use Rattle.ldterms.specs.Expressions.{Align}
@@ -16,8 +19,10 @@ use Rattle.ldmodel.specs.Names.{distinct, entry_symbol, names_in_objects}
 use Rattle.ldmodel.specs.Project.{NamedObject, Project}
 use Rattle.ldmodel.specs.Rows.{Piece, rows}
 use Rattle.ldmodel.specs.ScriptNames.{assigned_names, provided_names}
-use Rattle.ldmodel.specs.Stayed.{GoodLink}
-use Rattle.ldmodel.specs.WorkBound.{IsImageWork}
+use Rattle.ldmodel.specs.SectionHeaders.{image_length}
+use Rattle.ldmodel.specs.Sections.{is_same_part}
+use Rattle.ldmodel.specs.Stayed.{GoodLink, retargeted}
+use Rattle.ldmodel.specs.WorkBound.{bytes_stayed, retargeted_bytes, sites_outside}
 
 -- an object is read where one is added or takes another's place
 abbrev pub objects_read : Change → ℕ
@@ -67,18 +72,61 @@ touched_names p change q = distinct (named_by p change q)
 abbrev pub entries_from : ℕ → List (List Piece) → ℕ
 entries_from k rows = length (flat_map (λ (row : List Piece). row) (drop k rows))
 
--- at most the entries of the new rows from any row on before which no row differs, and so from the first one that does;
--- for a script those of all rows
-abbrev pub IsPlacingWork : Project → Change → Project → ℕ → Type 0
-IsPlacingWork p (SetScript text) q pieces = pieces ≤ entries_from 0 (rows q)
-IsPlacingWork p _ q pieces = (k : ℕ) → take k (rows p) ≡ take k (rows q) → pieces ≤ entries_from k (rows q)
+-- a number for each kind of section, so that kinds can be compared
+abbrev pub kind_place : SectionKind → ℕ
+kind_place Progbits = 0
+kind_place Nobits = 1
+kind_place Note = 2
+kind_place InitArray = 3
+kind_place FiniArray = 4
+kind_place PreinitArray = 5
+kind_place Unwind = 6
+
+-- two entries of rows are the same
+abbrev pub same_entry : Piece → Piece → Bool
+same_entry x y =
+    (x.statement == y.statement) && bytes_eq x.object y.object && is_same_part x.part y.part && bytes_eq x.name y.name
+    && (kind_place x.kind == kind_place y.kind) && (x.flags == y.flags) && (x.size == y.size)
+    && (x.alignment == y.alignment)
+
+abbrev pub same_row : List Piece → List Piece → Bool
+same_row [] [] = true
+same_row [] (y ∷ ys) = false
+same_row (x ∷ xs) [] = false
+same_row (x ∷ xs) (y ∷ ys) = same_entry x y && same_row xs ys
+
+-- the number of the first row that differs; where none does, the number past the last row that both have
+abbrev pub first_changed : (old_rows new_rows : List (List Piece)) → ℕ
+first_changed [] new_rows = 0
+first_changed (x ∷ xs) [] = 0
+first_changed (x ∷ xs) (y ∷ ys) = if same_row x y then suc (first_changed xs ys) else 0
+
+-- the entries of the new rows from the first one on that differs; for a script those of all rows
+abbrev pub entries_to_place : Change → (old_rows new_rows : List (List Piece)) → ℕ
+entries_to_place (SetScript text) old_rows new_rows = entries_from 0 new_rows
+entries_to_place _ old_rows new_rows = entries_from (first_changed old_rows new_rows) new_rows
+
+-- the relocations outside of input sections that stayed, and those in them whose symbol has another value
+abbrev pub sites_to_evaluate : GoodLink → GoodLink → ℕ
+sites_to_evaluate old new = length (sites_outside old new) + length (retargeted old new)
+
+-- the bytes of the image outside of input sections that stayed, which are no more than the image has, and the fields in
+-- them of symbols of another value
+abbrev pub bytes_to_write : GoodLink → GoodLink → ℕ
+bytes_to_write old new = (image_length new.project new.layout - bytes_stayed old new) + retargeted_bytes old new
+
+-- a count rose, by no more than this
+pub record Rises (before after most : ℕ) : Type 0 where
+  pub onward : before ≤ after
+  pub within : after ≤ before + most
 
 -- what the counts may rise by between two links without faults
 pub record IsWork (old : GoodLink) (change : Change) (new : GoodLink) (before after : Counts) : Type 0 where
-  pub objects : after.objects - before.objects ≤ objects_read change
-  pub names : after.names - before.names ≤ length (touched_names old.project change new.project)
-  pub pieces : IsPlacingWork old.project change new.project (after.pieces - before.pieces)
-  pub image : IsImageWork old new (after.fields - before.fields) (after.bytes - before.bytes)
+  pub objects : Rises before.objects after.objects (objects_read change)
+  pub names : Rises before.names after.names (length (touched_names old.project change new.project))
+  pub pieces : Rises before.pieces after.pieces (entries_to_place change (rows old.project) (rows new.project))
+  pub relocations : Rises before.fields after.fields (sites_to_evaluate old new)
+  pub bytes : Rises before.bytes after.bytes (bytes_to_write old new)
 
 -- the bound of an incremental linker: where either link has faults, it says nothing
 abbrev pub IsSessionWork : Project → Change → Project → Counts → Counts → Type 0

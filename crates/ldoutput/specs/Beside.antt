@@ -17,6 +17,7 @@ use Rattle.ldmodel.specs.declared.sections.SectionKey.{SectionKey}
 use Rattle.ldnaming.specs.Naming.{NamingState}
 use Rattle.ldproject.specs.ByPlace.{faults_in}
 use Rattle.ldtargets.specs.Earlier.{IsComplete}
+use Rattle.ldtargets.specs.Fields.{evaluations}
 use Rattle.ldtargets.specs.declared.earlier.FileRange.{FileRange}
 use Rattle.ldvalues.specs.LinkView.{known_link}
 use Rattle.ldoutput.specs.Relocated.{IsRelocated}
@@ -29,7 +30,8 @@ new_link p s = record { project = p; layout = s }
 -- the fields of input sections that are not known to have stayed; the faults of all relocations, where the earlier link
 -- is good; and patches of what stayed. Where each section that stayed is known to have stayed, these are the fields of
 -- its sites whose symbol has another value, and what is counted are these sites and those outside of what stayed. Where
--- nothing is known to have stayed, all is evaluated and counted. Nothing else is counted in any case
+-- nothing is known to have stayed, all is evaluated, and each site counted whose symbol has a value. Nothing else is
+-- counted in any case
 pub record IsRelocatedBeside (old : GoodLink) (range : SectionKey → Option FileRange) (p : Project) (s : Layout)
     (a : NamingState) (r : Relocated) (before after : Counts) : Type 0 where
   pub fields : AreRunsUnless (known_link p s a) (λ k. is_some (range k)) r.patches.items r.ends.items
@@ -46,4 +48,6 @@ pub record IsRelocatedBeside (old : GoodLink) (range : SectionKey → Option Fil
       → after
       ≡ raised before Fields (length (sites_outside old (new_link p s)) + length (retargeted old (new_link p s)))
   pub anew : ((key : SectionKey) → range key ≡ None) → IsRelocated p s a r
-  pub all_counted : ((key : SectionKey) → range key ≡ None) → after ≡ raised before Fields (length (sites p s))
+  pub all_counted :
+      ((key : SectionKey) → range key ≡ None)
+      → after ≡ raised before Fields (evaluations (known_link p s a) (sites p s))

@@ -1,7 +1,7 @@
 //! The image of a link.
 
-ghost use Rattle.std.specs.Prelude.{◌≡◌, ◌≤◌, ◌+◌, ◌∷◌, [], All, Bool, IfOk, List, None, OnErr, OnOk, false, is_some};
-ghost use Rattle.std.specs.Prelude.{ℕ};
+ghost use Rattle.std.specs.Prelude.{◌≡◌, ◌≤◌, ◌+◌, ◌-◌, ◌∷◌, [], All, Bool, IfOk, List, None, OnErr, OnOk, false};
+ghost use Rattle.std.specs.Prelude.{ℕ, is_some};
 ghost use Rattle.ldbase.specs.Raised.{raised};
 ghost use Rattle.ldbase.specs.declared.meter.Count.TheVariants as counts;
 ghost use Rattle.std.specs.List.{AllZip};
@@ -98,6 +98,10 @@ fn draw_outputs(
         → AreKept old new stays → patch_bytes patches.now ≤ retargeted_bytes old new
         → meter.new.bytes + bytes_stayed old new
         ≤ meter.old.bytes + (image_length new.project new.layout + retargeted_bytes old new)) }
+    ensures spent { OnOk result ((old new : GoodLink) (stays : SectionKey → Bool) → new.project ≡ project.now
+        → AreOutputs project.now laying.now starts.now values.now new.layout stays outputs.now → IsGood new
+        → AreKept old new stays → HaveStayed old new stays → meter.new ≡ raised meter.old counts.Bytes
+        (patch_bytes patches.now + (image_length new.project new.layout - bytes_stayed old new))) }
     ensures counted { OnOk result ((n : ℕ) × (meter.new ≡ raised meter.old counts.Bytes n)) }
     ensures unchanged { OnErr result (canvas.new.bytes ≡ canvas.old.bytes) }
 {
@@ -123,7 +127,7 @@ fn draw_outputs(
 /// Where nothing stays, the canvas may hold anything before. Where the canvas holds the image of the earlier link, each
 /// input section that is said to have stayed has, and the patches are the fields of the sites in these whose symbol has
 /// another value, the canvas holds the image of the new link after the call. Where, besides, each input section that
-/// stayed is said to have, no more bytes are written than the image has outside of these and the patched fields have.
+/// stayed is said to have, as many bytes are written as the image has outside of these and the patched fields have.
 ///
 /// # Errors
 ///
@@ -162,6 +166,13 @@ pub fn draw_image<'a, E: Earlier>(
         → IsComplete (E.range earlier.now) old (known_link new.project new.layout a)
         → patch_bytes patches.now ≤ retargeted_bytes old new → meter.new.bytes + bytes_stayed old new
         ≤ meter.old.bytes + (image_length new.project new.layout + retargeted_bytes old new)) }
+    ensures spent { OnOk result ((old new : GoodLink) (a : NamingState) → new.project ≡ project.now
+        → IsDrawableAt project.now new.layout a laying.now starts.now values.now relocated.now
+        (λ k. is_some (E.range earlier.now k)) → IsGood new
+        → IsComplete (E.range earlier.now) old (known_link new.project new.layout a)
+        → IsSound (E.range earlier.now) old (known_link new.project new.layout a)
+        → meter.new ≡ raised meter.old counts.Bytes
+        (patch_bytes patches.now + (image_length new.project new.layout - bytes_stayed old new))) }
     ensures counted { OnOk result ((n : ℕ) × (meter.new ≡ raised meter.old counts.Bytes n)) }
     ensures unchanged { OnErr result (canvas.new.bytes ≡ canvas.old.bytes) }
 {

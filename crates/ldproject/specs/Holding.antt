@@ -83,6 +83,15 @@ ReadsFor (Add name at bytes) before after = ReadsAtMostOne before after
 ReadsFor (Replace name bytes) before after = ReadsAtMostOne before after
 ReadsFor _ before after = after ≡ before
 
+abbrev pub ReadsAnObject : Counts → Counts → Type 0
+ReadsAnObject before after = after ≡ raised before Objects 1
+
+-- one object is read where an edit brings one
+abbrev pub ReadsOne : Change → Counts → Counts → Type 0
+ReadsOne (Add name at bytes) before after = ReadsAnObject before after
+ReadsOne (Replace name bytes) before after = ReadsAnObject before after
+ReadsOne _ before after = after ≡ before
+
 -- the edit touches the object of its name, which stands where the name does before the edit; a new one stands nowhere
 -- before, and then at its place. A script touches none
 abbrev pub StandsAsNamed : Change → Contents → Staged → Type 0

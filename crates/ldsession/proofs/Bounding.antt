@@ -1,11 +1,10 @@
 -- How much an edit between two links without faults counts.
-use Rattle.std.proofs.Common.{◌≡◌, ◌∙◌, ◌-◌, ◌≤◌, ℕ, Bool, true, false, List, [], ◌∷◌, Option, Some, None}
+use Rattle.std.proofs.Common.{◌≡◌, ◌∙◌, ◌+◌, ◌-◌, ◌<◌, ◌≤◌, ◌^◌, ℕ, Bool, true, false, List, [], ◌∷◌, Option, Some, None}
 use Rattle.std.proofs.Common.{Global, Vec, ap, arith, inl, inr, refl, subst, sym}
 use Rattle.std.specs.Prelude.{◌&&◌, Err, IfSome, Ok, if◌then◌else◌, is_some, nat_lt, take}
-use Rattle.ldbase.specs.Counts.{Counts}
-use Rattle.ldkept.specs.First.{IsNext}
+use Rattle.ldbase.specs.Counts.{Counts, capped}
+use Rattle.ldkept.specs.First.{AreSameBefore, IsFirstChanged, IsNext}
 use Rattle.ldkept.specs.Stays.{IsLastOf, LastState}
-use Rattle.ldlaws.specs.Untouched.{IsGood}
 use Rattle.ldmodel.specs.Edits.{Add, Change, Move, Remove, Replace, SetScript}
 use Rattle.ldmodel.specs.Fault.{Fault, ImageTooLong}
 use Rattle.ldmodel.specs.Layout.{Layout}
@@ -13,20 +12,22 @@ use Rattle.ldmodel.specs.Link.{Link, layout, link, max_image_length, of_length}
 use Rattle.ldmodel.specs.Project.{Project}
 use Rattle.ldmodel.specs.Rows.{rows}
 use Rattle.ldmodel.specs.SectionHeaders.{image_length}
-use Rattle.ldmodel.specs.SessionWork.{IsPlacingWork, IsWork, entries_from}
+use Rattle.ldmodel.specs.SessionWork.{IsWork, Rises, bytes_to_write, entries_from, entries_to_place, first_changed}
+use Rattle.ldmodel.specs.SessionWork.{objects_read, sites_to_evaluate}
 use Rattle.ldmodel.specs.Stayed.{GoodLink}
-use Rattle.ldmodel.specs.WorkBound.{IsImageWork, bytes_stayed}
+use Rattle.ldmodel.specs.WorkBound.{bytes_stayed}
 use Rattle.lddecisions.specs.Counted.{CountsNames}
-use Rattle.ldproject.specs.Holding.{Holding, Listing, ReadsAtMostOne, ReadsFor, StandsAsNamed, TouchesOne, held}
+use Rattle.ldproject.specs.Holding.{Holding, Listing, StandsAsNamed, TouchesOne, held}
 use Rattle.ldproject.specs.Holding.{listing_of, next_listing, project_of}
 use Rattle.ldproject.specs.Listing.{keys_of}
 use Rattle.ldproject.specs.Next.{touched_key}
 use Rattle.ldproject.specs.declared.staged.Staged.{Staged}
 use Rattle.ldtree.specs.declared.statement.Statement.{Statement}
+use Rattle.relink.specs.Counted.{IsImageCount}
 use Rattle.relink.specs.Worked.{IsLinkWork}
 use Rattle.ldsession.specs.Answer.{is_good, shown}
 use Rattle.ldsession.specs.Last.{HasFollowed, IsCurrent, IsFrom, IsLast, lent, lent_with, origin_of}
-use Rattle.ldsession.specs.Work.{HasWorked, IsReadingWork, IsWholeWork}
+use Rattle.ldsession.specs.Work.{HasWorked, IsCounted, IsReadingWork, IsWholeWork}
 use Rattle.ldsession.specs.declared.answer.Answer.{Answer}
 use Rattle.ldsession.specs.declared.answer.Answer.TheVariants as answer
 use Rattle.ldsession.specs.declared.last.Effect.{Effect}
@@ -35,7 +36,8 @@ use Rattle.ldsession.specs.declared.last.Followed.TheVariants.{Faulty, Good}
 use Rattle.ldsession.specs.declared.last.LastGood.{LastGood}
 use Rattle.ldsession.proofs.Lending.{IsEffect, IsFollowing, from_edit, is_last_of, none_of_last}
 use Rattle.ldsession.proofs.Succession.{is_next}
-use Rattle.ldsession.proofs.Working.{few_read}
+use Rattle.ldsession.proofs.FirstChanged.{fewer, same_before}
+use Rattle.ldsession.proofs.Working.{AreSmall, ReadsObjects, read_alone, rises_by}
 
 -- ---- the counts of a link
 
@@ -52,37 +54,26 @@ names_link_nothing m0 m1 names h = record {
   bytes = ap (λ (m : Counts). m.bytes) h.1;
 }
 
-same_counts : (m0 m1 : Counts) → m1 ≡ m0 → LinksNothing m0 m1
-same_counts m0 m1 e = record {
-  pieces = ap (λ (m : Counts). m.pieces) e;
-  fields = ap (λ (m : Counts). m.fields) e;
-  bytes = ap (λ (m : Counts). m.bytes) e;
-}
-
-one_links_nothing : (m0 m1 : Counts) → ReadsAtMostOne m0 m1 → LinksNothing m0 m1
-one_links_nothing m0 m1 (inl e) = same_counts m0 m1 e
-one_links_nothing m0 m1 (inr e) = record {
-  pieces = ap (λ (m : Counts). m.pieces) e;
-  fields = ap (λ (m : Counts). m.fields) e;
-  bytes = ap (λ (m : Counts). m.bytes) e;
-}
-
-pub read_links_nothing : (change : Change) (m0 m1 : Counts) → ReadsFor change m0 m1 → LinksNothing m0 m1
-read_links_nothing (Add name at bytes) m0 m1 h = one_links_nothing m0 m1 h
-read_links_nothing (Replace name bytes) m0 m1 h = one_links_nothing m0 m1 h
-read_links_nothing (Move name to) m0 m1 h = same_counts m0 m1 h
-read_links_nothing (Remove name) m0 m1 h = same_counts m0 m1 h
-read_links_nothing (SetScript text) m0 m1 h = same_counts m0 m1 h
+pub objects_link_nothing : (n : ℕ) (m0 m1 : Counts) → ReadsObjects n m0 m1 → LinksNothing m0 m1
+objects_link_nothing n m0 m1 r = record { pieces = r.pieces; fields = r.fields; bytes = r.bytes }
 
 -- what is counted before it is no part of it
 pub link_work_from : (old new : GoodLink) (x : LastState) (m0 m1 m2 : Counts) → LinksNothing m0 m1
     → IsLinkWork old new x m1 m2 → IsLinkWork old new x m0 m2
 link_work_from old new x m0 m1 m2 none w = record {
-  pieces = subst (λ (n : ℕ). m2.pieces - n ≤ entries_from 0 (rows new.project)) none.pieces w.pieces;
-  resumed = λ next n same.
-      subst (λ (k : ℕ). m2.pieces - k ≤ entries_from n (rows new.project)) none.pieces (w.resumed next n same);
-  image = subst (λ (n : ℕ). IsImageWork old new (m2.fields - n) (m2.bytes - m0.bytes)) none.fields
-      (subst (λ (n : ℕ). IsImageWork old new (m2.fields - m1.fields) (m2.bytes - n)) none.bytes w.image);
+  first = w.first;
+  pieces = w.pieces ∙ ap (λ (n : ℕ). capped n (entries_from w.first (rows new.project))) none.pieces;
+  same = w.same;
+  changed = w.changed;
+  anew = w.anew;
+  image = record {
+      relocations = w.image.relocations ∙ ap (λ (n : ℕ). capped n (sites_to_evaluate old new)) none.fields;
+      patched = w.image.patched;
+      few = w.image.few;
+      bytes = w.image.bytes
+          ∙ ap (λ (n : ℕ). capped n
+          (w.image.patched + (image_length new.project new.layout - bytes_stayed old new))) none.bytes;
+    };
 }
 
 pub worked_from : (p : Project) (last : Option LastState) (m0 m1 m2 : Counts) (f : Followed) → LinksNothing m0 m1
@@ -113,16 +104,9 @@ current_is l bytes x p s c is laid =
 
 -- ---- an edit that leads to the same project
 
-abbrev pub FitsImage : Type 0
-FitsImage = (old new : GoodLink) → IsGood new → bytes_stayed old new ≤ image_length new.project new.layout
-
-unplaced : (p : Project) (change : Change) (q : Project) (m0 m1 : Counts) → m1.pieces ≡ m0.pieces
-    → IsPlacingWork p change q (m1.pieces - m0.pieces)
-unplaced p (Add name at bytes) q m0 m1 e = λ k same. omega (arith, e)
-unplaced p (Replace name bytes) q m0 m1 e = λ k same. omega (arith, e)
-unplaced p (Move name to) q m0 m1 e = λ k same. omega (arith, e)
-unplaced p (Remove name) q m0 m1 e = λ k same. omega (arith, e)
-unplaced p (SetScript text) q m0 m1 e = omega (arith, e)
+-- a count that stayed
+stays_put : (n m most : ℕ) → m ≡ n → Rises n m most
+stays_put n m most e = record { onward = omega (arith, e); within = omega (arith, e) }
 
 not_zero : (bytes : List ℕ) (t : Answer) (k : Link) → is_good t ≡ false → shown bytes t ≡ k → k.status ≡ 0 → ⊥
 not_zero bytes (answer.Good m) k bad is zero = absurd (cc)
@@ -130,39 +114,21 @@ not_zero bytes (answer.Faulty t) k bad is zero =
     let one : 1 ≡ 0 = ap (λ (l : Link). l.status) is ∙ zero in
     absurd (omega (arith, one))
 
-pub unchanged_work : FitsImage → (l : Listing) (bytes : List ℕ) (a : Answer) (last : Option LastGood) (p q : Project)
-    (change : Change) (m0 m1 : Counts) → project_of l ≡ p → q ≡ p → ReadsFor change m0 m1 → shown bytes a ≡ link p
-    → IsLast l bytes a last → IsWholeWork p change q m0 m1
-unchanged_work fits l bytes a last p q change m0 m1 is same read answers kept = (reading, between a last answers kept)
+pub unchanged_work : (l : Listing) (bytes : List ℕ) (a : Answer) (last : Option LastGood) (p q : Project)
+    (change : Change) (m0 m1 : Counts) → project_of l ≡ p → q ≡ p → AreSmall m0
+    → ReadsObjects (objects_read change) m0 m1 → shown bytes a ≡ link p → IsLast l bytes a last
+    → IsWholeWork p change q m0 m1
+unchanged_work l bytes a last p q change m0 m1 is same small read answers kept =
+    (reading, (λ s t zero zero_too laid laid_too. record {
+      objects = reading.objects;
+      names = reading.names;
+      pieces = stays_put m0.pieces m1.pieces _ read.pieces;
+      relocations = stays_put m0.fields m1.fields _ read.fields;
+      bytes = stays_put m0.bytes m1.bytes _ read.bytes;
+    }), (λ s t zero zero_too laid laid_too. inl same))
   where
-    none : LinksNothing m0 m1
-    none = read_links_nothing change m0 m1 read
-
     reading : IsReadingWork p change q m0 m1
-    reading =
-        let r = few_read change m0 m1 read in
-        record { objects = omega (arith, r.0); names = omega (arith, r.1) }
-
-    between : (b : Answer) (last : Option LastGood) → shown bytes b ≡ link p → IsLast l bytes b last
-        → (s t : Layout) → (link p).status ≡ 0 → (link q).status ≡ 0 → layout p ≡ Ok s → layout q ≡ Ok t
-        → IsWork (record { project = p; layout = s }) change (record { project = q; layout = t }) m0 m1
-    between (answer.Faulty text) last answers kept = λ s t zero zero_too laid laid_too.
-        absurd (not_zero bytes (answer.Faulty text) (link p) refl answers zero)
-    between (answer.Good m) None answers kept = λ s t zero zero_too laid laid_too. absurd kept
-    between (answer.Good m) (Some x) answers kept = λ s t zero zero_too laid laid_too.
-        let old : GoodLink = record { project = p; layout = s } in
-        let new : GoodLink = record { project = q; layout = t } in
-        let good : IsGood new =
-        subst IsGood (current_is l bytes x q t kept (is ∙ sym same) laid_too) kept.kept.table.good in
-        record {
-          objects = reading.objects;
-          names = reading.names;
-          pieces = unplaced p change q m0 m1 none.pieces;
-          image = record {
-            evaluated = omega (arith, none.fields);
-            written = omega (arith, none.bytes, fits old new good);
-          };
-        }
+    reading = read_alone p change q m0 m1 small read
 
 -- ---- an edit that is linked over the last link
 
@@ -192,19 +158,34 @@ leaves_script h (Remove name) s one stands =
     no_script s.script (touched_key s.objects.step) one stands.touching.touches
 leaves_script h (SetScript text) s one stands = tt
 
--- of the input sections at most what the bound says
+-- the input sections that are placed are no more than the bound says
+few_placed : (old new : GoodLink) (p : Project) (first : ℕ) → old.project ≡ p
+    → IsFirstChanged old.project new.project first
+    → entries_from first (rows new.project)
+    ≤ entries_from (first_changed (rows p) (rows new.project)) (rows new.project)
+few_placed old new p first is least =
+    least (first_changed (rows p) (rows new.project))
+    (ap (λ (r : Project). take (first_changed (rows p) (rows new.project)) (rows r)) is
+    ∙ same_before (rows p) (rows new.project))
+
 placed : (old new : GoodLink) (x : LastState) (p : Project) (change : Change) (s : Staged) (m0 m2 : Counts)
-    → old.project ≡ p → (s.script ≡ None → IsNext old.project new.project x) → LeavesScript change s
-    → IsLinkWork old new x m0 m2 → IsPlacingWork p change new.project (m2.pieces - m0.pieces)
-placed old new x p (Add name at bytes) s m0 m2 is next leaves w = λ k same.
-    w.resumed (next leaves) k (ap (λ (q : Project). take k (rows q)) is ∙ same)
-placed old new x p (Replace name bytes) s m0 m2 is next leaves w = λ k same.
-    w.resumed (next leaves) k (ap (λ (q : Project). take k (rows q)) is ∙ same)
-placed old new x p (Move name to) s m0 m2 is next leaves w = λ k same.
-    w.resumed (next leaves) k (ap (λ (q : Project). take k (rows q)) is ∙ same)
-placed old new x p (Remove name) s m0 m2 is next leaves w = λ k same.
-    w.resumed (next leaves) k (ap (λ (q : Project). take k (rows q)) is ∙ same)
-placed old new x p (SetScript text) s m0 m2 is next leaves w = w.pieces
+    → old.project ≡ p → m0.pieces < 2 ^ 64 → (s.script ≡ None → IsNext old.project new.project x)
+    → LeavesScript change s → IsLinkWork old new x m0 m2
+    → Rises m0.pieces m2.pieces (entries_to_place change (rows p) (rows new.project))
+placed old new x p (Add name at bytes) s m0 m2 is small next leaves w =
+    rises_by m0.pieces m2.pieces _ _ small w.pieces
+    (few_placed old new p w.first is (w.changed (next leaves)))
+placed old new x p (Replace name bytes) s m0 m2 is small next leaves w =
+    rises_by m0.pieces m2.pieces _ _ small w.pieces
+    (few_placed old new p w.first is (w.changed (next leaves)))
+placed old new x p (Move name to) s m0 m2 is small next leaves w =
+    rises_by m0.pieces m2.pieces _ _ small w.pieces
+    (few_placed old new p w.first is (w.changed (next leaves)))
+placed old new x p (Remove name) s m0 m2 is small next leaves w =
+    rises_by m0.pieces m2.pieces _ _ small w.pieces
+    (few_placed old new p w.first is (w.changed (next leaves)))
+placed old new x p (SetScript text) s m0 m2 is small next leaves w =
+    rises_by m0.pieces m2.pieces _ _ small w.pieces (fewer (rows new.project) w.first)
 
 both_are : (a b : Bool) → a ≡ true → b ≡ true → (a && b) ≡ true
 both_are true b h k = k
@@ -216,11 +197,18 @@ pub whole_work : (h : Holding) (s : Staged) (same : Bool) (bytes new : List ℕ)
     → IsFrom last e.known e.gone (keys_of (next_listing h s).entries) from
     → HasFollowed (next_listing h s) bytes new f
     → HasWorked (project_of (next_listing h s)) (lent last from e.same_script h.contents.entries s.objects) m1 m2 f
-    → ReadsFor change m0 m1 → LeavesScript change s
+    → AreSmall m0 → ReadsObjects (objects_read change) m0 m1 → m2.objects ≡ m1.objects → LeavesScript change s
     → IsReadingWork (held h) change (project_of (next_listing h s)) m0 m2
     → IsWholeWork (held h) change (project_of (next_listing h s)) m0 m2
-whole_work h s same bytes new a e last from f change m0 m1 m2 given answers origins followed worked read leaves reading
-    = (reading, between a last from f e.known refl given.effect given.kept answers origins followed worked)
+whole_work h s same bytes new a e last from f change m0 m1 m2 given answers origins followed worked small read none
+    leaves reading =
+    (reading,
+    (λ t u zero zero_too laid laid_too.
+    (between a last from f e.known refl given.effect given.kept answers origins followed worked t u zero zero_too laid
+    laid_too).0),
+    (λ t u zero zero_too laid laid_too. inr
+    (between a last from f e.known refl given.effect given.kept answers origins followed worked t u zero zero_too laid
+    laid_too).1))
   where
     p : Project
     p = held h
@@ -249,6 +237,7 @@ whole_work h s same bytes new a e last from f change m0 m1 m2 given answers orig
         → HasWorked q (lent last from e.same_script h.contents.entries s.objects) m1 m2 f → (t u : Layout)
         → (link p).status ≡ 0 → (link q).status ≡ 0 → layout p ≡ Ok t → layout q ≡ Ok u
         → IsWork (record { project = p; layout = t }) change (record { project = q; layout = u }) m0 m2
+        × IsCounted (record { project = p; layout = t }) change (record { project = q; layout = u }) m0 m2
     between (answer.Faulty text) last from f known are effect kept answers origins followed worked = λ t u zero zero_too
         laid laid_too. absurd (not_zero bytes (answer.Faulty text) (link p) refl answers zero)
     between (answer.Good m) None from f known are effect kept answers origins followed worked = λ t u zero zero_too
@@ -275,14 +264,25 @@ whole_work h s same bytes new a e last from f change m0 m1 m2 given answers orig
         (none_of_last h s same bytes (answer.Good m) x e kept given.edit effect are) effect.changed
         (from_edit h s same x e v effect.lost origins) in
         let work : IsLinkWork kept.kept.old now state m0 m2 =
-        link_work_from kept.kept.old now state m0 m1 m2 (read_links_nothing change m0 m1 read)
+        link_work_from kept.kept.old now state m0 m1 m2 (objects_link_nothing (objects_read change) m0 m1 read)
         (worked kept.kept.old state u refl of_last laid_too) in
         let is : kept.kept.old ≡ old = current_is (listing_of h) bytes x p t kept refl laid in
-        record {
+        let image : IsImageCount old now m0 m2 =
+        subst (λ (g : GoodLink). IsImageCount g now m0 m2) is work.image in
+        let written : image.patched + (image_length now.project now.layout - bytes_stayed old now)
+        ≤ bytes_to_write old now = omega (arith, image.few) in
+        (record {
           objects = reading.objects;
           names = reading.names;
-          pieces = placed kept.kept.old now state p change s m0 m2 kept.project
+          pieces = placed kept.kept.old now state p change s m0 m2 kept.project small.pieces
               (next_of m x v kept effect origins) leaves work;
-          image = subst (λ (g : GoodLink). IsImageWork g now (m2.fields - m0.fields) (m2.bytes - m0.bytes)) is
-              work.image;
-        })
+          relocations = rises_by m0.fields m2.fields _ (sites_to_evaluate old now) small.fields image.relocations
+              (omega arith);
+          bytes = rises_by m0.bytes m2.bytes _ (bytes_to_write old now) small.bytes image.bytes written;
+        }, record {
+          objects = none ∙ read.objects;
+          first = work.first;
+          same = subst (λ (g : GoodLink). AreSameBefore g.project q work.first) is work.same;
+          pieces = work.pieces;
+          image = image;
+        }))

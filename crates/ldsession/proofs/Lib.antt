@@ -7,5 +7,6 @@ mod Since
 mod Putting
 mod Succession
 mod Lending
+mod FirstChanged
 mod Working
 mod Bounding

@@ -1,5 +1,5 @@
 -- How much an edit counts.
-use Rattle.std.proofs.Common.{◌≡◌, ◌∙◌, ◌<◌, ◌≤◌, ◌+◌, ◌++◌, ◌⊎◌, ℕ, Bool, true, false, List, [], ◌∷◌}
+use Rattle.std.proofs.Common.{◌≡◌, ◌∙◌, ◌<◌, ◌≤◌, ◌+◌, ◌^◌, ◌++◌, ◌⊎◌, ℕ, Bool, true, false, List, [], ◌∷◌}
 use Rattle.std.proofs.Common.{Option, Some, None, append-nil, ap, arith, cond, get_or, inl, inr, length, map, refl}
 use Rattle.std.proofs.Common.{subst, sym}
 use Rattle.std.specs.List.{count_by, find, insert}
@@ -11,14 +11,16 @@ use Rattle.std.proofs.lemmas.List.Edits.{get_or-insert_at}
 use Rattle.std.proofs.lemmas.List.Quantifiers.{position-Some}
 use Rattle.std.proofs.lemmas.Slice.Eq.{bytes_eq-Decides}
 use Rattle.ldbase.specs.Counts.{Counts, capped}
+use Rattle.ldbase.specs.Raised.{raised}
+use Rattle.ldbase.specs.declared.meter.Count.TheVariants as counts
 use Rattle.ldmodel.specs.Edits.{Add, After, Change, InUse, Move, PastEnd, Refusal, Remove, Replace, SetScript}
 use Rattle.ldmodel.specs.Edits.{early_refusal, has_name, is_in_use, named, place_of}
 use Rattle.ldmodel.specs.Names.{distinct, names_in_objects, symbol_tables}
 use Rattle.ldmodel.specs.Project.{NamedObject, Project}
-use Rattle.ldmodel.specs.SessionWork.{names_by_script, objects_read, touched_names}
+use Rattle.ldmodel.specs.SessionWork.{Rises, names_by_script, objects_read, touched_names}
 use Rattle.lddecisions.specs.Change.{Table}
 use Rattle.lddecisions.specs.Counted.{CountsNames, declared_in, declared_names}
-use Rattle.ldproject.specs.Holding.{Holding, ReadsAtMostOne, ReadsFor, StandsAsNamed, held, next_listing, project_of}
+use Rattle.ldproject.specs.Holding.{Holding, ReadsOne, StandsAsNamed, held, next_listing, project_of}
 use Rattle.ldproject.specs.Listing.{Entry, key_count, objects_of}
 use Rattle.ldproject.specs.Next.{Fits, KeysAreStable, named_under, next_entries, touched_key}
 use Rattle.ldproject.specs.Staging.{TouchesNamed}
@@ -263,38 +265,90 @@ few_of_script few all h change text s e none =
 capped_le : (n a : ℕ) → capped n a ≤ n + a
 capped_le n a = omega arith
 
-pub decides_few : (m0 m1 m2 : Counts) (names : List (List ℕ)) → CountsNames m0 m1 names → ReadsNothing m1 m2
-    → DecidesFew m0 m2 names
-decides_few m0 m1 m2 names h r = record {
-  objects = r.objects ∙ ap (λ (m : Counts). m.objects) h.1;
-  names = omega (arith, r.names, ap (λ (m : Counts). m.names) h.1, capped_le m0.names h.0, h.2);
+-- a count that rose by as much
+pub rises_by : (n m by most : ℕ) → n < 2 ^ 64 → m ≡ capped n by → by ≤ most → Rises n m most
+rises_by n m by most small e few = record { onward = omega (arith, small, e); within = omega (arith, e, few) }
+
+pub decides_few : (m0 m1 m2 : Counts) (names : List (List ℕ)) → m0.names < 2 ^ 64 → CountsNames m0 m1 names
+    → ReadsNothing m1 m2 → DecidesFew m0 m2 names
+decides_few m0 m1 m2 names small h r =
+    let rose = rises_by m0.names m1.names h.0 (length (distinct names)) small (ap (λ (m : Counts). m.names) h.1) h.2 in
+    record {
+      objects = r.objects ∙ ap (λ (m : Counts). m.objects) h.1;
+      names = record { onward = omega (arith, r.names, rose.onward); within = omega (arith, r.names, rose.within) };
+      pieces = (let same = ap (λ (m : Counts). m.pieces) h.1 in omega (arith, same, r.pieces));
+      fields = (let same = ap (λ (m : Counts). m.fields) h.1 in omega (arith, same, r.fields));
+      bytes = (let same = ap (λ (m : Counts). m.bytes) h.1 in omega (arith, same, r.bytes));
+    }
+
+-- the counts before an edit are those of a meter
+pub record AreSmall (m : Counts) : Type 0 where
+  pub objects : m.objects < 2 ^ 64
+  pub names : m.names < 2 ^ 64
+  pub pieces : m.pieces < 2 ^ 64
+  pub fields : m.fields < 2 ^ 64
+  pub bytes : m.bytes < 2 ^ 64
+
+-- objects are read, and nothing else is counted
+pub record ReadsObjects (most : ℕ) (m0 m1 : Counts) : Type 0 where
+  pub objects : m1.objects ≡ capped m0.objects most
+  pub names : m1.names ≡ m0.names
+  pub pieces : m1.pieces ≡ m0.pieces
+  pub fields : m1.fields ≡ m0.fields
+  pub bytes : m1.bytes ≡ m0.bytes
+
+one_read : (m0 m1 : Counts) → m1 ≡ raised m0 counts.Objects 1 → ReadsObjects 1 m0 m1
+one_read m0 m1 e = record {
+  objects = ap (λ (m : Counts). m.objects) e;
+  names = ap (λ (m : Counts). m.names) e;
+  pieces = ap (λ (m : Counts). m.pieces) e;
+  fields = ap (λ (m : Counts). m.fields) e;
+  bytes = ap (λ (m : Counts). m.bytes) e;
 }
 
-one_read : (m0 m1 : Counts) → ReadsAtMostOne m0 m1 → (m1.objects ≤ m0.objects + 1) × (m1.names ≡ m0.names)
-one_read m0 m1 (inl e) = (omega (arith, ap (λ (m : Counts). m.objects) e), ap (λ (m : Counts). m.names) e)
-one_read m0 m1 (inr e) =
-    (omega (arith, ap (λ (m : Counts). m.objects) e, capped_le m0.objects 1), ap (λ (m : Counts). m.names) e)
+none_read : (m0 m1 : Counts) → m0.objects < 2 ^ 64 → m1 ≡ m0 → ReadsObjects 0 m0 m1
+none_read m0 m1 small e = record {
+  objects = (let same = ap (λ (m : Counts). m.objects) e in omega (arith, small, same));
+  names = ap (λ (m : Counts). m.names) e;
+  pieces = ap (λ (m : Counts). m.pieces) e;
+  fields = ap (λ (m : Counts). m.fields) e;
+  bytes = ap (λ (m : Counts). m.bytes) e;
+}
 
-none_read : (m0 m1 : Counts) → m1 ≡ m0 → (m1.objects ≤ m0.objects + 0) × (m1.names ≡ m0.names)
-none_read m0 m1 e = (omega (arith, ap (λ (m : Counts). m.objects) e), ap (λ (m : Counts). m.names) e)
+pub objects_of_edit : (change : Change) (m0 m1 : Counts) → m0.objects < 2 ^ 64 → ReadsOne change m0 m1
+    → ReadsObjects (objects_read change) m0 m1
+objects_of_edit (Add name at bytes) m0 m1 small h = one_read m0 m1 h
+objects_of_edit (Replace name bytes) m0 m1 small h = one_read m0 m1 h
+objects_of_edit (Move name to) m0 m1 small h = none_read m0 m1 small h
+objects_of_edit (Remove name) m0 m1 small h = none_read m0 m1 small h
+objects_of_edit (SetScript text) m0 m1 small h = none_read m0 m1 small h
 
-pub few_read : (change : Change) (m0 m1 : Counts) → ReadsFor change m0 m1
-    → (m1.objects ≤ m0.objects + objects_read change) × (m1.names ≡ m0.names)
-few_read (Add name at bytes) m0 m1 h = one_read m0 m1 h
-few_read (Replace name bytes) m0 m1 h = one_read m0 m1 h
-few_read (Move name to) m0 m1 h = none_read m0 m1 h
-few_read (Remove name) m0 m1 h = none_read m0 m1 h
-few_read (SetScript text) m0 m1 h = none_read m0 m1 h
+-- where nothing follows
+pub read_alone : (p : Project) (change : Change) (q : Project) (m0 m1 : Counts) → AreSmall m0
+    → ReadsObjects (objects_read change) m0 m1 → IsReadingWork p change q m0 m1
+read_alone p change q m0 m1 small r = record {
+  objects = rises_by m0.objects m1.objects (objects_read change) (objects_read change) small.objects r.objects
+      (omega arith);
+  names = record { onward = omega (arith, r.names); within = omega (arith, r.names) };
+  pieces = omega (arith, r.pieces);
+  fields = omega (arith, r.fields);
+  bytes = omega (arith, r.bytes);
+}
 
-pub is_work : (p : Project) (change : Change) (q : Project) (m0 m1 m2 : Counts) (names : List (List ℕ))
-    → ReadsFor change m0 m1 → DecidesFew m1 m2 names → length (distinct names) ≤ length (touched_names p change q)
-    → IsReadingWork p change q m0 m2
-is_work p change q m0 m1 m2 names read decided few =
-    let r = few_read change m0 m1 read in
-    record {
-      objects = omega (arith, r.0, decided.objects);
-      names = omega (arith, r.1, decided.names, few);
-    }
+pub is_work : (p : Project) (change : Change) (q : Project) (m0 m1 m2 : Counts) (names : List (List ℕ)) → AreSmall m0
+    → ReadsObjects (objects_read change) m0 m1 → DecidesFew m1 m2 names
+    → length (distinct names) ≤ length (touched_names p change q) → IsReadingWork p change q m0 m2
+is_work p change q m0 m1 m2 names small r decided few = record {
+  objects = rises_by m0.objects m2.objects (objects_read change) (objects_read change) small.objects
+      (decided.objects ∙ r.objects) (omega arith);
+  names = record {
+      onward = omega (arith, r.names, decided.names.onward);
+      within = omega (arith, r.names, decided.names.within, few);
+    };
+  pieces = omega (arith, r.pieces, decided.pieces);
+  fields = omega (arith, r.fields, decided.fields);
+  bytes = omega (arith, r.bytes, decided.bytes);
+}
 
 -- what is known of a staged edit, whichever it is
 some_key : (o : Option ℕ) → is_some o ≡ true → (key : ℕ) × (o ≡ Some key)

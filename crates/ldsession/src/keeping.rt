@@ -126,6 +126,8 @@ impl Kept {
         ensures worked { IfOk result (HasWorked (project_of (next_listing project.now staged.now))
             (last_of last.entry) meter.old meter.new) }
     {
+        // so that the range of the count is known
+        let _names = meter.names();
         let next = project.next(staged);
         let change = object_change(project, &next, staged, key);
         let coming = self.make_room(alloc, &next, &change)?;
@@ -184,6 +186,8 @@ impl Kept {
         ensures worked { IfOk result (HasWorked (project_of (next_listing project.now staged.now))
             (last_of last.entry) meter.old meter.new) }
     {
+        // so that the range of the count is known
+        let _names = meter.names();
         let next = project.next(staged);
         let inputs = next.inputs(alloc)?;
         let matches = match_all(alloc, &next.view(&inputs))?;

@@ -16,7 +16,6 @@ use crate::linking::link_first;
 use crate::unchanged::{is_unchanged, puts_same};
 use lddecisions::law::{distinct_more, names_of_objects};
 use ldfields::canvas::Canvas;
-use ldlaws::stayed::stayed_in_image;
 use ldmodel::edit::{Edit, EditRefusal, Linked};
 use ldmodel::linker::Linker;
 use ldmodel::memory::NoMemory;
@@ -117,8 +116,9 @@ impl Session {
     {
         names_of_objects();
         distinct_more();
-        stayed_in_image();
         found_where_placed();
+        // so that the ranges of the counts are known
+        let _counts = (meter.objects(), meter.names(), meter.pieces(), meter.fields(), meter.bytes());
         let staged = match self.project.stage(edit, meter) {
             Err(refusal) => return Err(refusal),
             Ok(staged) => staged,

@@ -1,10 +1,12 @@
 -- Sites that were evaluated one after another.
 use Rattle.std.proofs.Common.{◌≡◌, ◌<◌, ◌≤◌, ◌^◌, ℕ, ◌+◌, List, [], ◌∷◌, ◌++◌, length, map, filter, take, get_or, false}
-use Rattle.std.proofs.Common.{ap, sym, ◌∙◌, arith, add-one, append_assoc, append-nil, length-append, subst, take-suc}
+use Rattle.std.proofs.Common.{ap, sym, ◌∙◌, arith, add-one, append_assoc, append-nil, subst, take-suc}
 use Rattle.std.proofs.Math.Seq.{take-length}
-use Rattle.std.specs.List.{All, filter_map}
+use Rattle.std.specs.List.{All, cons_option, filter_map}
+use Rattle.std.specs.Prelude.{Err, Ok, Some, true}
 use Rattle.std.proofs.lemmas.List.{map-append}
 use Rattle.std.proofs.lemmas.List.Elements.{filter-append, filter_map-append}
+use Rattle.std.proofs.lemmas.List.Sums.{sum_by-append}
 use Rattle.elfobj.specs.Sections.{LinkedSection}
 use Rattle.elfobj.specs.declared.relocation.Relocation.{Relocation}
 use Rattle.ldfields.specs.Patches.{AreInOrder, IsWithin, patched_byte}
@@ -12,10 +14,12 @@ use Rattle.ldfields.specs.declared.patch.Patch.{Patch}
 use Rattle.ldmodel.specs.Counts.{Counts, capped}
 use Rattle.ldmodel.specs.Project.{NamedObject}
 use Rattle.ldmodel.specs.Raised.{raised}
-use Rattle.ldmodel.specs.Relocations.{Site, is_evaluated}
+use Rattle.ldmodel.specs.FaultCode.{fault_of}
+use Rattle.ldmodel.specs.Relocations.{Site, is_evaluated, site_field, site_value}
 use Rattle.ldmodel.specs.declared.fault.Fault as code
 use Rattle.ldbase.specs.declared.meter.Count.TheVariants as count
-use Rattle.ldtargets.specs.Fields.{AreFieldsOf, IsAdded, IsCounted, IsTried, fault_at, faults_of, field_at, sites_among}
+use Rattle.ldtargets.specs.Fields.{AreFieldsOf, IsAdded, IsCounted, IsTried, evaluations, fault_at, faults_of}
+use Rattle.ldtargets.specs.Fields.{field_at, sites_among, work_of}
 use Rattle.ldtargets.specs.KnownLink.{KnownLink}
 use Rattle.ldtargets.specs.Sites.{IsPlaced}
 use Rattle.ldtargets.specs.declared.site.PlacedSection.{PlacedSection}
@@ -45,6 +49,36 @@ module _ (l : KnownLink) where
       → IsTried l (sites_among o x start (r ∷ [])) fs fs gs gs m m
   tried_none o x start r fs gs m e h = rw e (tried_nothing fs gs m h)
 
+  module _ (o : NamedObject) (x : LinkedSection) (start : ℕ) (a : Relocation) (own : is_evaluated a.kind ≡ true) where
+    abbrev site : Site
+    site = record { object = o; section = x; start = start; relocation = a }
+
+    -- the field of one relocation was added
+    pub tried_field : (f0 f1 : List Patch) (q : Patch) (gs : List code.Fault) (m0 m1 : Counts)
+        → site_field l.project l.layout site ≡ Ok q.field → q.offset ≡ a.offset → f1 ≡ f0 ++ q ∷ []
+        → m1 ≡ raised m0 count.Fields (evaluations l (site ∷ []))
+        → IsTried l (sites_among o x start (a ∷ [])) f0 f1 gs gs m0 m1
+    tried_field f0 f1 q gs m0 m1 is at e n = rw own (record {
+      fields = e ∙ ap (λ ms. f0 ++ ms) (sym (ap (λ b. cons_option b []) placed));
+      counts = record { faults = rw is (sym (append-nil (faults_of l gs))); counted = n };
+    })
+      where
+        placed : field_at l site ≡ Some q
+        placed = rw is (ap (λ k. Some (record { offset = k; field = q.field })) (sym at))
+
+    -- or its fault
+    pub tried_fault : (fs : List Patch) (f : code.Fault) (gs hs : List code.Fault) (m0 m1 : Counts)
+        → site_field l.project l.layout site ≡ Err (fault_of l.project l.number f) → hs ≡ gs ++ f ∷ []
+        → m1 ≡ raised m0 count.Fields (evaluations l (site ∷ []))
+        → IsTried l (sites_among o x start (a ∷ [])) fs fs gs hs m0 m1
+    tried_fault fs f gs hs m0 m1 is e n = rw own (record {
+      fields = rw is (sym (append-nil fs));
+      counts = record {
+          faults = rw is (ap (faults_of l) e ∙ map-append (fault_of l.project l.number) gs (f ∷ []));
+          counted = n;
+        };
+    })
+
   -- first some sites, then others
   pub counted_more : (a b : List Site) (g0 g1 g2 : List code.Fault) (m0 m1 m2 : Counts) → IsCounted l a g0 g1 m0 m1
       → IsCounted l b g1 g2 m1 m2 → IsCounted l (a ++ b) g0 g2 m0 m2
@@ -54,8 +88,10 @@ module _ (l : KnownLink) where
         ∙ append_assoc (faults_of l g0) (filter_map (fault_at l) a) (filter_map (fault_at l) b)
         ∙ ap (λ fs. faults_of l g0 ++ fs) (sym (filter_map-append (fault_at l) a b));
     counted =
-        q.counted ∙ ap (λ m. raised m count.Fields (length b)) p.counted ∙ raise_both m0 (length a) (length b)
-        ∙ ap (raised m0 count.Fields) (sym (length-append a b));
+        q.counted ∙ ap (λ m. raised m count.Fields (evaluations l b)) p.counted
+        ∙ raise_both m0 (evaluations l a) (evaluations l b)
+        ∙ ap (raised m0 count.Fields)
+        (sym (sum_by-append (λ (t : Site). work_of (site_value l.project l.layout t)) a b));
   }
 
   pub tried_more : (a b : List Site) (f0 f1 f2 : List Patch) (g0 g1 g2 : List code.Fault) (m0 m1 m2 : Counts)

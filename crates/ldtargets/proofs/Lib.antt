@@ -2,6 +2,7 @@ mod Values
 mod Sites
 mod Runs
 mod Added
+mod Evaluations
 mod Places
 mod Kept
 mod Found

@@ -27,7 +27,7 @@ use Rattle.ldmodel.specs.declared.sections.Part.TheVariants.{InTable}
 use Rattle.ldbase.specs.declared.meter.Count.TheVariants as count
 use Rattle.ldtargets.specs.Changes.{IsMoved, file_patch_at, in_file, own_sites}
 use Rattle.ldtargets.specs.Earlier.{HasSameValues, has_moved, is_same_value}
-use Rattle.ldtargets.specs.Fields.{IsCounted, faults_of, field_at, sites_among}
+use Rattle.ldtargets.specs.Fields.{IsCounted, evaluations, faults_of, field_at, sites_among}
 use Rattle.ldtargets.specs.KnownLink.{KnownLink, named_object, start_of}
 use Rattle.ldtargets.specs.declared.earlier.FileRange.{FileRange}
 use Rattle.ldtargets.proofs.Added.{among_more, counted_more, tried_nothing}
@@ -86,7 +86,7 @@ module _ (old : GoodLink) (l : KnownLink) where
       module _ (differs : has_moved old l site ≡ true) where
         pub moved_field : (ps qs : List Patch) (q : Patch) (gs : List code.Fault) (m0 m1 : Counts)
             → site_field l.project l.layout site ≡ Ok q.field → q.offset ≡ a.offset
-            → qs ≡ ps ++ option_to_list (in_file r q) → m1 ≡ raised m0 count.Fields 1
+            → qs ≡ ps ++ option_to_list (in_file r q) → m1 ≡ raised m0 count.Fields (evaluations l (site ∷ []))
             → IsMoved old l r (sites_among o x start (a ∷ [])) ps qs gs gs m0 m1
         moved_field ps qs q gs m0 m1 is at e n = rw own
             (moved_by (site ∷ []) (site ∷ []) ps qs gs gs m0 m1 (rw differs refl) patches
@@ -103,7 +103,7 @@ module _ (old : GoodLink) (l : KnownLink) where
 
         pub moved_fault : (ps : List Patch) (f : code.Fault) (gs hs : List code.Fault) (m0 m1 : Counts)
             → site_field l.project l.layout site ≡ Err (fault_of l.project l.number f) → hs ≡ gs ++ f ∷ []
-            → m1 ≡ raised m0 count.Fields 1
+            → m1 ≡ raised m0 count.Fields (evaluations l (site ∷ []))
             → IsMoved old l r (sites_among o x start (a ∷ [])) ps ps gs hs m0 m1
         moved_fault ps f gs hs m0 m1 is e n = rw own
             (moved_by (site ∷ []) (site ∷ []) ps ps gs hs m0 m1 (rw differs refl) (rw is (sym (append-nil ps)))

@@ -1,5 +1,6 @@
 -- Fields and faults of relocations, as they are added to lists.
-use Rattle.std.specs.Prelude.{◌≡◌, ◌≤◌, ℕ, List, ◌++◌, length, map, filter, Option, Some, [], ◌∷◌, ◌⊎◌, ◌<◌, slice_get}
+use Rattle.std.specs.Prelude.{◌≡◌, ◌≤◌, ℕ, List, ◌++◌, map, filter, Option, Some, [], ◌∷◌, ◌⊎◌, ◌<◌, slice_get}
+use Rattle.std.specs.Prelude.{sum_by}
 use Rattle.std.specs.List.{All, filter_map}
 use Rattle.std.specs.Result.{result_err}
 use Rattle.elfobj.specs.Profile as elf
@@ -13,7 +14,8 @@ use Rattle.ldmodel.specs.Fault.{Fault}
 use Rattle.ldmodel.specs.FaultCode.{fault_of}
 use Rattle.ldmodel.specs.Project.{NamedObject}
 use Rattle.ldmodel.specs.Raised.{raised}
-use Rattle.ldmodel.specs.Relocations.{Site, fields_of, is_evaluated, patch_of, site_field, sites_at}
+use Rattle.ldmodel.specs.Relocations.{Site, fields_of, is_evaluated, patch_of, site_field, site_value, sites_at}
+use Rattle.ldmodel.specs.SymbolValues.{SymbolValue, Number, NotDefined, NotInOutput}
 use Rattle.ldmodel.specs.declared.fault.Fault as code
 use Rattle.ldbase.specs.declared.meter.Count.TheVariants as count
 use Rattle.ldtargets.specs.KnownLink.{KnownLink}
@@ -35,11 +37,21 @@ fault_at l t = result_err (site_field l.project l.layout t)
 abbrev pub faults_of : KnownLink → List code.Fault → List Fault
 faults_of l fs = map (fault_of l.project l.number) fs
 
--- the faults of these sites were added, and each site counted
+-- a field is worked out where the symbol has a value
+abbrev pub work_of : SymbolValue → ℕ
+work_of (Number x) = 1
+work_of NotDefined = 0
+work_of NotInOutput = 0
+
+-- how many of these sites have a symbol with a value
+abbrev pub evaluations : KnownLink → List Site → ℕ
+evaluations l ts = sum_by (λ (t : Site). work_of (site_value l.project l.layout t)) ts
+
+-- the faults of these sites were added, and each site counted whose symbol has a value
 pub record IsCounted (l : KnownLink) (ts : List Site) (old_faults new_faults : List code.Fault) (before after : Counts)
     : Type 0 where
   pub faults : faults_of l new_faults ≡ faults_of l old_faults ++ filter_map (fault_at l) ts
-  pub counted : after ≡ raised before count.Fields (length ts)
+  pub counted : after ≡ raised before count.Fields (evaluations l ts)
 
 -- so were the fields, in this order
 pub record IsTried (l : KnownLink) (ts : List Site) (old new : List Patch) (old_faults new_faults : List code.Fault)

@@ -52,6 +52,7 @@ pub fn due_sites_count()
 {
     sites_by_piece();
     stayed_by_part();
+    fields_in_image();
 }
 
 /// Each patch is the field of a site of an input section that stayed, in its place in the file.

@@ -1,11 +1,14 @@
 //! Relocations of an input section in the output: each one's field, or its fault.
 
-ghost use Rattle.std.specs.Prelude.{◌≡◌, ◌≤◌, All, IfOk, ◌+◌, ◌<◌, ◌^◌, Some, length, option_copied, slice_get, true};
+ghost use Rattle.std.specs.Prelude.{◌≡◌, ◌≤◌, All, IfOk, ◌+◌, ◌<◌, ◌^◌, Some, [], ◌∷◌, length, option_copied, slice_get};
+ghost use Rattle.std.specs.Prelude.{true};
 ghost use Rattle.ldbase.specs.Raised.{raised};
+ghost use Rattle.ldbase.specs.declared.meter.Count.TheVariants.{Fields};
 ghost use Rattle.elfobj.specs.Profile.{AreApart};
 ghost use Rattle.elfobj.specs.Relocations.{field_end};
 ghost use Rattle.elfobj.specs.Sections.{LinkedSection};
 ghost use Rattle.ldmodel.specs.Relocations.{Site, is_evaluated, site_value};
+ghost use Rattle.ldtargets.specs.Fields.{evaluations, work_of};
 ghost use Rattle.ldtargets.specs.KnownLink.{KnownLink};
 ghost use Rattle.ldtargets.specs.Sites.{IsEvaluated, IsFieldOf, IsSectionOf, IsOutcome, IsSite, IsSiteAt};
 ghost use Rattle.ldtargets.specs.Values.{value_of};
@@ -18,7 +21,7 @@ use elfobj::symbol::Symbol;
 use ldfields::field::evaluate::field;
 use ldfields::patch::Patch;
 use ldmodel::fault::{Fault, SiteKey};
-use ldmodel::meter::{Count, Meter};
+use ldmodel::meter::Meter;
 use ldmodel::names::ObjectPlace;
 
 /// An input section in the output, with what its relocations need.
@@ -100,22 +103,18 @@ fn field_with(
     ensures field { IfOk result (IsFieldOf relocation.now) }
     ensures outcome { (l : KnownLink) (t : Site) → IsSiteAt l section.now entry t → t.relocation ≡ relocation.now
         → IsOutcome l t (value_of value) result }
-    ensures counted { meter.new ≡ raised meter.old Count.Fields 1 }
+    ensures counted { meter.new ≡ raised meter.old Fields (work_of (value_of value)) }
 {
+    // so that the range of the count is known
+    let _fields = meter.fields();
     let site = SiteKey {
         object: section.object,
         section: section.section,
         entry,
     };
     match value {
-        SymbolValue::NotDefined => {
-            meter.raise(Count::Fields, 1);
-            Err(Fault::UndefinedSymbol(site))
-        }
-        SymbolValue::NotInOutput => {
-            meter.raise(Count::Fields, 1);
-            Err(Fault::TargetNotInOutput(site))
-        }
+        SymbolValue::NotDefined => Err(Fault::UndefinedSymbol(site)),
+        SymbolValue::NotInOutput => Err(Fault::TargetNotInOutput(site)),
         SymbolValue::Number(value) => {
             let place = section.start + relocation.offset;
             match field(relocation, value, place, meter) {
@@ -132,7 +131,8 @@ fn field_with(
     }
 }
 
-/// The field of a relocation of number `entry`, in its place; or its fault. The call counts one relocation.
+/// The field of a relocation of number `entry`, in its place; or its fault. The call counts one relocation, where the
+/// symbol has a value.
 pub fn evaluate(
     section: &PlacedSection<'_>,
     entry: u32,
@@ -144,7 +144,8 @@ pub fn evaluate(
     ensures field { IfOk result (IsFieldOf relocation.now) }
     ensures evaluated { (l : KnownLink) (t : Site) → IsSiteAt l section.now entry t → t.relocation ≡ relocation.now
         → IsEvaluated l t result }
-    ensures counted { meter.new ≡ raised meter.old Count.Fields 1 }
+    ensures counted { (l : KnownLink) (t : Site) → IsSiteAt l section.now entry t → t.relocation ≡ relocation.now
+        → meter.new ≡ raised meter.old Fields (evaluations l (t ∷ [])) }
 {
     let value = site_value(section, relocation.symbol);
     field_with(section, entry, relocation, value, meter)

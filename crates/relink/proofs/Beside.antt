@@ -1,5 +1,5 @@
 -- A link beside an earlier one, if there is one.
-use Rattle.std.proofs.Common.{◌≡◌, ◌∙◌, ◌⊎◌, ℕ, inl, inr, refl, subst, sym, List}
+use Rattle.std.proofs.Common.{◌≡◌, ◌∙◌, ◌<◌, ◌^◌, ◌⊎◌, ℕ, inl, inr, refl, subst, sym, List}
 use Rattle.std.specs.Prelude.{IfSome, IsSome, Ok, Option, Some, None, is_some}
 use Rattle.std.specs.List.{All}
 use Rattle.ldfields.specs.declared.patch.Patch.{Patch}
@@ -93,14 +93,14 @@ abbrev pub NoneStays : Stays → Type 0
 NoneStays y = y.last ≡ None → (k : SectionKey) → range_of y k ≡ None
 
 pub known_beside : (p : Project) (l : Laying) (y : Stays) (w : LinkView) (v : Values) (t : SymbolTable)
-    (r : Relocated) (before after : Counts) (is : IsShort p l w v) → AreBeside p is.placed.known.layout y
+    (r : Relocated) (before after : Counts) (is : IsShort p l w v) → before.fields < 2 ^ 64 → AreBeside p is.placed.known.layout y
     → AreSymbolValues p is.placed.known.layout t → AreNamesDistinct p.objects
     → ((s : Layout) (a : NamingState) (old : GoodLink) → placement p.script (rows p) (provided p) ≡ Ok s
     → IsLinkView (known_link p s a) w → AreValues p s a v → AreSymbolValues p s t → AreStays y old (known_link p s a)
     → IsRelocatedBeside old (range_of y) p s a r before after)
     → AreComplete y → NoneStays y
     → IsKnownBeside p is.placed.known.layout is.placed.naming y r before after
-known_beside p l y w v t r before after is tables worth names relocated complete none =
+known_beside p l y w v t r before after is small tables worth names relocated complete none =
     let k = is.placed.known in
     let s = k.layout in
     let a = is.placed.naming in
@@ -128,7 +128,7 @@ known_beside p l y w v t r before after is tables worth names relocated complete
               few = (beside old last).few all good new_good;
             };
       };
-      reads = fields_read_nothing _ _ _ b.counts.1;
+      reads = fields_read_nothing _ _ _ small b.counts.1;
     }
   where
     faults : {old : GoodLink} {s : Layout} {a : NamingState}

@@ -1,7 +1,7 @@
--- How much a link over an earlier one counts, where it has no faults.
-use Rattle.std.specs.Prelude.{◌≡◌, ◌≤◌, ◌-◌, ⊤, ℕ, Option, Some, Ok, take}
-use Rattle.ldbase.specs.Counts.{Counts}
-use Rattle.ldkept.specs.First.{IsNext}
+-- What a link over an earlier one counts, where it has no faults: exactly what its calls worked out.
+use Rattle.std.specs.Prelude.{◌≡◌, ⊤, ℕ, false, Option, Some, Ok}
+use Rattle.ldbase.specs.Counts.{Counts, capped}
+use Rattle.ldkept.specs.First.{AreSameBefore, IsFirstChanged, IsNext}
 use Rattle.ldkept.specs.Stays.{IsLastOf, LastState}
 use Rattle.ldmodel.specs.Layout.{Layout}
 use Rattle.ldmodel.specs.Link.{layout}
@@ -9,18 +9,19 @@ use Rattle.ldmodel.specs.Project.{Project}
 use Rattle.ldmodel.specs.Rows.{rows}
 use Rattle.ldmodel.specs.SessionWork.{entries_from}
 use Rattle.ldmodel.specs.Stayed.{GoodLink}
-use Rattle.ldmodel.specs.WorkBound.{IsImageWork}
+use Rattle.relink.specs.Counted.{IsImageCount}
 use Rattle.relink.specs.declared.again.Ended.{Ended}
 use Rattle.relink.specs.declared.again.Ended.TheVariants as ended
 
--- at most the entries of all rows are placed; where the project follows the earlier one at once, at most those from any
--- row on before which no row differs; and of the image at most what the bound says
+-- the entries of the rows from this one on are placed, before which no row differs; where the project follows the
+-- earlier one at once, it is the first that does; and where the script is another, it is the first of all
 pub record IsLinkWork (old new : GoodLink) (x : LastState) (before after : Counts) : Type 0 where
-  pub pieces : after.pieces - before.pieces ≤ entries_from 0 (rows new.project)
-  pub resumed :
-      IsNext old.project new.project x → (n : ℕ) → take n (rows old.project) ≡ take n (rows new.project)
-      → after.pieces - before.pieces ≤ entries_from n (rows new.project)
-  pub image : IsImageWork old new (after.fields - before.fields) (after.bytes - before.bytes)
+  pub first : ℕ
+  pub pieces : after.pieces ≡ capped before.pieces (entries_from first (rows new.project))
+  pub same : AreSameBefore old.project new.project first
+  pub changed : IsNext old.project new.project x → IsFirstChanged old.project new.project first
+  pub anew : x.same_script ≡ false → first ≡ 0
+  pub image : IsImageCount old new before after
 
 -- beside each earlier link that this one may be
 abbrev pub HasWorked : Project → Option LastState → Counts → Counts → Ended → Type 0

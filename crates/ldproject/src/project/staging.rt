@@ -1,11 +1,11 @@
 //! Staging an edit: all growths that it needs, before anything changes.
 
-ghost use Rattle.std.specs.Prelude.{◌≡◌, ℕ, List, IfOk, None, Option};
+ghost use Rattle.std.specs.Prelude.{◌≡◌, ℕ, List, IfOk, None, OnOk, Option};
 ghost use Rattle.ldmodel.specs.EditMeaning.{change_of};
 ghost use Rattle.ldmodel.specs.Edits.{Add, Replace, Move, Remove, SetScript};
 ghost use Rattle.ldmodel.specs.Project.{NamedObject};
 ghost use Rattle.ldproject.specs.Holding.{Holding, Makes, MakesScript, ReadsAtMostOne, ReadsFor, SameHolding};
-ghost use Rattle.ldproject.specs.Holding.{Stages, StandsAsNamed};
+ghost use Rattle.ldproject.specs.Holding.{ReadsAnObject, ReadsOne, Stages, StandsAsNamed};
 ghost use Rattle.ldproject.specs.Next.{touched_key};
 ghost use Rattle.ldproject.specs.Staging.{IsStaged, IsTouching};
 
@@ -48,6 +48,7 @@ impl Project {
         ensures staged { Stages self.new (Add name.now at bytes.items) result }
         ensures named { IfOk result (StandsAsNamed (Add name.now at bytes.items) self.new.contents) }
         ensures counted { ReadsAtMostOne meter.old meter.new }
+        ensures read { OnOk result (ReadsAnObject meter.old meter.new) }
     {
         let place = match self.place_to_add(name, at, &bytes) {
             Ok(place) => place,
@@ -68,6 +69,7 @@ impl Project {
         ensures staged { Stages self.now (Replace name.now bytes.items) result }
         ensures named { IfOk result (StandsAsNamed (Replace name.now bytes.items) self.now.contents) }
         ensures counted { ReadsAtMostOne meter.old meter.new }
+        ensures read { OnOk result (ReadsAnObject meter.old meter.new) }
     {
         let place = match self.place_to_replace(name, &bytes) {
             Ok(place) => place,
@@ -139,6 +141,7 @@ impl Project {
         ensures named { IfOk result (StandsAsNamed (change_of edit.entry) self.new.contents) }
         ensures counted { ReadsAtMostOne meter.old meter.new }
         ensures reads { ReadsFor (change_of edit.entry) meter.old meter.new }
+        ensures read { OnOk result (ReadsOne (change_of edit.entry) meter.old meter.new) }
     {
         match edit {
             Edit::Add { name, at, bytes } => self.stage_add(name, at, bytes, meter),

@@ -6,10 +6,10 @@ use Rattle.ldmodel.specs.Project.{Project}
 use Rattle.ldmodel.specs.Rows as model
 use Rattle.ldmodel.specs.SessionWork.{entries_from}
 use Rattle.place.specs.Kept.{IsKept}
-use Rattle.ldkept.specs.First.{IsNext}
+use Rattle.ldkept.specs.First.{AreSameBefore, IsNext}
 use Rattle.ldkept.specs.SameRows.{first_changed}
 use Rattle.ldkept.specs.Stays.{IsLastOf, LastState, last_of, last_state}
-use Rattle.ldkept.proofs.Resumed.{is_first, is_kept}
+use Rattle.ldkept.proofs.Resumed.{are_same, is_first, is_kept}
 use Rattle.ldkept.proofs.first.resumed.Goals as goal
 
 pub returns-clause-kept : goal.returns-clause-kept
@@ -21,6 +21,16 @@ returns-clause-kept c = λ old h.
     ∙ ap (λ l. first_changed x new l c.args.rows.now) c.deref.ensures.value in
     subst (λ n. IsKept new.script (model.rows new) x.good.laying.placement n) (sym first)
     (is_kept old new x last c.args.rows.now c.requires.rows c.if-not-last.false)
+
+pub returns-clause-same : goal.returns-clause-same
+returns-clause-same c = λ old y e h.
+    let new : Project = c.args.project.now in
+    let x : LastState = last_state c.in_ok-last.last in
+    let is : x ≡ y = same_Some _ _ (sym (ap last_of c.in_ok-last.was) ∙ e) in
+    let last : IsLastOf old new x = subst (IsLastOf old new) (sym is) h in
+    let first = c.first_changed-first.ensures
+    ∙ ap (λ l. first_changed x new l c.args.rows.now) c.deref.ensures.value in
+    subst (AreSameBefore old.project new) (sym first) (are_same old new x last c.args.rows.now c.requires.rows)
 
 pub returns-clause-first : goal.returns-clause-first
 returns-clause-first c = λ old y e h g n same.

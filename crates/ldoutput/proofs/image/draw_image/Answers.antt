@@ -66,6 +66,11 @@ returns g c =
           (λ h old new a same is good complete few.
           h old new stays same (outputs new.layout a is) good (all_said old new a range complete) few)
           c.draw_outputs.ensures.work;
+      spent = on_ok _ _ c.draw_outputs.result
+          (λ h old new a same is good complete sound.
+          h old new stays same (outputs new.layout a is) good (all_said old new a range complete)
+          (only_said old new a range sound))
+          c.draw_outputs.ensures.spent;
       counted = c.draw_outputs.ensures.counted;
       unchanged = c.draw_outputs.ensures.unchanged;
     }

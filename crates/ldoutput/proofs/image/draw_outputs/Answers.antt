@@ -101,5 +101,27 @@ returns-clause-work c =
     few)
     c.redraw.ensures.work
 
+pub returns-clause-spent : goal.returns-clause-spent
+returns-clause-spent c =
+    let p = c.args.project.now in
+    let x = c.in_ok-parts.parts in
+    on_ok _ _ c.redraw.result
+    (λ h old new stays same outputs good all said.
+    let are = subst (λ pr. ArePartsOf pr new.layout stays x) (sym same)
+    (c.in_ok-parts.ensures new.layout stays outputs) in
+    let drawn = subst (AllZip (IsSectionKept new.project stays) (loaded new.layout)) (sym c.deref-2.ensures.value)
+    are.drawn.kept in
+    h old new good
+    (drawing_of new.project new.layout stays x _ (record {
+      headers = c.deref.ensures.value;
+      sections = c.deref-2.ensures.value;
+      tail = c.image_parts-tail.ensures;
+    }) are)
+    (are_kept (record { linked = c.stayed_in_both.ensures.linked; all = c.sections_in_file.ensures.all })
+    old new stays c.deref-2.result.now drawn all)
+    (have_stayed (record { linked = c.stayed_in_both.ensures.linked; all = c.sections_in_file.ensures.all })
+    old new stays c.deref-2.result.now drawn said))
+    c.redraw.ensures.spent
+
 pub returns-clause-counted : goal.returns-clause-counted
 returns-clause-counted c = on_ok _ _ c.redraw.result (λ h. (_, h)) c.redraw.ensures.counted

@@ -51,7 +51,7 @@ returns-in_ok-add_in_file-in-Ok-evaluate g c =
     (sym (c.has_moved.ensures old l e kept t (record { placed = h; start_is = refl }) refl)
     ∙ c.if-not-has_moved.false)
     _ _ c.in-Ok-evaluate.field _ _ _ field.0 field.1 c.in_ok-add_in_file-in-Ok-evaluate.ensures
-    c.in-Ok-evaluate.ensures.counted
+    (c.in-Ok-evaluate.ensures.counted l t at refl)
 
 pub returns-in_ok-push-in-Err : goal.returns-in_ok-push-in-Err
 returns-in_ok-push-in-Err g c =
@@ -65,4 +65,4 @@ returns-in_ok-push-in-Err g c =
     (sym (c.has_moved.ensures old l e kept t (record { placed = h; start_is = refl }) refl)
     ∙ c.if-not-has_moved.false)
     _ c.in-Err.fault _ _ _ _ (c.in-Err.ensures.evaluated l t at refl) c.in_ok-push-in-Err.ensures.items
-    c.in-Err.ensures.counted
+    (c.in-Err.ensures.counted l t at refl)

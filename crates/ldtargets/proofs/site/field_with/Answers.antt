@@ -1,5 +1,10 @@
-use Rattle.std.proofs.Common.{ap}
+use Rattle.std.proofs.Common.{ap, arith, sym, ◌∙◌}
+use Rattle.ldbase.specs.Raised.{raised}
+use Rattle.ldbase.specs.declared.meter.Count.TheVariants.{Fields}
+use Rattle.ldtargets.specs.Fields.{work_of}
 use Rattle.ldtargets.specs.Values.{value_of}
+use Rattle.ldtargets.specs.declared.value.SymbolValue.{SymbolValue}
+use Rattle.ldtargets.proofs.Added.{raise_none}
 use Rattle.ldtargets.proofs.Sites.{missing, overflow, undefined}
 use Rattle.ldtargets.proofs.site.field_with.Goals as goal
 
@@ -15,3 +20,13 @@ pub returns-in-Err-clause-outcome : goal.returns-in-Err-clause-outcome
 returns-in-Err-clause-outcome c =
     λ l t h is. overflow l c.args.section.now c.args.entry t h _ c.in-Number.value c.args.relocation.now
     c.in-Err.overflow (ap value_of c.in-Number.is) is c.in-Err.ensures.field
+
+pub returns-in-NotDefined-clause-counted : goal.returns-in-NotDefined-clause-counted
+returns-in-NotDefined-clause-counted c =
+    raise_none c.args.meter.now (omega (arith, c.fields-fields.type_inv, c.fields-fields.ensures))
+    ∙ ap (λ (v : SymbolValue). raised c.args.meter.now Fields (work_of (value_of v))) (sym c.in-NotDefined.is)
+
+pub returns-in-NotInOutput-clause-counted : goal.returns-in-NotInOutput-clause-counted
+returns-in-NotInOutput-clause-counted c =
+    raise_none c.args.meter.now (omega (arith, c.fields-fields.type_inv, c.fields-fields.ensures))
+    ∙ ap (λ (v : SymbolValue). raised c.args.meter.now Fields (work_of (value_of v))) (sym c.in-NotInOutput.is)

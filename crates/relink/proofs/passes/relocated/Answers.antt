@@ -1,4 +1,4 @@
-use Rattle.std.proofs.Common.{◌∙◌, ap, subst, sym}
+use Rattle.std.proofs.Common.{◌∙◌, ap, arith, subst, sym}
 use Rattle.ldmodel.specs.Assertions.{assertion_faults}
 use Rattle.ldmodel.specs.Link.{Link, good, unless}
 use Rattle.ldmodel.specs.Relocations.{relocation_faults}
@@ -14,7 +14,8 @@ returns-in-Ok-clause-good c =
     let p = c.args.lent.project.now in
     let h = c.requires.short.placed.known in
     let s = h.layout in
-    let b = known_beside p _ _ _ _ c.args.symbols.now _ _ _ c.requires.short (c.requires.beside s h.laying)
+    let b = known_beside p _ _ _ _ c.args.symbols.now _ _ _ c.requires.short
+    (omega (arith, c.fields-fields.type_inv, c.fields-fields.ensures)) (c.requires.beside s h.laying)
     (c.requires.symbols s h.laying) c.inputs-inputs.ensures.distinct c.in_ok-relocated.ensures
     c.is_complete.ensures.complete c.is_complete.ensures.none in
     let same = ap (faults_in p) c.deref.ensures.value ∙ b.faults in
@@ -37,7 +38,8 @@ returns-in-Err-clause-stop c =
     let p = c.args.lent.project.now in
     let h = c.requires.short.placed.known in
     let s = h.layout in
-    let b = known_beside p _ _ _ _ c.args.symbols.now _ _ _ c.requires.short (c.requires.beside s h.laying)
+    let b = known_beside p _ _ _ _ c.args.symbols.now _ _ _ c.requires.short
+    (omega (arith, c.fields-fields.type_inv, c.fields-fields.ensures)) (c.requires.beside s h.laying)
     (c.requires.symbols s h.laying) c.inputs-inputs.ensures.distinct c.in_ok-relocated.ensures
     c.is_complete.ensures.complete c.is_complete.ensures.none in
     subst (λ (l : Link). IsStop l c.in-Err.stop) (sym c.requires.short.rest)
@@ -47,7 +49,8 @@ returns-in-Err-clause-stop c =
 pub returns-in-Ok-clause-reads : goal.returns-in-Ok-clause-reads
 returns-in-Ok-clause-reads c =
     let h = c.requires.short.placed.known in
-    let b = known_beside _ _ _ _ _ c.args.symbols.now _ _ _ c.requires.short (c.requires.beside h.layout h.laying)
+    let b = known_beside _ _ _ _ _ c.args.symbols.now _ _ _ c.requires.short
+    (omega (arith, c.fields-fields.type_inv, c.fields-fields.ensures)) (c.requires.beside h.layout h.laying)
     (c.requires.symbols h.layout h.laying) c.inputs-inputs.ensures.distinct c.in_ok-relocated.ensures
     c.is_complete.ensures.complete c.is_complete.ensures.none in
     b.reads
@@ -55,7 +58,8 @@ returns-in-Ok-clause-reads c =
 pub returns-in-Ok-clause-counted : goal.returns-in-Ok-clause-counted
 returns-in-Ok-clause-counted c =
     let k = c.requires.short.placed.known in
-    let b = known_beside _ _ _ _ _ c.args.symbols.now _ _ _ c.requires.short (c.requires.beside k.layout k.laying)
+    let b = known_beside _ _ _ _ _ c.args.symbols.now _ _ _ c.requires.short
+    (omega (arith, c.fields-fields.type_inv, c.fields-fields.ensures)) (c.requires.beside k.layout k.laying)
     (c.requires.symbols k.layout k.laying) c.inputs-inputs.ensures.distinct c.in_ok-relocated.ensures
     c.is_complete.ensures.complete c.is_complete.ensures.none in
     evaluated_at _ _ _ _ _ k.layout k.laying b.counted
@@ -63,7 +67,8 @@ returns-in-Ok-clause-counted c =
 pub returns-in-Err-clause-early : goal.returns-in-Err-clause-early
 returns-in-Err-clause-early c =
     let h = c.requires.short.placed.known in
-    let b = known_beside _ _ _ _ _ c.args.symbols.now _ _ _ c.requires.short (c.requires.beside h.layout h.laying)
+    let b = known_beside _ _ _ _ _ c.args.symbols.now _ _ _ c.requires.short
+    (omega (arith, c.fields-fields.type_inv, c.fields-fields.ensures)) (c.requires.beside h.layout h.laying)
     (c.requires.symbols h.layout h.laying) c.inputs-inputs.ensures.distinct c.in_ok-relocated.ensures
     c.is_complete.ensures.complete c.is_complete.ensures.none in
     ends_reading _ _ c.in-Err.stop b.reads

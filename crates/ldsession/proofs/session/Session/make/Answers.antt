@@ -1,4 +1,4 @@
-use Rattle.std.proofs.Common.{◌≡◌, ◌∙◌, ℕ, List, Option, ap, refl, subst, sym}
+use Rattle.std.proofs.Common.{◌≡◌, ◌∙◌, ℕ, List, Option, ap, arith, refl, subst, sym}
 use Rattle.std.specs.Prelude.{IfSome}
 use Rattle.ldkept.specs.Stays.{LastState}
 use Rattle.ldmodel.specs.EditMeaning.{change_of}
@@ -20,7 +20,7 @@ use Rattle.ldsession.specs.declared.last.LastGood.{LastGood}
 use Rattle.ldsession.proofs.Bounding.{leaves_script, unchanged_work, whole_work}
 use Rattle.ldsession.proofs.Following.{same_held}
 use Rattle.ldsession.proofs.Lending.{IsFollowing, ended_after, following, last_lent, same_listing}
-use Rattle.ldsession.proofs.Working.{few_touched, is_work}
+use Rattle.ldsession.proofs.Working.{AreSmall, few_touched, is_work, objects_of_edit}
 use Rattle.ldsession.proofs.session.Session.make.Goals.{in-Some-5, in-None-5}
 use Rattle.ldsession.proofs.session.Session.make.Goals as goal
 
@@ -34,8 +34,17 @@ returns-then-is_unchanged-clause-counted c =
     let kept : IsLast (listing_of h) bytes a last =
     subst (λ (l : Listing). IsLast l bytes a last) (same_listing c.self.inside.project h c.in-Ok.ensures.same)
     c.self.invariant.2 in
-    unchanged_work c.stayed_in_image.ensures (listing_of h) bytes a last c.args.self.now (held h)
-    (change_of c.args.edit) c.args.meter.now c.stage.new.meter is is c.in-Ok.ensures.reads
+    let small : AreSmall c.args.meter.now = record {
+      objects = omega (arith, c.objects.type_inv, c.objects.ensures);
+      names = omega (arith, c.names.type_inv, c.names.ensures);
+      pieces = omega (arith, c.pieces.type_inv, c.pieces.ensures);
+      fields = omega (arith, c.fields.type_inv, c.fields.ensures);
+      bytes = omega (arith, c.bytes.type_inv, c.bytes.ensures);
+    } in
+    let read = objects_of_edit (change_of c.args.edit) c.args.meter.now c.stage.new.meter small.objects
+    c.in-Ok.ensures.read in
+    unchanged_work (listing_of h) bytes a last c.args.self.now (held h)
+    (change_of c.args.edit) c.args.meter.now c.stage.new.meter is is small read
     (c.self.invariant.0 ∙ ap link c.self.view_is) kept
 
 pub follow-requires-clause-last : goal.follow-requires-clause-last
@@ -127,8 +136,16 @@ returns-in-Ok-follow-clause-counted c =
     let few = few_touched c.names_of_objects.ensures.one c.distinct_more.ensures c.names_of_objects.ensures.all h
     change s
     c.in-Ok.ensures.staged.0 c.in-Ok.ensures.staged.1 c.in-Ok.ensures.staged.2 c.in-Ok.ensures.named stable in
+    let small : AreSmall c.args.meter.now = record {
+      objects = omega (arith, c.objects.type_inv, c.objects.ensures);
+      names = omega (arith, c.names.type_inv, c.names.ensures);
+      pieces = omega (arith, c.pieces.type_inv, c.pieces.ensures);
+      fields = omega (arith, c.fields.type_inv, c.fields.ensures);
+      bytes = omega (arith, c.bytes.type_inv, c.bytes.ensures);
+    } in
+    let read = objects_of_edit change c.args.meter.now c.stage.new.meter small.objects c.in-Ok.ensures.read in
     let reading = is_work (held h) change (project_of next) c.args.meter.now c.stage.new.meter c.follow.new.meter
-    (names_of_edit h.contents.entries s.objects) c.in-Ok.ensures.reads c.in-Ok-follow.ensures.few few in
+    (names_of_edit h.contents.entries s.objects) small read c.in-Ok-follow.ensures.few few in
     let answers : shown bytes a ≡ link (held h) =
     c.self.invariant.0 ∙ ap link (sym (same_held c.self.inside.project h c.in-Ok.ensures.same)) in
     let worked = subst (λ (x : Option LastState). HasWorked (project_of next) x c.stage.new.meter c.follow.new.meter
@@ -136,7 +153,7 @@ returns-in-Ok-follow-clause-counted c =
     let work : IsWholeWork (held h) change (project_of next) c.args.meter.now c.follow.new.meter =
     whole_work h s same bytes c.follow.new.canvas.bytes a e last c.in-Ok-origins_for.from c.in-Ok-follow.followed change
     c.args.meter.now c.stage.new.meter c.follow.new.meter given answers from
-    c.in-Ok-follow.ensures.followed worked c.in-Ok.ensures.reads
+    c.in-Ok-follow.ensures.followed worked small read c.in-Ok-follow.ensures.few.objects
     (leaves_script h change s c.in-Ok.ensures.staged.3 c.in-Ok.ensures.named) reading in
     let counted = subst (λ (p : Project). IsWholeWork p change (held c.commit.new.self) c.args.meter.now
     c.follow.new.meter) (same_held c.self.inside.project h c.in-Ok.ensures.same ∙ c.self.view_is)
