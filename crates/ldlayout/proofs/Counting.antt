@@ -6,7 +6,7 @@ use Rattle.std.proofs.lemmas.List.{get_or-map, get_or_append_left, get_or_past, 
 use Rattle.std.proofs.lemmas.Option.{get_or_from_slice_get, same_Some, slice_get-map, slice_get_within}
 use Rattle.std.specs.List.{All, AllPairs, Contains, slice_get}
 use Rattle.std.specs.Option.{option_map}
-use Rattle.elffile.specs.declared.section.Section.{Section}
+use Rattle.elfobj.specs.declared.section.Section.{Section}
 use Rattle.elfobj.specs.Sections.{LinkedSection, section_of}
 use Rattle.ldmodel.specs.Project.{NamedObject, Project}
 use Rattle.ldproject.specs.Inputs.{shown_input, shown_inputs}

@@ -11,7 +11,7 @@ loop-input-init c =
 pub loop-input-preserved : goal.loop-input-preserved
 loop-input-preserved c =
     one_laid c.inputs-inputs.result.now c.loop-input.input-index c.input-item.result c.loop-input.objects.items _
-    c.loop-input.slots c.count_of-count.result c.in-Some.sum c.input-item.is c.loop-input.invariant c.in-Some.ensures.1
+    c.loop-input.slots c.count_of-count.result c.in-Some.sum c.input-item.is c.loop-input.invariant (sym c.in-Some.ensures.1)
     c.count_of-count.ensures c.in_ok-push.ensures.items
 
 pub returns-clause-laid : goal.returns-clause-laid
