@@ -55,8 +55,8 @@ SCRIPTS = {
 }
 """What docs/scripts.md says of each number, for where `readscript` cannot be had."""
 
-TO_DO = "to do: "
-"""What begins the advice of `readobj`."""
+ARCHIVE = "it is an archive"
+"""What `readobj` itself says of an archive; it does not name LLVM's bitcode."""
 
 FORMS = {
     b"BC\xc0\xde": "it is LLVM's bitcode, which has no code: compile without -flto",
@@ -79,7 +79,7 @@ def refusal_sentences(
     shown = plain(name.encode(errors="surrogateescape"))
     if refused.number == NO_OBJECT_FILE:
         reasons = _reasons("readobj", refused, data) or [OBJECTS.get(refused.inner, EDITS[NO_OBJECT_FILE])]
-        return [f"{shown}: {reason}{'' if TO_DO in reason else _form(data)}" for reason in reasons]
+        return [f"{shown}: {reason}{'' if ARCHIVE in reason else _form(data)}" for reason in reasons]
     if refused.number == NO_SCRIPT:
         script = ScriptText(name, data or b"", script_lines)
         reasons = _reasons("readscript", refused, data) or [SCRIPTS.get(refused.inner, EDITS[NO_SCRIPT])]

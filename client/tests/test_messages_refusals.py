@@ -128,7 +128,7 @@ class RefusalTest(unittest.TestCase):
     def test_other_files(self) -> None:
         """What files are that are no ELF files."""
         for start, what in [(b"!<arch>\n", "it is an archive: `ar x` unpacks its objects"),
-                            (b"BC\xc0\xde", "compile without -flto")]:
+                            (b"BC\xc0\xde", "it is LLVM's bitcode, which has no code: compile without -flto")]:
             data = start + bytes(100)
             message = refusal_message("a.o", self.refused(self.session.add(b"a.o", 0, data)), data)
             self.assertTrue(message.sentence.endswith(what), message.sentence)

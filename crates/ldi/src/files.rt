@@ -112,8 +112,8 @@ pub fn write_file(rt: &HostRuntime, name: &str, mode: u32, bytes: &[u8]) -> io::
     written
 }
 
-/// Writes an image in place of a file of its name. A regular one is taken away first: a program that runs keeps the file
-/// that it began with, and the image is a new one.
+/// Writes an image in place of a file of its name. A regular one is taken away first: a program that runs keeps the
+/// file that it began with, and the image is a new one.
 ///
 /// # Errors
 ///

@@ -8,11 +8,11 @@
 //!       line LINE: REASON
 //!
 //! on standard output. The statements are those that stand outside of all others; a warning is of one that has another
-//! meaning to GNU ld. N after `refused 5` is the reader's number. Under it stand all places where something is wrong, in
-//! the order of the text, as far as they are found: what GNU ld has and the profile does not by the word and the table
-//! of docs/scripts.md that says what to write. A file that is too long for `ldi` is `refused 6 0`. It ends with status 0
-//! where the file is a script, with 1 where it is refused, with 2 where there are more words, with 3 where the file
-//! cannot be read or standard output cannot be written, and with 4 out of memory.
+//! meaning to GNU ld. N after `refused 5` is the reader's number. Under it stand all places where something is wrong,
+//! in the order of the text, as far as they are found: what GNU ld has and the profile does not by the word and the
+//! table of docs/scripts.md that says what to write. A file that is too long for `ldi` is `refused 6 0`. It ends with
+//! status 0 where the file is a script, with 1 where it is refused, with 2 where there are more words, with 3 where the
+//! file cannot be read or standard output cannot be written, and with 4 out of memory.
 //!
 //! Without a word it reads standard input to its end: frames, each a line and the bytes that it counts. White space
 //! before a frame is skipped. All lengths are decimal.
