@@ -12,11 +12,17 @@ use Rattle.ldmodel.specs.Rows.{Piece}
 use Rattle.ldmodel.specs.Sections.{is_same_part}
 use Rattle.ldmodel.specs.SessionWork.{entries_from, first_changed, kind_place, same_entry, same_row}
 use Rattle.ldmodel.specs.declared.sections.Part.{Part}
-use Rattle.ldkept.proofs.Kept.{same_part}
+use Rattle.ldmodel.specs.declared.sections.Part.TheVariants.{InCommon, InTable}
 
 both_of : (a b : Bool) → (a && b) ≡ true → (a ≡ true) × (b ≡ true)
 both_of true b h = (refl, h)
 both_of false b h = absurd (let none : ⊥ = cc in none)
+
+same_part : (a b : Part) → is_same_part a b ≡ true → a ≡ b
+same_part (InTable k) (InTable n) e = ap (λ m. InTable (record { 0 = m })) (eqb-true k.0 n.0 e)
+same_part (InTable k) (InCommon n) e = absurd (let none : ⊥ = cc in none)
+same_part (InCommon k) (InTable n) e = absurd (let none : ⊥ = cc in none)
+same_part (InCommon k) (InCommon n) e = ap (λ m. InCommon (record { 0 = m })) (eqb-true k.0 n.0 e)
 
 kind_at : ℕ → SectionKind
 kind_at n =

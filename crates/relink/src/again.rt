@@ -93,9 +93,9 @@ fn relinked(lent: Lent<'_, '_>, canvas: &mut Canvas, meter: &mut Meter) -> Resul
 /// image the canvas holds. Where the project has no faults, the canvas then holds its image: of what stayed, only the
 /// fields are written whose symbols have other values. Where it has faults, the canvas is as it was.
 ///
-/// The layout of the earlier link is resumed where its script was the same. Where the project has no faults, no more is
-/// counted than what did not stay: the input sections that are placed from the first row on that differs, the fields
-/// outside of what stayed and those in it whose symbols have other values, and the bytes of both.
+/// The layout of the earlier link is resumed where its script was the same. Where the project has no faults, exactly
+/// this is counted: the input sections that are placed from the first row on that differs, the fields outside of what
+/// stayed and those in it whose symbols have other values, and the bytes of both.
 ///
 /// # Errors
 ///

@@ -24,6 +24,7 @@ use ldfields::canvas::Canvas;
 use ldkept::first::resumed;
 use ldkept::stays::Stays;
 use ldkept::symbol_table::SymbolTable;
+use ldlaws::layout::placed_are_rows;
 use ldlayout::laying::{LayFault, Laying};
 use ldlayout::length::length_fault;
 use ldmodel::fault::Fault;
@@ -104,6 +105,9 @@ pub(crate) fn laid(
     ensures counted { OnOk result
         (ArePlaced (project_of lent.entry) (last_of lent.entry.last) meter.old meter.new) }
 {
+    placed_are_rows();
+    // so that the range of the count is known
+    let _pieces = meter.pieces();
     let kept = resumed(lent.last, lent.project, rows);
     match Laying::of(lent.alloc, lent.project, lent.naming, rows, kept, meter) {
         Ok(laying) => Ok(laying),
@@ -176,6 +180,8 @@ pub(crate) fn relocated(
     stays.is_complete();
     is_good(lent.project, stays.laying);
     let _inputs = lent.project.inputs();
+    // so that the range of the count is known
+    let _fields = meter.fields();
     let relocated = Relocated::of(
         lent.alloc,
         lent.project,
@@ -228,6 +234,7 @@ pub(crate) fn drawn(
     ensures unchanged { OnErr result (canvas.new.bytes ≡ canvas.old.bytes) }
 {
     stays.is_complete();
+    // so that the range of the count is known
     let _bytes = meter.bytes();
     draw_image(
         lent.alloc,

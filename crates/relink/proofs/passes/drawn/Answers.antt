@@ -1,12 +1,14 @@
-use Rattle.std.proofs.Common.{◌≡◌, ◌<◌, ◌≤◌, ◌^◌, ℕ, List, refl, subst, sym}
+use Rattle.std.proofs.Common.{◌≡◌, ◌∙◌, ◌+◌, ◌-◌, List, ap, arith, refl, subst, sym}
 use Rattle.std.specs.List.{All}
+use Rattle.ldbase.specs.Raised.{raised}
+use Rattle.ldbase.specs.declared.meter.Count.TheVariants.{Bytes}
 use Rattle.ldfields.specs.declared.patch.Patch.{Patch}
 use Rattle.ldimage.specs.Kept.{ArePatchesOf}
 use Rattle.ldimage.specs.Stretches.{EndsBy, patch_bytes}
 use Rattle.ldmodel.specs.Image.{image}
 use Rattle.ldmodel.specs.Layout.{Layout}
 use Rattle.ldmodel.specs.SectionHeaders.{image_length}
-use Rattle.ldmodel.specs.WorkBound.{retargeted_bytes}
+use Rattle.ldmodel.specs.WorkBound.{bytes_stayed}
 use Rattle.ldoutput.specs.Beside.{new_link}
 use Rattle.ldvalues.specs.LinkView.{known_link}
 use Rattle.relink.specs.Counted.{IsWritten}
@@ -53,7 +55,8 @@ returns-clause-image c =
 
 pub returns-clause-reads : goal.returns-clause-reads
 returns-clause-reads c =
-    let drawn = c.in_ok-draw_image.ensures.counted in bytes_read_nothing _ _ drawn.0 drawn.1
+    let drawn = c.in_ok-draw_image.ensures.counted in
+    bytes_read_nothing _ _ drawn.0 (omega (arith, c.bytes-bytes.type_inv, c.bytes-bytes.ensures)) drawn.1
 
 pub returns-clause-counted : goal.returns-clause-counted
 returns-clause-counted c =
@@ -66,11 +69,12 @@ returns-clause-counted c =
     subst (λ (z : Layout). IsWritten p z c.args.stays.now c.args.fields.now c.args.meter.now c.draw_image.new.meter)
     (one_placement p s t k.laying.placed laying.placed)
     (record {
-      small = subst (λ (n : ℕ). n < 2 ^ 64) c.bytes-bytes.ensures c.bytes-bytes.type_inv;
       bytes = c.in_ok-draw_image.ensures.counted;
-      work = λ old last some few.
-          c.in_ok-draw_image.ensures.work old (new_link p s) a refl (drawable_at p _ _ _ f) f.good
-          (c.is_complete.ensures.complete old (known_link p s a) (stays_of p _ _ _ f old last) some)
-          (subst (λ (qs : List Patch). patch_bytes qs ≤ retargeted_bytes old (new_link p s))
-          (sym c.deref.ensures.value) few);
+      beside = λ old last some.
+          let stays = stays_of p _ _ _ f old last in
+          c.in_ok-draw_image.ensures.spent old (new_link p s) a refl (drawable_at p _ _ _ f) f.good
+          (c.is_complete.ensures.complete old (known_link p s a) stays some)
+          (c.is_complete.ensures.sound old (known_link p s a) stays)
+          ∙ ap (λ (qs : List Patch). raised c.args.meter.now Bytes
+          (patch_bytes qs + (image_length p s - bytes_stayed old (new_link p s)))) c.deref.ensures.value;
     })

@@ -1,3 +1,4 @@
+use Rattle.ldmodel.specs.Names.{provided}
 use Rattle.relink.proofs.Placing.{any_last, are_placed}
 use Rattle.relink.proofs.passes.laid.Goals as goal
 
@@ -8,5 +9,9 @@ of-requires-clause-kept c =
 
 pub returns-in-Ok-clause-counted : goal.returns-in-Ok-clause-counted
 returns-in-Ok-clause-counted c =
-    are_placed c.args.lent.project.now c.args.rows.now c.requires.rows _ _ _ c.resumed-kept.result c.in-Ok.ensures.counted
-    c.in-Ok.ensures.resumed c.resumed-kept.ensures.some c.resumed-kept.ensures.first
+    let p = c.args.lent.project.now in
+    let good = c.in-Ok.ensures.good in
+    are_placed p good.layout _ good.is.places.counts
+    (c.placed_are_rows.ensures p (provided p) good.layout good.is.placed) _ _ _ c.resumed-kept.result
+    c.in-Ok.ensures.exact c.resumed-kept.ensures.same c.resumed-kept.ensures.some c.resumed-kept.ensures.none
+    c.resumed-kept.ensures.first
