@@ -1,19 +1,19 @@
 -- A change of one object, from its first step to its last.
-use Rattle.std.proofs.Common.{◌≡◌, ◌∙◌, ◌+◌, ℕ, Bool, List, [], ◌++◌, Option, Some, None, length, ap, sym}
+use Rattle.std.proofs.Common.{◌≡◌, ◌∙◌, ◌+◌, ℕ, Bool, false, cond, List, [], ◌++◌, Option, Some, None, length, ap, sym}
 use Rattle.std.proofs.Common.{subst, arith}
 use Rattle.ldbase.specs.Counts.{Counts}
 use Rattle.ldbase.specs.Raised.{raised}
 use Rattle.ldbase.specs.declared.meter.Count.TheVariants as counts
 use Rattle.ldtree.specs.declared.statement.Statement.{Statement}
 use Rattle.ldmodel.specs.declared.names.Case.{Case}
-use Rattle.symres.specs.State.{HasName, IsInByteOrder, State, entries_of}
+use Rattle.symres.specs.State.{HasName, IsInByteOrder, IsNamed, State, entries_of, slot}
 use Rattle.lddecisions.specs.Change.{AreThere, Fits, IsReadyFor, PutsIn, Table, TakesOut, changed_tables, declared_by}
 use Rattle.lddecisions.specs.Change.{reversed}
 use Rattle.lddecisions.specs.Change.{put_in, symbols_at, symbols_or}
 use Rattle.lddecisions.specs.Counted.{CountsNames}
-use Rattle.lddecisions.specs.Decided.{AreCases, HasCase}
+use Rattle.lddecisions.specs.Decided.{AreCases, HasCase, case_at}
 use Rattle.lddecisions.specs.Decisions.{IsNoted, IsWhole}
-use Rattle.lddecisions.specs.Texts.{AreDone, DecidedFor, HasPlaces, AreFound, IsCleared}
+use Rattle.lddecisions.specs.Texts.{AreDone, DecidedFor, HasPlaces, AreFound, IsCleared, declares, touches}
 use Rattle.lddecisions.specs.declared.change.ObjectAt.{ObjectAt}
 use Rattle.lddecisions.specs.declared.change.ObjectChange.{ObjectChange}
 use Rattle.lddecisions.specs.declared.texts.KeySource.TheVariants as sources
@@ -106,6 +106,20 @@ module _ (script : List Statement) (c : ObjectChange) (s0 s1 s2 : State)
         (λ k x e. new_decided.kept k x (old_decided.kept k x e)) new_decided.done;
     only = λ k has. (kept_after k has.0 has.1).named;
   }
+
+  -- a name that neither object declares stands for what it stood for
+  pub frame_after : (k : ℕ) (name : List ℕ) → IsNamed s0.names k name → declares (symbols_or c.out) name ≡ false
+      → declares (symbols_or c.into) name ≡ false → case_at cases4 k ≡ case_at cases0 k
+  frame_after k name named a b =
+      let was : HasCase cases0 k = h.whole.complete k (name, named) in
+      let out : touches (symbols_or c.out) (slot s0.names k) ≡ false = ap (touches (symbols_or c.out)) named ∙ a in
+      let into : touches (symbols_or c.into) (slot s2.names k) ≡ false =
+      ap (touches (symbols_or c.into)) (ap (λ (ns : List (Option (List ℕ))). slot ns k) names_after ∙ named) ∙ b in
+      let left : case_at cases2 k ≡ Some was.0 =
+      h.cleared_new.at k
+      ∙ (ap (λ (t : Bool). cond t None (case_at cases1 k)) into
+      ∙ (h.cleared.at k ∙ (ap (λ (t : Bool). cond t None (case_at cases0 k)) out ∙ was.1))) in
+      new_decided.kept k was.0 (old_decided.kept k was.0 left) ∙ sym was.1
 
   pub noted_after : (noted : Bool) → IsNoted s0 noted → IsNoted s2 noted
   noted_after noted is sure =

@@ -14,3 +14,4 @@ pub mod Touched
 pub mod Changed
 pub mod MakingRoom
 pub mod ProjectNames
+mod SameCases

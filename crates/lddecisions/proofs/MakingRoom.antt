@@ -2,7 +2,7 @@
 use Rattle.std.proofs.Common.{◌≡◌, ◌∙◌, ◌<◌, ◌≤◌, ◌+◌, ◌-◌, ℕ, Bool, true, false, cond, eqb, List, [], ◌∷◌, ◌++◌}
 use Rattle.std.proofs.Common.{length, filter}
 use Rattle.std.proofs.Common.{Option, Some, None, Result, Ok, Err, OnOk, get_or, set, drop, refl, ap, sym, subst, arith}
-use Rattle.std.proofs.Common.{⊎_elim, get_or-set_other, get_or-set_same}
+use Rattle.std.proofs.Common.{⊎_elim, ◌⊎◌, inl, inr, get_or-set_other, get_or-set_same}
 use Rattle.std.specs.Prelude.{nat_lt}
 use Rattle.std.specs.List.{All}
 use Rattle.std.specs.Cmp.Lexicographic.{nat_list_cmp_total}
@@ -21,7 +21,8 @@ use Rattle.lddecisions.specs.Change.{Fits, IsReadyFor, MayFollow, symbols_at}
 use Rattle.lddecisions.specs.Counted.{is_used}
 use Rattle.lddecisions.specs.Decided.{AreCases, HasCase, IsCase, case_at}
 use Rattle.lddecisions.specs.Decisions.{IsNoted, IsWhole}
-use Rattle.lddecisions.specs.Room.{AreKeptWhere, AreUnused, HaveCasesBelow, HaveCasesFrom, KeepsUsed, kept_where}
+use Rattle.lddecisions.specs.Room.{AreKeptWhere, AreUnused, HaveCasesBelow, HaveCasesFrom, KeepsUsed, OnlyDrops, kept_where}
+use Rattle.lddecisions.specs.Room.{AreOldOrNew, StandsFrom}
 use Rattle.lddecisions.specs.declared.change.ObjectAt.{ObjectAt}
 use Rattle.lddecisions.specs.declared.change.ObjectChange.{ObjectChange}
 use Rattle.lddecisions.proofs.Listed.{Listed, StandsIn, named_listed, stands_in}
@@ -371,3 +372,49 @@ ready_come s cases c x e fits m = record {
     go : (out : Option ObjectAt) → MayFollow s c.key.0 out (Some x)
     go None = m
     go (Some y) = λ t w. w.others (symbols_at x) m
+
+-- what is left after names without entries are forgotten is as it was
+pub frame_forgotten : (s t : State) (before after : List (Option Case)) → Forgets s t
+    → AreKeptWhere t.names before after → OnlyDrops s.names t.names before after
+frame_forgotten s t before after h kept k name named = (
+  (remained s t k name h named).was,
+  kept k ∙ ap (λ (n : Option (List ℕ)). kept_where n (case_at before k)) named,
+)
+
+-- a name that is known after names were added was known under its key, or stands behind the others
+pub old_or_new : (a b : State) (more : List Listed) → IsListing a.names a.order → IsListing b.names b.order
+    → KeepsNames a.names b.names → b.order ≡ a.order ++ more → AreOldOrNew a b
+old_or_new a b more listed_a listed_b keeps split k name named =
+    let s : StandsIn b.order k = stands_in b.names b.order k listed_b (name, named) in
+    go s (cases_lt s.at (length a.order))
+  where
+    go : (s : StandsIn b.order k) → (s.at < length a.order) ⊎ (length a.order ≤ s.at)
+        → IsNamed a.names k name ⊎ StandsFrom b.order (length a.order) k
+    go s (inl below) =
+        let same : (get_or a.order s.at ([], 0)).1 ≡ k =
+        ap (λ (x : Listed). x.1) (sym (get_or_append_left a.order more ([], 0) s.at below))
+        ∙ (ap (λ (xs : List Listed). (get_or xs s.at ([], 0)).1) (sym split) ∙ s.is ([], 0)) in
+        let was : HasName a.names k = named_listed a.names a.order s.at k ([], 0) listed_a below same in
+        let one : was.0 ≡ name = one_name b.names k was.0 name (keeps k was.0 was.1) named in
+        inl (was.1 ∙ ap Some one)
+    go s (inr least) = inr (s.at, least, s.within, s.is)
+
+pub same_old : (a b : State) → ((n : ℕ) → slot b.names n ≡ slot a.names n) → AreOldOrNew a b
+same_old a b same k name named = inl (sym (same k) ∙ named)
+
+-- names that were added and have no entries are forgotten again
+pub old_again : (a b c : State) → AreOldOrNew a b → Forgets b c → IsListing b.names b.order
+    → AreUnused b (length a.order) → AreOldOrNew a c
+old_again a b c h f listed unused k name named = go (h k name r.was)
+  where
+    r : Remained b k name
+    r = remained b c k name f named
+
+    go : IsNamed a.names k name ⊎ StandsFrom b.order (length a.order) k
+        → IsNamed a.names k name ⊎ StandsFrom c.order (length a.order) k
+    go (inl was) = inl was
+    go (inr s) =
+        let none = unused_at b (length a.order) s.0 k ([], 0) listed unused s.1 s.2 (s.3 ([], 0)) name r.was in
+        let used : true ≡ false =
+        sym r.used ∙ ap (λ (ds : List Declaration). nat_lt 0 (length ds)) none in
+        absurd (let no_more : ⊥ = cc in no_more)

@@ -1,5 +1,5 @@
 -- Names that become known, and names that are forgotten.
-use Rattle.std.specs.Prelude.{ℕ, ◌≡◌, ◌<◌, ◌≤◌, List, [], Option, Some, None, true, drop, length, slice_index_or}
+use Rattle.std.specs.Prelude.{◌⊎◌, ℕ, ◌≡◌, ◌<◌, ◌≤◌, List, [], Option, Some, None, true, drop, length, slice_index_or}
 use Rattle.std.specs.List.{All}
 use Rattle.ldmodel.specs.declared.names.Case.{Case}
 use Rattle.symres.specs.State.{IsNamed, State, entries_of, slot}
@@ -33,3 +33,19 @@ kept_where (Some name) c = c
 -- the cases of keys that have a name
 abbrev pub AreKeptWhere : List (Option (List ℕ)) → (old new : List (Option Case)) → Type 0
 AreKeptWhere names old new = (k : ℕ) → case_at new k ≡ kept_where (slot names k) (case_at old k)
+
+-- names are only dropped: the others keep their keys and their cases
+abbrev pub OnlyDrops : (old new : List (Option (List ℕ))) → (before after : List (Option Case)) → Type 0
+OnlyDrops old new before after =
+    (k : ℕ) (name : List ℕ) → IsNamed new k name → IsNamed old k name × (case_at after k ≡ case_at before k)
+
+-- a key stands in a list from a place on
+abbrev pub StandsFrom : List (List ℕ × ℕ) → (from k : ℕ) → Type 0
+StandsFrom order from k =
+    (i : ℕ) × (from ≤ i) × (i < length order) × ((e : List ℕ × ℕ) → (slice_index_or order i e).1 ≡ k)
+
+-- each name had its key, or its key stands behind those that were there
+abbrev pub AreOldOrNew : (old new : State) → Type 0
+AreOldOrNew old new =
+    (k : ℕ) (name : List ℕ) → IsNamed new.names k name
+    → IsNamed old.names k name ⊎ StandsFrom new.order (length old.order) k

@@ -1,12 +1,12 @@
 //! A change of one object, and the cases of the names that it touches.
 
-ghost use Rattle.std.specs.Prelude.{◌≡◌, ◌++◌, ℕ, List, length};
+ghost use Rattle.std.specs.Prelude.{◌≡◌, ◌++◌, ℕ, List, false, length};
 ghost use Rattle.lddecisions.specs.Change.{AreThere, changed_tables, declared_by, IsReadyFor, reversed, symbols_or};
 ghost use Rattle.lddecisions.specs.Counted.{CountsNames};
-ghost use Rattle.lddecisions.specs.Decided.{AreCases};
+ghost use Rattle.lddecisions.specs.Decided.{AreCases, case_at};
 ghost use Rattle.lddecisions.specs.Decisions.{AreKept};
-ghost use Rattle.lddecisions.specs.Texts.{AreDone, AreKnown, AreNoted, DecidedFor, HasPlaces, IsCleared};
-ghost use Rattle.symres.specs.State.{AreDistinct};
+ghost use Rattle.lddecisions.specs.Texts.{AreDone, AreKnown, AreNoted, DecidedFor, HasPlaces, IsCleared, declares};
+ghost use Rattle.symres.specs.State.{AreDistinct, IsNamed};
 
 use crate::cases::Cases;
 use crate::change::{ObjectAt, ObjectChange, reverse};
@@ -106,6 +106,9 @@ impl Decisions {
         ensures kept { AreKept script.now self.new }
         ensures counted { CountsNames meter.old meter.new (declared_by change.now.out ++ declared_by change.now.into) }
         ensures back { IsReadyFor self.new (reversed change.now) }
+        ensures frame { (k : ℕ) (name : List ℕ) → IsNamed self.old.names.names k name
+            → declares (symbols_or change.now.out) name ≡ false → declares (symbols_or change.now.into) name ≡ false
+            → case_at self.new.cases k ≡ case_at self.old.cases k }
     {
         entered_again();
         let _known = self.names.known();
@@ -134,6 +137,9 @@ impl Decisions {
         ensures kept { AreKept script.now self.new }
         ensures counted { CountsNames meter.old meter.new (declared_by change.now.into ++ declared_by change.now.out) }
         ensures again { IsReadyFor self.new change.now }
+        ensures frame { (k : ℕ) (name : List ℕ) → IsNamed self.old.names.names k name
+            → declares (symbols_or change.now.out) name ≡ false → declares (symbols_or change.now.into) name ≡ false
+            → case_at self.new.cases k ≡ case_at self.old.cases k }
     {
         self.change(script, &reverse(change), meter);
     }

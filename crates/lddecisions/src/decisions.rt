@@ -2,7 +2,7 @@
 
 ghost use Rattle.std.specs.Prelude.{◌≡◌, ◌<◌, ℕ, List, [], Contains, IfOk, IfSome, IfNone, MatchOption, map};
 ghost use Rattle.std.specs.Prelude.{length, count_by};
-ghost use Rattle.std.specs.Prelude.{slice_get};
+ghost use Rattle.std.specs.Prelude.{slice_get, true};
 ghost use Rattle.std.specs.Option.{option_map};
 ghost use Rattle.ldmodel.specs.HandedOver.{decision_of};
 ghost use Rattle.ldtree.specs.declared.statement.Statement.{Statement};
@@ -11,7 +11,7 @@ ghost use Rattle.lddecisions.specs.Decided.{case_at, decision_in, HasCase, is_do
 ghost use Rattle.lddecisions.specs.Decisions.{AreKept, IsCaseNamed};
 ghost use Rattle.lddecisions.specs.Keyed.{AreApart, tables_of};
 ghost use Rattle.symres.specs.Known.{entry_spelled};
-ghost use Rattle.symres.specs.State.{entries_of, HasName, IsListing, IsNameAt};
+ghost use Rattle.symres.specs.State.{entries_of, HasName, IsInByteOrder, IsListing, IsNameAt};
 ghost use Rattle.symres.specs.State.{IsNamed, IsSeenAt, object_key};
 ghost use Rattle.symres.specs.Tally.{declaration_of};
 
@@ -199,6 +199,13 @@ impl Decisions {
         ensures listing { IsListing self.now.names.names self.now.names.order }
     {
         self.names.listed()
+    }
+
+    /// Whether the names are known to stand in byte order. The time is constant.
+    pub fn is_in_order(&self) -> bool
+        ensures { result ≡ true → IsInByteOrder self.now.names.order }
+    {
+        self.in_order
     }
 
     /// Puts the names into byte order, so that listings after this need not be sorted. Where memory is refused they

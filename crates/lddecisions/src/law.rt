@@ -4,7 +4,11 @@ ghost use Rattle.std.specs.Prelude.{◌≡◌, ◌≤◌, ◌++◌, ℕ, List, [
 ghost use Rattle.elfobj.specs.Symbols.{NamedSymbol};
 ghost use Rattle.ldmodel.specs.Names.{distinct, names_in_objects, symbol_tables};
 ghost use Rattle.ldmodel.specs.Project.{NamedObject};
+ghost use Rattle.ldtree.specs.declared.statement.Statement.{Statement};
 ghost use Rattle.lddecisions.specs.Counted.{declared_in, declared_names};
+ghost use Rattle.lddecisions.specs.Decided.{HasCase, case_at};
+ghost use Rattle.lddecisions.specs.Decisions.{AreKept, DecisionsState};
+ghost use Rattle.symres.specs.State.{IsNamed};
 
 /// The names that a list of symbol tables declares are those that the objects of these tables do, under whatever keys;
 /// and those of one table are those of its object.
@@ -18,4 +22,13 @@ pub fn names_of_objects()
 /// A longer list has at least as many names, each counted once.
 pub fn distinct_more()
     ensures { (names more : List (List ℕ)) → length (distinct names) ≤ length (distinct (names ++ more)) }
+{}
+
+/// While the objects and the script stay, a name that keeps its key keeps its case: so names that become known, or are
+/// forgotten, change no other.
+pub fn same_cases()
+    ensures { (script : List Statement) (a b : DecisionsState) (k : ℕ) (name : List ℕ) → AreKept script a
+        → AreKept script b → b.names.objects ≡ a.names.objects → IsNamed a.names.names k name
+        → IsNamed b.names.names k name → HasCase a.cases k → HasCase b.cases k
+        → case_at b.cases k ≡ case_at a.cases k }
 {}

@@ -7,6 +7,7 @@ ghost use Rattle.lddecisions.specs.Counted.{is_used};
 ghost use Rattle.lddecisions.specs.Decided.{AreCases, case_at, HasCase};
 ghost use Rattle.lddecisions.specs.Decisions.{AreKept, IsNoted, IsWhole};
 ghost use Rattle.lddecisions.specs.Room.{AreKeptWhere, AreUnused, HaveCasesBelow, HaveCasesFrom, kept_where, KeepsUsed};
+ghost use Rattle.lddecisions.specs.Room.{AreOldOrNew, OnlyDrops};
 ghost use Rattle.symres.specs.State.{entries_of, Forgets, HasName, IsNamed, MayEnter, slot};
 
 use crate::cases::Cases;
@@ -107,6 +108,7 @@ fn drop_unused(names: &mut Names, cases: &mut Cases)
     ensures whole { IsWhole names.new cases.new }
     ensures sound { (script : List Statement) → AreCases script names.old cases.old
         → AreCases script names.new cases.new }
+    ensures frame { OnlyDrops names.old.names names.new.names cases.old cases.new }
 {
     names.forget();
     clear_unnamed(names, cases);
@@ -133,6 +135,7 @@ fn make_room(
     ensures sound { AreCases script.now names.new cases.new }
     ensures used { KeepsUsed names.old names.new }
     ensures ready { OnOk result (MayEnter names.new object.now.symbols) }
+    ensures fresh { AreOldOrNew names.old names.new }
 {
     let from = names.known();
     names.reserve(object)?;
@@ -159,6 +162,7 @@ impl Decisions {
         ensures kept { AreKept script.now self.new }
         ensures used { KeepsUsed self.old.names self.new.names }
         ensures ready { OnOk result (IsReadyFor self.new change.now) }
+        ensures fresh { AreOldOrNew self.old.names self.new.names }
     {
         reserve_keys(&mut self.noted, change)?;
         match change.into {
@@ -180,6 +184,7 @@ impl Decisions {
         ensures objects { self.new.names.objects ≡ self.old.names.objects }
         ensures used { KeepsUsed self.old.names self.new.names }
         ensures kept { (script : List Statement) → AreKept script self.old → AreKept script self.new }
+        ensures frame { OnlyDrops self.old.names.names self.new.names.names self.old.cases self.new.cases }
     {
         drop_unused(&mut self.names, &mut self.cases);
     }

@@ -1,5 +1,5 @@
 -- The names of a link in byte order.
-use Rattle.std.proofs.Common.{◌≡◌, ◌∙◌, ℕ, ◌<◌, zero, suc, Bool, true, false, List, [], ◌∷◌, length, map, get_or}
+use Rattle.std.proofs.Common.{◌≡◌, ◌∙◌, ℕ, ◌+◌, ◌<◌, zero, suc, Bool, true, false, List, [], ◌∷◌, length, map, get_or}
 use Rattle.std.proofs.Common.{refl, ap, sym, subst, arith}
 use Rattle.std.specs.Prelude.{Contains, Option, Some, bytes_eq}
 use Rattle.std.specs.List.{AllByRecursion, IsDistinct}
@@ -19,7 +19,7 @@ use Rattle.std.proofs.lemmas.Slice.Eq.{bytes_eq-Decides}
 use Rattle.ldmodel.specs.Names.{names_in_objects, symbol_tables}
 use Rattle.ldmodel.specs.OutputSymbols.{is_before}
 use Rattle.ldmodel.specs.Project.{NamedObject, Project}
-use Rattle.symres.specs.State.{AreDistinct, IsListing, IsNamed}
+use Rattle.symres.specs.State.{AreDistinct, IsInByteOrder, IsListing, IsNamed, comes_before}
 use Rattle.lddecisions.specs.Counted.{declared_names}
 use Rattle.lddecisions.specs.Decisions.{DecisionsState}
 use Rattle.ldnaming.specs.Naming.{IsNaming, NamingState, state_of}
@@ -90,6 +90,17 @@ in_order xs i j d up once l m =
     (apart have_one_name (map named_number xs) i j (named_number d) once l
     (subst (λ (n : ℕ). j < n) (sym (length-map xs named_number)) m))))
     (sorted_far is_first (ranks_by nat_list_cmp_total (λ (x : NamedKey). x.name.now)) xs up i j d (omega (arith, l)) m)
+
+-- what stands in byte order need not be sorted
+pub sorted_listed : (xs : List NamedKey) → IsInByteOrder (map named_number xs) → IsSortedBy is_first xs
+sorted_listed xs s = λ k d l h.
+    let len = length-map xs named_number in
+    let within : k < length xs = omega (arith, h) in
+    let second = get_or-map named_number xs (k + 1) d (named_number d) h in
+    let first = get_or-map named_number xs k d (named_number d) within in
+    sym (ap (λ (x : Listed). comes_before x (get_or (map named_number xs) k (named_number d))) second
+    ∙ ap (λ (y : Listed). comes_before (named_number (get_or xs (k + 1) d)) y) first)
+    ∙ s k (named_number d) l (omega (arith, h, len))
 
 -- ---- the names
 

@@ -1,13 +1,15 @@
 //! The names of a link, while objects change.
 
-ghost use Rattle.std.specs.Prelude.{◌≡◌, ◌++◌, List, OnOk};
+ghost use Rattle.std.specs.Prelude.{◌≡◌, ◌++◌, ℕ, List, OnOk, false};
 ghost use Rattle.ldtree.specs.declared.statement.Statement.{Statement};
-ghost use Rattle.lddecisions.specs.Change.{changed_tables, declared_by, Fits, IsReadyFor, reversed};
+ghost use Rattle.lddecisions.specs.Change.{changed_tables, declared_by, Fits, IsReadyFor, reversed, symbols_or};
 ghost use Rattle.lddecisions.specs.Counted.{CountsNames, declared_names};
+ghost use Rattle.lddecisions.specs.Decided.{case_at};
 ghost use Rattle.lddecisions.specs.Decisions.{AreKept};
-ghost use Rattle.lddecisions.specs.Room.{KeepsUsed};
+ghost use Rattle.lddecisions.specs.Room.{AreOldOrNew, KeepsUsed, OnlyDrops};
+ghost use Rattle.lddecisions.specs.Texts.{declares};
 ghost use Rattle.ldnaming.specs.Placed.{keys_of};
-ghost use Rattle.symres.specs.State.{Forgets};
+ghost use Rattle.symres.specs.State.{Forgets, IsNamed};
 
 use crate::naming::Naming;
 use ldbase::meter::Meter;
@@ -31,6 +33,7 @@ impl Naming {
         ensures kept { AreKept script.now self.new.kept }
         ensures used { KeepsUsed self.old.kept.names self.new.kept.names }
         ensures ready { OnOk result (IsReadyFor self.new.kept change.now) }
+        ensures fresh { AreOldOrNew self.old.kept.names self.new.kept.names }
     {
         self.decisions.room_for(script, change)
     }
@@ -52,6 +55,9 @@ impl Naming {
         ensures kept { AreKept script.now self.new.kept }
         ensures counted { CountsNames meter.old meter.new (declared_by change.now.out ++ declared_by change.now.into) }
         ensures back { IsReadyFor self.new.kept (reversed change.now) }
+        ensures frame { (k : ℕ) (name : List ℕ) → IsNamed self.old.kept.names.names k name
+            → declares (symbols_or change.now.out) name ≡ false → declares (symbols_or change.now.into) name ≡ false
+            → case_at self.new.kept.cases k ≡ case_at self.old.kept.cases k }
         ensures order { result ≡ keys_of self.old.kept.names.objects }
     {
         self.decisions.change(script, change, meter);
@@ -76,6 +82,9 @@ impl Naming {
         ensures kept { AreKept script.now self.new.kept }
         ensures counted { CountsNames meter.old meter.new (declared_by change.now.into ++ declared_by change.now.out) }
         ensures again { IsReadyFor self.new.kept change.now }
+        ensures frame { (k : ℕ) (name : List ℕ) → IsNamed self.old.kept.names.names k name
+            → declares (symbols_or change.now.out) name ≡ false → declares (symbols_or change.now.into) name ≡ false
+            → case_at self.new.kept.cases k ≡ case_at self.old.kept.cases k }
     {
         self.decisions.undo(script, change, meter);
         self.order = order;
@@ -109,6 +118,8 @@ impl Naming {
         ensures objects { self.new.kept.names.objects ≡ self.old.kept.names.objects }
         ensures used { KeepsUsed self.old.kept.names self.new.kept.names }
         ensures kept { (script : List Statement) → AreKept script self.old.kept → AreKept script self.new.kept }
+        ensures frame { OnlyDrops self.old.kept.names.names self.new.kept.names.names self.old.kept.cases
+            self.new.kept.cases }
     {
         self.decisions.forget();
     }

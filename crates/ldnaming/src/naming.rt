@@ -1,6 +1,6 @@
 //! The names of a link: what each name that its objects declare stands for.
 
-ghost use Rattle.std.specs.Prelude.{◌≡◌, ℕ, List, IfOk, length, map};
+ghost use Rattle.std.specs.Prelude.{◌≡◌, ℕ, List, IfOk, MatchOption, length, map};
 ghost use Rattle.elfobj.specs.Symbols.{NamedSymbol};
 ghost use Rattle.ldmodel.specs.HandedOver.{decision_of};
 ghost use Rattle.ldmodel.specs.Names.{decision, symbol_tables};
@@ -13,6 +13,7 @@ ghost use Rattle.ldnaming.specs.Naming.{IsNameAt, IsNaming, IsSeenAt};
 ghost use Rattle.ldnaming.specs.Placed.{keys_of};
 ghost use Rattle.ldproject.specs.Inputs.{shown_inputs};
 ghost use Rattle.ldproject.specs.Tables.{place_or_0};
+ghost use Rattle.symres.specs.State.{AreDistinct, IsNamed};
 
 use crate::entered::{by_place, keys_of};
 use crate::placed::place_case;
@@ -99,6 +100,23 @@ impl Naming {
     {
         let _order = &self.order;
         self.decided_by_keys();
+    }
+
+    /// Each key of a name has a case, and no two keys have one name. The call does nothing.
+    pub fn keys_decided(&self)
+        ensures cases { (k : ℕ) (name : List ℕ) → IsNamed self.now.names k name → HasCase self.now.cases k }
+        ensures distinct { AreDistinct self.now.names }
+    {
+        let _order = &self.order;
+        let _known = self.decisions.known();
+    }
+
+    /// The key of a name, while it is known. The name is hashed.
+    pub fn key_named(&self, name: &[u8]) -> Option<NameKey>
+        ensures { MatchOption result ((k : ℕ) → IsNamed self.now.names k name.now → ⊥) (λ k.
+            IsNamed self.now.names k.0 name.now) }
+    {
+        self.decisions.key_named(name)
     }
 
     /// The length of a table of cases under keys: each key that has a case is below it.

@@ -36,8 +36,8 @@ fn listed(alloc: Global, decisions: &Decisions) -> Result<Vec<NamedKey<'_>>, NoM
 }
 
 impl Naming {
-    /// All known names in byte order, each with its key: all that objects declare are among them. The time is linear in
-    /// their number where the names were put in order, and no name became known since.
+    /// All known names in byte order, each with its key: all that objects declare are among them. They are
+    /// sorted only where a name became known since they were put in order.
     ///
     /// # Errors
     ///
@@ -48,6 +48,9 @@ impl Naming {
         names_of_objects();
         let _count = self.decisions.known();
         let mut list = listed(alloc, &self.decisions)?;
+        if self.decisions.is_in_order() {
+            return Ok(list);
+        }
         list.sort_by(|x, y| x.name.cmp(y.name))?;
         Ok(list)
     }

@@ -1,27 +1,33 @@
 -- The values that a script gives names.
 use Rattle.std.proofs.Common.{◌≡◌, ◌∙◌, ℕ, ◌+◌, ◌<◌, ◌≤◌, List, [], ◌∷◌, ◌++◌, length, map, take, get_or, set, ap, sym}
-use Rattle.std.proofs.Common.{subst, refl, arith, suc, zero, ⊎_elim, ◌⊎◌, inl, inr}
-use Rattle.std.specs.Prelude.{Option, Some, None, replicate, Contains, All, slice_get}
-use Rattle.std.specs.Option.{option_map}
-use Rattle.std.proofs.lemmas.Option.{slice_get-map, slice_get-get_or, slice_get_within, get_or_from_slice_get}
+use Rattle.std.proofs.Common.{subst, refl, arith, suc, zero, ⊎_elim, ◌⊎◌, inl, inr, Bool, true, false}
+use Rattle.std.specs.Prelude.{Option, Some, None, replicate, bytes_eq, slice_get}
+use Rattle.std.specs.Option.{option_map, option_map_or}
+use Rattle.std.proofs.lemmas.Option.{slice_get-map, slice_get-get_or}
 use Rattle.std.proofs.Math.Seq.{take-suc}
-use Rattle.std.proofs.lemmas.Bool.{cases_eq, cases_lt}
-use Rattle.std.proofs.lemmas.List.{get_or_default, map-append, take_all, get_or-set_same, get_or-set_other}
+use Rattle.std.proofs.lemmas.Bool.{cases_eq, cases_lt, true≢false}
+use Rattle.std.proofs.lemmas.List.{map-append, take_all, get_or-set_same, get_or-set_other}
+use Rattle.std.proofs.lemmas.List.{length-map, length-replicate, length-set}
+use Rattle.std.proofs.lemmas.Slice.Eq.{bytes_eq-Decides}
+use Rattle.ldtree.specs.Numbered.{shown_commons}
+use Rattle.ldtree.specs.Numbering.{CommonAt, common_commands}
+use Rattle.ldtree.specs.declared.numbering.CommonAt as code_common
 use Rattle.ldtree.specs.declared.statement.Statement.{Statement}
 use Rattle.ldmodel.specs.Layout.{Layout, ScriptSymbol}
-use Rattle.ldmodel.specs.Lent.{name_given_by, symbol_of}
+use Rattle.ldmodel.specs.Lent.{given_name, name_given_by, symbol_of}
 use Rattle.ldmodel.specs.declared.script_symbol.ScriptSymbol as code
 use Rattle.ldnaming.specs.Decided.{HasCase}
 use Rattle.ldnaming.specs.Naming.{NamingState}
-use Rattle.ldnaming.specs.Sorted.{AreSorted}
 use Rattle.ldnaming.specs.declared.sorted.NamedKey.{NamedKey}
 use Rattle.place.specs.Places.{AreOf, Places}
+use Rattle.ldscope.proofs.Numbers.{symbol_at, symbol_named_by}
 use Rattle.ldscope.specs.SymbolTable.{AreValuesOf, value_of}
 use Rattle.ldscope.specs.Tables.{entry_under, symbol_number}
-use Rattle.symres.specs.State.{IsNamed}
-use Rattle.ldvalues.specs.GivenTable.{IsGivenTable}
-use Rattle.ldvalues.specs.ScriptValues.{AreScriptValues}
+use Rattle.symres.specs.State.{AreDistinct, IsNamed, slot}
+use Rattle.ldvalues.specs.GivenTable.{HasPlaces, IsGivenTable, IsPut}
+use Rattle.ldvalues.specs.ScriptValues.{AreScriptValues, value_in}
 use Rattle.ldvalues.specs.declared.script_values.ScriptValues.{ScriptValues}
+use Rattle.ldvalues.proofs.Seeing.{case_within}
 
 pub take_more : {X : Type 0} (xs : List X) (i : ℕ) (x : X) → i < length xs → get_or xs i x ≡ x
     → take (i + 1) xs ≡ take i xs ++ x ∷ []
@@ -73,121 +79,125 @@ all_values script s p v i same are past h = record {
       (ap (map (symbol_of script)) (take_all i p.symbols past) ∙ are.symbols));
 }
 
--- what is noted of the first names of a list
-pub record Noted (a : NamingState) (value : List ℕ → Option ℕ) (xs : List NamedKey) (i : ℕ) (table : List (Option ℕ))
-    : Type 0 where
-  pub cases : (j : ℕ) (d : NamedKey) → j < i → HasCase a.cases (get_or xs j d).key.0
-  pub given : (j : ℕ) (d : NamedKey) → j < i → get_or table (get_or xs j d).key.0 None ≡ value (get_or xs j d).name.now
-
-abbrev Named : NamingState → List NamedKey → Type 0
-Named a xs = All (λ (x : NamedKey). IsNamed a.names x.key.0 x.name.now) xs
-
 some_same : {X : Type 0} (x y : X) → Some x ≡ Some y → x ≡ y
 some_same x y h = cc
 
--- one more name
-pub one_noted : (a : NamingState) (value : List ℕ → Option ℕ) (xs : List NamedKey) (i : ℕ) (x : NamedKey)
-    (old new : List (Option ℕ)) → Named a xs → i < length xs → get_or xs i x ≡ x → HasCase a.cases x.key.0
-    → x.key.0 < length old → new ≡ set old x.key.0 (value x.name.now) → Noted a value xs i old
-    → Noted a value xs (i + 1) new
-one_noted a value xs i x old new named within here case inside is h =
-    record { cases = cases_of; given = given_of }
-  where
-    same_here : (j : ℕ) (d : NamedKey) → j ≡ i → get_or xs j d ≡ x
-    same_here j d e = ap (λ k. get_or xs k d) e ∙ (get_or_default xs i d x within ∙ here)
-
-    there : IsNamed a.names x.key.0 x.name.now
-    there = subst (λ (y : NamedKey). IsNamed a.names y.key.0 y.name.now) here (named i x within)
-
-    cases_of : (j : ℕ) (d : NamedKey) → j < i + 1 → HasCase a.cases (get_or xs j d).key.0
-    cases_of j d below =
-        ⊎_elim (λ lt. h.cases j d lt)
-        (λ le. subst (λ (y : NamedKey). HasCase a.cases y.key.0)
-        (sym (same_here j d (omega (arith, le, below)))) case) (cases_lt j i)
-
-    value_at : (y : NamedKey) → IsNamed a.names y.key.0 y.name.now
-        → (get_or old y.key.0 None ≡ value y.name.now) ⊎ (y ≡ x) → get_or new y.key.0 None ≡ value y.name.now
-    value_at y named_y before =
-        ⊎_elim
-        (λ e.
-        let named_x : IsNamed a.names y.key.0 x.name.now = subst (λ k. IsNamed a.names k x.name.now) (sym e) there in
-        let names : y.name.now ≡ x.name.now = some_same y.name.now x.name.now (sym named_y ∙ named_x) in
-        ap (λ (t : List (Option ℕ)). get_or t y.key.0 None) is
-        ∙ (ap (λ k. get_or (set old x.key.0 (value x.name.now)) k None) e
-        ∙ (get_or-set_same old x.key.0 (value x.name.now) None inside ∙ ap value (sym names))))
-        (λ ne.
-        ap (λ (t : List (Option ℕ)). get_or t y.key.0 None) is
-        ∙ (get_or-set_other old x.key.0 y.key.0 (value x.name.now) None ne
-        ∙ ⊎_elim (λ q. q) (λ q. absurd (ne (ap (λ (z : NamedKey). z.key.0) q))) before))
-        (cases_eq y.key.0 x.key.0)
-
-    given_of : (j : ℕ) (d : NamedKey) → j < i + 1 → get_or new (get_or xs j d).key.0 None
-        ≡ value (get_or xs j d).name.now
-    given_of j d below =
-        ⊎_elim (λ lt. value_at (get_or xs j d) (named j d (omega (arith, lt, within))) (inl (h.given j d lt)))
-        (λ le.
-        let e : j ≡ i = omega (arith, le, below) in
-        let same : get_or xs j d ≡ x = same_here j d e in
-        value_at (get_or xs j d) (subst (λ (y : NamedKey). IsNamed a.names y.key.0 y.name.now) (sym same) there)
-        (inr same))
-        (cases_lt j i)
-
-pub none_noted : (a : NamingState) (value : List ℕ → Option ℕ) (xs : List NamedKey) (table : List (Option ℕ))
-    → Noted a value xs 0 table
-none_noted a value xs table = record {
-  cases = λ j d below. absurd (omega (arith, below));
-  given = λ j d below. absurd (omega (arith, below));
+-- a value is put under a key
+pub put_under : (a : NamingState) (key : ℕ) (name : List ℕ) (value : Option ℕ) (old new : List (Option ℕ))
+    → AreDistinct a.names → IsNamed a.names key name → HasPlaces a old → new ≡ set old key value
+    → IsPut a name value old new
+put_under a key name value old new distinct named places is = record {
+  long = ap length is ∙ length-set old key value;
+  here = λ k h.
+      let same : key ≡ k = distinct key k name named h in
+      ap (λ (t : List (Option ℕ)). get_or t k None) is
+      ∙ (ap (λ n. get_or (set old key value) n None) (sym same)
+      ∙ get_or-set_same old key value None (places key name named));
+  others = λ k other h ne.
+      ap (λ (t : List (Option ℕ)). get_or t k None) is
+      ∙ get_or-set_other old key k value None
+      (λ same. ne (some_same other name (sym h ∙ (ap (slot a.names) same ∙ named))));
 }
 
--- a name of a list stands at a place of it
-pub found_name : {P : Type 0} (xs : List NamedKey) (name : List ℕ)
-    → Contains (map (λ (x : NamedKey). x.name.now) xs) name
-    → ((j : ℕ) (x : NamedKey) → j < length xs → get_or xs j x ≡ x → x.name.now ≡ name → P) → P
-found_name {P} xs name c go =
-    let f : NamedKey → List ℕ = λ (x : NamedKey). x.name.now in
-    let at : option_map f (slice_get xs c.0) ≡ Some name =
-    sym (slice_get-map f xs c.0) ∙ (slice_get-get_or (map f xs) c.0 name c.1 ∙ ap Some c.2) in
-    split (slice_get xs c.0) refl at
+-- the name of a command, as the code has it
+pub called_here : (script : List Statement) (commands : List code_common.CommonAt) (i : ℕ) (x : code_common.CommonAt)
+    → i < length commands → x ≡ get_or commands i x → shown_commons commands ≡ common_commands script
+    → given_name x.command.now ≡ name_given_by script i
+called_here script commands i x within is shown =
+    let f : code_common.CommonAt → CommonAt =
+    λ (c : code_common.CommonAt). record { line = c.line; command = c.command.now } in
+    let there : slice_get commands i ≡ Some x = slice_get-get_or commands i x within ∙ ap Some (sym is) in
+    let at : slice_get (common_commands script) i ≡ Some (f x) =
+    ap (λ (cs : List CommonAt). slice_get cs i) (sym shown)
+    ∙ (slice_get-map f commands i ∙ ap (option_map f) there) in
+    sym (ap (λ (o : Option CommonAt). option_map_or (λ (c : CommonAt). given_name c.command) o []) at)
+
+-- under the key of each name stands its value; or nothing, where none of the first commands gives it one
+pub record Noted (a : NamingState) (v : ScriptValues) (i : ℕ) (table : List (Option ℕ)) : Type 0 where
+  pub places : HasPlaces a table
+  pub values : (k : ℕ) (name : List ℕ) → IsNamed a.names k name
+      → (get_or table k None ≡ value_in v name)
+      ⊎ ((get_or table k None ≡ None) × ((j : ℕ) → symbol_number v.script.now name ≡ Some j → i ≤ j))
+
+pub none_noted : (a : NamingState) (v : ScriptValues) (n : ℕ) (table : List (Option ℕ))
+    → ((k : ℕ) (name : List ℕ) → IsNamed a.names k name → HasCase a.cases k) → n ≡ length a.cases
+    → table ≡ replicate n None → Noted a v 0 table
+none_noted a v n table cases long is = record {
+  places = λ k name named.
+      subst (λ (t : List (Option ℕ)). k < length t) (sym is)
+      (subst (λ m. k < m) (sym (length-replicate n None)) (case_within a.cases k n long (cases k name named)));
+  values = λ k name named. inr (
+    ap (λ (t : List (Option ℕ)). get_or t k None) is ∙ all_none n k,
+    λ j h. omega arith,
+  );
+}
+
+beyond : (i j : ℕ) → i ≤ j → (j ≡ i → ⊥) → i + 1 ≤ j
+beyond i j at_least other =
+    ⊎_elim (λ (more : i < j). omega (arith, more)) (λ (le : j ≤ i). absurd (other (omega (arith, le, at_least))))
+    (cases_lt i j)
+
+-- one more command
+pub next_noted : (a : NamingState) (v : ScriptValues) (i : ℕ) (called : List ℕ) (old new : List (Option ℕ))
+    → called ≡ name_given_by v.script.now i → IsPut a called (value_in v called) old new → Noted a v i old
+    → Noted a v (i + 1) new
+next_noted a v i called old new is put h = record {
+  places = λ k name named. omega (arith, h.places k name named, put.long);
+  values = λ k name named. go k name named (bytes_eq name called) refl (h.values k name named);
+}
   where
-    split : (o : Option NamedKey) → slice_get xs c.0 ≡ o
-        → option_map (λ (x : NamedKey). x.name.now) o ≡ Some name → P
-    split None e h = absurd (cc)
-    split (Some x) e h =
-        go c.0 x (slice_get_within xs c.0 x e) (get_or_from_slice_get xs c.0 x x e)
-        (some_same x.name.now name h)
+    go : (k : ℕ) (name : List ℕ) → IsNamed a.names k name → (b : Bool) → bytes_eq name called ≡ b
+        → (get_or old k None ≡ value_in v name)
+        ⊎ ((get_or old k None ≡ None) × ((j : ℕ) → symbol_number v.script.now name ≡ Some j → i ≤ j))
+        → (get_or new k None ≡ value_in v name)
+        ⊎ ((get_or new k None ≡ None) × ((j : ℕ) → symbol_number v.script.now name ≡ Some j → i + 1 ≤ j))
+    go k name named true e was =
+        let same : name ≡ called = (bytes_eq-Decides name called).0 e in
+        inl (put.here k (subst (IsNamed a.names k) same named) ∙ ap (value_in v) (sym same))
+    go k name named false e (inl was) =
+        let other : name ≡ called → ⊥ = λ same. true≢false (sym ((bytes_eq-Decides name called).1 same) ∙ e) in
+        inl (put.others k name named other ∙ was)
+    go k name named false e (inr was) =
+        let other : name ≡ called → ⊥ = λ same. true≢false (sym ((bytes_eq-Decides name called).1 same) ∙ e) in
+        inr (
+          put.others k name named other ∙ was.0,
+          λ j n. ⊎_elim
+              (λ (j_is : j ≡ i).
+              absurd (other (sym (is ∙ (ap (name_given_by v.script.now) (sym j_is)
+              ∙ symbol_named_by v.script.now name j n)))))
+              (λ (ne : j ≡ i → ⊥). beyond i j (was.1 j n) ne)
+              (cases_eq j i),
+        )
 
--- all names are noted
-pub all_noted : (a : NamingState) (value : List ℕ → Option ℕ) (xs : List NamedKey) (i : ℕ) (table : List (Option ℕ))
-    → AreSorted a xs → length xs ≤ i → Noted a value xs i table → IsGivenTable a value table
-all_noted a value xs i table sorted past h = record { cases = cases_of; given = given_of }
+-- all commands
+pub all_noted : (a : NamingState) (v : ScriptValues) (commands : List code_common.CommonAt) (i : ℕ)
+    (table : List (Option ℕ)) → ((k : ℕ) (name : List ℕ) → IsNamed a.names k name → HasCase a.cases k)
+    → shown_commons commands ≡ common_commands v.script.now → length commands ≤ i → Noted a v i table
+    → IsGivenTable a (value_in v) table
+all_noted a v commands i table cases shown past h = record {
+  cases = cases;
+  given = λ k name named. go k name (h.values k name named);
+}
   where
-    key_of : (k j : ℕ) (x : NamedKey) (name : List ℕ) → IsNamed a.names k name → j < length xs → get_or xs j x ≡ x
-        → x.name.now ≡ name → x.key.0 ≡ k
-    key_of k j x name named within here is =
-        sorted.distinct x.key.0 k name
-        (subst (λ (n : List ℕ). IsNamed a.names x.key.0 n) is
-        (subst (λ (y : NamedKey). IsNamed a.names y.key.0 y.name.now) here (sorted.named j x within))) named
+    inside : (name : List ℕ) (j : ℕ) → symbol_number v.script.now name ≡ Some j → j < length commands
+    inside name j n =
+        let f = symbol_at v.script.now name j n in
+        let long : length (shown_commons commands) ≡ length commands =
+        length-map commands (λ (c : code_common.CommonAt). record { line = c.line; command = c.command.now }) in
+        omega (arith, f.here, f.inside, ap length shown, long)
 
-    cases_of : (k : ℕ) (name : List ℕ) → IsNamed a.names k name → HasCase a.cases k
-    cases_of k name named =
-        found_name xs name (sorted.keys k name named) (λ j x within here is.
-        subst (HasCase a.cases) (key_of k j x name named within here is)
-        (subst (λ (y : NamedKey). HasCase a.cases y.key.0) here (h.cases j x (omega (arith, within, past)))))
+    unknown : (name : List ℕ) (o : Option ℕ) → symbol_number v.script.now name ≡ o
+        → ((j : ℕ) → symbol_number v.script.now name ≡ Some j → i ≤ j) → value_in v name ≡ None
+    unknown name None n later = ap (entry_under v.values.items) n
+    unknown name (Some j) n later = absurd (omega (arith, inside name j n, later j n, past))
 
-    given_of : (k : ℕ) (name : List ℕ) → IsNamed a.names k name → get_or table k None ≡ value name
-    given_of k name named =
-        found_name xs name (sorted.keys k name named) (λ j x within here is.
-        subst (λ n. get_or table n None ≡ value name) (key_of k j x name named within here is)
-        (subst (λ (y : NamedKey). get_or table y.key.0 None ≡ value y.name.now) here
-        (h.given j x (omega (arith, within, past))) ∙ ap value is))
+    go : (k : ℕ) (name : List ℕ)
+        → (get_or table k None ≡ value_in v name)
+        ⊎ ((get_or table k None ≡ None) × ((j : ℕ) → symbol_number v.script.now name ≡ Some j → i ≤ j))
+        → get_or table k None ≡ value_in v name
+    go k name (inl is) = is
+    go k name (inr none) = none.0 ∙ sym (unknown name (symbol_number v.script.now name) refl none.1)
 
 -- what is read past the end of a list
 abbrev pub no_key : NamedKey
 no_key = record { name = record { ref_ptr = (0, 0); now = [] }; key = record { 0 = 0 } }
-
-pub next_noted : (a : NamingState) (value : List ℕ → Option ℕ) (xs : List NamedKey) (i : ℕ) (x : NamedKey)
-    (old new : List (Option ℕ)) → Named a xs → i < length xs → x ≡ get_or xs i no_key → HasCase a.cases x.key.0
-    → x.key.0 < length old → new ≡ set old x.key.0 (value x.name.now) → Noted a value xs i old
-    → Noted a value xs (i + 1) new
-next_noted a value xs i x old new named within is =
-    one_noted a value xs i x old new named within (sym (is ∙ get_or_default xs i no_key x within))

@@ -1,41 +1,35 @@
 //! The values that a script gives names, under the keys of the names.
 
-ghost use Rattle.std.specs.Prelude.{◌≡◌, ◌<◌, IfOk, OnOk, length, slice_set};
-ghost use Rattle.ldnaming.specs.Decided.{HasCase};
-ghost use Rattle.ldnaming.specs.Sorted.{AreSorted};
-ghost use Rattle.ldvalues.specs.GivenTable.{IsGivenTable};
+ghost use Rattle.std.specs.Prelude.{◌≡◌, IfOk, None, replicate};
+ghost use Rattle.ldvalues.specs.GivenTable.{HasPlaces, IsGivenTable, IsPut};
 ghost use Rattle.ldvalues.specs.ScriptValues.{value_in};
 
-use crate::script_values::ScriptValues;
+use crate::script_values::{ScriptValues, given_name};
 use ldmodel::memory::NoMemory;
-use ldmodel::names::NameKey;
 use ldnaming::naming::Naming;
-use ldnaming::sorted::NamedKey;
-use std::alloc::{AllocError, Global};
+use std::alloc::Global;
 
-/// Notes the value of the name of a key.
-fn note_given(
-    naming: &Naming,
-    key: NameKey,
-    value: Option<u64>,
-    table: &mut Vec<Option<u64>>,
-) -> Result<(), NoMemory>
-    ensures case { OnOk result (HasCase naming.now.cases key.0) }
-    ensures within { OnOk result (key.0 < length table.old.items) }
-    ensures noted { OnOk result (table.new.items ≡ slice_set table.old.items key.0 value) }
+/// A table of no values.
+fn no_values(alloc: Global, count: usize) -> Result<Vec<Option<u64>>, NoMemory>
+    ensures { IfOk result (λ v. v.items ≡ replicate count None) }
 {
-    // Unreachable: each key of a name has a case
-    if naming.case_of(key).is_none() {
-        return Err(AllocError);
-    }
-    if key.0 >= table.len() {
-        return Err(AllocError);
-    }
-    table[key.0] = value;
-    Ok(())
+    vec![in alloc; None; count]
 }
 
-/// The table of all names.
+/// Puts a value under the key of a name, if the name has one.
+fn put_given(naming: &Naming, name: &[u8], value: Option<u64>, table: &mut Vec<Option<u64>>)
+    requires { HasPlaces naming.now table.old.items }
+    ensures { IsPut naming.now name.now value table.old.items table.new.items }
+{
+    naming.keys_decided();
+    match naming.key_named(name) {
+        Some(key) => table[key.0] = value,
+        None => {}
+    }
+}
+
+/// The table of all names. A name is looked up for each command of the script that gives one a value, so the time is
+/// that of the commands but for the table itself.
 ///
 /// # Errors
 ///
@@ -43,15 +37,16 @@ fn note_given(
 pub(crate) fn given_table(
     alloc: Global,
     naming: &Naming,
-    sorted: &[NamedKey<'_>],
     values: &ScriptValues<'_>,
 ) -> Result<Vec<Option<u64>>, NoMemory>
-    requires { AreSorted naming.now sorted.now }
     ensures { IfOk result (λ table. IsGivenTable naming.now (value_in values.now) table.items) }
 {
-    let mut table = vec![in alloc; None; naming.limit()]?;
-    for named in sorted {
-        note_given(naming, named.key, values.value(named.name), &mut table)?;
+    naming.keys_decided();
+    let commands = values.script.common_commands(alloc)?;
+    let mut table = no_values(alloc, naming.limit())?;
+    for at in &commands {
+        let name = given_name(at.command);
+        put_given(naming, name, values.value(name), &mut table);
     }
     Ok(table)
 }

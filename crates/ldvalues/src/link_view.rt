@@ -26,7 +26,6 @@ pub struct LinkView<'a, 'p> {
 }
 
 impl<'a, 'p> LinkView<'a, 'p> {
-    ghost use Rattle.ldnaming.specs.Sorted.{AreSorted};
     ghost use Rattle.ldvalues.specs.ScriptValues.{AreScriptValues};
     ghost use Rattle.ldvalues.specs.LinkView.{IsLinkView, known_link};
 
@@ -42,12 +41,11 @@ impl<'a, 'p> LinkView<'a, 'p> {
         starts: &'a Starts,
         given: &GivenValues<'_>,
     ) -> Result<LinkView<'a, 'p>, NoMemory>
-        requires naming { IsNaming project.now naming.now }
-        requires sorted { AreSorted naming.now given.now.sorted.items }
+        requires { IsNaming project.now naming.now }
         ensures { IfOk result (λ v. (s : Layout) → AreScriptValues s given.now.values
             → AreStarts project.now s starts.now → IsLinkView (known_link project.now s naming.now) v) }
     {
-        let given = given_table(alloc, naming, &given.sorted, &given.values)?;
+        let given = given_table(alloc, naming, &given.values)?;
         Ok(LinkView {
             project,
             naming,

@@ -5,7 +5,7 @@ ghost use Rattle.ldtree.specs.Numbered.{shown_commons};
 ghost use Rattle.ldtree.specs.Numbering.{common_commands};
 ghost use Rattle.ldtree.specs.declared.statement.Statement.{Statement};
 ghost use Rattle.ldmodel.specs.Layout.{Layout, ScriptSymbol};
-ghost use Rattle.ldmodel.specs.Lent.{name_given_by};
+ghost use Rattle.ldmodel.specs.Lent.{given_name, name_given_by};
 ghost use Rattle.place.specs.Places.{AreOf};
 ghost use Rattle.ldscope.specs.SymbolTable.{AreValuesOf};
 ghost use Rattle.ldscope.specs.Tables.{symbol_number};
@@ -21,7 +21,7 @@ use std::alloc::{AllocError, Global};
 /// The values that a script gives names, under the numbers of its commands.
 #[derive(Drop)]
 pub(crate) struct ScriptValues<'a> {
-    script: &'a Script,
+    pub(crate) script: &'a Script,
     values: Vec<Option<u64>>,
 }
 
@@ -35,17 +35,24 @@ fn command_number(script: &Script, name: &[u8]) -> Option<usize>
     }
 }
 
+/// The name that a command gives a value to; no bytes where it gives none.
+pub(crate) fn given_name(command: &Common) -> &[u8]
+    ensures { result.now ≡ given_name command.now }
+{
+    match command {
+        Common::Assign(assignment) | Common::Provide(assignment) => assignment.name.as_bytes(),
+        Common::Assert(_) => &[],
+    }
+}
+
 /// The name that the command of a number gives a value to; no bytes where there is none.
 fn name_given<'a>(commands: &[CommonAt<'a>], number: CommonIndex) -> &'a [u8]
     ensures { (script : List Statement) → shown_commons commands.now ≡ common_commands script → result.now
         ≡ name_given_by script number.0 }
 {
-    let Some(at) = commands.get(number.0 as usize) else {
-        return &[];
-    };
-    match at.command {
-        Common::Assign(assignment) | Common::Provide(assignment) => assignment.name.as_bytes(),
-        Common::Assert(_) => &[],
+    match commands.get(number.0 as usize) {
+        Some(at) => given_name(at.command),
+        None => &[],
     }
 }
 

@@ -1,5 +1,5 @@
 use Rattle.std.proofs.Common.{length, arith, refl}
-use Rattle.lddecisions.proofs.MakingRoom.{below_after, complete_refused, noted_none_more}
+use Rattle.lddecisions.proofs.MakingRoom.{below_after, complete_refused, noted_none_more, old_again, old_or_new}
 use Rattle.lddecisions.proofs.MakingRoom.{unused_after, used_twice, whole_same}
 use Rattle.lddecisions.proofs.room.make_room.Goals as goal
 
@@ -47,3 +47,26 @@ pub returns-in-Err-clause-used : goal.returns-in-Err-clause-used
 returns-in-Err-clause-used c =
     used_twice c.args.names.now c.reserve.new.self c.drop_unused.new.names c.reserve.ensures.more.names
     c.reserve.ensures.objects c.drop_unused.ensures.forgets
+
+pub returns-then-known-from-clause-fresh : goal.returns-then-known-from-clause-fresh
+returns-then-known-from-clause-fresh c =
+    let more = c.reserve.ensures.more in
+    old_or_new c.args.names.now c.reserve.new.self more.listed.0 c.known-from.ensures.listing c.known.ensures.listing
+    more.names more.listed.1
+
+pub returns-in-Ok-clause-fresh : goal.returns-in-Ok-clause-fresh
+returns-in-Ok-clause-fresh c =
+    let more = c.reserve.ensures.more in
+    old_or_new c.args.names.now c.reserve.new.self more.listed.0 c.known-from.ensures.listing c.known.ensures.listing
+    more.names more.listed.1
+
+pub returns-in-Err-clause-fresh : goal.returns-in-Err-clause-fresh
+returns-in-Err-clause-fresh c =
+    let s = c.reserve.new.self in
+    let more = c.reserve.ensures.more in
+    old_again c.args.names.now s c.drop_unused.new.names
+    (old_or_new c.args.names.now s more.listed.0 c.known-from.ensures.listing c.known.ensures.listing more.names
+    more.listed.1)
+    c.drop_unused.ensures.forgets c.known.ensures.listing
+    (unused_after c.args.names.now s (length c.args.names.now.order) refl c.reserve.ensures.objects
+    c.reserve.ensures.unused)

@@ -1,18 +1,34 @@
-use Rattle.std.proofs.Common.{◌∙◌, ap, arith, get_or, refl, set}
-use Rattle.ldvalues.specs.ScriptValues.{value_in}
-use Rattle.ldvalues.proofs.Giving.{all_noted, next_noted, no_key}
+use Rattle.std.proofs.Common.{◌∙◌, ap, arith, subst}
+use Rattle.std.specs.Prelude.{Option, ℕ}
+use Rattle.ldtree.specs.Numbered.{shown_commons}
+use Rattle.ldvalues.specs.GivenTable.{IsPut}
+use Rattle.ldvalues.proofs.Giving.{all_noted, called_here, next_noted, none_noted}
 use Rattle.ldvalues.proofs.given_table.given_table.Goals as goal
 
-pub loop-named-preserved : goal.loop-named-preserved
-loop-named-preserved c =
-    let x = get_or c.args.sorted.now c.loop-named.named-index no_key in
-    next_noted c.args.naming.now (value_in c.args.values.now) c.args.sorted.now c.loop-named.named-index x
-    c.loop-named.table.items c.note_given.new.table.items c.requires.named (omega (arith, c.loop-named-test.true)) refl
-    c.in_ok-note_given.ensures.case c.in_ok-note_given.ensures.within
-    (c.in_ok-note_given.ensures.noted ∙ ap (set c.loop-named.table.items x.key.0) c.value.ensures)
-    c.loop-named.invariant
+pub loop-at-init : goal.loop-at-init
+loop-at-init c =
+    none_noted c.args.naming.now c.args.values.now c.limit.result c.in_ok-table.table.items
+    c.keys_decided.ensures.cases c.limit.ensures c.in_ok-table.ensures
+
+pub put_given-requires : goal.put_given-requires
+put_given-requires c = c.loop-at.invariant.places
+
+pub loop-at-preserved : goal.loop-at-preserved
+loop-at-preserved c =
+    let values = c.args.values.now in
+    let called = c.given_name-name.result.now in
+    next_noted c.args.naming.now values c.loop-at.at-index called c.loop-at.table.items c.put_given.new.table.items
+    (c.given_name-name.ensures
+    ∙ called_here values.script.now c.deref-at-items.result.now c.loop-at.at-index c.at-item.result
+    (omega (arith, c.loop-at-test.true)) c.at-item.is
+    (ap shown_commons c.deref-at-items.ensures.value ∙ c.in_ok-commands.ensures))
+    (subst (λ (v : Option ℕ). IsPut c.args.naming.now called v c.loop-at.table.items c.put_given.new.table.items)
+    c.value.ensures c.put_given.ensures)
+    c.loop-at.invariant
 
 pub returns : goal.returns
 returns c =
-    all_noted c.args.naming.now (value_in c.args.values.now) c.args.sorted.now c.loop-named.named-index
-    c.loop-named.table.items c.requires (omega (arith, c.loop-named-test.false)) c.loop-named.invariant
+    all_noted c.args.naming.now c.args.values.now c.deref-at-items.result.now c.loop-at.at-index
+    c.loop-at.table.items c.keys_decided.ensures.cases
+    (ap shown_commons c.deref-at-items.ensures.value ∙ c.in_ok-commands.ensures)
+    (omega (arith, c.loop-at-test.false)) c.loop-at.invariant

@@ -1,7 +1,6 @@
-use Rattle.ldvalues.specs.ScriptValues.{value_in}
 use Rattle.ldvalues.proofs.Giving.{Noted}
 use Rattle.ldvalues.proofs.given_table.given_table.Given as goal
 
--- the names before this one are noted
-abbrev pub invariant-loop-named : goal.invariant-loop-named
-invariant-loop-named l = Noted l.naming (value_in l.values) l.sorted l.named-index l.table.items
+-- the commands before this one are noted
+abbrev pub invariant-loop-at : goal.invariant-loop-at
+invariant-loop-at l = Noted l.naming l.values l.at-index l.table.items

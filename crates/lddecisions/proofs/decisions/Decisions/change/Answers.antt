@@ -1,6 +1,8 @@
-use Rattle.std.proofs.Common.{◌∙◌, refl, subst, sym}
-use Rattle.symres.specs.State.{AreDistinct, IsFresh}
-use Rattle.lddecisions.proofs.Changed.{Steps, back_after, counted_after, kept_after, noted_after, places_after}
+use Rattle.std.proofs.Common.{◌∙◌, ap, refl, subst, sym}
+use Rattle.lddecisions.specs.Decided.{case_at}
+use Rattle.lddecisions.specs.Decisions.{DecisionsState}
+use Rattle.symres.specs.State.{AreDistinct, IsFresh, slot}
+use Rattle.lddecisions.proofs.Changed.{Steps, back_after, counted_after, frame_after, kept_after, noted_after, places_after}
 use Rattle.lddecisions.proofs.Changed.{whole_after}
 use Rattle.lddecisions.proofs.Clearing.{listed_apart}
 use Rattle.lddecisions.proofs.Exchanging.{in_names, out_known, out_names, out_objects}
@@ -117,3 +119,9 @@ returns-clause-counted c = counted_after _ _ _ _ _ _ _ _ _ _ _ _ _ (steps c)
 
 pub returns-clause-back : goal.returns-clause-back
 returns-clause-back c = back_after _ _ _ _ _ _ _ _ _ _ _ _ _ (steps c) c.entered_again.ensures
+
+pub returns-clause-frame : goal.returns-clause-frame
+returns-clause-frame c = λ k name named a b.
+    frame_after _ _ _ _ _ _ _ _ _ _ _ _ _ (steps c) k name
+    (ap (λ (d : DecisionsState). slot d.names.names k) c.self.view_is ∙ named) a b
+    ∙ ap (λ (d : DecisionsState). case_at d.cases k) c.self.view_is

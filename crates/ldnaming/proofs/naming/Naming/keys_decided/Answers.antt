@@ -1,0 +1,16 @@
+use Rattle.ldnaming.specs.Placed.{place_case}
+use Rattle.ldnaming.proofs.Placing.{has_placed}
+use Rattle.ldnaming.proofs.Sorting.{differ}
+use Rattle.ldnaming.proofs.naming.Naming.keys_decided.Goals as goal
+
+pub returns-clause-cases : goal.returns-clause-cases
+returns-clause-cases c =
+    rw (← c.self.view_is)
+    (λ k name named.
+    has_placed (place_case c.self.inside.order) c.self.inside.decisions.cases k
+    (c.known-known.ensures.complete k (name, named)))
+
+pub returns-clause-distinct : goal.returns-clause-distinct
+returns-clause-distinct c =
+    let names = c.self.inside.decisions.names in
+    rw (← c.self.view_is) (differ names.names names.order c.known-known.ensures.listing)
