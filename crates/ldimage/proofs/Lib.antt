@@ -10,6 +10,7 @@ pub mod Found
 pub mod Growing
 pub mod InDrawing
 pub mod InSection
+pub mod Joining
 pub mod Keeping
 pub mod Members
 pub mod OfLink
