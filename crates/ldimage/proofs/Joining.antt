@@ -6,7 +6,7 @@ use Rattle.std.specs.Prelude.{nat_le, slice_set, ◌==◌, ◌||◌}
 use Rattle.std.specs.List.{All}
 use Rattle.std.specs.Option.{option_map, option_or}
 use Rattle.std.proofs.lemmas.Bool.{cases_lt, true≢false}
-use Rattle.std.proofs.lemmas.Bool.Decides.{nat_tests, leb_tells}
+use Rattle.std.proofs.lemmas.Bool.Decides.{nat_tests}
 use Rattle.std.proofs.lemmas.List.{map-append}
 use Rattle.std.proofs.lemmas.List.Elements.{filter-append}
 use Rattle.std.proofs.lemmas.List.Folds.{find-append}
@@ -16,7 +16,7 @@ use Rattle.ldfields.specs.declared.patch.Patch.{Patch}
 use Rattle.ldmodel.specs.FileLayout.{Each}
 use Rattle.ldmodel.specs.Image.{covers}
 use Rattle.ldmodel.specs.declared.laid.PlacedData.{PlacedData}
-use Rattle.ldimage.specs.Drawing.{AreApart, ArePieces, IsFilled, covers_piece, data_end, is_full, last_end, piece_byte}
+use Rattle.ldimage.specs.Drawing.{AreApart, ArePieces, IsFilled, covers_piece, data_end, is_full, last_end}
 use Rattle.ldimage.specs.Drawing.{piece_end}
 use Rattle.ldimage.specs.Joined.{IsBare, IsKeptAt, StandFor, piece_ends, piece_spot, spot_in}
 use Rattle.ldimage.specs.Stretches.{Spot}
@@ -320,8 +320,15 @@ module _ (whole ys : List ImagePiece) (y x z : ImagePiece) (s a b : ℕ) (h : St
       | inr e ↦ elim (cases_lt 0 a) [
         | inl full ↦ elim (first j d l (omega (arith, last.size_is, full))) [
           | inl k ↦
-              absurd (omega (arith, e, k, some_bytes ((get_or ds j d).width), next.start_is, last.start_is,
-              last.size_is))
+              absurd (omega (
+                arith,
+                e,
+                k,
+                some_bytes ((get_or ds j d).width),
+                next.start_is,
+                last.start_is,
+                last.size_is,
+              ))
           | inr k ↦ inr (omega (arith, k, last.start_is, both.start_is))
         ]
         | inr empty ↦ inr (omega (arith, e, empty, next.start_is, both.start_is))

@@ -4,6 +4,7 @@ pub mod TailOfLink
 pub mod ProgramHeaders
 pub mod Sorts
 pub mod Adding
+pub mod Alike
 pub mod Counting
 pub mod FileOrder
 pub mod Found

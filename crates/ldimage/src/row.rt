@@ -43,11 +43,7 @@ fn joined_size(last: &ImagePiece<'_>, size: u64, start: u64) -> Option<u64>
 /// # Errors
 ///
 /// Where memory runs out.
-pub fn add_kept<'a>(
-    row: &mut Vec<ImagePiece<'a>>,
-    size: u64,
-    start: u64,
-) -> Result<(), NoMemory>
+pub fn add_kept<'a>(row: &mut Vec<ImagePiece<'a>>, size: u64, start: u64) -> Result<(), NoMemory>
     ensures { OnOk result ((whole : List PieceOf) → StandFor whole row.old.items
         → (x : PieceOf) × IsKeptAt start size x × StandFor (whole ++ x ∷ []) row.new.items) }
 {

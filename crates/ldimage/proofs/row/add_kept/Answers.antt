@@ -1,6 +1,6 @@
 -- Joined to the last one, or added after it.
-use Rattle.std.proofs.Common.{◌∙◌, ◌+◌, ◌-◌, ◌≡◌, length, refl, sym, subst, arith, ◌++◌, ◌∷◌, []}
-use Rattle.ldimage.specs.Joined.{IsKeptAt, StandFor}
+use Rattle.std.proofs.Common.{◌+◌, ◌-◌, ◌≡◌, length, refl, sym, subst, arith, ◌++◌, ◌∷◌, []}
+use Rattle.ldimage.specs.Joined.{StandFor}
 use Rattle.ldimage.specs.declared.section.ImagePiece.{ImagePiece}
 use Rattle.ldimage.proofs.Joining.{joined_last, stand_more}
 use Rattle.ldimage.proofs.row.add_kept.Goals as goal
@@ -17,20 +17,18 @@ returns-in-Some c = λ whole h.
       stays = y.stays;
     } in
     let long : length c.args.row.now.items ≡ (c.len-count.result - 1) + 1 =
-    omega (arith, c.len-count.ensures, c.if-count-gt0.true) in
-    (
+    omega (arith, c.len-count.ensures, c.if-count-gt0.true) in (
       x,
       record { start_is = refl; size_is = refl; bytes = refl; fields = refl; stays = both.0 },
       joined_last whole c.args.row.now.items (c.len-count.result - 1) y x _ h long (sym c.index.ensures) both.0
-      (record { start_is = sym both.1; size_is = refl; bytes = refl; fields = refl; stays = both.0 })
-      refl both.2 refl refl refl,
+          (record { start_is = sym both.1; size_is = refl; bytes = refl; fields = refl; stays = both.0 })
+          refl both.2 refl refl refl,
     )
 
 pub returns : goal.returns
-returns c = λ whole h.
-    (
-      c.kept.result,
-      c.kept.ensures,
-      subst (StandFor (whole ++ c.kept.result ∷ [])) (sym c.in_ok-push.ensures.items)
+returns c = λ whole h. (
+  c.kept.result,
+  c.kept.ensures,
+  subst (StandFor (whole ++ c.kept.result ∷ [])) (sym c.in_ok-push.ensures.items)
       (stand_more whole c.args.row.now.items c.kept.result h (λ _. (c.kept.ensures.bytes, c.kept.ensures.fields))),
-    )
+)
