@@ -37,7 +37,7 @@ below_64 n h = omega (arith, h)
 module _ (p : Project) (s : Layout) (stays : SectionKey → Bool) (x : Parts) (d : Drawing) (made : IsMade x d)
     (are : ArePartsOf p s stays x) where
   -- the drawing that has each input section
-  pub whole : Drawing
+  abbrev pub whole : Drawing
   whole = record d { sections = record { ref_ptr = d.sections.ref_ptr; now = are.drawn.wholes } }
 
   pub drawing_of : IsDrawingOf p s whole

@@ -180,7 +180,13 @@ fn image_row<'a, E: Earlier>(
             None => return Err(AllocError),
             Some(start) => {
                 add_entry(
-                    &mut pieces, project, relocated, firsts, earlier, piece, *start,
+                    &mut pieces,
+                    project,
+                    relocated,
+                    firsts,
+                    earlier,
+                    piece,
+                    *start,
                 )?;
             }
         }

@@ -86,14 +86,14 @@ returns-clause-redrawn c =
     }) are))
     good_old good_new (record {
       drawing = drawing_of new.project new.layout stays x _ (record {
-      headers = c.deref.ensures.value;
-      sections = c.deref-2.ensures.value;
-      tail = c.image_parts-tail.ensures;
-    }) are;
+        headers = c.deref.ensures.value;
+        sections = c.deref-2.ensures.value;
+        tail = c.image_parts-tail.ensures;
+      }) are;
       kept = have_stayed (record {
-          linked = c.stayed_in_both.ensures.linked;
-          all = c.sections_in_file.ensures.all;
-        }) old new stays are.drawn.wholes are.drawn.kept said;
+        linked = c.stayed_in_both.ensures.linked;
+        all = c.sections_in_file.ensures.all;
+      }) old new stays are.drawn.wholes are.drawn.kept said;
       patched = patched;
     }) before)
     c.redraw.ensures.redrawn

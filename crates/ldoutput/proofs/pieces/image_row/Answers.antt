@@ -1,17 +1,19 @@
 -- One entry a step.
-use Rattle.std.proofs.Common.{Bool, sym, refl, map, length, arith}
+use Rattle.std.proofs.Common.{Bool, sym, subst, refl, map, length, arith, []}
 use Rattle.std.specs.Prelude.{is_some}
 use Rattle.std.proofs.lemmas.List.{length-map}
 use Rattle.std.proofs.lemmas.Option.{slice_get_read}
 use Rattle.ldmodel.specs.declared.sections.SectionKey.{SectionKey}
 use Rattle.ldproject.specs.ByPlace.{piece_in}
 use Rattle.ldoutput.proofs.Lists.{mapped_at, own_member}
-use Rattle.ldoutput.proofs.OfRows.{all_entries, no_entries, one_entry}
+use Rattle.ldoutput.proofs.OfRows.{AreDrawnAs, all_entries, no_entries, one_entry}
 use Rattle.ldoutput.proofs.pieces.image_row.Goals as goal
 
-pub loop-k-entry : goal.loop-k-entry
-loop-k-entry g c link q same sources row =
-    no_entries link.project link.layout (λ key. is_some (g.E.Earlier.range c.args.earlier.now key))
+pub loop-k-init : goal.loop-k-init
+loop-k-init g c link q same sources row =
+    let stays : SectionKey → Bool = λ key. is_some (g.E.Earlier.range c.args.earlier.now key) in
+    subst (AreDrawnAs link.project link.layout stays []) (sym c.in_ok-pieces.ensures.items)
+    (no_entries link.project link.layout stays)
 
 pub loop-k-preserved : goal.loop-k-preserved
 loop-k-preserved g c link q same sources row =
