@@ -4,12 +4,14 @@ pub mod TailOfLink
 pub mod ProgramHeaders
 pub mod Sorts
 pub mod Adding
+pub mod Alike
 pub mod Counting
 pub mod FileOrder
 pub mod Found
 pub mod Growing
 pub mod InDrawing
 pub mod InSection
+pub mod Joining
 pub mod Keeping
 pub mod Members
 pub mod OfLink

@@ -35,7 +35,7 @@ FoundAll P None = Unit {0}
 FoundAll P (Some x) = P x
 
 -- a search of two lists that go together finds two members that do, or nothing in both
-data Both {X Y : Type 0} (R : X → Y → Type 0) (test : Y → Bool) : Option X → Option Y → Type 0 where
+pub data Both {X Y : Type 0} (R : X → Y → Type 0) (test : Y → Bool) : Option X → Option Y → Type 0 where
   neither : Both R test None None
   both : {x : X} {y : Y} → R x y → test y ≡ true → Both R test (Some x) (Some y)
 
@@ -46,7 +46,8 @@ go-zip R q x y false false u v r e t h = h
 go-zip R q x y true false u v r e t h = cc
 go-zip R q x y false true u v r e t h = cc
 
-find-zip : {X Y : Type 0} (R : X → Y → Type 0) (p : X → Bool) (q : Y → Bool) → ((x : X) (y : Y) → R x y → q y ≡ p x)
+pub find-zip : {X Y : Type 0} (R : X → Y → Type 0) (p : X → Bool) (q : Y → Bool)
+    → ((x : X) (y : Y) → R x y → q y ≡ p x)
     → (xs : List X) (ys : List Y) → AllZip R xs ys → Both R q (find p xs) (find q ys)
 find-zip R p q same [] [] h = neither
 find-zip R p q same [] (y ∷ ys) h = absurd h

@@ -7,11 +7,10 @@ use Rattle.std.proofs.lemmas.Bool.Decides.{nat_tests}
 use Rattle.std.proofs.lemmas.List.Sums.{sum_by-cons}
 use Rattle.ldlaws.specs.Untouched.{IsGood}
 use Rattle.ldmodel.specs.Image.{covers}
-use Rattle.ldmodel.specs.Layout.{Layout, PlacedPiece, PlacedSection}
-use Rattle.ldmodel.specs.Project.{Project}
+use Rattle.ldmodel.specs.Layout.{PlacedPiece, PlacedSection}
 use Rattle.ldmodel.specs.SectionHeaders.{image_length}
 use Rattle.ldmodel.specs.Segments.{SectionInFile, file_offset, has_file_bytes, in_file, nonempty, segments}
-use Rattle.ldmodel.specs.Stayed.{FileRange, GoodLink, has_stayed, range_in}
+use Rattle.ldmodel.specs.Stayed.{FileRange, GoodLink, range_in}
 use Rattle.ldmodel.specs.WorkBound.{bytes_stayed}
 use Rattle.std.specs.Prelude.{map}
 use Rattle.ldimage.specs.Drawing.{IsDrawing, covers_data, covers_part, covers_piece, covers_section, drawing_end}

@@ -1,4 +1,5 @@
 pub mod HeaderRecord
+pub mod Joined
 pub mod SegmentBytes
 pub mod Tables
 pub mod Drawing

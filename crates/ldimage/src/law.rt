@@ -19,6 +19,7 @@ ghost use Rattle.ldmodel.specs.WorkBound.{bytes_stayed, retargeted_bytes};
 ghost use Rattle.ldtree.specs.declared.statement.Statement.{Statement};
 ghost use Rattle.ldimage.specs.Drawing.{IsDrawing, drawing_end, drawing_spot};
 ghost use Rattle.ldimage.specs.InMemory.{AreFilled, IsInMemory};
+ghost use Rattle.ldimage.specs.Joined.{AreAlike, IsJoined};
 ghost use Rattle.ldimage.specs.Kept.{ArePatchesOf, EachPiece, HasStayed, IsKept, IsRedrawing};
 ghost use Rattle.ldimage.specs.OfLink.{AreUnstayed, IsDrawingOf};
 ghost use Rattle.ldimage.specs.Plan.{IsDrawnFor, count_unstayed};
@@ -58,6 +59,14 @@ pub fn placement_is_in_memory()
     nothing_meets();
     layout_by_effects();
 }
+
+/// Where input sections that stay are joined, the drawing has the bytes that it had, of which the same stay, and it stands
+/// in order. A drawing is like itself.
+pub fn joined_is_whole()
+    ensures stands { (whole d : Drawing) → IsJoined whole d → IsDrawing whole → IsDrawing d }
+    ensures alike { (whole d : Drawing) → IsJoined whole d → AreAlike whole d }
+    ensures own { (d : Drawing) → AreAlike d d }
+{}
 
 /// What is kept of the image of an old link is right for a new one, where only input sections that stayed are kept, and
 /// patches give the fields of their sites whose symbol has another value: then the drawing and the patches are a plan

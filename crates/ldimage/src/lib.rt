@@ -16,6 +16,7 @@ pub mod law;
 mod number;
 pub mod plan;
 pub mod redraw;
+pub mod row;
 pub mod section;
 pub mod sections;
 pub mod stretch;

@@ -25,7 +25,7 @@ use Rattle.ldtargets.specs.KnownLink.{KnownLink}
 use Rattle.ldlayout.proofs.Lists.{each_at, find_at, later_of_map}
 use Rattle.ldoutput.proofs.Lists.{get_left, take_next, zip_more}
 use Rattle.ldoutput.proofs.Running.{drop_drop}
-use Rattle.ldoutput.specs.Output.{IsRow}
+use Rattle.ldoutput.specs.Output.{IsJoinedRow}
 use Rattle.ldoutput.specs.Pieces.{AreRowsAt, AreSources, IsRowAt, IsSized}
 
 -- ---- each input section is found
@@ -84,7 +84,7 @@ module _ (p : Project) (stays : SectionKey → Bool) (numbers : List ℕ) (r : R
   pub record RowsSoFar (k at : ℕ) (ys : List (List ImagePiece)) : Type 0 where
     pub within : at ≤ length starts
     pub drawn : (l : KnownLink) → l.project ≡ p → AreSources l stays numbers r → AreRowsAt p l.layout rows starts
-        → AllZip (IsRow l.project l.layout stays) (take k l.layout.sections) ys
+        → AllZip (IsJoinedRow l.project l.layout stays) (take k l.layout.sections) ys
     pub rest : (l : KnownLink) → AreRowsAt p l.layout rows starts
         → drop at starts ≡ flat_map starts_of (drop k l.layout.sections)
 
@@ -162,17 +162,17 @@ module _ (p : Project) (stays : SectionKey → Bool) (numbers : List ℕ) (r : R
   pub one_row : (k at : ℕ) (row : List Piece) (y : List ImagePiece) (old new : List (List ImagePiece))
       → slice_get rows k ≡ Some row → k < length rows → at + length row ≤ length starts
       → ((l : KnownLink) (q : PlacedSection) → l.project ≡ p → AreSources l stays numbers r
-      → IsRowAt p l.layout row (drop at starts) q → IsRow l.project l.layout stays q y) → new ≡ old ++ y ∷ []
+      → IsRowAt p l.layout row (drop at starts) q → IsJoinedRow l.project l.layout stays q y) → new ≡ old ++ y ∷ []
       → RowsSoFar k at old → RowsSoFar (k + 1) (at + length row) new
   one_row k at row y old new e below fits make pushed so_far = record {
     within = fits;
     drawn = λ l same sources h.
         let q = placed_at l k at row old e below h so_far in
-        subst (λ qs. AllZip (IsRow l.project l.layout stays) qs new)
+        subst (λ qs. AllZip (IsJoinedRow l.project l.layout stays) qs new)
         (sym (take_next l.layout.sections k q.section q.here))
-        (subst (λ zs. AllZip (IsRow l.project l.layout stays) (take k l.layout.sections ++ q.section ∷ []) zs)
+        (subst (λ zs. AllZip (IsJoinedRow l.project l.layout stays) (take k l.layout.sections ++ q.section ∷ []) zs)
         (sym pushed)
-        (zip_more (IsRow l.project l.layout stays) (take k l.layout.sections) old q.section y
+        (zip_more (IsJoinedRow l.project l.layout stays) (take k l.layout.sections) old q.section y
         (so_far.drawn l same sources h)
         (make l q.section same sources (row_at l k at row h q))));
     rest = λ l h.
@@ -186,10 +186,10 @@ module _ (p : Project) (stays : SectionKey → Bool) (numbers : List ℕ) (r : R
 
   pub all_rows : (l : KnownLink) (k at : ℕ) (ys : List (List ImagePiece)) → length rows ≤ k → l.project ≡ p
       → AreSources l stays numbers r → AreRowsAt p l.layout rows starts → RowsSoFar k at ys
-      → AllZip (IsRow l.project l.layout stays) l.layout.sections ys
+      → AllZip (IsJoinedRow l.project l.layout stays) l.layout.sections ys
   all_rows l k at ys past same sources h so_far =
       let many : length l.layout.sections ≡ length rows =
       sym (length-map l.layout.sections entries_in) ∙ ap length h.placed in
-      subst (λ qs. AllZip (IsRow l.project l.layout stays) qs ys)
+      subst (λ qs. AllZip (IsJoinedRow l.project l.layout stays) qs ys)
       (take_all k l.layout.sections (omega (arith, past, many)))
       (so_far.drawn l same sources h)

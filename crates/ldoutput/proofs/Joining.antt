@@ -9,6 +9,7 @@ use Rattle.std.proofs.lemmas.List.{length-map, map-append, take_all}
 use Rattle.std.proofs.lemmas.List.Elements.{All-push, filter-append}
 use Rattle.std.proofs.lemmas.Option.{same_Some, slice_get-map}
 use Rattle.ldimage.specs.InMemory.{IsSectionFilled}
+use Rattle.ldimage.specs.Joined.{IsJoinedSection}
 use Rattle.ldimage.specs.OfLink.{IsImageSection}
 use Rattle.ldimage.specs.declared.section.ImagePiece.{ImagePiece}
 use Rattle.ldimage.specs.declared.section.ImageSection.{ImageSection}
@@ -27,7 +28,7 @@ use Rattle.ldtree.specs.Numbering.{OutputSectionAt}
 use Rattle.ldoutput.proofs.Lists.{at_zip, next_zip, zip_more}
 use Rattle.ldoutput.specs.DataRuns.{AreDataOf}
 use Rattle.ldoutput.specs.Joined.{AreJoined, IsAt}
-use Rattle.ldoutput.specs.Output.{AreDrawn, AreDrawnOf, IsDrawn, IsOutput, IsRow, IsSectionKept}
+use Rattle.ldoutput.specs.Output.{AreDrawn, AreDrawnOf, IsDrawn, IsOutput, IsJoinedRow, IsSectionKept}
 use Rattle.ldoutput.specs.Output.{in_file_at, with_bytes}
 use Rattle.ldoutput.specs.declared.output.Output.{Output}
 
@@ -72,7 +73,7 @@ module _ (p : Project) (s : Layout) (stays : SectionKey → Bool) (places : List
               h.fills
               next.at at;
           offset = λ n at. at_zip (IsOffset s) s.sections offsets k q n h.begun next.at at;
-          row = λ ys at. at_zip (IsRow p s stays) s.sections rows k q ys h.pieces next.at at;
+          row = λ ys at. at_zip (IsJoinedRow p s stays) s.sections rows k q ys h.pieces next.at at;
           data_commands = λ ds at. at_zip AreDataOf s.sections runs k q ds h.data_commands next.at at;
         };
       }
@@ -131,9 +132,11 @@ drawn_same p s stays qs q ys b c e f none h =
     with_one s q ∙ ap (λ t. one_of s q t (q.load_size == 0)) e ∙ ap (one_of s q b) f ∙ none in
     let same = with_append s qs (q ∷ []) ∙ ap (λ l. with_bytes s qs ++ l) one ∙ append-nil (with_bytes s qs) in
     record {
-      sections = subst (λ l. AllZip (IsImageSection p s) l ys) (sym same) h.sections;
+      wholes = h.wholes;
+      sections = subst (λ l. AllZip (IsImageSection p s) l h.wholes) (sym same) h.sections;
       filled = h.filled;
-      kept = subst (λ l. AllZip (IsSectionKept p stays) l ys) (sym same) h.kept;
+      kept = subst (λ l. AllZip (IsSectionKept p stays) l h.wholes) (sym same) h.kept;
+      joined = h.joined;
     }
 
 pub drawn_more : (p : Project) (s : Layout) (stays : SectionKey → Bool) (qs : List PlacedSection) (q : PlacedSection)
@@ -145,11 +148,13 @@ drawn_more p s stays qs q old new y e f is pushed h =
     with_one s q ∙ ap (λ t. one_of s q t (q.load_size == 0)) e ∙ ap (one_of s q false) f in
     let more = with_append s qs (q ∷ []) ∙ ap (λ l. with_bytes s qs ++ l) one in
     subst (AreDrawnOf p s stays (qs ++ q ∷ [])) (sym pushed) (record {
-      sections = subst (λ l. AllZip (IsImageSection p s) l (old ++ y ∷ [])) (sym more)
-          (zip_more (IsImageSection p s) (with_bytes s qs) old (in_file_at s q) y h.sections is.section);
-      filled = All-push IsSectionFilled old y h.filled is.filled;
-      kept = subst (λ l. AllZip (IsSectionKept p stays) l (old ++ y ∷ [])) (sym more)
-          (zip_more (IsSectionKept p stays) (with_bytes s qs) old (in_file_at s q) y h.kept is.kept);
+      wholes = h.wholes ++ is.whole ∷ [];
+      sections = subst (λ l. AllZip (IsImageSection p s) l (h.wholes ++ is.whole ∷ [])) (sym more)
+          (zip_more (IsImageSection p s) (with_bytes s qs) h.wholes (in_file_at s q) is.whole h.sections is.section);
+      filled = All-push IsSectionFilled h.wholes is.whole h.filled is.filled;
+      kept = subst (λ l. AllZip (IsSectionKept p stays) l (h.wholes ++ is.whole ∷ [])) (sym more)
+          (zip_more (IsSectionKept p stays) (with_bytes s qs) h.wholes (in_file_at s q) is.whole h.kept is.kept);
+      joined = zip_more IsJoinedSection h.wholes old is.whole y h.joined is.joined;
     })
 
 -- all are drawn
@@ -158,9 +163,11 @@ pub drawn_all : (p : Project) (s : Layout) (stays : SectionKey → Bool) (ys : L
 drawn_all p s stays ys named file h =
     let same = in_file_are s.sections (segments s.sections) named file.grouping.parts in
     record {
-      sections = subst (λ l. AllZip (IsImageSection p s) (filter loads l) ys) (sym same) h.sections;
+      wholes = h.wholes;
+      sections = subst (λ l. AllZip (IsImageSection p s) (filter loads l) h.wholes) (sym same) h.sections;
       filled = h.filled;
-      kept = subst (λ l. AllZip (IsSectionKept p stays) (filter loads l) ys) (sym same) h.kept;
+      kept = subst (λ l. AllZip (IsSectionKept p stays) (filter loads l) h.wholes) (sym same) h.kept;
+      joined = h.joined;
     }
 
 pub not_zero : (n : ℕ) → (n ≡ 0 → ⊥) → (n == 0) ≡ false

@@ -16,6 +16,8 @@ use Rattle.elfobj.specs.declared.section.SectionIndex.{SectionIndex}
 use Rattle.ldfields.specs.Patches.{AreInOrder, patched_byte}
 use Rattle.ldfields.specs.declared.patch.Patch.{Patch}
 use Rattle.ldimage.specs.Drawing.{IsFilled}
+use Rattle.ldimage.proofs.Joining.{stand_none}
+use Rattle.ldimage.specs.Joined.{IsKeptAt, StandFor}
 use Rattle.ldimage.specs.OfLink.{IsImagePiece}
 use Rattle.ldimage.specs.declared.section.ImagePiece.{ImagePiece}
 use Rattle.ldmodel.specs.Edits.{AreNamesDistinct, has_name}
@@ -37,7 +39,7 @@ use Rattle.ldlayout.proofs.Lists.{find_at}
 use Rattle.ldoutput.proofs.Lists.{take_next, zip_each, zip_more, zip_right}
 use Rattle.ldoutput.specs.Kept.{IsKeptBy}
 use Rattle.ldoutput.specs.Numbers.{HaveNumbers}
-use Rattle.ldoutput.specs.Output.{IsRow}
+use Rattle.ldoutput.specs.Output.{IsJoinedRow, IsRow}
 use Rattle.ldoutput.specs.Pieces.{IsDrawnPiece, IsPlacedAt, IsRowAt, IsRowPiece}
 
 abbrev one_if : Bool → ℕ
@@ -100,10 +102,6 @@ filled_zeros y e f = (
 abbrev pub AreZeros : ℕ → ℕ → ImagePiece → Type 0
 AreZeros size start y =
     (y.start ≡ start) × (y.size ≡ size) × (y.bytes.now ≡ []) × (y.fields.now ≡ []) × (y.stays ≡ false)
-
-abbrev pub AreKept : ℕ → ℕ → ImagePiece → Type 0
-AreKept size start y =
-    (y.start ≡ start) × (y.size ≡ size) × (y.bytes.now ≡ []) × (y.fields.now ≡ []) × (y.stays ≡ true)
 
 module _ (p : Project) (s : Layout) (piece : Piece) (start : ℕ) (w : PlacedPiece) (at : IsPlacedAt p s piece start w)
   where
@@ -273,20 +271,20 @@ row_drawn p s stays x start w y at new h = record {
 
 -- one that stays, whose key does
 pub row_kept : (p : Project) (s : Layout) (stays : SectionKey → Bool) (x : rows.Piece) (start : ℕ) (w : PlacedPiece)
-    (y : ImagePiece) → IsPlacedAt p s (piece_in p x) start w → stays x.section ≡ true → AreKept x.size start y
+    (y : ImagePiece) → IsPlacedAt p s (piece_in p x) start w → stays x.section ≡ true → IsKeptAt start x.size y
     → IsRowPiece p s stays w y
 row_kept p s stays x start w y at stayed h = record {
   piece = record {
-    start = h.0 ∙ sym at.start_is;
-    size = h.1 ∙ sym (ap (λ (z : Piece). z.size) at.piece_is);
-    bytes = λ e. absurd (true≢false (sym h.4 ∙ e));
+    start = h.start_is ∙ sym at.start_is;
+    size = h.size_is ∙ sym (ap (λ (z : Piece). z.size) at.piece_is);
+    bytes = λ e. absurd (true≢false (sym h.stays ∙ e));
   };
-  filled = filled_zeros y h.2 h.3;
+  filled = filled_zeros y h.bytes h.fields;
   kept = record {
     section = x.section;
     object = sym (ap (λ (z : Piece). z.object) at.piece_is);
     part = sym (ap (λ (z : Piece). z.part) at.piece_is);
-    is = h.4 ∙ sym stayed;
+    is = h.stays ∙ sym stayed;
   };
 }
 
@@ -303,25 +301,43 @@ member [] k l = absurd (omega (arith, l))
 member (x ∷ xs) zero l = (x, refl)
 member (x ∷ xs) (suc k) l = member xs k (omega (arith, l))
 
+-- input sections that are drawn as these, of which those that stay may be joined
+pub record AreDrawnAs (p : Project) (s : Layout) (stays : SectionKey → Bool) (ws : List PlacedPiece)
+    (ys : List ImagePiece) : Type 0 where
+  pub whole : List ImagePiece
+  pub pieces : AllZip (IsRowPiece p s stays) ws whole
+  pub joined : StandFor whole ys
+
+pub no_entries : (p : Project) (s : Layout) (stays : SectionKey → Bool) → AreDrawnAs p s stays [] []
+no_entries p s stays = record { whole = []; pieces = tt; joined = stand_none }
+
 -- one entry more
 pub one_entry : (own p : Project) (s : Layout) (stays : SectionKey → Bool) (q : PlacedSection) (row : List Piece)
     (starts : List ℕ) (k : ℕ)
-    (piece : Piece) (start : ℕ) (y : ImagePiece) (old new : List ImagePiece) → IsRowAt own s row starts q
+    (piece : Piece) (start : ℕ) (old new : List ImagePiece) → IsRowAt own s row starts q
     → k < length row
     → slice_get row k ≡ Some piece → slice_get starts k ≡ Some start
-    → ((w : PlacedPiece) → IsPlacedAt own s piece start w → IsRowPiece p s stays w y) → new ≡ old ++ y ∷ []
-    → AllZip (IsRowPiece p s stays) (take k q.pieces) old → AllZip (IsRowPiece p s stays) (take (k + 1) q.pieces) new
-one_entry own p s stays q row starts k piece start y old new h l at_row at_start make pushed so_far =
+    → ((w : PlacedPiece) (whole : List ImagePiece) → IsPlacedAt own s piece start w → StandFor whole old
+    → (y : ImagePiece) × IsRowPiece p s stays w y × StandFor (whole ++ y ∷ []) new)
+    → AreDrawnAs p s stays (take k q.pieces) old → AreDrawnAs p s stays (take (k + 1) q.pieces) new
+one_entry own p s stays q row starts k piece start old new h l at_row at_start make so_far =
     let m = member q.pieces k (omega (arith, l, h.long)) in
-    subst (λ ws. AllZip (IsRowPiece p s stays) ws new) (sym (take_next q.pieces k m.0 m.1))
-    (subst (λ ys. AllZip (IsRowPiece p s stays) (take k q.pieces ++ m.0 ∷ []) ys) (sym pushed)
-    (zip_more (IsRowPiece p s stays) (take k q.pieces) old m.0 y so_far
-    (make m.0 (h.each k piece start m.0 m.1 at_row at_start))))
+    let more = make m.0 so_far.whole (h.each k piece start m.0 m.1 at_row at_start) so_far.joined in
+    subst (λ ws. AreDrawnAs p s stays ws new) (sym (take_next q.pieces k m.0 m.1))
+    (record {
+      whole = so_far.whole ++ more.0 ∷ [];
+      pieces = zip_more (IsRowPiece p s stays) (take k q.pieces) so_far.whole m.0 more.0 so_far.pieces more.1;
+      joined = more.2;
+    })
 
 pub all_entries : (own p : Project) (s : Layout) (stays : SectionKey → Bool) (q : PlacedSection) (row : List Piece)
     (starts : List ℕ) (k : ℕ)
     (ys : List ImagePiece) → IsRowAt own s row starts q → length row ≤ k
-    → AllZip (IsRowPiece p s stays) (take k q.pieces) ys → IsRow p s stays q ys
-all_entries own p s stays q row starts k ys h past z =
-    whole_row p s stays q ys
-    (subst (λ ws. AllZip (IsRowPiece p s stays) ws ys) (take_all k q.pieces (omega (arith, past, h.long))) z)
+    → AreDrawnAs p s stays (take k q.pieces) ys → IsJoinedRow p s stays q ys
+all_entries own p s stays q row starts k ys h past z = record {
+  whole = z.whole;
+  row = whole_row p s stays q z.whole
+      (subst (λ ws. AllZip (IsRowPiece p s stays) ws z.whole) (take_all k q.pieces (omega (arith, past, h.long)))
+      z.pieces);
+  joined = z.joined;
+}

@@ -1,11 +1,13 @@
 -- The drawing of a link.
-use Rattle.std.proofs.Common.{◌≡◌, ◌∙◌, subst, sym, Bool, ℕ, ◌<◌, ◌≤◌, ◌^◌, List, [], ◌∷◌, arith}
+use Rattle.std.proofs.Common.{◌≡◌, ◌∙◌, refl, subst, sym, Bool, ℕ, ◌<◌, ◌≤◌, ◌^◌, List, [], ◌∷◌, arith}
 use Rattle.std.proofs.Common.{length}
 use Rattle.std.specs.Borrow.{Bor}
 use Rattle.std.specs.List.{All, AllZip}
 use Rattle.ldfields.specs.declared.patch.Patch.{Patch}
-use Rattle.ldimage.specs.Drawing.{drawing_end, end_of_parts, end_of_sections}
-use Rattle.ldimage.specs.OfLink.{IsDrawingOf, IsImagePart, IsImageSection, loaded}
+use Rattle.ldimage.specs.Drawing.{IsDrawing, drawing_end, end_of_parts, end_of_sections}
+use Rattle.ldimage.specs.InMemory.{AreFilled, IsInMemory}
+use Rattle.ldimage.specs.Joined.{AreAlike, IsJoined, IsJoinedSection}
+use Rattle.ldimage.specs.OfLink.{IsDrawingOf, IsImagePart}
 use Rattle.ldimage.specs.Stretches.{EndsBy}
 use Rattle.ldimage.specs.declared.section.Drawing.{Drawing}
 use Rattle.ldimage.specs.declared.section.ImagePart.{ImagePart}
@@ -13,6 +15,7 @@ use Rattle.ldimage.specs.declared.section.ImageSection.{ImageSection}
 use Rattle.ldmodel.specs.Layout.{Layout}
 use Rattle.ldmodel.specs.Project.{Project}
 use Rattle.ldmodel.specs.SectionHeaders.{FilePart, header_part, image_length, tail}
+use Rattle.ldmodel.specs.Segments.{nonempty}
 use Rattle.ldmodel.specs.declared.sections.SectionKey.{SectionKey}
 use Rattle.ldoutput.specs.Parts.{ArePartsOf}
 use Rattle.ldoutput.specs.declared.parts.Parts.{Parts}
@@ -28,35 +31,51 @@ pub record IsMade (x : Parts) (d : Drawing) : Type 0 where
   pub tail : AllZip IsImagePart (x.tail.symbols ∷ x.tail.symbol_names ∷ x.tail.header_names ∷ x.tail.headers ∷ [])
       d.tail.now
 
+below_64 : (n : ℕ) → n ≤ 2 ^ 28 → n < 2 ^ 64
+below_64 n h = omega (arith, h)
+
 module _ (p : Project) (s : Layout) (stays : SectionKey → Bool) (x : Parts) (d : Drawing) (made : IsMade x d)
     (are : ArePartsOf p s stays x) where
-  pub drawing_of : IsDrawingOf p s d
+  -- the drawing that has each input section
+  abbrev pub whole : Drawing
+  whole = record d { sections = record { ref_ptr = d.sections.ref_ptr; now = are.drawn.wholes } }
+
+  pub drawing_of : IsDrawingOf p s whole
   drawing_of = record {
     headers = made.headers ∙ are.headers;
-    sections = subst (AllZip (IsImageSection p s) (loaded s)) (sym made.sections) are.drawn.sections;
+    sections = are.drawn.sections;
     tail = subst (λ l. AllZip IsImagePart l d.tail.now) are.tail made.tail;
   }
+
+  pub drawing_joined : IsJoined whole d
+  drawing_joined = record {
+    headers = refl;
+    sections = subst (AllZip IsJoinedSection are.drawn.wholes) (sym made.sections) are.drawn.joined;
+    tail = refl;
+  }
+
+  pub whole_stands : ((d : Drawing) → IsDrawingOf p s d → All IsInMemory (nonempty s.sections) → AreFilled d
+      → image_length p s < 2 ^ 64 → IsDrawing d) → All IsInMemory (nonempty s.sections)
+      → image_length p s ≤ 2 ^ 28 → IsDrawing whole
+  whole_stands law memory short =
+      law whole drawing_of memory are.drawn.filled (below_64 (image_length p s) short)
 
 -- what ends by the image ends by the drawing of these parts
 pub ends_in : (p : Project) (s : Layout) (stays : SectionKey → Bool) (x : Parts) (headers : Bor (List ℕ))
     (sections : Bor (List ImageSection)) (parts : List ImagePart) (patches : List Patch)
-    → ((d : Drawing) → IsDrawingOf p s d → drawing_end d ≡ image_length p s) → headers.now ≡ x.headers.items
+    → ((d : Drawing) → IsDrawingOf p s d → drawing_end d ≡ image_length p s)
+    → ((w d : Drawing) → IsJoined w d → AreAlike w d) → headers.now ≡ x.headers.items
     → sections.now ≡ x.sections.items
     → AllZip IsImagePart (x.tail.symbols ∷ x.tail.symbol_names ∷ x.tail.header_names ∷ x.tail.headers ∷ []) parts
     → ArePartsOf p s stays x → All (EndsBy (image_length p s)) patches
     → All (EndsBy (end_of_parts (end_of_sections (length headers.now) sections.now) parts)) patches
-ends_in p s stays x headers sections parts patches law same_headers same_sections same_tail are h =
+ends_in p s stays x headers sections parts patches law like same_headers same_sections same_tail are h =
     let d : Drawing = record {
       headers = headers;
       sections = sections;
       tail = record { ref_ptr = headers.ref_ptr; now = parts };
     } in
-    let end = law d (drawing_of p s stays x d (record {
-      headers = same_headers;
-      sections = same_sections;
-      tail = same_tail;
-    }) are) in
+    let made : IsMade x d = record { headers = same_headers; sections = same_sections; tail = same_tail } in
+    let w : Drawing = whole p s stays x d made are in
+    let end = (like w d (drawing_joined p s stays x d made are)).end ∙ law w (drawing_of p s stays x d made are) in
     subst (λ n. All (EndsBy n) patches) (sym end) h
-
-pub below_64 : (n : ℕ) → n ≤ 2 ^ 28 → n < 2 ^ 64
-below_64 n h = omega (arith, h)

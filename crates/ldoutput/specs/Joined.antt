@@ -11,7 +11,7 @@ use Rattle.ldmodel.specs.declared.laid.PlacedData.{PlacedData}
 use Rattle.ldmodel.specs.declared.sections.SectionKey.{SectionKey}
 use Rattle.ldtree.specs.Numbering.{OutputSectionAt}
 use Rattle.ldoutput.specs.DataRuns.{AreDataOf}
-use Rattle.ldoutput.specs.Output.{IsRow}
+use Rattle.ldoutput.specs.Output.{IsJoinedRow}
 
 -- those of a number are of an output section
 pub record IsAt (p : Project) (s : Layout) (stays : SectionKey → Bool) (q : PlacedSection) (k : ℕ) (place : Placed)
@@ -21,7 +21,7 @@ pub record IsAt (p : Project) (s : Layout) (stays : SectionKey → Bool) (q : Pl
   pub name : (o : OutputSectionAt) → slice_get os k ≡ Some o → o.section.name ≡ q.name
   pub fill : (o : OutputSectionAt) → slice_get os k ≡ Some o → o.section.fill ≡ q.fill
   pub offset : (n : ℕ) → slice_get offsets k ≡ Some n → IsOffset s q n
-  pub row : (ys : List ImagePiece) → slice_get rows k ≡ Some ys → IsRow p s stays q ys
+  pub row : (ys : List ImagePiece) → slice_get rows k ≡ Some ys → IsJoinedRow p s stays q ys
   pub data_commands : (ds : List PlacedData) → slice_get runs k ≡ Some ds → AreDataOf q ds
 
 -- all are those of a layout
@@ -32,5 +32,5 @@ pub record AreJoined (p : Project) (s : Layout) (stays : SectionKey → Bool) (p
   pub names : map (λ (q : PlacedSection). q.name) s.sections ≡ map (λ (o : OutputSectionAt). o.section.name) os
   pub fills : map (λ (q : PlacedSection). q.fill) s.sections ≡ map (λ (o : OutputSectionAt). o.section.fill) os
   pub begun : AllZip (IsOffset s) s.sections offsets
-  pub pieces : AllZip (IsRow p s stays) s.sections rows
+  pub pieces : AllZip (IsJoinedRow p s stays) s.sections rows
   pub data_commands : AllZip AreDataOf s.sections runs

@@ -9,6 +9,7 @@ use Rattle.ldmodel.specs.Segments.{SectionInFile, file_offset, has_file_bytes, n
 use Rattle.ldmodel.specs.declared.sections.SectionKey.{SectionKey}
 use Rattle.ldimage.specs.Drawing.{IsFilled}
 use Rattle.ldimage.specs.InMemory.{IsSectionFilled}
+use Rattle.ldimage.specs.Joined.{IsJoinedSection, StandFor}
 use Rattle.ldimage.specs.OfLink.{IsImageData, IsImagePiece, IsImageSection, loaded}
 use Rattle.ldimage.specs.declared.section.ImagePiece.{ImagePiece}
 use Rattle.ldimage.specs.declared.section.ImageSection.{ImageSection}
@@ -23,6 +24,13 @@ pub record IsRow (p : Project) (s : Layout) (stays : SectionKey → Bool) (q : P
   pub filled : All IsFilled ys
   pub kept : AllZip (IsKeptBy p stays) q.pieces ys
 
+-- the same, where those that stay may be joined
+pub record IsJoinedRow (p : Project) (s : Layout) (stays : SectionKey → Bool) (q : PlacedSection)
+    (ys : List ImagePiece) : Type 0 where
+  pub whole : List ImagePiece
+  pub row : IsRow p s stays q whole
+  pub joined : StandFor whole ys
+
 -- all that is drawn of an output section
 pub record IsOutput (p : Project) (s : Layout) (stays : SectionKey → Bool) (q : PlacedSection) (x : Output)
     : Type 0 where
@@ -32,7 +40,7 @@ pub record IsOutput (p : Project) (s : Layout) (stays : SectionKey → Bool) (q 
   pub fill : (i : ℕ) → slice_index x.fill.now (i % length x.fill.now) ≡ fill_byte q.fill i
   pub some_fill : 0 < length x.fill.now
   pub short_fill : length x.fill.now ≤ 8
-  pub row : IsRow p s stays q x.pieces.now
+  pub row : IsJoinedRow p s stays q x.pieces.now
   pub data_commands : AllZip IsImageData q.data_commands x.data_commands.now
 
 -- each input section of an output section stays if its key does
@@ -43,12 +51,14 @@ IsSectionKept p stays x y = AllZip (IsKeptBy p stays) x.section.pieces y.pieces.
 abbrev pub in_file_at : Layout → PlacedSection → SectionInFile
 in_file_at s q = record { offset = file_offset (segments s.sections) q; section = q }
 
--- an output section as it is drawn
+-- an output section as it is drawn, of whose input sections those that stay may be joined
 pub record IsDrawn (p : Project) (s : Layout) (stays : SectionKey → Bool) (q : PlacedSection) (y : ImageSection)
     : Type 0 where
-  pub section : IsImageSection p s (in_file_at s q) y
-  pub filled : IsSectionFilled y
-  pub kept : IsSectionKept p stays (in_file_at s q) y
+  pub whole : ImageSection
+  pub section : IsImageSection p s (in_file_at s q) whole
+  pub filled : IsSectionFilled whole
+  pub kept : IsSectionKept p stays (in_file_at s q) whole
+  pub joined : IsJoinedSection whole y
 
 -- those of some output sections that have bytes in the file
 abbrev pub with_bytes : Layout → List PlacedSection → List SectionInFile
@@ -56,12 +66,16 @@ with_bytes s qs = filter (λ (x : SectionInFile). has_file_bytes x.section) (map
 
 pub record AreDrawnOf (p : Project) (s : Layout) (stays : SectionKey → Bool) (qs : List PlacedSection)
     (ys : List ImageSection) : Type 0 where
-  pub sections : AllZip (IsImageSection p s) (with_bytes s qs) ys
-  pub filled : All IsSectionFilled ys
-  pub kept : AllZip (IsSectionKept p stays) (with_bytes s qs) ys
+  pub wholes : List ImageSection
+  pub sections : AllZip (IsImageSection p s) (with_bytes s qs) wholes
+  pub filled : All IsSectionFilled wholes
+  pub kept : AllZip (IsSectionKept p stays) (with_bytes s qs) wholes
+  pub joined : AllZip IsJoinedSection wholes ys
 
 -- the output sections with bytes in the file, as they are drawn
 pub record AreDrawn (p : Project) (s : Layout) (stays : SectionKey → Bool) (ys : List ImageSection) : Type 0 where
-  pub sections : AllZip (IsImageSection p s) (loaded s) ys
-  pub filled : All IsSectionFilled ys
-  pub kept : AllZip (IsSectionKept p stays) (loaded s) ys
+  pub wholes : List ImageSection
+  pub sections : AllZip (IsImageSection p s) (loaded s) wholes
+  pub filled : All IsSectionFilled wholes
+  pub kept : AllZip (IsSectionKept p stays) (loaded s) wholes
+  pub joined : AllZip IsJoinedSection wholes ys

@@ -31,7 +31,7 @@ use crate::relocated::Relocated;
 use ldbase::meter::Meter;
 use ldfields::canvas::Canvas;
 use ldfields::patch::Patch;
-use ldimage::law::{drawing_is_image, drawing_stands, placement_is_in_memory};
+use ldimage::law::{drawing_is_image, drawing_stands, joined_is_whole, placement_is_in_memory};
 use ldimage::redraw::redraw;
 use ldimage::section::{Drawing, ImagePart, ImagePiece};
 use ldimage::tail::{TailPart, TailParts};
@@ -107,6 +107,7 @@ fn draw_outputs(
 {
     drawing_stands();
     drawing_is_image();
+    joined_is_whole();
     placement_is_in_memory();
     stayed_in_both();
     sections_in_file();

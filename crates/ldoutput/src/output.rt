@@ -10,7 +10,7 @@ ghost use Rattle.ldmodel.specs.Project.{Project};
 ghost use Rattle.ldmodel.specs.declared.sections.SectionKey.{SectionKey};
 ghost use Rattle.ldtree.specs.Numbered.{shown_sections};
 ghost use Rattle.ldoutput.specs.Joined.{AreJoined, IsAt};
-ghost use Rattle.ldoutput.specs.Output.{IsOutput, IsRow};
+ghost use Rattle.ldoutput.specs.Output.{IsJoinedRow, IsOutput};
 
 use crate::data_runs::data_runs;
 use ldimage::section::ImagePiece;
@@ -34,7 +34,7 @@ pub(crate) struct Output<'a> {
     pub(crate) placed: Placed,
     /// Where it begins in the file; 0 where its size is 0.
     pub(crate) offset: u128,
-    /// The input sections, in their order.
+    /// The input sections, in their order, of which those that stay are joined where no gap lies between.
     pub(crate) pieces: &'a [ImagePiece<'a>],
     /// The data commands, in their order.
     pub(crate) data_commands: &'a [PlacedData],
@@ -120,7 +120,7 @@ pub(crate) fn outputs<'a>(
     pieces: &'a [Vec<ImagePiece<'a>>],
 ) -> Result<Vec<Output<'a>>, NoMemory>
     ensures { IfOk result (λ v. (s : Layout) (stays : SectionKey → Bool) → IsLaying project.now s laying.now
-        → AllZip (IsRow project.now s stays) s.sections (map vec_items pieces.now)
+        → AllZip (IsJoinedRow project.now s stays) s.sections (map vec_items pieces.now)
         → AllZip (IsOutput project.now s stays) s.sections v.items) }
 {
     layout_by_effects();

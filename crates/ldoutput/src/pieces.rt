@@ -1,8 +1,11 @@
 //! Input sections as they are drawn.
 
-ghost use Rattle.std.specs.Prelude.{◌≡◌, ◌<◌, Bool, IfOk, Some, [], false, is_some, length, map, slice_get, true};
+ghost use Rattle.std.specs.Prelude.{◌≡◌, ◌<◌, ◌++◌, ◌∷◌, Bool, IfOk, List, OnOk, Some, [], false, is_some, length};
+ghost use Rattle.std.specs.Prelude.{map, slice_get};
 ghost use Rattle.std.specs.List.{AllZip};
 ghost use Rattle.std.specs.Vec.{vec_items};
+ghost use Rattle.ldimage.specs.Joined.{StandFor};
+ghost use Rattle.ldimage.specs.declared.section.ImagePiece.{ImagePiece as Drawn};
 ghost use Rattle.elfobj.specs.Sections.{LinkedSection, section_of};
 ghost use Rattle.ldlayout.specs.Laying.{IsLaying};
 ghost use Rattle.ldmodel.specs.Layout.{Layout, PlacedPiece, PlacedSection};
@@ -15,7 +18,7 @@ ghost use Rattle.ldnaming.specs.Naming.{NamingState};
 ghost use Rattle.ldproject.specs.ByPlace.{piece_in, rows_in};
 ghost use Rattle.ldtargets.specs.KnownLink.{KnownLink};
 ghost use Rattle.ldvalues.specs.LinkView.{known_link};
-ghost use Rattle.ldoutput.specs.Output.{IsRow};
+ghost use Rattle.ldoutput.specs.Output.{IsJoinedRow};
 ghost use Rattle.ldoutput.specs.Pieces.{AreRowsAt, AreSources, IsDrawnPiece, IsPlacedAt, IsRowAt, IsRowPiece};
 ghost use Rattle.ldoutput.specs.Pieces.{IsSectionPiece};
 ghost use Rattle.ldoutput.specs.Runs.{AreRunsUnless};
@@ -24,6 +27,7 @@ use crate::relocated::Relocated;
 use crate::section_numbers::{fields_of, first_sections};
 use elfobj::object::Object;
 use elfobj::section::{LinkedIndex, Section, SectionKind};
+use ldimage::row::{add_drawn, add_kept};
 use ldimage::section::ImagePiece;
 use ldlaws::gathering::{live_by_path, once_in_rows};
 use ldlaws::layout::placed_are_rows;
@@ -128,41 +132,34 @@ fn drawn_piece<'a>(
     }
 }
 
-/// An input section of this number of bytes at an address that stays as an earlier link has it.
-fn kept<'a>(size: u64, start: u64) -> ImagePiece<'a>
-    ensures { (result.start ≡ start) × (result.size ≡ size) × (result.bytes.now ≡ []) × (result.fields.now ≡ [])
-        × (result.stays ≡ true) }
-{
-    ImagePiece {
-        start,
-        size,
-        bytes: &[],
-        fields: &[],
-        stays: true,
-    }
-}
-
-/// An entry of a row at an address. Fails where it is of no object.
-fn image_piece<'a, E: Earlier>(
+/// Adds an entry of a row at an address: one that stays is joined to the one before it, where that stays too and no gap
+/// lies between. Fails where the entry is of no object.
+fn add_entry<'a, E: Earlier>(
+    pieces: &mut Vec<ImagePiece<'a>>,
     project: &'a ProjectView<'_>,
     relocated: &'a Relocated,
     firsts: &[usize],
     earlier: &E,
     piece: &Piece,
     start: u64,
-) -> Result<ImagePiece<'a>, NoMemory>
-    ensures { IfOk result (λ y. (l : KnownLink) (w : PlacedPiece) → l.project ≡ project.now
+) -> Result<(), NoMemory>
+    ensures { OnOk result ((l : KnownLink) (w : PlacedPiece) (whole : List Drawn) → l.project ≡ project.now
         → AreSources l (λ k. is_some (E.range earlier.now k)) firsts.now relocated.now
-        → IsPlacedAt project.now l.layout (piece_in project.now piece.now) start w
-        → IsRowPiece l.project l.layout (λ k. is_some (E.range earlier.now k)) w y) }
+        → IsPlacedAt project.now l.layout (piece_in project.now piece.now) start w → StandFor whole pieces.old.items
+        → (y : Drawn) × IsRowPiece l.project l.layout (λ k. is_some (E.range earlier.now k)) w y
+        × StandFor (whole ++ y ∷ []) pieces.new.items) }
 {
     match earlier.stayed(piece.section) {
-        Some(_) => Ok(kept(piece.size, start)),
-        None => drawn_piece(project, relocated, firsts, piece, start),
+        Some(_) => add_kept(pieces, piece.size, start),
+        None => {
+            let drawn = drawn_piece(project, relocated, firsts, piece, start)?;
+            add_drawn(pieces, drawn)
+        }
     }
 }
 
-/// The entries of a row at these addresses. Fails where memory runs out.
+/// The entries of a row at these addresses, of which those that stay are joined where no gap lies between. Fails where
+/// memory runs out.
 fn image_row<'a, E: Earlier>(
     alloc: Global,
     project: &'a ProjectView<'_>,
@@ -175,14 +172,22 @@ fn image_row<'a, E: Earlier>(
     ensures { IfOk result (λ v. (l : KnownLink) (q : PlacedSection) → l.project ≡ project.now
         → AreSources l (λ k. is_some (E.range earlier.now k)) firsts.now relocated.now
         → IsRowAt project.now l.layout (map (piece_in project.now) row.now) starts.now q
-        → IsRow l.project l.layout (λ k. is_some (E.range earlier.now k)) q v.items) }
+        → IsJoinedRow l.project l.layout (λ k. is_some (E.range earlier.now k)) q v.items) }
 {
     let mut pieces = Vec::with_capacity(alloc, row.len())?;
     for (k, piece) in row.iter().enumerate() {
         match starts.get(k) {
             None => return Err(AllocError),
             Some(start) => {
-                pieces.push(image_piece(project, relocated, firsts, earlier, piece, *start)?)?;
+                add_entry(
+                    &mut pieces,
+                    project,
+                    relocated,
+                    firsts,
+                    earlier,
+                    piece,
+                    *start,
+                )?;
             }
         }
     }
@@ -202,7 +207,7 @@ fn image_rows<'a, E: Earlier>(
     ensures { IfOk result (λ v. (l : KnownLink) → l.project ≡ project.now
         → AreSources l (λ k. is_some (E.range earlier.now k)) firsts.now relocated.now
         → AreRowsAt project.now l.layout (rows_in project.now rows.now) starts.now
-        → AllZip (IsRow l.project l.layout (λ k. is_some (E.range earlier.now k))) l.layout.sections
+        → AllZip (IsJoinedRow l.project l.layout (λ k. is_some (E.range earlier.now k))) l.layout.sections
         (map vec_items v.items)) }
 {
     let mut pieces = Vec::with_capacity(alloc, rows.len())?;
@@ -227,7 +232,8 @@ fn image_rows<'a, E: Earlier>(
     Ok(pieces)
 }
 
-/// The input sections of each output section, in their order; those that an earlier link says have stayed stay.
+/// The input sections of each output section, in their order; those that an earlier link says have stayed stay, and are
+/// joined where no gap lies between.
 ///
 /// # Errors
 ///
@@ -244,7 +250,7 @@ pub(crate) fn image_pieces<'a, E: Earlier>(
     ensures { IfOk result (λ v. (s : Layout) (a : NamingState) → IsLaying project.now s laying.now
         → AreRunsUnless (known_link project.now s a) (λ k. is_some (E.range earlier.now k))
         relocated.now.patches.items relocated.now.ends.items
-        → AllZip (IsRow project.now s (λ k. is_some (E.range earlier.now k))) s.sections
+        → AllZip (IsJoinedRow project.now s (λ k. is_some (E.range earlier.now k))) s.sections
         (map vec_items v.items)) }
 {
     live_by_path();

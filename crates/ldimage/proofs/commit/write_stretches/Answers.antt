@@ -1,4 +1,4 @@
-use Rattle.std.proofs.Common.{◌∙◌, length, arith}
+use Rattle.std.proofs.Common.{arith}
 use Rattle.ldimage.proofs.Walking.{turn_of, walk_on, done_all, counted_all}
 use Rattle.ldimage.proofs.commit.write_stretches.Goals as goal
 

@@ -5,6 +5,7 @@ use Rattle.ldbase.specs.Raised.{raised}
 use Rattle.ldbase.specs.declared.meter.Count.TheVariants.{Bytes}
 use Rattle.ldimage.specs.Drawing.{drawing_end, drawing_spot}
 use Rattle.ldimage.specs.Plan.{count_unstayed}
+use Rattle.ldimage.proofs.Alike.{alike_self}
 use Rattle.ldimage.proofs.Planned.{count_all}
 use Rattle.ldimage.proofs.draw.draw.Goals as goal
 
@@ -14,7 +15,8 @@ on_ok P Q (Err e) f h = h
 
 pub returns-clause-image : goal.returns-clause-image
 returns-clause-image c =
-    on_ok _ _ c.redraw.result (λ h p s is. h p s c.requires.unstayed is) c.redraw.ensures.image
+    let d = c.args.drawing.now in
+    on_ok _ _ c.redraw.result (λ h p s is. h p s d (alike_self d) c.requires.unstayed is) c.redraw.ensures.image
 
 pub returns-clause-counted : goal.returns-clause-counted
 returns-clause-counted c =

@@ -11,7 +11,7 @@ use Rattle.ldoutput.proofs.Lists.{on_ok}
 use Rattle.ldoutput.proofs.Staying.{all_said, only_said}
 use Rattle.ldoutput.proofs.image.draw_image.Goals as goal
 use Rattle.ldoutput.specs.Drawable.{AreOutputs, IsDrawableAt}
-use Rattle.ldoutput.specs.Output.{IsOutput, IsRow}
+use Rattle.ldoutput.specs.Output.{IsOutput, IsJoinedRow}
 
 pub draw_outputs-requires-clause-outputs : goal.draw_outputs-requires-clause-outputs
 draw_outputs-requires-clause-outputs g c =
@@ -30,7 +30,7 @@ draw_outputs-requires-clause-outputs g c =
         short = r.is.short;
         outputs = subst (λ l. AllZip (IsOutput p s stays) s.sections l) (sym c.deref-2.ensures.value)
             (c.in_ok-outputs.ensures s stays r.is.laying
-            (subst (λ l. AllZip (IsRow p s stays) s.sections (map vec_items l)) (sym c.deref.ensures.value)
+            (subst (λ l. AllZip (IsJoinedRow p s stays) s.sections (map vec_items l)) (sym c.deref.ensures.value)
             (c.in_ok-pieces.ensures s r.names r.is.laying r.is.fields)));
       };
     }
@@ -51,7 +51,7 @@ returns g c =
       short = is.short;
       outputs = subst (λ l. AllZip (IsOutput p s stays) s.sections l) (sym c.deref-2.ensures.value)
           (c.in_ok-outputs.ensures s stays is.laying
-          (subst (λ l. AllZip (IsRow p s stays) s.sections (map vec_items l)) (sym c.deref.ensures.value)
+          (subst (λ l. AllZip (IsJoinedRow p s stays) s.sections (map vec_items l)) (sym c.deref.ensures.value)
           (c.in_ok-pieces.ensures s a is.laying is.fields)));
     } in
     record {

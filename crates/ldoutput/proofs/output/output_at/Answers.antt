@@ -9,7 +9,7 @@ use Rattle.ldtree.specs.Numbering.{OutputSectionAt}
 use Rattle.ldtree.specs.declared.numbering.OutputSectionAt as code_section
 use Rattle.ldoutput.proofs.Lists.{mapped_at}
 use Rattle.ldoutput.proofs.output.output_at.Goals as goal
-use Rattle.ldoutput.specs.Output.{IsRow}
+use Rattle.ldoutput.specs.Output.{IsJoinedRow}
 
 pub returns : goal.returns
 returns c p s stays q at =
@@ -31,6 +31,6 @@ returns c p s stays q at =
       fill = λ i. c.fill_of.ensures.fill i ∙ ap (λ f. fill_byte f i) (at.fill _ found);
       some_fill = c.fill_of.ensures.some;
       short_fill = c.fill_of.ensures.few;
-      row = subst (IsRow p s stays q) (sym c.as_slice.ensures.value) (at.row _ row);
+      row = subst (IsJoinedRow p s stays q) (sym c.as_slice.ensures.value) (at.row _ row);
       data_commands = at.data_commands _ run;
     }

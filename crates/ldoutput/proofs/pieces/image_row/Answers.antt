@@ -1,13 +1,19 @@
 -- One entry a step.
-use Rattle.std.proofs.Common.{Bool, sym, refl, map, length, arith}
+use Rattle.std.proofs.Common.{Bool, sym, subst, refl, map, length, arith, []}
 use Rattle.std.specs.Prelude.{is_some}
 use Rattle.std.proofs.lemmas.List.{length-map}
 use Rattle.std.proofs.lemmas.Option.{slice_get_read}
 use Rattle.ldmodel.specs.declared.sections.SectionKey.{SectionKey}
 use Rattle.ldproject.specs.ByPlace.{piece_in}
 use Rattle.ldoutput.proofs.Lists.{mapped_at, own_member}
-use Rattle.ldoutput.proofs.OfRows.{all_entries, one_entry}
+use Rattle.ldoutput.proofs.OfRows.{AreDrawnAs, all_entries, no_entries, one_entry}
 use Rattle.ldoutput.proofs.pieces.image_row.Goals as goal
+
+pub loop-k-init : goal.loop-k-init
+loop-k-init g c link q same sources row =
+    let stays : SectionKey → Bool = λ key. is_some (g.E.Earlier.range c.args.earlier.now key) in
+    subst (AreDrawnAs link.project link.layout stays []) (sym c.in_ok-pieces.ensures.items)
+    (no_entries link.project link.layout stays)
 
 pub loop-k-preserved : goal.loop-k-preserved
 loop-k-preserved g c link q same sources row =
@@ -17,12 +23,12 @@ loop-k-preserved g c link q same sources row =
     let starts = c.args.starts.now in
     let k = c.loop-k.k in
     one_entry p link.project link.layout stays q (map (piece_in p) rs) starts k _ c.in-Some.start.now
-    c.in_ok-image_piece-in-Some.field-0 c.loop-k.pieces.items _ row
+    c.loop-k.pieces.items _ row
     (omega (arith, c.loop-k-test.true, length-map rs (piece_in p)))
     (mapped_at (piece_in p) rs k _ (omega (arith, c.loop-k-test.true)) (sym (own_member rs k _)))
     (slice_get_read starts (length starts) k c.in-Some.start.now refl c.in-Some.ensures.lookup.3.0
     c.in-Some.ensures.lookup.1)
-    (λ w at. c.in_ok-image_piece-in-Some.ensures link w same sources at) c.in_ok-push-in-Some.ensures.items
+    (λ w whole at stand. c.in_ok-add_entry-in-Some.ensures link w whole same sources at stand)
     (c.loop-k.invariant link q same sources row)
 
 pub returns : goal.returns
