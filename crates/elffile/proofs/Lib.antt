@@ -2,3 +2,4 @@ pub mod Headers
 pub mod Cuts
 pub mod StringTables
 pub mod Stops
+pub mod GraphicRuns

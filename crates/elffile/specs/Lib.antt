@@ -10,6 +10,7 @@ pub mod TableOf
 pub mod LinkedKinds
 pub mod Spans
 pub mod Names
+pub mod GraphicRuns
 pub mod NameLengths
 pub mod SymbolEntries
 pub mod Symbols

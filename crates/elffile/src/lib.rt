@@ -5,11 +5,12 @@
 //! - `section`, `symbol`, `relocation`, `refusal`: types of sections, symbols and relocations, and refusals, for
 //!   callers;
 //! - `elf_header`, `section_header`, `symbol_entry`, `relocation_entry`: each record and its tests;
-//! - `names`, `span`: names in string tables, and stretches of the file.
+//! - `names` with `lanes`, `span`: names in string tables, and stretches of the file.
 #![tactic(auto)]
 
 pub mod constants;
 pub mod elf_header;
+mod lanes;
 pub mod law;
 pub mod names;
 pub mod numbers;

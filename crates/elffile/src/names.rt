@@ -10,6 +10,7 @@ ghost use Rattle.elffile.specs.Spans.{IsInside, bytes_at};
 ghost use Rattle.elffile.specs.SectionHeaders.{file_bytes};
 
 use crate::constants::MAX_NAME_LENGTH;
+use crate::lanes::{LANES, graphic_run};
 use crate::section_header::SectionHeader;
 use crate::span::Span;
 use std::alloc::{AllocError, Global};
@@ -64,16 +65,35 @@ fn name_lengths(alloc: Global, table: &[u8]) -> Result<Vec<u16>, AllocError>
     Ok(lengths)
 }
 
-/// How many bytes that may stand in a name a table begins with.
+/// How many bytes that may stand in a name a table begins with, where this number of them are known to.
+fn graphic_past(bytes: &[u8], known: usize) -> usize
+    requires within { known ≤ length bytes.now }
+    requires graphic { (k : ℕ) → k < known → is_graphic (get_or bytes.now k 0) ≡ true }
+    ensures within { result ≤ length bytes.now }
+    ensures graphic { (k : ℕ) → k < result → is_graphic (get_or bytes.now k 0) ≡ true }
+{
+    let mut count = known;
+    while count < bytes.len() && is_graphic(bytes[count]) {
+        count += 1;
+    }
+    count
+}
+
+/// How many bytes that may stand in a name a table begins with. They are tested many at a time, and one by one at the
+/// end of the table.
 fn graphic_count(bytes: &[u8]) -> usize
     ensures within { result ≤ length bytes.now }
     ensures graphic { (k : ℕ) → k < result → is_graphic (get_or bytes.now k 0) ≡ true }
 {
     let mut count = 0;
-    while count < bytes.len() && is_graphic(bytes[count]) {
-        count += 1;
+    while bytes.len() - count >= LANES {
+        let run = graphic_run(bytes, count);
+        count += run;
+        if run < LANES {
+            return count;
+        }
     }
-    count
+    graphic_past(bytes, count)
 }
 
 /// The length of the name that begins at this offset of a table, where it ends inside the table and is within the

@@ -57,7 +57,12 @@ impl LinkedSections {
     }
 }
 
-/// The linked sections of a file whose section headers have passed their tests.
+/// How many of these headers are those of linked sections.
+fn linked_count(headers: &[SectionHeader]) -> usize {
+    headers.iter().filter(|h| h.linked_kind().is_some()).count()
+}
+
+/// The linked sections of a file whose section headers have passed their tests, in lists of just that length.
 pub fn linked_sections(
     alloc: Global,
     bytes: &[u8],
@@ -71,9 +76,10 @@ pub fn linked_sections(
     requires tests { PassesTests bytes.now }
     ensures { IfOk result (λ l. AreRead bytes.now (sections_of bytes.now) l.sections.items l.places.items) }
 {
+    let count = linked_count(headers);
     let mut linked = LinkedSections {
-        sections: Vec::new(alloc),
-        places: Vec::new(alloc),
+        sections: Vec::with_capacity(alloc, count)?,
+        places: Vec::with_capacity(alloc, count)?,
     };
     for (number, header) in headers.iter().enumerate() {
         if let Some(kind) = header.linked_kind() {

@@ -1,5 +1,5 @@
--- How the map's lines of two names are spelled, and how long they are.
-use Rattle.std.proofs.Common.{◌≡◌, ◌∙◌, ◌+◌, ◌∷◌, [], ◌++◌, ap, ℕ, List, length, arith, length-append}
+-- How the map's lines of two names are spelled.
+use Rattle.std.proofs.Common.{◌≡◌, ◌∙◌, ◌∷◌, [], ◌++◌, ap, ℕ, List, length}
 use Rattle.std.proofs.Common.{append_assoc, append-nil, codes, refl, sym}
 use Rattle.std.specs.Prelude.{Option, Some, None}
 use Rattle.ldmodel.specs.Lines.{hex, line_of}
@@ -16,9 +16,6 @@ names_last : (xs ys : List ℕ) → names xs ys ≡ (xs ++ (32 ∷ (ys ++ []))) 
 names_last xs ys =
     ap (λ t. t ++ 10 ∷ []) (append_assoc xs (32 ∷ []) ys ∙ ap (λ zs. xs ++ 32 ∷ zs) (sym (append-nil ys)))
 
-names_long : (xs ys : List ℕ) → length (names xs ys) ≡ 2 + length xs + length ys
-names_long xs ys = omega (arith, length-append {A = ℕ})
-
 pub piece_spelled : (start size : ℕ) (object section : List ℕ)
     → codes "piece " ++ (hex start ++ 32 ∷ []) ++ (hex size ++ 32 ∷ []) ++ names object section
     ≡ line_of (codes "piece" ∷ hex start ∷ hex size ∷ object ∷ section ∷ [])
@@ -26,26 +23,12 @@ unfolding line_of hex
 piece_spelled start size object section =
     ap (λ t. codes "piece " ++ (hex start ++ 32 ∷ []) ++ (hex size ++ 32 ∷ []) ++ t) (names_last object section)
 
-pub piece_long : (start size : ℕ) (object section : List ℕ)
-    → length (line_of (codes "piece" ∷ hex start ∷ hex size ∷ object ∷ section ∷ []))
-    ≡ 42 + length object + length section
-unfolding line_of hex
-piece_long start size object section =
-    ap length (sym (piece_spelled start size object section)) ∙ omega (arith, names_long object section)
-
 pub symbol_spelled : (value : Option ℕ) (name owner : List ℕ)
     → codes "symbol " ++ (value_text value ++ 32 ∷ []) ++ names name owner
     ≡ line_of (codes "symbol" ∷ value_text value ∷ name ∷ owner ∷ [])
 unfolding line_of hex
 symbol_spelled (Some x) name owner = ap (λ t. codes "symbol " ++ (hex x ++ 32 ∷ []) ++ t) (names_last name owner)
 symbol_spelled None name owner = ap (λ t. codes "symbol " ++ (value_text None ++ 32 ∷ []) ++ t) (names_last name owner)
-
-pub symbol_long : (value : Option ℕ) (name owner : List ℕ)
-    → length (line_of (codes "symbol" ∷ value_text value ∷ name ∷ owner ∷ [])) ≡ 26 + length name + length owner
-unfolding line_of hex
-symbol_long (Some x) name owner =
-    ap length (sym (symbol_spelled (Some x) name owner)) ∙ omega (arith, names_long name owner)
-symbol_long None name owner = ap length (sym (symbol_spelled None name owner)) ∙ omega (arith, names_long name owner)
 
 pub entry_spelled : (entry : ℕ) → codes "entry " ++ hex entry ++ 10 ∷ [] ≡ line_of (codes "entry" ∷ hex entry ∷ [])
 unfolding line_of hex
@@ -66,15 +49,3 @@ pub section_spelled : (name : List ℕ) (start load size : ℕ) (flags : List �
 unfolding line_of hex
 section_spelled name start load size flags =
     ap (λ t. codes "section " ++ t) (section_last name flags (numbers start load size))
-
-rest_long : (name middle flags : List ℕ) → length (name ++ middle ++ flags ++ 10 ∷ [])
-    ≡ 1 + length middle + length name + length flags
-rest_long name middle flags = omega (arith, length-append {A = ℕ})
-
-pub section_long : (name : List ℕ) (start load size : ℕ) (flags : List ℕ)
-    → length (line_of (codes "section" ∷ name ∷ hex start ∷ hex load ∷ hex size ∷ flags ∷ []))
-    ≡ 61 + length name + length flags
-unfolding line_of hex
-section_long name start load size flags =
-    ap length (sym (section_spelled name start load size flags))
-    ∙ omega (arith, rest_long name (numbers start load size) flags)

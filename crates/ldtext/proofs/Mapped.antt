@@ -1,34 +1,32 @@
 -- The map by the code's values is the map of the link.
-use Rattle.std.proofs.Common.{◌≡◌, ◌<◌, ◌⊎◌, ℕ, List, [], ◌∷◌, ◌++◌, drop, filter, flat_map, length, map, refl, ap, sym}
-use Rattle.std.proofs.Common.{◌∙◌, subst, inl, inr, ⊎_elim, Bool, true, false, cond, Option, Some, None, codes}
+use Rattle.std.proofs.Common.{◌≡◌, ℕ, List, [], ◌∷◌, ◌++◌, drop, filter, flat_map, length, map, refl, ap, sym}
+use Rattle.std.proofs.Common.{◌∙◌, subst, Bool, true, false, cond, Option, codes}
 use Rattle.std.proofs.Common.{append_assoc}
 use Rattle.std.specs.Prelude.{Contains}
 use Rattle.std.specs.Vec.{vec_items}
 use Rattle.ldscript.specs.Numbering.{OutputSectionAt, output_sections}
 use Rattle.ldscript.specs.Numbered.{shown_sections}
-use Rattle.ldmodel.specs.HandedOver.{decision_of}
 use Rattle.ldmodel.specs.Layout.{Layout, PlacedPiece, PlacedSection}
 use Rattle.ldmodel.specs.Lent.{placed_of, starts_of}
 use Rattle.ldmodel.specs.Lines.{line_of, hex}
 use Rattle.ldmodel.specs.MapText.{map_text, entry_line, section_lines, piece_line, symbol_line, value_word}
-use Rattle.ldmodel.specs.Names.{Decision, decision, declared_names, distinct}
-use Rattle.ldmodel.specs.OutputSymbols.{OutputSymbol, in_byte_order, is_before, is_defined, output_symbol}
+use Rattle.ldmodel.specs.Names.{Decision, decision, declared_names}
+use Rattle.ldmodel.specs.OutputSymbols.{OutputSymbol, in_byte_order, is_defined, output_symbol}
 use Rattle.ldmodel.specs.OutputSymbols.{output_symbols, owner}
 use Rattle.ldmodel.specs.Project.{Project}
 use Rattle.ldmodel.specs.Rows as model
-use Rattle.ldmodel.specs.Sorting.{sort_by}
 use Rattle.ldmodel.specs.SymbolValues.{SymbolValue, Number, NotDefined, NotInOutput, name_value}
 use Rattle.ldmodel.specs.declared.rows.Piece.{Piece}
 use Rattle.ldtext.specs.MapOf.{IsMapOf, IsSymbolOf, AreSymbolsOf, IsValue, name_of, name_in, row_of, shown_piece}
 use Rattle.ldtext.specs.MapOf.{shown_row, symbol_names}
-use Rattle.ldtext.specs.ShownMap.{letters, merged, piece_text, pieces_text, section_text, sections_text, shown_map}
+use Rattle.ldtext.specs.ShownMap.{merged, piece_text, pieces_text, section_text, sections_text, shown_map}
 use Rattle.ldtext.specs.ShownMap.{symbol_text, symbols_text, value_text}
 use Rattle.ldtext.specs.declared.maps.MapParts.{MapParts}
 use Rattle.ldtext.specs.declared.symbols.MapSymbol.{MapSymbol}
-use Rattle.ldtext.proofs.ByteOrder.{Name, Asc, In, Once, contained_in, distinct_in, distinct_once, filtered_asc}
-use Rattle.ldtext.proofs.ByteOrder.{filtered_in, in_append, in_contained, in_distinct, in_filtered, in_sorted}
+use Rattle.ldtext.proofs.ByteOrder.{Name, In, Once, contained_in, distinct_once, filtered_asc}
+use Rattle.ldtext.proofs.ByteOrder.{filtered_in, in_append, in_contained, in_filtered, in_sorted}
 use Rattle.ldtext.proofs.ByteOrder.{same_list, sorted_asc, sorted_in}
-use Rattle.ldtext.proofs.MergedNames.{Each, asc_from, each_merged, each_name, each_of, in_merged, merged_asc, merged_in}
+use Rattle.ldtext.proofs.MergedNames.{Each, asc_from, each_merged, each_name, each_of, merged_asc, merged_in}
 use Rattle.ldtext.proofs.MergedNames.{names_append}
 
 -- ---- sections and rows

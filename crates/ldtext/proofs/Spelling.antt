@@ -1,5 +1,5 @@
 -- How a line is spelled, word by word.
-use Rattle.std.proofs.Common.{◌≡◌, ℕ, List, [], ◌∷◌, ◌++◌, map, flat_map, refl, ap, sym, ◌∙◌, append_assoc}
+use Rattle.std.proofs.Common.{◌≡◌, List, [], ◌∷◌, ◌++◌, map, flat_map, refl, ap, sym, ◌∙◌, append_assoc}
 use Rattle.ldmodel.specs.Lines.{line_of}
 use Rattle.ldtext.specs.LineWords.{shown, spaced_words}
 use Rattle.ldtext.specs.declared.line.Word.{Word}

@@ -1,4 +1,4 @@
-//! A text that is made: measured first, and then written into room of that size.
+//! A text that is made: written into room for it, or measured first where its size is wanted.
 
 ghost use Rattle.std.specs.Prelude.{◌≡◌, ◌∷◌, ◌+◌, [], OnOk, IfOk, false, true};
 ghost use Rattle.ldmodel.specs.Lines.{hex};
@@ -62,13 +62,6 @@ impl Draft {
         }
     }
 
-    /// Whether the bytes are written.
-    pub fn is_written(&self) -> bool
-        ensures { result ≡ self.now.is_written }
-    {
-        self.is_written
-    }
-
     /// The bytes that were written.
     pub fn into_bytes(self) -> Vec<u8>
         ensures { result.items ≡ self.bytes }
@@ -81,7 +74,7 @@ impl Draft {
     /// # Errors
     ///
     /// Where the size would pass the greatest `usize`, which memory never holds.
-    pub fn count(&mut self, more: usize) -> Result<(), NoMemory>
+    fn count(&mut self, more: usize) -> Result<(), NoMemory>
         requires { self.old.is_written ≡ false }
         ensures { OnOk result (self.new ≡ record self.old { size = self.old.size + more }) }
     {
@@ -97,7 +90,7 @@ impl Draft {
     /// # Errors
     ///
     /// Where there was not enough room, and no memory for more.
-    pub fn write(&mut self, bytes: &[u8]) -> Result<(), NoMemory>
+    fn write(&mut self, bytes: &[u8]) -> Result<(), NoMemory>
         requires { self.old.is_written ≡ true }
         ensures text { OnOk result (self.new ≡ added self.old bytes.now) }
         ensures kept { self.new.is_written ≡ true }
@@ -107,7 +100,7 @@ impl Draft {
     }
 
     /// Adds a byte at the end of a text that is written; an error as for `write`.
-    pub fn write_byte(&mut self, byte: u8) -> Result<(), NoMemory>
+    fn write_byte(&mut self, byte: u8) -> Result<(), NoMemory>
         requires { self.old.is_written ≡ true }
         ensures text { OnOk result (self.new ≡ added self.old (byte ∷ [])) }
         ensures kept { self.new.is_written ≡ true }
@@ -117,7 +110,7 @@ impl Draft {
     }
 
     /// Adds a number as 16 hex digits at the end of a text that is written; an error as for `write`.
-    pub fn write_hex(&mut self, number: u64) -> Result<(), NoMemory>
+    fn write_hex(&mut self, number: u64) -> Result<(), NoMemory>
         requires { self.old.is_written ≡ true }
         ensures text { OnOk result (self.new ≡ added self.old (hex number)) }
         ensures kept { self.new.is_written ≡ true }

@@ -1,5 +1,5 @@
-//! The texts of a link: the map (`map_text`) and the lines of faults (`fault_text`), each measured first and then made
-//! in one allocation of that size.
+//! The texts of a link: the map (`map_text`), which is written once, and the lines of faults (`fault_text`), which are
+//! measured first and then made in one allocation of that size.
 //!
 //! - `faults`, `fault_line`: fault lines; `maps`, `map_line`: the map; `line`, `draft`, `hex`: how lines are written;
 //! - `members`, `script_names`, `named`, `symbols`, `assertion`: where names come from.

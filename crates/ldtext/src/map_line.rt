@@ -1,6 +1,6 @@
-//! The map's lines: each counted by one sum, or written part by part.
+//! The map's lines.
 
-ghost use Rattle.std.specs.Prelude.{◌≡◌, ◌+◌, ◌∷◌, ◌++◌, [], OnOk, codes, false, length, true};
+ghost use Rattle.std.specs.Prelude.{◌≡◌, ◌∷◌, ◌++◌, [], OnOk, codes};
 ghost use Rattle.ldmodel.specs.Lines.{hex, line_of};
 ghost use Rattle.ldtext.specs.Drafts.{added};
 ghost use Rattle.ldtext.specs.ShownMap.{value_text};
@@ -8,23 +8,6 @@ ghost use Rattle.ldtext.specs.ShownMap.{value_text};
 use crate::draft::Draft;
 use crate::hex::hex_digits;
 use ldmodel::memory::NoMemory;
-use std::alloc::AllocError;
-
-/// Counts a line of these two words and of this number of other bytes; an error as for `Draft::count`.
-#[inline(always)]
-fn count_line(draft: &mut Draft, others: usize, first: &[u8], second: &[u8]) -> Result<(), NoMemory>
-    requires { draft.old.is_written ≡ false }
-    ensures { OnOk result (draft.new
-        ≡ record draft.old { size = draft.old.size + (others + length first.now + length second.now) }) }
-{
-    let Some(words) = first.len().checked_add(second.len()) else {
-        return Err(AllocError);
-    };
-    let Some(all) = words.checked_add(others) else {
-        return Err(AllocError);
-    };
-    draft.count(all)
-}
 
 /// `entry ADDRESS`
 pub fn put_entry_line(draft: &mut Draft, entry: u64) -> Result<(), NoMemory>
@@ -63,27 +46,22 @@ pub fn put_section_line(
         ≡ added draft.old (line_of
         (codes "section" ∷ name.now ∷ hex numbers.0 ∷ hex numbers.1 ∷ hex numbers.2 ∷ flags.now ∷ []))) }
 {
-    if !draft.is_written() {
-        // `section `, three numbers with a space around each, and a line feed
-        return count_line(draft, 61, name, flags);
-    }
-    draft.write(b"section ")?;
-    draft.write(name)?;
-    draft.write(&section_numbers(numbers.0, numbers.1, numbers.2))?;
-    draft.write(flags)?;
-    draft.write_byte(b'\n')
+    draft.put(b"section ")?;
+    draft.put(name)?;
+    draft.put(&section_numbers(numbers.0, numbers.1, numbers.2))?;
+    draft.put(flags)?;
+    draft.put_byte(b'\n')
 }
 
-/// Writes the two names at the end of a line.
+/// The two names at the end of a line.
 #[inline(always)]
-fn write_names(draft: &mut Draft, first: &[u8], second: &[u8]) -> Result<(), NoMemory>
-    requires { draft.old.is_written ≡ true }
+fn put_names(draft: &mut Draft, first: &[u8], second: &[u8]) -> Result<(), NoMemory>
     ensures { OnOk result (draft.new ≡ added draft.old (first.now ++ 32 ∷ [] ++ second.now ++ 10 ∷ [])) }
 {
-    draft.write(first)?;
-    draft.write_byte(b' ')?;
-    draft.write(second)?;
-    draft.write_byte(b'\n')
+    draft.put(first)?;
+    draft.put_byte(b' ')?;
+    draft.put(second)?;
+    draft.put_byte(b'\n')
 }
 
 /// `piece ADDRESS SIZE ` of a line.
@@ -113,12 +91,8 @@ pub fn put_piece_line(
     ensures { OnOk result (draft.new
         ≡ added draft.old (line_of (codes "piece" ∷ hex start ∷ hex size ∷ object.now ∷ section.now ∷ []))) }
 {
-    if !draft.is_written() {
-        // `piece `, two numbers with a space after each, and after each name a space or a line feed
-        return count_line(draft, 42, object, section);
-    }
-    draft.write(&piece_front(start, size))?;
-    write_names(draft, object, section)
+    draft.put(&piece_front(start, size))?;
+    put_names(draft, object, section)
 }
 
 /// `symbol VALUE ` of a line.
@@ -134,16 +108,14 @@ fn symbol_front(value: u64) -> [u8; 24]
     ]
 }
 
-/// Writes `symbol VALUE ` of a line.
+/// `symbol VALUE ` of a line, at the end.
 #[inline(always)]
-fn write_symbol_front(draft: &mut Draft, value: Option<u64>) -> Result<(), NoMemory>
-    requires { draft.old.is_written ≡ true }
-    ensures text { OnOk result (draft.new ≡ added draft.old (codes "symbol " ++ (value_text value ++ 32 ∷ []))) }
-    ensures kept { draft.new.is_written ≡ true }
+fn put_symbol_front(draft: &mut Draft, value: Option<u64>) -> Result<(), NoMemory>
+    ensures { OnOk result (draft.new ≡ added draft.old (codes "symbol " ++ (value_text value ++ 32 ∷ []))) }
 {
     match value {
-        Some(number) => draft.write(&symbol_front(number)),
-        None => draft.write(b"symbol ---------------- "),
+        Some(number) => draft.put(&symbol_front(number)),
+        None => draft.put(b"symbol ---------------- "),
     }
 }
 
@@ -157,10 +129,6 @@ pub fn put_symbol_line(
     ensures { OnOk result (draft.new
         ≡ added draft.old (line_of (codes "symbol" ∷ value_text value ∷ name.now ∷ owner.now ∷ []))) }
 {
-    if !draft.is_written() {
-        // `symbol `, a number and a space, and after each name a space or a line feed
-        return count_line(draft, 26, name, owner);
-    }
-    write_symbol_front(draft, value)?;
-    write_names(draft, name, owner)
+    put_symbol_front(draft, value)?;
+    put_names(draft, name, owner)
 }

@@ -133,8 +133,30 @@ fn put_map<M: Members>(draft: &mut Draft, members: &M, parts: &MapParts<'_>) -> 
     put_symbols(draft, members, parts.named, parts.given)
 }
 
+/// Room for the line of an input section: 42 bytes, and both names.
+const PIECE_ROOM: usize = 96;
+/// Room for the line of a symbol: 26 bytes, and both names.
+const SYMBOL_ROOM: usize = 64;
+/// Room for the line of an output section, 64 bytes and its name, or of the entry point.
+const SECTION_ROOM: usize = 96;
+
+/// Room for the lines of the map, if names are of common length. What is not written of it is not touched.
+fn likely_size(parts: &MapParts<'_>) -> usize {
+    let mut pieces = 0usize;
+    for row in parts.rows {
+        pieces = pieces.saturating_add(row.len());
+    }
+    let symbols = parts.named.len().saturating_add(parts.given.len());
+    let sections = parts.sections.len().saturating_add(1);
+    pieces
+        .saturating_mul(PIECE_ROOM)
+        .saturating_add(symbols.saturating_mul(SYMBOL_ROOM))
+        .saturating_add(sections.saturating_mul(SECTION_ROOM))
+}
+
 /// The map of a link: the entry point, the output sections with their rows, and the symbols in byte order of names.
-/// `specs/MapOf.antt` says which values `parts` must have.
+/// `specs/MapOf.antt` says which values `parts` must have. It is written once, into room that grows where names are
+/// long: to measure it first would take as long as to write it.
 ///
 /// # Errors
 ///
@@ -147,9 +169,7 @@ pub fn map_text<M: Members>(
     ensures { (s : Layout) → IsMapOf (M.project members.now) (M.number members.now) s parts.now
         → IfOk result (λ text. text.items ≡ map_text (M.project members.now) s) }
 {
-    let mut measured = Draft::to_measure(alloc);
-    put_map(&mut measured, members, parts)?;
-    let mut written = Draft::to_write(alloc, measured.size())?;
+    let mut written = Draft::to_write(alloc, likely_size(parts))?;
     put_map(&mut written, members, parts)?;
     Ok(written.into_bytes())
 }

@@ -54,21 +54,41 @@ fn word_at(name: &[u8], at: usize) -> u64
     ])
 }
 
+/// Both halves of a product by an odd number, so that each bit of the word has a part in all bits of the hash.
 fn mixed(hash: u64, word: u64) -> u64 {
-    (hash.rotate_left(26) ^ word).wrapping_mul(0x9E37_79B9_7F4A_7C15)
+    let product = u128::from(hash ^ word).wrapping_mul(0x9E37_79B9_7F4A_7C15);
+    (product >> 64) as u64 ^ (product & 0xFFFF_FFFF_FFFF_FFFF) as u64
 }
 
+fn half_at(name: &[u8], at: usize) -> u64
+    requires { at + 4 ≤ length name.now }
+{
+    u32::from_le_bytes([name[at], name[at + 1], name[at + 2], name[at + 3]]) as u64
+}
+
+/// The bytes of a name that has less than eight, in one word.
+fn short_word(name: &[u8]) -> u64 {
+    let length = name.len();
+    if length >= 4 {
+        half_at(name, 0) << 32 | half_at(name, length - 4)
+    } else if length > 0 {
+        (name[0] as u64) << 16 | (name[length / 2] as u64) << 8 | name[length - 1] as u64
+    } else {
+        0
+    }
+}
+
+/// Adds bytes to a hash, eight at a time; the last eight may overlap those before.
 fn add_bytes(hash: u64, bytes: &[u8]) -> u64 {
-    let count = bytes.len() / 8;
+    let length = bytes.len();
+    if length < 8 {
+        return mixed(hash, short_word(bytes));
+    }
     let mut sum = hash;
-    for word in 0..count {
+    for word in 0..(length - 1) / 8 {
         sum = mixed(sum, word_at(bytes, word * 8));
     }
-    let mut last = 0;
-    for byte in &bytes[count * 8..] {
-        last = last << 8 | *byte as u64;
-    }
-    mixed(sum, last)
+    mixed(sum, word_at(bytes, length - 8))
 }
 
 fn hash_of(name: &[u8]) -> u32 {

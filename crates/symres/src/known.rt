@@ -135,6 +135,7 @@ impl NameTable {
     }
 
     /// The number of a name, which is new where the name was not known.
+    #[inline(never)]
     pub fn add(&mut self, name: &[u8]) -> Result<usize, AllocError>
         ensures ok { IfOk result (λ n. IsNamed self.new.slots n name.now) }
         ensures kept { KeepsNames self.old.slots self.new.slots }
@@ -147,6 +148,7 @@ impl NameTable {
     }
 
     /// The number of a name, if it is the one that stands at a place in the list of names.
+    #[inline(always)]
     fn number_if(&self, place: usize, name: &[u8]) -> Option<usize>
         ensures { IfSome result (λ n. IsNamed self.now.slots n name.now) }
     {
@@ -164,6 +166,7 @@ impl NameTable {
 
     /// The number of a name, which is new where the name was not known. It is not hashed where it stands at this place
     /// in the list of names.
+    #[inline(always)]
     pub fn add_at(&mut self, place: Option<usize>, name: &[u8]) -> Result<usize, AllocError>
         ensures ok { IfOk result (λ n. IsNamed self.new.slots n name.now) }
         ensures kept { KeepsNames self.old.slots self.new.slots }

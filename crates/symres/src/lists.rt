@@ -15,7 +15,7 @@ ghost use Rattle.symres.specs.declared.symbol.Numbered.{Numbered};
 
 use crate::hints::Hints;
 use crate::known::NameTable;
-use crate::repeats::Repeats;
+use crate::repeats::{Repeats, is_long};
 use crate::symbol::{Numbered, is_visible};
 use elfobj::object::Object;
 use elfobj::relocation::SymbolIndex;
@@ -129,6 +129,7 @@ fn number_at(object: &Object, number: u32, list: &[Numbered], at: usize) -> Opti
 }
 
 /// The number of a symbol's name by the symbol that was noted for the same place of the string table, in its list.
+#[inline(never)]
 fn number_noted(object: &Object, number: u32, list: &[Numbered], repeats: &Repeats) -> Option<usize>
     requires within { number < length object.now.symbols }
     requires list { All (λ (s : Numbered). s.number < length object.now.symbols) list.now }
@@ -297,13 +298,16 @@ pub fn number_seen(object: &Object, seen: &[Numbered], list: &mut Vec<Numbered>)
 }
 
 /// Notes the place of the name of a symbol, if it became known after this number of names.
+#[inline(always)]
 fn note_new(known: &NameTable, count: usize, hints: &mut Hints, symbol: usize) {
     if known.len() > count {
         hints.note(symbol, count);
     }
 }
 
-/// The number of the name of a symbol. It becomes known if it isn't.
+/// The number of the name of a symbol that comes after those of the list. It becomes known if it isn't. A long name,
+/// which other symbols of the object may share, is hashed once for all of them.
+#[inline(always)]
 fn add_name(
     known: &mut NameTable,
     object: &Object,
@@ -319,13 +323,18 @@ fn add_name(
     ensures kept { KeepsNames known.old.slots known.new.slots }
     ensures added { AddsNames known.old known.new }
 {
-    if let Some(name) = number_noted(object, number, list, repeats) {
-        return Ok(name);
+    let place = object.name_place(SymbolIndex(number));
+    if is_long(place) {
+        if let Some(name) = number_noted(object, number, list, repeats) {
+            return Ok(name);
+        }
     }
     let count = known.len();
     let name = known.add_at(hints.place(list.len()), object.name_of(SymbolIndex(number)))?;
     note_new(known, count, hints, list.len());
-    repeats.note(object.name_place(SymbolIndex(number)), list.len())?;
+    if is_long(place) {
+        repeats.note(place, list.len())?;
+    }
     Ok(name)
 }
 

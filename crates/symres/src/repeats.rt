@@ -8,6 +8,12 @@ use std::collections::BTreeMap;
 /// entry of its symbol.
 const LONG: usize = 64;
 
+/// Whether a name is looked up by where it lies.
+#[inline(always)]
+pub fn is_long(name: Span) -> bool {
+    name.end.saturating_sub(name.start) >= LONG
+}
+
 /// Where the long names of an object begin, each with the place in a list of a symbol that has it. Whoever asks looks
 /// whether that symbol has the name: nothing here is relied on.
 #[derive(Drop)]
@@ -33,18 +39,19 @@ impl Repeats {
 
     /// The place that was noted with a name that begins where this one does.
     pub fn find(&self, name: Span) -> Option<usize> {
-        if name.end.saturating_sub(name.start) < LONG {
+        if !is_long(name) {
             return None;
         }
         self.starts.get(&name.start).copied()
     }
 
     /// Notes the place of a symbol with this name. A short name is not noted.
+    #[inline(never)]
     pub fn note(&mut self, name: Span, at: usize) -> Result<(), AllocError> {
-        let length = name.end.saturating_sub(name.start);
-        if length < LONG {
+        if !is_long(name) {
             return Ok(());
         }
+        let length = name.end.saturating_sub(name.start);
         if length <= self.unnoted {
             self.unnoted -= length;
             return Ok(());

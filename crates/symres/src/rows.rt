@@ -286,8 +286,11 @@ pub fn remove_all(table: &mut Vec<Vec<Declared>>, key: usize, symbols: &[Numbere
     clear_all(table, key, symbols);
 }
 
+/// For how many entries a row has room once it has more than one.
+const SEVERAL: usize = 8;
+
 /// Makes room for one more entry of a name. The first has room for itself alone, as many names have no other; from then
-/// on a row that is full has room for four entries, and then for twice as many each time.
+/// on a row that is full has room for `SEVERAL` entries, and then for twice as many each time.
 fn reserve_row(row: &mut Vec<Declared>) -> Result<(), AllocError>
     ensures items { row.new.items ≡ row.old.items }
     ensures capacity { vec_capacity row.old ≤ vec_capacity row.new }
@@ -296,8 +299,11 @@ fn reserve_row(row: &mut Vec<Declared>) -> Result<(), AllocError>
     if row.len() < row.capacity() {
         return Ok(());
     }
-    if row.capacity() == 0 {
+    if row.len() == 0 {
         return row.reserve_exact(1);
+    }
+    if row.len() < SEVERAL {
+        return row.reserve_exact(SEVERAL - row.len());
     }
     row.reserve(1)
 }

@@ -1,5 +1,5 @@
 -- What was written is the text.
-use Rattle.std.proofs.Common.{◌≡◌, ◌∙◌}
+use Rattle.std.proofs.Common.{◌∙◌}
 use Rattle.ldtext.proofs.Draftings.{written_whole}
 use Rattle.ldtext.proofs.faults.fault_text.Goals as goal
 

@@ -3,7 +3,7 @@ use Rattle.std.proofs.Common.{◌≡◌, OnOk, map, [], ◌∷◌, ◌++◌, ap,
 use Rattle.ldmodel.specs.Lines.{line_of}
 use Rattle.ldtext.specs.Drafts.{added}
 use Rattle.ldtext.specs.LineWords.{shown, spaced_words}
-use Rattle.ldtext.proofs.Draftings.{added_both, added_twice}
+use Rattle.ldtext.proofs.Draftings.{added_twice}
 use Rattle.ldtext.proofs.Spelling.{spelled}
 use Rattle.ldtext.proofs.line.put_line.Goals as goal
 

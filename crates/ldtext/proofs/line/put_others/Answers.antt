@@ -1,7 +1,7 @@
 -- Each word after a space.
-use Rattle.std.proofs.Common.{◌≡◌, [], ◌∷◌}
+use Rattle.std.proofs.Common.{[], ◌∷◌}
 use Rattle.std.proofs.lemmas.List.{at_drop_more, at_drop_all}
-use Rattle.ldtext.specs.LineWords.{shown, spaced_words}
+use Rattle.ldtext.specs.LineWords.{spaced_words}
 use Rattle.ldtext.proofs.Draftings.{added_step, added_both, added_end}
 use Rattle.ldtext.proofs.line.put_others.Goals as goal
 

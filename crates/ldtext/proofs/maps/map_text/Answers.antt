@@ -1,10 +1,10 @@
 -- What was written is the map.
-use Rattle.std.proofs.Common.{◌≡◌, ◌∙◌}
+use Rattle.std.proofs.Common.{◌∙◌}
 use Rattle.ldtext.proofs.Draftings.{written_whole}
 use Rattle.ldtext.proofs.Mapped.{map_is_shown}
 use Rattle.ldtext.proofs.maps.map_text.Goals as goal
 
 pub returns : goal.returns
 returns g c s h =
-    c.into_bytes.ensures ∙ written_whole _ _ _ c.in_ok-written.ensures c.in_ok-put_map-2.ensures
+    c.into_bytes.ensures ∙ written_whole _ _ _ c.in_ok-written.ensures c.in_ok-put_map.ensures
     ∙ map_is_shown (g.M.Members.project c.args.members.now) (g.M.Members.number c.args.members.now) s c.args.parts.now h

@@ -1,5 +1,5 @@
 -- The lines of a row.
-use Rattle.std.proofs.Common.{◌≡◌, ◌∙◌, ◌∷◌, [], ◌+◌, ◌++◌, ◌<◌, ap, sym, drop, get_or, length, ℕ, List, refl, arith}
+use Rattle.std.proofs.Common.{◌≡◌, ◌∙◌, ◌∷◌, [], ◌+◌, ◌<◌, ap, sym, drop, get_or, length, ℕ, List, refl, arith}
 use Rattle.std.proofs.lemmas.List.{at_drop_more, at_drop_all}
 use Rattle.ldmodel.specs.Project.{Project}
 use Rattle.ldmodel.specs.declared.rows.Piece.{Piece}

@@ -1,6 +1,6 @@
 -- Output sections with their rows.
-use Rattle.std.proofs.Common.{◌≡◌, ◌∙◌, ◌∷◌, [], ◌+◌, ◌++◌, ◌<◌, ◌≤◌, ap, sym, drop, get_or, length, map, ℕ, List, refl}
-use Rattle.std.proofs.Common.{append_assoc, subst}
+use Rattle.std.proofs.Common.{◌≡◌, ◌∙◌, ◌∷◌, [], ◌+◌, ◌++◌, ◌<◌, ap, sym, drop, get_or, length, map, ℕ, List, refl}
+use Rattle.std.proofs.Common.{append_assoc}
 use Rattle.std.proofs.lemmas.List.{at_drop_more, at_drop_all}
 use Rattle.std.specs.Vec.{vec_items}
 use Rattle.ldscript.specs.Numbering.{OutputSectionAt}

@@ -1,5 +1,5 @@
 -- The section of a number, where numbers ascend.
-use Rattle.std.proofs.Common.{◌≡◌, ◌<◌, subst}
+use Rattle.std.proofs.Common.{◌<◌, subst}
 use Rattle.std.specs.Prelude.{AllPairs}
 use Rattle.elfobj.specs.declared.section.Section.{Section}
 use Rattle.ldtext.proofs.FoundSections.{found_or_none}

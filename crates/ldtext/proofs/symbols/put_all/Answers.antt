@@ -1,5 +1,4 @@
 -- A line for each symbol.
-use Rattle.std.proofs.Common.{◌≡◌}
 use Rattle.std.proofs.lemmas.List.{at_drop_more, at_drop_all}
 use Rattle.ldtext.specs.ShownMap.{symbols_text}
 use Rattle.ldtext.proofs.Draftings.{added_step, added_end}

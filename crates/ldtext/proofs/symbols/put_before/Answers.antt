@@ -1,5 +1,5 @@
 -- Those before a symbol.
-use Rattle.std.proofs.Common.{◌≡◌, ◌∙◌, ap, sym}
+use Rattle.std.proofs.Common.{◌∙◌, ap, sym}
 use Rattle.std.proofs.lemmas.List.{at_drop_all}
 use Rattle.ldtext.specs.ShownMap.{before, symbols_text}
 use Rattle.ldtext.proofs.Draftings.{added_step, added_end}

@@ -1,5 +1,5 @@
 -- Two lists as one.
-use Rattle.std.proofs.Common.{◌≡◌, drop}
+use Rattle.std.proofs.Common.{drop}
 use Rattle.ldtext.proofs.Merging.{merged_step}
 use Rattle.ldtext.proofs.symbols.put_symbols.Goals as goal
 
