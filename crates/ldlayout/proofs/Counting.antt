@@ -1,16 +1,17 @@
--- Header numbers that are counted and then begin one after another.
-use Rattle.std.proofs.Common.{◌≡◌, ◌≢◌, ◌<◌, ◌≤◌, ◌+◌, ◌⊎◌, inl, inr, ℕ, refl, sym, ap, subst, ◌∙◌, arith}
-use Rattle.std.proofs.Common.{List, length, get_or, set, take, nat_eq, Bool, true, false}
-use Rattle.std.proofs.lemmas.Bool.{cases_lt, eqb-true, eqb-false}
-use Rattle.std.proofs.lemmas.List.{get_or-set_other, get_or-set_same, get_or_default, get_or_past, take_all}
-use Rattle.std.proofs.lemmas.List.Elements.{All-more}
-use Rattle.std.specs.List.{All}
-use Rattle.elfobj.specs.declared.relocation.SymbolIndex.{SymbolIndex}
-use Rattle.elfobj.specs.declared.section.SectionIndex.{SectionIndex}
-use Rattle.ldmodel.specs.declared.sections.Part.{Part}
-use Rattle.ldmodel.specs.declared.sections.Part.TheVariants.{InTable, InCommon}
-use Rattle.ldlayout.specs.Headers.{AreLaid, AreNumbered, IsCounted, IsPartCounted, headers_of, no_headers}
-use Rattle.ldlayout.specs.declared.entry.Entry.{Entry}
+-- The header numbers of objects, one object after another.
+use Rattle.std.proofs.Common.{◌≡◌, ◌<◌, ◌≤◌, ◌+◌, ◌-◌, ◌⊎◌, inl, inr, ℕ, refl, sym, ap, subst, ◌∙◌, arith}
+use Rattle.std.proofs.Common.{List, [], ◌∷◌, ◌++◌, length, get_or, map, Option, Some, None}
+use Rattle.std.proofs.lemmas.Bool.{cases_lt}
+use Rattle.std.proofs.lemmas.List.{get_or-map, get_or_append_left, get_or_past, get_or_push, length-append, length-map}
+use Rattle.std.proofs.lemmas.Option.{get_or_from_slice_get, same_Some, slice_get-map, slice_get_within}
+use Rattle.std.specs.List.{All, AllPairs, Contains, slice_get}
+use Rattle.std.specs.Option.{option_map}
+use Rattle.elfobj.specs.declared.section.Section.{Section}
+use Rattle.elfobj.specs.Sections.{LinkedSection, section_of}
+use Rattle.ldmodel.specs.Project.{NamedObject, Project}
+use Rattle.ldproject.specs.Inputs.{shown_input, shown_inputs}
+use Rattle.ldproject.specs.declared.input.InputObject.{InputObject}
+use Rattle.ldlayout.specs.Headers.{AreLaid, AreLinkedCounted, headers_of, no_headers}
 use Rattle.ldlayout.specs.declared.headers.Headers.{Headers}
 
 -- an object whose header numbers are counted is there
@@ -23,101 +24,164 @@ inside hs n k h = go (cases_lt n (length hs))
         let none : (headers_of hs n).count ≡ 0 = ap (λ (x : Headers). x.count) (get_or_past hs n no_headers l) in
         absurd (omega arith)
 
--- a count that grows
-grows : (hs : List Headers) (n m : ℕ) (x : Headers) → n < length hs → (headers_of hs n).count ≤ x.count
-    → (headers_of hs m).count ≤ (headers_of (set hs n x) m).count
-grows hs n m x inside more = go (nat_eq m n) refl
+-- ---- the count of one object
+
+-- the last of numbers that ascend is the greatest
+pub reaches : (xs : List LinkedSection) (ys : List Section) (last : Section) (count : ℕ) → ys ≡ map section_of xs
+    → AllPairs (λ (s t : Section). s.number.0 < t.number.0) ys → 0 < length ys → last ≡ get_or ys (length ys - 1) last
+    → count ≡ last.number.0 + 1 → All (λ (x : LinkedSection). x.number.0 < count) xs
+reaches xs ys last count are up some is counted k d low = go (cases_lt k (length ys - 1))
   where
-    go : (b : Bool) → nat_eq m n ≡ b → (headers_of hs m).count ≤ (headers_of (set hs n x) m).count
-    go true e =
-        let same : m ≡ n = eqb-true m n e in
-        let now : (headers_of (set hs n x) n).count ≡ x.count =
-        ap (λ (y : Headers). y.count) (get_or-set_same hs n x no_headers inside) in
-        let there : (headers_of (set hs n x) m).count ≡ (headers_of (set hs n x) n).count =
-        ap (λ i. (headers_of (set hs n x) i).count) same in
-        let here : (headers_of hs m).count ≡ (headers_of hs n).count = ap (λ i. (headers_of hs i).count) same in
-        omega arith
-    go false e =
-        let other : m ≢ n = eqb-false m n e in
-        let kept : (headers_of (set hs n x) m).count ≡ (headers_of hs m).count =
-        ap (λ (y : Headers). y.count) (get_or-set_other hs n m x no_headers other) in
-        omega arith
+    long : length ys ≡ length xs
+    long = ap length are ∙ length-map xs section_of
 
-still_part : (hs ks : List Headers) → ((m : ℕ) → (headers_of hs m).count ≤ (headers_of ks m).count) → (n : ℕ)
-    (part : Part) → IsPartCounted hs n part → IsPartCounted ks n part
-still_part hs ks more n (InTable k) h = omega (arith, more n)
-still_part hs ks more n (InCommon x) h = h
+    at : (get_or ys k last).number.0 ≡ (get_or xs k d).number.0
+    at =
+        ap (λ (s : Section). s.number.0) (ap (λ l. get_or l k last) are ∙ get_or-map section_of xs k d last low)
 
--- entries that are counted stay so where an object gets more header numbers
-pub still : (hs : List Headers) (n : ℕ) (x : Headers) → n < length hs → (headers_of hs n).count ≤ x.count → (e : Entry)
-    → IsCounted hs e → IsCounted (set hs n x) e
-still hs n x inside more e h =
-    still_part hs (set hs n x) (λ m. grows hs n m x inside more) e.object e.part h
+    greatest : (get_or ys (length ys - 1) last).number.0 ≡ last.number.0
+    greatest = ap (λ (s : Section). s.number.0) (sym is)
 
-here_part : (hs : List Headers) (n : ℕ) (x : Headers) (k : ℕ) → n < length hs → k < x.count
-    → k < (headers_of (set hs n x) n).count
-here_part hs n x k inside below =
-    let now : (headers_of (set hs n x) n).count ≡ x.count =
-    ap (λ (y : Headers). y.count) (get_or-set_same hs n x no_headers inside) in
-    omega arith
+    go : (k < length ys - 1) ⊎ (length ys - 1 ≤ k) → (get_or xs k d).number.0 < count
+    go (inl before) =
+        let less : (get_or ys k last).number.0 < (get_or ys (length ys - 1) last).number.0 =
+        up k (length ys - 1) last before (omega (arith, some)) in
+        omega (arith, less, at, greatest, counted)
+    go (inr past) =
+        let same : k ≡ length ys - 1 = omega (arith, past, low, long, some) in
+        let own : (get_or ys k last).number.0 ≡ (get_or ys (length ys - 1) last).number.0 =
+        ap (λ n. (get_or ys n last).number.0) same in
+        omega (arith, own, at, greatest, counted)
 
-same_part : (before after : List Headers) → ((n : ℕ) → (headers_of after n).count ≡ (headers_of before n).count)
-    → (n : ℕ) (part : Part) → IsPartCounted before n part → IsPartCounted after n part
-same_part before after counts n (InTable k) h = omega (arith, counts n)
-same_part before after counts n (InCommon x) h = h
+pub none_reach : (xs : List LinkedSection) (ys : List Section) (count : ℕ) → ys ≡ map section_of xs → length ys ≤ 0
+    → All (λ (x : LinkedSection). x.number.0 < count) xs
+none_reach xs ys count are none k d low =
+    let long : length ys ≡ length xs = ap length are ∙ length-map xs section_of in
+    absurd (omega (arith, none, long, low))
 
--- header numbers that begin one after another do not meet
-pub headers_laid : (before after : List Headers) (total : ℕ) → AreNumbered before after total → AreLaid after total
-headers_laid before after total numbered = record { within = numbered.within; apart = numbered.apart }
+-- ---- all objects, one after another
 
--- and are counted as before
-pub still_counted : (before after : List Headers) (total : ℕ) (entries : List Entry) → All (IsCounted before) entries
-    → AreNumbered before after total → All (IsCounted after) entries
-still_counted before after total entries counted numbered i d h =
-    same_part before after numbered.counts (get_or entries i d).object (get_or entries i d).part (counted i d h)
+-- the header numbers of the first of these objects
+pub record LaidUpTo (inputs : List InputObject) (hs : List Headers) (total i : ℕ) : Type 0 where
+  pub long : length hs ≡ i
+  pub laid : AreLaid hs total
+  pub counted : (k : ℕ) (x : InputObject) → k < i → slice_get inputs k ≡ Some x
+      → All (λ (s : LinkedSection). s.number.0 < (headers_of hs k).count) x.object.now.sections
 
--- the header numbers of the objects before this one begin one after another
-pub record NumberedBelow (before now : List Headers) (total i : ℕ) : Type 0 where
-  pub counts : (n : ℕ) → (headers_of now n).count ≡ (headers_of before n).count
-  pub within : (n : ℕ) → n < i → (headers_of now n).begin + (headers_of now n).count ≤ total
-  pub apart : (n m : ℕ) → n < m → m < i
-      → (headers_of now n).begin + (headers_of now n).count ≤ (headers_of now m).begin
+pub none_laid : (inputs : List InputObject) → LaidUpTo inputs [] 0 0
+none_laid inputs = record {
+  long = refl;
+  laid = record {
+    within = λ n l. absurd (omega (arith, l));
+    apart = λ n m l k. absurd (omega (arith, k));
+  };
+  counted = λ k x l at. absurd (omega (arith, l));
+}
 
-module _ (hs now : List Headers) (entries : List Entry) (i : ℕ) (d : Entry) (inside_now : i < length entries)
-    (before : All (IsCounted hs) (take i entries)) where
-  -- one more section: its object has the header numbers up to its own
-  pub section_counted : (objects : ℕ) (x own : Headers) (k : SectionIndex)
-      → now ≡ set hs (get_or entries i d).object x → (get_or entries i d).part ≡ InTable k
-      → (get_or entries i d).object < objects → length hs ≡ objects → own ≡ get_or hs (get_or entries i d).object own
-      → own.count ≤ x.count → k.0 < x.count → All (IsCounted now) (take (i + 1) entries)
-  section_counted objects x own k is part within long was more below =
-      subst (λ (l : List Headers). All (IsCounted l) (take (i + 1) entries)) (sym is)
-      (All-more (IsCounted (set hs n x)) entries i d inside_now
-      (λ j e h. still hs n x there grown (get_or (take i entries) j e) (before j e h))
-      (subst (IsPartCounted (set hs n x) n) (sym part) (here_part hs n x k.0 there below)))
+module _ (inputs : List InputObject) (i : ℕ) (x : InputObject) (hs now : List Headers) (total count end : ℕ)
+    (here : x ≡ get_or inputs i x) (before : LaidUpTo inputs hs total i) (sum : total + count ≡ end)
+    (reach : All (λ (s : LinkedSection). s.number.0 < count) x.object.now.sections) where
+  abbrev own : Headers
+  own = record { begin = total; count = count }
+
+  abbrev after : List Headers
+  after = hs ++ own ∷ []
+
+  -- what the header numbers of an object of the first i + 1 are
+  was : (n : ℕ) → n < i → headers_of after n ≡ headers_of hs n
+  was n l = get_or_append_left hs (own ∷ []) no_headers n (omega (arith, l, before.long))
+
+  is : (n : ℕ) → n ≡ i → headers_of after n ≡ own
+  is n e = get_or_push hs own no_headers n (before.long ∙ sym e)
+
+  within : (n : ℕ) → n < i + 1 → (headers_of after n).begin + (headers_of after n).count ≤ end
+  within n l = go (cases_lt n i)
     where
-      n : ℕ
-      n = (get_or entries i d).object
+      go : (n < i) ⊎ (i ≤ n) → (headers_of after n).begin + (headers_of after n).count ≤ end
+      go (inl below) =
+          let b : (headers_of after n).begin ≡ (headers_of hs n).begin = ap (λ (h : Headers). h.begin) (was n below) in
+          let c : (headers_of after n).count ≡ (headers_of hs n).count = ap (λ (h : Headers). h.count) (was n below) in
+          let old = before.laid.within n (omega (arith, below, before.long)) in
+          omega (arith, b, c, old, sum)
+      go (inr past) =
+          let same : n ≡ i = omega (arith, past, l) in
+          let b : (headers_of after n).begin ≡ total = ap (λ (h : Headers). h.begin) (is n same) in
+          let c : (headers_of after n).count ≡ count = ap (λ (h : Headers). h.count) (is n same) in
+          omega (arith, b, c, sum)
 
-      there : n < length hs
-      there = omega arith
+  apart : (n m : ℕ) → n < m → m < i + 1
+      → (headers_of after n).begin + (headers_of after n).count ≤ (headers_of after m).begin
+  apart n m l k = go (cases_lt m i)
+    where
+      n_below : n < i
+      n_below = omega (arith, l, k)
 
-      grown : (headers_of hs n).count ≤ x.count
-      grown =
-          let same : own.count ≡ (headers_of hs n).count =
-          ap (λ (y : Headers). y.count) (was ∙ get_or_default hs n own no_headers there) in
-          omega arith
+      b : (headers_of after n).begin ≡ (headers_of hs n).begin
+      b = ap (λ (h : Headers). h.begin) (was n n_below)
 
-  -- one more common block
-  pub block_counted : (x : SymbolIndex) → now ≡ hs → (get_or entries i d).part ≡ InCommon x
-      → All (IsCounted now) (take (i + 1) entries)
-  block_counted x is part =
-      subst (λ (l : List Headers). All (IsCounted l) (take (i + 1) entries)) (sym is)
-      (All-more (IsCounted hs) entries i d inside_now before
-      (subst (IsPartCounted hs (get_or entries i d).object) (sym part) tt))
+      c : (headers_of after n).count ≡ (headers_of hs n).count
+      c = ap (λ (h : Headers). h.count) (was n n_below)
 
--- all of them
-pub all_counted : (hs : List Headers) (entries : List Entry) (i : ℕ) → length entries ≤ i
-    → All (IsCounted hs) (take i entries) → All (IsCounted hs) entries
-all_counted hs entries i past counted =
-    subst (λ (l : List Entry). All (IsCounted hs) l) (take_all i entries past) counted
+      go : (m < i) ⊎ (i ≤ m)
+          → (headers_of after n).begin + (headers_of after n).count ≤ (headers_of after m).begin
+      go (inl below) =
+          let e : (headers_of after m).begin ≡ (headers_of hs m).begin = ap (λ (h : Headers). h.begin) (was m below) in
+          let old = before.laid.apart n m l (omega (arith, below, before.long)) in
+          omega (arith, b, c, e, old)
+      go (inr past) =
+          let same : m ≡ i = omega (arith, past, k) in
+          let e : (headers_of after m).begin ≡ total = ap (λ (h : Headers). h.begin) (is m same) in
+          let old = before.laid.within n (omega (arith, n_below, before.long)) in
+          omega (arith, b, c, e, old)
+
+  long_after : length after ≡ i + 1
+  long_after = omega (arith, length-append hs (own ∷ []), before.long)
+
+  counted : (k : ℕ) (y : InputObject) → k < i + 1 → slice_get inputs k ≡ Some y
+      → All (λ (s : LinkedSection). s.number.0 < (headers_of after k).count) y.object.now.sections
+  counted k y l at = go (cases_lt k i)
+    where
+      go : (k < i) ⊎ (i ≤ k)
+          → All (λ (s : LinkedSection). s.number.0 < (headers_of after k).count) y.object.now.sections
+      go (inl below) =
+          subst (λ (h : Headers). All (λ (s : LinkedSection). s.number.0 < h.count) y.object.now.sections)
+          (sym (was k below)) (before.counted k y below at)
+      go (inr past) =
+          let same : k ≡ i = omega (arith, past, l) in
+          let one : x ≡ y =
+          here ∙ ap (λ n. get_or inputs n x) (sym same) ∙ get_or_from_slice_get inputs k y x at in
+          subst (λ (h : Headers). All (λ (s : LinkedSection). s.number.0 < h.count) y.object.now.sections)
+          (sym (is k same))
+          (subst (λ (z : InputObject). All (λ (s : LinkedSection). s.number.0 < count) z.object.now.sections) one reach)
+
+  pub one_laid : now ≡ after → LaidUpTo inputs now end (i + 1)
+  one_laid e =
+      subst (λ (l : List Headers). LaidUpTo inputs l end (i + 1)) (sym e)
+      (record {
+        long = long_after;
+        laid = record {
+          within = λ n l. within n (omega (arith, l, long_after));
+          apart = λ n m l k. apart n m l (omega (arith, k, long_after));
+        };
+        counted = counted;
+      })
+
+-- the linked sections of all objects are counted then
+pub all_linked : (p : Project) (inputs : List InputObject) (hs : List Headers) (total i : ℕ)
+    → shown_inputs inputs ≡ p.objects → length inputs ≤ i → LaidUpTo inputs hs total i → AreLinkedCounted p hs
+all_linked p inputs hs total i same past h j o x at c = go (slice_get inputs j) refl
+  where
+    shown : option_map shown_input (slice_get inputs j) ≡ Some o
+    shown = sym (slice_get-map shown_input inputs j) ∙ ap (λ l. slice_get l j) same ∙ at
+
+    go : (m : Option InputObject) → slice_get inputs j ≡ m → x.number.0 < (headers_of hs j).count
+    go None e =
+        let gone : None ≡ Some o = ap (option_map shown_input) (sym e) ∙ shown in
+        absurd (let none : ⊥ = cc in none)
+    go (Some y) e =
+        let is : shown_input y ≡ o = same_Some _ _ (sym (ap (option_map shown_input) e) ∙ shown) in
+        let low : j < i = omega (arith, past, slice_get_within inputs j y e) in
+        let own : All (λ (s : LinkedSection). s.number.0 < (headers_of hs j).count) o.object.sections =
+        subst (λ (z : NamedObject). All (λ (s : LinkedSection). s.number.0 < (headers_of hs j).count) z.object.sections)
+        is (h.counted j y low e) in
+        subst (λ (s : LinkedSection). s.number.0 < (headers_of hs j).count) c.2 (own c.0 x c.1)

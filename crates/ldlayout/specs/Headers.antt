@@ -1,5 +1,7 @@
 -- The header numbers of objects, those of each after those of the one before.
-use Rattle.std.specs.Prelude.{◌≡◌, ◌≤◌, ◌<◌, ◌+◌, ℕ, List, All, length, slice_index_or}
+use Rattle.std.specs.Prelude.{◌≡◌, ◌≤◌, ◌<◌, ◌+◌, ℕ, List, Some, Contains, length, slice_get, slice_index_or}
+use Rattle.elfobj.specs.Sections.{LinkedSection}
+use Rattle.ldmodel.specs.Project.{NamedObject, Project}
 use Rattle.ldmodel.specs.declared.sections.Part.{Part}
 use Rattle.ldmodel.specs.declared.sections.Part.TheVariants.{InTable, InCommon}
 use Rattle.ldlayout.specs.declared.entry.Entry.{Entry}
@@ -20,13 +22,11 @@ IsPartCounted headers n (InCommon x) = Unit {0}
 abbrev pub IsCounted : List Headers → Entry → Type 0
 IsCounted headers e = IsPartCounted headers e.object e.part
 
--- header numbers begin after those of all objects before, and all are below the total
-pub record AreNumbered (before after : List Headers) (total : ℕ) : Type 0 where
-  pub long : length after ≡ length before
-  pub counts : (n : ℕ) → (headers_of after n).count ≡ (headers_of before n).count
-  pub within : (n : ℕ) → n < length after → (headers_of after n).begin + (headers_of after n).count ≤ total
-  pub apart : (n m : ℕ) → n < m → m < length after
-      → (headers_of after n).begin + (headers_of after n).count ≤ (headers_of after m).begin
+-- the linked sections of each object of the project are counted
+abbrev pub AreLinkedCounted : Project → List Headers → Type 0
+AreLinkedCounted p headers =
+    (i : ℕ) (o : NamedObject) (x : LinkedSection) → slice_get p.objects i ≡ Some o → Contains o.object.sections x
+    → x.number.0 < (headers_of headers i).count
 
 -- the header numbers of objects do not meet, and all are below the total
 pub record AreLaid (headers : List Headers) (total : ℕ) : Type 0 where

@@ -1,15 +1,16 @@
-//! The header numbers of objects, those of each after those of the one before.
+//! The header numbers of the objects of a project, those of each after those of the one before.
 
 ghost use Rattle.std.specs.Prelude.{◌≡◌, ◌+◌, ◌<◌, All, IfOk};
-ghost use Rattle.ldlayout.specs.Headers.{AreNumbered, IsCounted};
+ghost use Rattle.elfobj.specs.Sections.{LinkedSection};
+ghost use Rattle.ldlayout.specs.Headers.{AreLaid, AreLinkedCounted};
 
-use crate::entry::Entry;
+use elfobj::object::Object;
 use elfobj::section::SectionIndex;
 use ldmodel::memory::NoMemory;
-use ldmodel::sections::Part;
+use ldproject::view::ProjectView;
 use std::alloc::{AllocError, Global};
 
-/// The header numbers of an object that a table has: those from 0 to the greatest one in the output.
+/// The header numbers of an object that a table has: those from 0 to that of its last linked section.
 #[derive(Clone, Copy)]
 pub(crate) struct Headers {
     /// Where they begin among those of all objects.
@@ -18,9 +19,13 @@ pub(crate) struct Headers {
     pub(crate) count: u32,
 }
 
-impl Headers {
-    /// No header numbers.
-    const NONE: Headers = Headers { begin: 0, count: 0 };
+/// The header numbers of all objects.
+#[derive(Drop)]
+pub(crate) struct AllHeaders {
+    /// Those of each object.
+    pub(crate) objects: Vec<Headers>,
+    /// How many there are in all.
+    pub(crate) slots: u32,
 }
 
 /// How many header numbers there are up to that of a section.
@@ -30,42 +35,43 @@ fn count_to(section: SectionIndex) -> u32
     u32::from(section.0) + 1
 }
 
-/// How many header numbers each of this number of objects has. They begin nowhere yet.
+/// How many header numbers an object has up to that of its last linked section.
+fn count_of(object: &Object) -> u32
+    ensures { All (λ (x : LinkedSection). x.number.0 < result) object.now.sections }
+{
+    match object.sections().last() {
+        None => 0,
+        Some(last) => count_to(last.number),
+    }
+}
+
+/// The header numbers of all objects of a project. They are made of the objects alone, so an object has as many in each
+/// link.
 ///
 /// # Errors
 ///
 /// Where memory runs out.
-pub(crate) fn count_headers(
+pub(crate) fn lay_headers(
     alloc: Global,
-    entries: &[Entry],
-    objects: usize,
-) -> Result<Vec<Headers>, NoMemory>
-    requires { All (λ e. e.object < objects) entries.now }
-    ensures { IfOk result (λ v. All (IsCounted v.items) entries.now) }
+    project: &ProjectView<'_>,
+) -> Result<AllHeaders, NoMemory>
+    ensures laid { IfOk result (λ x. AreLaid x.objects.items x.slots) }
+    ensures counted { IfOk result (λ x. AreLinkedCounted project.now x.objects.items) }
 {
-    let mut headers = vec![in alloc; Headers::NONE; objects]?;
-    for entry in entries {
-        if let Part::InTable(section) = entry.part {
-            let own = &mut headers[entry.object];
-            own.count = own.count.max(count_to(section));
+    let inputs = project.inputs();
+    let mut objects = Vec::with_capacity(alloc, inputs.len())?;
+    let mut slots: u32 = 0;
+    for input in inputs {
+        let count = count_of(input.object);
+        objects.push(Headers {
+            begin: slots,
+            count,
+        })?;
+        match slots.checked_add(count) {
+            Some(sum) => slots = sum,
+            // Unreachable: 2^32 section headers take 256 GiB
+            None => return Err(AllocError),
         }
     }
-    Ok(headers)
-}
-
-/// Lets the header numbers of each object begin where those of the one before it end. The result is how many there are
-/// in all.
-pub(crate) fn number_headers(headers: &mut [Headers]) -> Result<u32, NoMemory>
-    ensures { IfOk result (λ total. AreNumbered headers.old headers.new total) }
-{
-    let mut total: u32 = 0;
-    for own in headers.iter_mut() {
-        own.begin = total;
-        let Some(end) = total.checked_add(own.count) else {
-            // Unreachable: 2^32 section headers take 256 GiB
-            return Err(AllocError);
-        };
-        total = end;
-    }
-    Ok(total)
+    Ok(AllHeaders { objects, slots })
 }

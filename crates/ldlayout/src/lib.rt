@@ -4,8 +4,8 @@
 //! - `laying`: the phase, over `place`;
 //! - `segments` over `group`: what is loaded as one, and its offset in the file; `offsets`: where output sections begin
 //!   in the file; `length`: how long the image is;
-//! - `starts` over `collected`, `entry`, and `sections` with `headers`: where each input section stands; `numbered`:
-//!   the sections of an object have different numbers.
+//! - `section_table` over `headers` and `entry`: the numbers of input sections; `starts` over `collected`: where each of
+//!   them stands; `numbered`: the sections of an object have different numbers; `rows`: rows as one list.
 #![tactic(auto)]
 
 mod collected;

@@ -1,18 +1,19 @@
 //! The numbers of the input sections of a link.
 
-ghost use Rattle.std.specs.Prelude.{◌≡◌, ◌<◌, ◌+◌, ◌^◌, All, IfOk, IfSome, length};
+ghost use Rattle.std.specs.Prelude.{◌≡◌, ◌<◌, ◌+◌, ◌^◌, All, IfOk, IfSome, List, length};
 ghost use Rattle.std.specs.List.Sorted.{IsSortedByKey};
 ghost use Rattle.std.specs.Option.{option_map};
 ghost use Rattle.ldlayout.specs.Entries.{rank_cmp, rank_self};
 ghost use Rattle.ldlayout.specs.Headers.{AreLaid};
 
 use crate::entry::{Entry, Rank, block_ranks, find_rank};
-use crate::headers::{Headers, count_headers, number_headers};
+use crate::headers::{Headers, lay_headers};
 use elfobj::relocation::SymbolIndex;
 use elfobj::section::SectionIndex;
 use ldmodel::memory::NoMemory;
 use ldmodel::names::ObjectPlace;
 use ldmodel::sections::Part;
+use ldproject::view::ProjectView;
 use std::alloc::{AllocError, Global};
 
 /// The number of an input section of a link, under which each phase has a column. The header numbers of all objects
@@ -24,7 +25,7 @@ pub struct SectionId(pub u32);
 /// The input sections of a link, by their numbers.
 #[derive(Drop)]
 pub struct SectionTable {
-    /// The header numbers of each object, up to the greatest one in the link.
+    /// The header numbers of each object, up to that of its last linked section.
     headers: Vec<Headers>,
     /// How many header numbers there are in all: the number of the first common block.
     slots: u32,
@@ -36,31 +37,32 @@ pub struct SectionTable {
 }
 
 impl SectionTable {
+    ghost use Rattle.ldlayout.specs.Headers.{AreLinkedCounted, IsCounted};
+    ghost use Rattle.ldlayout.specs.declared.headers.Headers.{Headers};
     ghost use Rattle.ldlayout.specs.SectionTable.{HasNumbers, block_of, len_of, number_of, slot_of};
 
-    /// The numbers of these input sections, of this number of objects.
+    /// The numbers of the input sections of a project, of which these are in the output.
     ///
     /// # Errors
     ///
     /// Where memory runs out; 2^32 numbers count as that.
     pub(crate) fn of(
         alloc: Global,
+        project: &ProjectView<'_>,
         entries: &[Entry],
-        objects: usize,
     ) -> Result<SectionTable, NoMemory>
-        requires { All (λ e. e.object < objects) entries.now }
+        requires { (hs : List Headers) → AreLinkedCounted project.now hs → All (IsCounted hs) entries.now }
         ensures { IfOk result (λ t. HasNumbers t entries.now) }
     {
-        let mut headers = count_headers(alloc, entries, objects)?;
-        let slots = number_headers(&mut headers)?;
+        let laid = lay_headers(alloc, project)?;
         let mut blocks = block_ranks(alloc, entries)?;
         blocks.sort_unstable_by_key(|block| *block);
-        if blocks.len() >= (u32::MAX - slots) as usize {
+        if blocks.len() >= (u32::MAX - laid.slots) as usize {
             return Err(AllocError);
         }
         Ok(SectionTable {
-            headers,
-            slots,
+            headers: laid.objects,
+            slots: laid.slots,
             blocks,
         })
     }

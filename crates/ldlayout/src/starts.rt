@@ -112,7 +112,7 @@ impl Starts {
             return Err(AllocError);
         }
         let entries = collect(alloc, rows, laying.placement.pieces())?;
-        let table = SectionTable::of(alloc, &entries, inputs.len())?;
+        let table = SectionTable::of(alloc, project, &entries)?;
         let owners = owners(alloc, &table, &entries)?;
         let places = places(alloc, &entries)?;
         Ok(Starts {

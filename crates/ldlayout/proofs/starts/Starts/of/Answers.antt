@@ -1,26 +1,26 @@
-use Rattle.std.proofs.Common.{rules, ◌∙◌, ap, flat_map, length, map, subst, sym, List}
-use Rattle.std.proofs.lemmas.List.{length-map}
+use Rattle.std.proofs.Common.{◌∙◌, ap, flat_map, map, subst, sym, List}
 use Rattle.ldlaws.specs.PlacedOnce.{Differ}
 use Rattle.ldlaws.specs.Spread.{EachLater}
 use Rattle.ldmodel.specs.FileLayout.{Each}
 use Rattle.ldmodel.specs.Names.{provided}
 use Rattle.ldmodel.specs.Rows.{Piece, rows}
-use Rattle.ldproject.specs.Inputs.{shown_input}
 use Rattle.ldlayout.specs.InPlace.{IsOwned}
 use Rattle.ldlayout.specs.SectionTable.{AreOwners, HasNumbers}
 use Rattle.ldlayout.specs.declared.entry.Entry.{Entry}
-use Rattle.ldlayout.proofs.Owned.{all_owned}
-use Rattle.ldlayout.proofs.Placing.{all_places, all_within}
+use Rattle.ldlayout.proofs.Owned.{all_owned, all_parts}
+use Rattle.ldlayout.proofs.Parted.{all_counted}
+use Rattle.ldlayout.proofs.Placing.{all_places}
 use Rattle.ldlayout.proofs.starts.Starts.of.Goals as goal
 
 pub of-requires : goal.of-requires
-of-requires c =
+of-requires c = λ hs linked.
     let p = c.args.project.now in
-    all_within p c.args.rows.now c.pieces.result.now c.deref.result.now (length c.inputs-inputs.result.now) c.requires
+    all_counted p hs c.inputs-inputs.ensures.distinct linked c.args.rows.now c.pieces.result.now c.deref.result.now
+    c.requires
     (all_owned p c.inputs-inputs.result.now c.inputs-inputs.ensures.same
     (sym c.has_unnamed.ensures ∙ c.if-has_unnamed.false) (c.live_by_path.ensures.in_order p))
+    (all_parts p (c.live_by_path.ensures.in_order p))
     (c.deref.ensures.value ∙ c.in_ok-entries.ensures)
-    (sym (length-map c.inputs-inputs.result.now shown_input) ∙ ap length c.inputs-inputs.ensures.same)
 
 pub returns : goal.returns
 returns c = λ s laid.
