@@ -26,3 +26,4 @@ pub mod Refers
 pub mod Starting
 pub mod OwnWords
 pub mod Knowing
+mod Ranked

@@ -2,7 +2,7 @@ use Rattle.std.proofs.Common.{◌∙◌, sym, subst, ap}
 use Rattle.gather.specs.Gathered.{AreGathered}
 use Rattle.gather.specs.Members.{AreMembers}
 use Rattle.ldmodel.specs.Options.{LinkOptions}
-use Rattle.gather.specs.ProjectMembers.{by_place}
+use Rattle.gather.specs.ProjectMembers.{AreBlocks, by_place}
 use Rattle.gather.proofs.Named.{names_sections}
 use Rattle.gather.proofs.gathering.Gathering.of.Goals as goal
 
@@ -29,7 +29,12 @@ mark_live-requires-clause-out c =
 pub sorted_out-requires-clause-sections : goal.sorted_out-requires-clause-sections
 sorted_out-requires-clause-sections c =
     let p = c.args.project.now in
-    subst (AreGathered p (by_place p)) (sym c.deref-6.ensures.value)
+    subst (AreGathered p (by_place p)) (sym c.deref-7.ensures.value)
     (c.in_ok-sections.ensures p (by_place p)
     (subst (AreMembers p (by_place p)) (sym c.deref-2.ensures.value) c.in_ok-members.ensures.members)
     (names_sections p c.in_ok-members.ensures.ascending))
+
+pub of-requires : goal.of-requires
+of-requires c =
+    let p = c.args.project.now in
+    c.in_ok-ranks.ensures p (subst (AreBlocks p) (sym c.deref-6.ensures.value) c.in_ok-blocks.ensures)

@@ -1,11 +1,11 @@
 use Rattle.std.proofs.Common.{◌∙◌, arith, subst, sym, List}
-use Rattle.ldlayout.specs.declared.headers.Headers.{Headers}
-use Rattle.ldlayout.proofs.Counting.{LaidUpTo, all_linked, none_laid, one_laid}
-use Rattle.ldlayout.proofs.headers.lay_headers.Goals as goal
+use Rattle.ldsections.specs.declared.slots.Slots.{Slots}
+use Rattle.ldsections.proofs.Counting.{LaidUpTo, all_linked, none_laid, one_laid}
+use Rattle.ldsections.proofs.slots.lay_slots.Goals as goal
 
 pub loop-input-init : goal.loop-input-init
 loop-input-init c =
-    subst (λ (l : List Headers). LaidUpTo c.inputs-inputs.result.now l 0 0) (sym c.in_ok-objects.ensures.items)
+    subst (λ (l : List Slots). LaidUpTo c.inputs-inputs.result.now l 0 0) (sym c.in_ok-objects.ensures.items)
     (none_laid c.inputs-inputs.result.now)
 
 pub loop-input-preserved : goal.loop-input-preserved

@@ -1,13 +1,13 @@
 //! The numbers of the input sections of a link.
 
-ghost use Rattle.std.specs.Prelude.{◌≡◌, ◌<◌, ◌+◌, ◌^◌, All, IfOk, IfSome, List, length};
+ghost use Rattle.std.specs.Prelude.{◌≡◌, ◌<◌, ◌+◌, ◌^◌, IfOk, IfSome, length};
 ghost use Rattle.std.specs.List.Sorted.{IsSortedByKey};
 ghost use Rattle.std.specs.Option.{option_map};
-ghost use Rattle.ldlayout.specs.Entries.{rank_cmp, rank_self};
-ghost use Rattle.ldlayout.specs.Headers.{AreLaid};
+ghost use Rattle.ldsections.specs.Ranks.{rank_cmp, rank_self};
+ghost use Rattle.ldsections.specs.Slots.{AreLaid};
 
-use crate::entry::{Entry, Rank, block_ranks, find_rank};
-use crate::headers::{Headers, lay_headers};
+use crate::rank::{Rank, find_rank};
+use crate::slots::{Slots, lay_slots};
 use elfobj::relocation::SymbolIndex;
 use elfobj::section::SectionIndex;
 use ldmodel::memory::NoMemory;
@@ -26,42 +26,41 @@ pub struct SectionId(pub u32);
 #[derive(Drop)]
 pub struct SectionTable {
     /// The header numbers of each object, up to that of its last linked section.
-    headers: Vec<Headers>,
+    objects: Vec<Slots>,
     /// How many header numbers there are in all: the number of the first common block.
     slots: u32,
     /// The common blocks, by rank.
     blocks: Vec<Rank>,
-    ghost laid: { AreLaid headers.items slots },
+    ghost laid: { AreLaid objects.items slots },
     ghost sorted: { IsSortedByKey rank_self rank_cmp blocks.items },
     ghost small: { slots + length blocks.items < 2 ^ 32 },
 }
 
 impl SectionTable {
-    ghost use Rattle.ldlayout.specs.Headers.{AreLinkedCounted, IsCounted};
-    ghost use Rattle.ldlayout.specs.declared.headers.Headers.{Headers};
-    ghost use Rattle.ldlayout.specs.SectionTable.{HasNumbers, block_of, len_of, number_of, slot_of};
+    ghost use Rattle.ldsections.specs.SectionTable.{AreBlockRanks, IsTableOf, block_of, len_of, number_of, slot_of};
 
-    /// The numbers of the input sections of a project, of which these are in the output.
+    /// The numbers of the input sections of a project, whose common blocks have these ranks. The time grows with the
+    /// numbers of objects and of common blocks.
     ///
     /// # Errors
     ///
     /// Where memory runs out; 2^32 numbers count as that.
-    pub(crate) fn of(
+    pub fn of(
         alloc: Global,
         project: &ProjectView<'_>,
-        entries: &[Entry],
+        ranks: Vec<Rank>,
     ) -> Result<SectionTable, NoMemory>
-        requires { (hs : List Headers) → AreLinkedCounted project.now hs → All (IsCounted hs) entries.now }
-        ensures { IfOk result (λ t. HasNumbers t entries.now) }
+        requires { AreBlockRanks project.now ranks.items }
+        ensures { IfOk result (λ t. IsTableOf project.now t) }
     {
-        let laid = lay_headers(alloc, project)?;
-        let mut blocks = block_ranks(alloc, entries)?;
+        let laid = lay_slots(alloc, project)?;
+        let mut blocks = ranks;
         blocks.sort_unstable_by_key(|block| *block);
         if blocks.len() >= (u32::MAX - laid.slots) as usize {
             return Err(AllocError);
         }
         Ok(SectionTable {
-            headers: laid.objects,
+            objects: laid.objects,
             slots: laid.slots,
             blocks,
         })
@@ -76,13 +75,13 @@ impl SectionTable {
 
     /// The number of a section of an object.
     fn find_slot(&self, object: ObjectPlace, section: SectionIndex) -> Option<SectionId>
-        ensures is { option_map (λ i. i.0) result ≡ slot_of self.now.headers.items object.0 section.0 }
+        ensures is { option_map (λ i. i.0) result ≡ slot_of self.now.objects.items object.0 section.0 }
         ensures below { IfSome result (λ i. i.0 < self.now.slots) }
     {
-        let headers = self.headers.get(object.0)?;
+        let slots = self.objects.get(object.0)?;
         let number = u32::from(section.0);
-        if number < headers.count {
-            Some(SectionId(headers.begin + number))
+        if number < slots.count {
+            Some(SectionId(slots.begin + number))
         } else {
             None
         }

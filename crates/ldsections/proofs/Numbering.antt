@@ -1,49 +1,51 @@
 -- The numbers of input sections: each part has one number at most, and no two have the same one.
-use Rattle.std.proofs.Common.{◌≡◌, ◌<◌, ◌≤◌, ◌+◌, ◌⊎◌, inl, inr, ℕ, refl, sym, ap, subst, arith, ◌∙◌}
-use Rattle.std.proofs.Common.{List, length, get_or, map, filter, cond, Bool, true, false, Option, Some, None}
+use Rattle.std.proofs.Common.{◌≡◌, ◌<◌, ◌≤◌, ◌+◌, ◌⊎◌, inl, inr, ℕ, suc, refl, sym, ap, subst, arith, ◌∙◌}
+use Rattle.std.proofs.Common.{List, [], ◌∷◌, length, get_or, map, flat_map, cond, Bool, true, false, Option, Some, None}
 use Rattle.std.proofs.lemmas.Bool.{cases_lt, false≢true, lt-ltb, ltb-false, ltb-true, true≢false}
-use Rattle.std.proofs.lemmas.List.{get_or_default}
+use Rattle.std.proofs.lemmas.List.Elements.{All-append, All-cons, All-nil}
 use Rattle.std.proofs.lemmas.List.Quantifiers.{position-Some}
 use Rattle.std.proofs.lemmas.List.Sorted.{Contains-permutation}
 use Rattle.std.proofs.lemmas.List.Sums.{fails_before_first}
 use Rattle.std.proofs.lemmas.Option.{same_Some}
-use Rattle.std.specs.List.{All, Contains, position, position_or_len}
+use Rattle.std.specs.List.{All, Contains, enumerate_from, position, position_or_len, slice_get}
 use Rattle.std.specs.List.Sorted.{IsPermutation}
 use Rattle.std.specs.Option.{option_map}
 use Rattle.std.specs.Ordering.{is_eq}
 use Rattle.std.specs.Prelude.{IsSome, nat_lt}
+use Rattle.elfobj.specs.Sections.{LinkedSection}
+use Rattle.ldmodel.specs.InputSections.{common_blocks, input_sections, linked_section, sections_of}
+use Rattle.ldmodel.specs.Project.{NamedObject, Project}
+use Rattle.ldmodel.specs.Sections.{InputSection}
 use Rattle.ldmodel.specs.declared.sections.Part.{Part}
 use Rattle.ldmodel.specs.declared.sections.Part.TheVariants.{InTable, InCommon}
-use Rattle.ldlayout.specs.Entries.{is_block, is_block_part, is_ranked, rank_cmp, rank_in, rank_of}
-use Rattle.ldlayout.specs.Headers.{AreLaid, IsCounted, IsPartCounted, headers_of}
-use Rattle.ldlayout.specs.SectionTable.{HasNumbers, block_of, len_of, number_of, slot_of}
-use Rattle.ldlayout.specs.declared.entry.Entry.{Entry}
-use Rattle.ldlayout.specs.declared.headers.Headers.{Headers}
-use Rattle.ldlayout.specs.declared.section_table.SectionTable.{SectionTable}
-use Rattle.ldlayout.proofs.Counting.{inside}
-use Rattle.ldlayout.proofs.Members.{filter_in, map_in}
-use Rattle.ldlayout.proofs.Ranks.{alike, one}
+use Rattle.ldsections.specs.Ranks.{is_ranked, rank_cmp, rank_of}
+use Rattle.ldsections.specs.Slots.{AreLaid, AreLinkedCounted, slots_of}
+use Rattle.ldsections.specs.SectionTable.{AreBlockRanks, IsBlockAmong, IsTableOf, block_of, len_of, number_of, slot_of}
+use Rattle.ldsections.specs.declared.section_table.SectionTable.{SectionTable}
+use Rattle.ldsections.specs.declared.slots.Slots.{Slots}
+use Rattle.ldsections.proofs.Counting.{inside}
+use Rattle.ldsections.proofs.Ranks.{alike, one}
 
 -- ---- header numbers
 
-record Slot (hs : List Headers) (n k at : ℕ) : Type 0 where
-  counted : k < (headers_of hs n).count
-  is : (headers_of hs n).begin + k ≡ at
+record Slot (hs : List Slots) (n k at : ℕ) : Type 0 where
+  counted : k < (slots_of hs n).count
+  is : (slots_of hs n).begin + k ≡ at
 
-slot_is : (hs : List Headers) (n k at : ℕ) → slot_of hs n k ≡ Some at → Slot hs n k at
-slot_is hs n k at e = go (nat_lt k (headers_of hs n).count) refl e
+slot_is : (hs : List Slots) (n k at : ℕ) → slot_of hs n k ≡ Some at → Slot hs n k at
+slot_is hs n k at e = go (nat_lt k (slots_of hs n).count) refl e
   where
-    go : (b : Bool) → nat_lt k (headers_of hs n).count ≡ b
-        → cond b (Some ((headers_of hs n).begin + k)) None ≡ Some at → Slot hs n k at
-    go true l h = record { counted = ltb-true k (headers_of hs n).count l; is = same_Some _ _ h }
+    go : (b : Bool) → nat_lt k (slots_of hs n).count ≡ b
+        → cond b (Some ((slots_of hs n).begin + k)) None ≡ Some at → Slot hs n k at
+    go true l h = record { counted = ltb-true k (slots_of hs n).count l; is = same_Some _ _ h }
     go false l h = absurd (let none : ⊥ = cc in none)
 
-has_slot : (hs : List Headers) (n k : ℕ) → k < (headers_of hs n).count → IsSome (slot_of hs n k)
+has_slot : (hs : List Slots) (n k : ℕ) → k < (slots_of hs n).count → IsSome (slot_of hs n k)
 has_slot hs n k h =
-    subst (λ (b : Bool). IsSome (cond b (Some ((headers_of hs n).begin + k)) None))
-    (sym (lt-ltb k (headers_of hs n).count h)) refl
+    subst (λ (b : Bool). IsSome (cond b (Some ((slots_of hs n).begin + k)) None))
+    (sym (lt-ltb k (slots_of hs n).count h)) refl
 
-module _ (hs : List Headers) (total : ℕ) (laid : AreLaid hs total) where
+module _ (hs : List Slots) (total : ℕ) (laid : AreLaid hs total) where
   slot_below : (n k at : ℕ) → slot_of hs n k ≡ Some at → at < total
   slot_below n k at e =
       let s = slot_is hs n k at e in omega (arith, s.is, s.counted, laid.within n (inside hs n k s.counted))
@@ -63,7 +65,7 @@ module _ (hs : List Headers) (total : ℕ) (laid : AreLaid hs total) where
       let s = slot_is hs n k at e in
       let t = slot_is hs m l at f in
       let same : n ≡ m = one_object n m k l at s t in
-      let begins : (headers_of hs n).begin ≡ (headers_of hs m).begin = ap (λ i. (headers_of hs i).begin) same in
+      let begins : (slots_of hs n).begin ≡ (slots_of hs m).begin = ap (λ i. (slots_of hs i).begin) same in
       (same, omega (arith, s.is, t.is, begins))
 
 -- ---- common blocks
@@ -122,49 +124,78 @@ map_some f (Some x) h = h
 module _ (t : SectionTable) where
   below : (n : ℕ) (q : Part) (at : ℕ) → number_of t n q ≡ Some at → at < len_of t
   below n (InTable k) at e =
-      let low = slot_below t.headers.items t.slots t.laid n k.0 at e in omega (arith, low)
+      let low = slot_below t.objects.items t.slots t.laid n k.0 at e in omega (arith, low)
   below n (InCommon x) at e = let b = block_is t n x.0 at e in omega (arith, b.is, b.inside_is)
 
-  never : (n k m x at : ℕ) → slot_of t.headers.items n k ≡ Some at → block_of t m x ≡ Some at → ⊥
+  never : (n k m x at : ℕ) → slot_of t.objects.items n k ≡ Some at → block_of t m x ≡ Some at → ⊥
   never n k m x at e f =
-      let low = slot_below t.headers.items t.slots t.laid n k at e in
+      let low = slot_below t.objects.items t.slots t.laid n k at e in
       let b = block_is t m x at f in
       omega (arith, low, b.is)
 
   apart : (n m : ℕ) (q r : Part) (at : ℕ) → number_of t n q ≡ Some at → number_of t m r ≡ Some at
       → is_eq (rank_cmp (rank_of n q) (rank_of m r)) ≡ true
   apart n m (InTable k) (InTable l) at e f =
-      let same = one_slot t.headers.items t.slots t.laid n m k.0 l.0 at e f in
+      let same = one_slot t.objects.items t.slots t.laid n m k.0 l.0 at e f in
       subst (λ (i : ℕ). is_eq (rank_cmp (n, false, k.0) (m, false, i)) ≡ true) same.1
       (subst (λ (i : ℕ). is_eq (rank_cmp (n, false, k.0) (i, false, k.0)) ≡ true) same.0 (alike (n, false, k.0)))
   apart n m (InTable k) (InCommon x) at e f = absurd (never n k.0 m x.0 at e f)
   apart n m (InCommon x) (InTable k) at e f = absurd (never m k.0 n x.0 at f e)
   apart n m (InCommon x) (InCommon y) at e f = one_block t n m x.0 y.0 at e f
 
-module _ (t : SectionTable) (entries : List Entry) (counted : All (IsCounted t.headers.items) entries)
-    (same : IsPermutation (map rank_in (filter is_block entries)) t.blocks.items) where
-  -- a common block among the entries is among those of the table
-  has_block : (e : Entry) → Contains entries e → is_block e ≡ true
-      → IsSome (position (is_ranked (rank_in e)) t.blocks.items)
-  has_block e c b =
-      has_place (is_ranked (rank_in e)) t.blocks.items (rank_in e)
-      (Contains-permutation (map rank_in (filter is_block entries)) t.blocks.items (rank_in e) same
-      (map_in rank_in (filter is_block entries) e (filter_in is_block entries e c b)))
-      (alike (rank_in e))
+module _ (t : SectionTable) (p : Project) (linked : AreLinkedCounted p t.objects.items)
+    (ranks : List (ℕ × Bool × ℕ)) (blocks : AreBlockRanks p ranks) (same : IsPermutation ranks t.blocks.items) where
+  abbrev Numbered : InputSection → Type 0
+  Numbered s = IsSome (number_of t s.id.object s.id.part)
 
-  numbered : (e : Entry) → Contains entries e → IsCounted t.headers.items e → (part : Part) → e.part ≡ part
-      → IsSome (number_of t e.object part)
-  numbered e c h (InTable k) is =
-      has_slot t.headers.items e.object k.0 (subst (IsPartCounted t.headers.items e.object) is h)
-  numbered e c h (InCommon x) is =
-      map_some (λ (j : ℕ). t.slots + j) (position (is_ranked (e.object, true, x.0)) t.blocks.items)
-      (subst (λ (r : ℕ × Bool × ℕ). IsSome (position (is_ranked r) t.blocks.items)) (ap (rank_of e.object) is)
-      (has_block e c (ap is_block_part is)))
+  -- the linked sections of an object
+  of_linked : (i : ℕ) (o : NamedObject) → slice_get p.objects i ≡ Some o → (xs : List LinkedSection)
+      → ((x : LinkedSection) → Contains xs x → Contains o.object.sections x)
+      → All Numbered (map (linked_section i o) xs)
+  of_linked i o at [] among = All-nil Numbered
+  of_linked i o at (x ∷ xs) among =
+      All-cons Numbered (linked_section i o x) (map (linked_section i o) xs)
+      (has_slot t.objects.items i x.number.0 (linked i o x at (among x (0, omega arith, refl))))
+      (of_linked i o at xs (λ y c. among y (suc c.0, omega (arith, c.1), c.2)))
 
-  pub have_numbers : HasNumbers t entries
-  have_numbers = record {
-    all = λ i d h. numbered (get_or entries i d)
-        (i, h, sym (get_or_default entries i d (get_or entries i d) h)) (counted i d h) (get_or entries i d).part refl;
+  -- a common block
+  of_block : (n : ℕ) (part : Part) → IsBlockAmong ranks n part → IsSome (number_of t n part)
+  of_block n (InTable k) h = absurd h
+  of_block n (InCommon x) h =
+      map_some (λ (j : ℕ). t.slots + j) (position (is_ranked (n, true, x.0)) t.blocks.items)
+      (has_place (is_ranked (n, true, x.0)) t.blocks.items (n, true, x.0)
+      (Contains-permutation ranks t.blocks.items (n, true, x.0) same h) (alike (n, true, x.0)))
+
+  of_object : (i : ℕ) (o : NamedObject) → slice_get p.objects i ≡ Some o → All Numbered (sections_of p i o)
+  of_object i o at =
+      All-append Numbered (map (linked_section i o) o.object.sections) (common_blocks p i o)
+      (of_linked i o at o.object.sections (λ x c. c))
+      (λ k d l. let s : InputSection = get_or (common_blocks p i o) k d in
+      of_block s.id.object s.id.part (blocks i o at k d l))
+
+  of_objects : (n : ℕ) (os : List NamedObject)
+      → ((k : ℕ) (o : NamedObject) → slice_get os k ≡ Some o → All Numbered (sections_of p (n + k) o))
+      → All Numbered (flat_map (λ (o : ℕ × NamedObject). sections_of p o.0 o.1) (enumerate_from n os))
+  of_objects n [] h = All-nil Numbered
+  of_objects n (o ∷ os) h =
+      let first : n + 0 ≡ n = omega arith in
+      All-append Numbered (sections_of p n o)
+      (flat_map (λ (o : ℕ × NamedObject). sections_of p o.0 o.1) (enumerate_from (n + 1) os))
+      (subst (λ (m : ℕ). All Numbered (sections_of p m o)) first (h 0 o refl))
+      (of_objects (n + 1) os (λ k x e.
+      let next : n + suc k ≡ (n + 1) + k = omega arith in
+      subst (λ (m : ℕ). All Numbered (sections_of p m x)) next (h (suc k) x e)))
+
+  of_all : All Numbered (input_sections p)
+  unfolding input_sections
+  of_all =
+      of_objects 0 p.objects (λ k o e.
+      let from : k ≡ 0 + k = omega arith in
+      subst (λ (m : ℕ). All Numbered (sections_of p m o)) from (of_object k o e))
+
+  pub are_numbered : IsTableOf p t
+  are_numbered = record {
+    all = λ s c. subst Numbered c.2 (of_all c.0 s c.1);
     below = below t;
     apart = apart t;
   }

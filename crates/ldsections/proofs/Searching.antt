@@ -11,8 +11,8 @@ use Rattle.std.specs.Ordering.{is_eq, is_lt, ordering_reverse}
 use Rattle.std.specs.Prelude.{nat_lt}
 use Rattle.std.specs.declared.cmp.Ordering.{Ordering}
 use Rattle.std.specs.declared.cmp.Ordering.TheVariants.{Less, Equal, Greater}
-use Rattle.ldlayout.specs.Entries.{is_ranked, rank_cmp, rank_self}
-use Rattle.ldlayout.proofs.Ranks.{rank_total}
+use Rattle.ldsections.specs.Ranks.{is_ranked, rank_cmp, rank_self}
+use Rattle.ldsections.proofs.Ranks.{rank_total}
 
 abbrev Rank : Type 0
 Rank = ℕ × Bool × ℕ

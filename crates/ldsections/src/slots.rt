@@ -2,7 +2,7 @@
 
 ghost use Rattle.std.specs.Prelude.{◌≡◌, ◌+◌, ◌<◌, All, IfOk};
 ghost use Rattle.elfobj.specs.Sections.{LinkedSection};
-ghost use Rattle.ldlayout.specs.Headers.{AreLaid, AreLinkedCounted};
+ghost use Rattle.ldsections.specs.Slots.{AreLaid, AreLinkedCounted};
 
 use elfobj::object::Object;
 use elfobj::section::SectionIndex;
@@ -12,7 +12,7 @@ use std::alloc::{AllocError, Global};
 
 /// The header numbers of an object that a table has: those from 0 to that of its last linked section.
 #[derive(Clone, Copy)]
-pub(crate) struct Headers {
+pub(crate) struct Slots {
     /// Where they begin among those of all objects.
     pub(crate) begin: u32,
     /// How many there are.
@@ -21,9 +21,9 @@ pub(crate) struct Headers {
 
 /// The header numbers of all objects.
 #[derive(Drop)]
-pub(crate) struct AllHeaders {
+pub(crate) struct AllSlots {
     /// Those of each object.
-    pub(crate) objects: Vec<Headers>,
+    pub(crate) objects: Vec<Slots>,
     /// How many there are in all.
     pub(crate) slots: u32,
 }
@@ -51,10 +51,10 @@ fn count_of(object: &Object) -> u32
 /// # Errors
 ///
 /// Where memory runs out.
-pub(crate) fn lay_headers(
+pub(crate) fn lay_slots(
     alloc: Global,
     project: &ProjectView<'_>,
-) -> Result<AllHeaders, NoMemory>
+) -> Result<AllSlots, NoMemory>
     ensures laid { IfOk result (λ x. AreLaid x.objects.items x.slots) }
     ensures counted { IfOk result (λ x. AreLinkedCounted project.now x.objects.items) }
 {
@@ -63,7 +63,7 @@ pub(crate) fn lay_headers(
     let mut slots: u32 = 0;
     for input in inputs {
         let count = count_of(input.object);
-        objects.push(Headers {
+        objects.push(Slots {
             begin: slots,
             count,
         })?;
@@ -73,5 +73,5 @@ pub(crate) fn lay_headers(
             None => return Err(AllocError),
         }
     }
-    Ok(AllHeaders { objects, slots })
+    Ok(AllSlots { objects, slots })
 }

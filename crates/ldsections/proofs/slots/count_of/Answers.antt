@@ -1,5 +1,5 @@
-use Rattle.ldlayout.proofs.Counting.{none_reach, reaches}
-use Rattle.ldlayout.proofs.headers.count_of.Goals as goal
+use Rattle.ldsections.proofs.Counting.{none_reach, reaches}
+use Rattle.ldsections.proofs.slots.count_of.Goals as goal
 
 pub returns-in-None : goal.returns-in-None
 returns-in-None c =

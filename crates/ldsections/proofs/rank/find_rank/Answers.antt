@@ -1,10 +1,10 @@
 use Rattle.std.proofs.Common.{rules, sym, ◌∙◌, ℕ, Bool}
 use Rattle.std.proofs.lemmas.List.Sorted.{IsPartitionPoint-from_clause}
 use Rattle.std.specs.Ordering.{is_lt}
-use Rattle.ldlayout.specs.Entries.{rank_cmp}
-use Rattle.ldlayout.proofs.Ranks.{equal}
-use Rattle.ldlayout.proofs.Searching.{found, missed, missed_at_end, parted}
-use Rattle.ldlayout.proofs.entry.find_rank.Goals as goal
+use Rattle.ldsections.specs.Ranks.{rank_cmp}
+use Rattle.ldsections.proofs.Ranks.{equal}
+use Rattle.ldsections.proofs.Searching.{found, missed, missed_at_end, parted}
+use Rattle.ldsections.proofs.rank.find_rank.Goals as goal
 
 pub returns-in_err-found-clause-is : goal.returns-in_err-found-clause-is
 returns-in_err-found-clause-is c = λ sorted.

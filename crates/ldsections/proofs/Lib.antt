@@ -1,0 +1,4 @@
+mod Counting
+mod Ranks
+mod Searching
+mod Numbering
