@@ -24,6 +24,7 @@ use Rattle.ldsections.specs.SectionTable.{AreBlockRanks, IsBlockAmong, IsTableOf
 use Rattle.ldsections.specs.declared.section_table.SectionTable.{SectionTable}
 use Rattle.ldsections.specs.declared.slots.Slots.{Slots}
 use Rattle.ldsections.proofs.Counting.{inside}
+use Rattle.ldsections.proofs.OfObjects.{one_section}
 use Rattle.ldsections.proofs.Ranks.{alike, one}
 
 -- ---- header numbers
@@ -93,7 +94,7 @@ module _ (t : SectionTable) where
       }
 
   one_block : (n m x y at : ℕ) → block_of t n x ≡ Some at → block_of t m y ≡ Some at
-      → is_eq (rank_cmp (n, true, x) (m, true, y)) ≡ true
+      → (n ≡ m) × (x ≡ y)
   one_block n m x y at e f =
       let s = block_is n x at e in
       let r = block_is m y at f in
@@ -102,7 +103,8 @@ module _ (t : SectionTable) where
       let first : there ≡ (n, true, x) = one there (n, true, x) (s.ranked (n, true, x)) in
       let second : is_ranked (m, true, y) there ≡ true =
       ap (λ j. is_ranked (m, true, y) (get_or t.blocks.items j (n, true, x))) places ∙ r.ranked (n, true, x) in
-      subst (λ (z : ℕ × Bool × ℕ). is_ranked (m, true, y) z ≡ true) first second
+      let same : (n, true, x) ≡ (m, true, y) = sym first ∙ one there (m, true, y) second in
+      (ap (λ (z : ℕ × Bool × ℕ). z.0) same, ap (λ (z : ℕ × Bool × ℕ). z.2) same)
 
 has_place : {X : Type 0} (p : X → Bool) (xs : List X) (x : X) → Contains xs x → p x ≡ true → IsSome (position p xs)
 has_place p xs x c h = go (nat_lt (position_or_len p xs) (length xs)) refl
@@ -133,15 +135,14 @@ module _ (t : SectionTable) where
       let b = block_is t m x at f in
       omega (arith, low, b.is)
 
-  apart : (n m : ℕ) (q r : Part) (at : ℕ) → number_of t n q ≡ Some at → number_of t m r ≡ Some at
-      → is_eq (rank_cmp (rank_of n q) (rank_of m r)) ≡ true
+  apart : (n m : ℕ) (q r : Part) (at : ℕ) → number_of t n q ≡ Some at → number_of t m r ≡ Some at → (n ≡ m) × (q ≡ r)
   apart n m (InTable k) (InTable l) at e f =
       let same = one_slot t.objects.items t.slots t.laid n m k.0 l.0 at e f in
-      subst (λ (i : ℕ). is_eq (rank_cmp (n, false, k.0) (m, false, i)) ≡ true) same.1
-      (subst (λ (i : ℕ). is_eq (rank_cmp (n, false, k.0) (i, false, k.0)) ≡ true) same.0 (alike (n, false, k.0)))
+      (same.0, ap (λ i. InTable (record { 0 = i })) same.1)
   apart n m (InTable k) (InCommon x) at e f = absurd (never n k.0 m x.0 at e f)
   apart n m (InCommon x) (InTable k) at e f = absurd (never m k.0 n x.0 at f e)
-  apart n m (InCommon x) (InCommon y) at e f = one_block t n m x.0 y.0 at e f
+  apart n m (InCommon x) (InCommon y) at e f =
+      let same = one_block t n m x.0 y.0 at e f in (same.0, ap (λ i. InCommon (record { 0 = i })) same.1)
 
 module _ (t : SectionTable) (p : Project) (linked : AreLinkedCounted p t.objects.items)
     (ranks : List (ℕ × Bool × ℕ)) (blocks : AreBlockRanks p ranks) (same : IsPermutation ranks t.blocks.items) where
@@ -173,29 +174,9 @@ module _ (t : SectionTable) (p : Project) (linked : AreLinkedCounted p t.objects
       (λ k d l. let s : InputSection = get_or (common_blocks p i o) k d in
       of_block s.id.object s.id.part (blocks i o at k d l))
 
-  of_objects : (n : ℕ) (os : List NamedObject)
-      → ((k : ℕ) (o : NamedObject) → slice_get os k ≡ Some o → All Numbered (sections_of p (n + k) o))
-      → All Numbered (flat_map (λ (o : ℕ × NamedObject). sections_of p o.0 o.1) (enumerate_from n os))
-  of_objects n [] h = All-nil Numbered
-  of_objects n (o ∷ os) h =
-      let first : n + 0 ≡ n = omega arith in
-      All-append Numbered (sections_of p n o)
-      (flat_map (λ (o : ℕ × NamedObject). sections_of p o.0 o.1) (enumerate_from (n + 1) os))
-      (subst (λ (m : ℕ). All Numbered (sections_of p m o)) first (h 0 o refl))
-      (of_objects (n + 1) os (λ k x e.
-      let next : n + suc k ≡ (n + 1) + k = omega arith in
-      subst (λ (m : ℕ). All Numbered (sections_of p m x)) next (h (suc k) x e)))
-
-  of_all : All Numbered (input_sections p)
-  unfolding input_sections
-  of_all =
-      of_objects 0 p.objects (λ k o e.
-      let from : k ≡ 0 + k = omega arith in
-      subst (λ (m : ℕ). All Numbered (sections_of p m o)) from (of_object k o e))
-
   pub are_numbered : IsTableOf p t
   are_numbered = record {
-    all = λ s c. subst Numbered c.2 (of_all c.0 s c.1);
+    all = one_section p Numbered of_object;
     below = below t;
     apart = apart t;
   }

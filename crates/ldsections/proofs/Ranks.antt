@@ -32,14 +32,6 @@ eq_nat x y = go (nat_lt x y) (x == y) refl refl
     go false true l e = refl
     go false false l e = refl
 
-and_true : (s t : Bool) → (s && true) && t ≡ s && t
-and_true true t = refl
-and_true false t = refl
-
-and_false : (s t : Bool) → (s && false) && t ≡ s && false
-and_false true t = refl
-and_false false t = refl
-
 -- two ranks are equal number by number
 abbrev pub are_equal : ℕ × Bool × ℕ → ℕ × Bool × ℕ → Bool
 are_equal x y = ((x.0 == y.0) && beq x.1 y.1) && (x.2 == y.2)
@@ -57,17 +49,6 @@ equal x y =
     ∙ ap (λ t. (t && is_eq (bool_cmp x.1 y.1)) && is_eq (nat_cmp x.2 y.2)) (eq_nat x.0 y.0)
     ∙ ap (λ t. ((x.0 == y.0) && t) && is_eq (nat_cmp x.2 y.2)) (eq_bool x.1 y.1)
     ∙ ap (λ t. ((x.0 == y.0) && beq x.1 y.1) && t) (eq_nat x.2 y.2)
-
-module _ (a b : ℕ) where
-  joined : (q r : Part) → are_equal (rank_of a q) (rank_of b r) ≡ (a == b) && is_same_part q r
-  joined (InTable k) (InTable n) = and_true (a == b) (k.0 == n.0)
-  joined (InTable k) (InCommon n) = and_false (a == b) (k.0 == n.0)
-  joined (InCommon k) (InTable n) = and_false (a == b) (k.0 == n.0)
-  joined (InCommon k) (InCommon n) = and_true (a == b) (k.0 == n.0)
-
-  -- two parts of objects have one rank where both are one
-  pub one_rank : (q r : Part) → is_eq (rank_cmp (rank_of a q) (rank_of b r)) ≡ (a == b) && is_same_part q r
-  one_rank q r = equal (rank_of a q) (rank_of b r) ∙ joined q r
 
 beq_true : (x y : Bool) → beq x y ≡ true → x ≡ y
 beq_true true true e = refl
@@ -105,15 +86,3 @@ pub alike : (r : ℕ × Bool × ℕ) → is_eq (rank_cmp r r) ≡ true
 alike r =
     equal r r ∙ ap (λ b. (b && beq r.1 r.1) && (r.2 == r.2)) (eq-eqb r.0 r.0 refl)
     ∙ ap (λ b. b && (r.2 == r.2)) (beq_self r.1) ∙ eq-eqb r.2 r.2 refl
-
-same_part : (q r : Part) → is_same_part q r ≡ true → q ≡ r
-same_part (InTable k) (InTable n) e = ap (λ m. InTable (record { 0 = m })) (eqb-true k.0 n.0 e)
-same_part (InTable k) (InCommon n) e = absurd (false≢true e)
-same_part (InCommon k) (InTable n) e = absurd (false≢true e)
-same_part (InCommon k) (InCommon n) e = ap (λ m. InCommon (record { 0 = m })) (eqb-true k.0 n.0 e)
-
--- parts of objects whose ranks compare as equal are one
-pub one_of : (a b : ℕ) (q r : Part) → is_eq (rank_cmp (rank_of a q) (rank_of b r)) ≡ true → (a ≡ b) × (q ≡ r)
-one_of a b q r e =
-    let both : (a == b) && is_same_part q r ≡ true = sym (one_rank a b q r) ∙ e in
-    (eqb-true a b (left (a == b) (is_same_part q r) both), same_part q r (right (a == b) (is_same_part q r) both))

@@ -2,13 +2,12 @@
 use Rattle.std.specs.Prelude.{◌≡◌, ◌<◌, ◌+◌, ℕ, Bool, true, false, List, length, Option, Some, None, position}
 use Rattle.std.specs.Prelude.{nat_lt, if◌then◌else◌, slice_get, All, Contains, IsSome}
 use Rattle.std.specs.Option.{option_map}
-use Rattle.std.specs.Ordering.{is_eq}
 use Rattle.ldmodel.specs.InputSections.{common_blocks, input_sections}
 use Rattle.ldmodel.specs.Project.{NamedObject, Project}
 use Rattle.ldmodel.specs.Sections.{InputSection}
 use Rattle.ldmodel.specs.declared.sections.Part.{Part}
 use Rattle.ldmodel.specs.declared.sections.Part.TheVariants.{InTable, InCommon}
-use Rattle.ldsections.specs.Ranks.{is_ranked, rank_cmp, rank_of}
+use Rattle.ldsections.specs.Ranks.{is_ranked}
 use Rattle.ldsections.specs.Slots.{slots_of}
 use Rattle.ldsections.specs.declared.section_table.SectionTable.{SectionTable}
 use Rattle.ldsections.specs.declared.slots.Slots.{Slots}
@@ -36,7 +35,7 @@ pub record IsTableOf (p : Project) (t : SectionTable) : Type 0 where
   pub all : (s : InputSection) → Contains (input_sections p) s → IsSome (number_of t s.id.object s.id.part)
   pub below : (n : ℕ) (q : Part) (at : ℕ) → number_of t n q ≡ Some at → at < len_of t
   pub apart : (n m : ℕ) (q r : Part) (at : ℕ) → number_of t n q ≡ Some at → number_of t m r ≡ Some at
-      → is_eq (rank_cmp (rank_of n q) (rank_of m r)) ≡ true
+      → (n ≡ m) × (q ≡ r)
 
 -- a part is a common block whose rank is among these
 abbrev pub IsBlockAmong : List (ℕ × Bool × ℕ) → ℕ → Part → Type 0

@@ -51,10 +51,7 @@ fn count_of(object: &Object) -> u32
 /// # Errors
 ///
 /// Where memory runs out.
-pub(crate) fn lay_slots(
-    alloc: Global,
-    project: &ProjectView<'_>,
-) -> Result<AllSlots, NoMemory>
+pub(crate) fn lay_slots(alloc: Global, project: &ProjectView<'_>) -> Result<AllSlots, NoMemory>
     ensures laid { IfOk result (λ x. AreLaid x.objects.items x.slots) }
     ensures counted { IfOk result (λ x. AreLinkedCounted project.now x.objects.items) }
 {
