@@ -23,22 +23,22 @@ use Rattle.ldmodel.specs.declared.rows.Piece.{Piece}
 use Rattle.ldmodel.specs.declared.sections.SectionKey.{SectionKey}
 use Rattle.ldlaws.specs.Spread.{entries_in}
 use Rattle.ldproject.specs.ByPlace.{piece_in, rows_in}
-use Rattle.ldlayout.specs.Entries.{all_entries, entry_of, has_rank, rank_of, row_entries}
+use Rattle.ldlayout.specs.Columns.{AreOwners, HaveNumbers}
+use Rattle.ldlayout.specs.Entries.{all_entries, entry_of, is_part_of, row_entries}
 use Rattle.ldlayout.specs.InPlace.{AreInPlace, IsOwned, entries_of}
-use Rattle.ldlayout.specs.SectionTable.{AreOwners, HasNumbers}
+use Rattle.ldsections.specs.SectionTable.{IsTableOf}
 use Rattle.ldlayout.specs.Starts.{AreStarts, IsPartPlace, place_in}
 use Rattle.ldlayout.specs.declared.entry.Entry.{Entry}
 use Rattle.ldlayout.specs.declared.starts.PartPlace.{PartPlace}
 use Rattle.ldlayout.specs.declared.starts.Starts.{Starts}
 use Rattle.ldlayout.proofs.Lists.{each_append}
 use Rattle.ldlayout.proofs.Numbers.{same_key}
-use Rattle.ldlayout.proofs.Ranks.{one_rank}
 use Rattle.ldlayout.proofs.Column.{has_first}
 
 module _ (p : Project) (distinct : AreNamesDistinct p.objects) (k : SectionKey) where
   -- an entry is the one that is looked for
   abbrev sought : Entry → Bool
-  sought = has_rank (rank_of k.object.0 k.part)
+  sought = is_part_of k.object.0 k.part
 
   -- and so is a piece
   abbrev test : PlacedPiece → Bool
@@ -47,8 +47,7 @@ module _ (p : Project) (distinct : AreNamesDistinct p.objects) (k : SectionKey) 
   same_test : (n t : ℕ) (x : Piece) (y : PlacedPiece) → y.piece ≡ piece_in p x → IsOwned p y.piece
       → sought (entry_of n (x, t)) ≡ test y
   same_test n t x y e owned =
-      one_rank x.section.object.0 k.object.0 x.section.part k.part
-      ∙ ap (λ b. b && is_same_part x.section.part k.part)
+      ap (λ b. b && is_same_part x.section.part k.part)
       (same_key p distinct x.section.object.0 k.object.0
       (subst (λ (z : model.Piece). 0 < length z.object) e owned.some))
       ∙ ap (λ (z : model.Piece). bytes_eq z.object (object_name p k.object.0) && is_same_part z.part k.part) (sym e)
@@ -192,9 +191,9 @@ module _ (p : Project) (distinct : AreNamesDistinct p.objects) (k : SectionKey) 
 pub all_places : (p : Project) (s : Layout) (rows : List (Vec Piece Global)) (starts : List ℕ) (collected : List Entry)
     (t : Starts) → AreNamesDistinct p.objects → AreInPlace p s → map entries_in s.sections ≡ rows_in p rows
     → starts ≡ flat_map starts_of s.sections → collected ≡ all_entries 0 rows starts
-    → HasNumbers t.table collected → AreOwners t.table collected t.owners.items
+    → IsTableOf p t.table → HaveNumbers t.table collected → AreOwners t.table collected t.owners.items
     → t.places.items ≡ map (λ (e : Entry). e.place) collected → AreStarts p s t
-all_places p s rows starts collected t distinct apart placed begin all numbers owned are =
+all_places p s rows starts collected t distinct apart placed begin all table numbers owned are =
     record {
       places = λ k. subst (IsPartPlace p s k) (sym (same k)) (is_place p distinct k s rows placed apart.owned);
       apart = apart;
@@ -202,8 +201,8 @@ all_places p s rows starts collected t distinct apart placed begin all numbers o
   where
     same : (k : SectionKey) → place_in t k
         ≡ option_map (λ (e : Entry). e.place)
-        (find (has_rank (rank_of k.object.0 k.part)) (all_entries 0 rows (flat_map starts_of s.sections)))
+        (find (is_part_of k.object.0 k.part) (all_entries 0 rows (flat_map starts_of s.sections)))
     same k =
-        has_first collected t.table t.owners.items t.places.items numbers owned are k.object.0 k.part
-        ∙ ap (λ xs. option_map (λ (e : Entry). e.place) (find (has_rank (rank_of k.object.0 k.part)) xs))
+        has_first p collected t.table t.owners.items t.places.items table numbers owned are k.object.0 k.part
+        ∙ ap (λ xs. option_map (λ (e : Entry). e.place) (find (is_part_of k.object.0 k.part) xs))
         (all ∙ ap (all_entries 0 rows) begin)
