@@ -88,9 +88,9 @@ impl Gathering {
         let sections = input_sections(alloc, &members)?;
         let options = project.options();
         let out = left_out(alloc, project.script(), options.orphans(), &sections)?;
-        let marks = mark_live(alloc, project, naming, &sections, &out)?;
         let ranks = block_ranks(alloc, &blocks)?;
         let table = SectionTable::of(alloc, project, ranks)?;
+        let marks = mark_live(alloc, project, naming, &table, &sections, &out)?;
         sorted_out(alloc, project, &sections, &marks, table)
     }
 }

@@ -1,6 +1,6 @@
--- Tables of the numbers that input sections have, and the sections that relocations refer to, by these.
+-- The places of input sections in their list, and the sections that relocations refer to, by these.
 use Rattle.std.specs.Prelude.{◌≡◌, ◌<◌, ◌++◌, ◌↔◌, ◌&&◌, ◌==◌, ℕ, Bool, List, Option, Some, None, Contains}
-use Rattle.std.specs.Prelude.{IsSome}
+use Rattle.std.specs.Prelude.{IsSome, option_and_then, slice_set}
 use Rattle.std.specs.Prelude.{IsTrue, slice_get, slice_index_or}
 use Rattle.std.specs.List.{list_any}
 use Rattle.std.specs.Option.{option_map_or}
@@ -18,42 +18,43 @@ use Rattle.ldmodel.specs.declared.sections.Part.TheVariants.{InTable, InCommon}
 use Rattle.ldmodel.specs.declared.sections.SectionKey.{SectionKey}
 use Rattle.ldnaming.specs.Naming.{IsNaming, NamingState}
 use Rattle.gather.specs.ProjectMembers.{by_place}
-use Rattle.gather.specs.declared.numbers.Numbers.{Numbers}
-use Rattle.gather.specs.declared.numbers.PartNumbers.{PartNumbers}
+use Rattle.gather.specs.declared.places.Places.{Places}
+use Rattle.ldsections.specs.SectionTable.{number_of}
+use Rattle.ldsections.specs.declared.section_table.SectionId as code
+use Rattle.ldsections.specs.declared.section_table.SectionTable.{SectionTable}
 
-abbrev pub number_at : List (Option ℕ) → ℕ → Option ℕ
-number_at table k = slice_index_or table k None
+abbrev pub place_at : List (Option ℕ) → ℕ → Option ℕ
+place_at places at = slice_index_or places at None
 
--- the number of a part of an object, if it has one
-abbrev pub number_of_part : PartNumbers → Part → Option ℕ
-number_of_part o (InTable k) = number_at o.linked.items k.0
-number_of_part o (InCommon s) = number_at o.blocks.items s.0
+-- the place of the section of a key, by the column of a table
+abbrev pub place_under : SectionTable → List (Option ℕ) → SectionKey → Option ℕ
+place_under t places k = option_and_then (place_at places) (number_of t k.object.0 k.part)
 
-abbrev pub number_among : List PartNumbers → SectionKey → Option ℕ
-number_among objects k =
-    option_map_or (λ (o : PartNumbers). number_of_part o k.part) (slice_get objects k.object.0) None
+abbrev pub place_in : Places → SectionKey → Option ℕ
+place_in x k = place_under x.table.now x.places.now k
 
--- the number of the section of a key, if it has one
-abbrev pub number_in : Numbers → SectionKey → Option ℕ
-number_in t k = number_among t.objects.items k
+-- a column with one more place
+abbrev pub with_place : Option code.SectionId → ℕ → List (Option ℕ) → List (Option ℕ)
+with_place None place places = places
+with_place (Some i) place places = slice_set places i.0 (Some place)
 
 abbrev pub is_same_key : SectionKey → SectionKey → Bool
 is_same_key a b = (a.object.0 == b.object.0) && is_same_part a.part b.part
 
--- each of the first n sections has its place for its number, and nothing else has one
-pub record AreNumbers (xs : List Gathered) (n : ℕ) (t : Numbers) : Type 0 where
-  pub below : (k : SectionKey) (m : ℕ) → number_in t k ≡ Some m → m < n
-  pub is : (k : SectionKey) (m : ℕ) (x : Gathered) → number_in t k ≡ Some m → (slice_index_or xs m x).section ≡ k
-  pub all : (m : ℕ) (x : Gathered) → m < n → IsSome (number_in t (slice_index_or xs m x).section)
+-- each of the first n sections has its place, and nothing else has one
+pub record ArePlaces (xs : List Gathered) (n : ℕ) (place : SectionKey → Option ℕ) : Type 0 where
+  pub below : (k : SectionKey) (m : ℕ) → place k ≡ Some m → m < n
+  pub is : (k : SectionKey) (m : ℕ) (x : Gathered) → place k ≡ Some m → (slice_index_or xs m x).section ≡ k
+  pub all : (m : ℕ) (x : Gathered) → m < n → IsSome (place (slice_index_or xs m x).section)
 
--- the number is that of the section of this key in the project; there is none where the key is of no input section
-abbrev pub IsNumberOf : Project → Option SectionId → Option ℕ → Type 0
-IsNumberOf p id number =
-    (b : ℕ) (s : InputSection) → IsSectionAt p b s → IsTrue (is_section id s) ↔ (number ≡ Some b)
+-- the place is that of the section of this key in the project; there is none where the key is of no input section
+abbrev pub IsPlaceOf : Project → Option SectionId → Option ℕ → Type 0
+IsPlaceOf p id place =
+    (b : ℕ) (s : InputSection) → IsSectionAt p b s → IsTrue (is_section id s) ↔ (place ≡ Some b)
 
--- the numbers are those of the input sections of the project
-abbrev pub AreProjectNumbers : Project → Numbers → Type 0
-AreProjectNumbers p t = (k : SectionKey) → IsNumberOf p (Some (section_id (λ key. key) k)) (number_in t k)
+-- the places are those of the input sections of the project
+abbrev pub AreProjectPlaces : Project → (SectionKey → Option ℕ) → Type 0
+AreProjectPlaces p place = (k : SectionKey) → IsPlaceOf p (Some (section_id (λ key. key) k)) (place k)
 
 -- the numbers are those of the sections that these relocations of object number i refer to
 abbrev pub AreTargets : Project → ℕ → List Relocation → List ℕ → Type 0
@@ -72,9 +73,9 @@ abbrev pub Refers : Project → ℕ → ℕ → Type 0
 Refers p a b = (s t : InputSection) → IsSectionAt p a s → IsSectionAt p b t → IsTrue (refers_to p s t)
 
 -- the parts by which references are found are those of the project
-pub record AreProjectReferences (p : Project) (naming : NamingState) (numbers : Numbers) (xs : List Gathered)
+pub record AreProjectReferences (p : Project) (naming : NamingState) (places : Places) (xs : List Gathered)
     : Type 0 where
   pub named : IsNaming p naming
   pub ascending : AscendingSections p
   pub sections : AreGathered p (by_place p) xs
-  pub numbered : AreProjectNumbers p numbers
+  pub placed : AreProjectPlaces p (place_in places)
