@@ -1,5 +1,5 @@
 -- Columns of places under the numbers of input sections.
-use Rattle.std.proofs.Common.{◌≡◌, ◌∙◌, ◌<◌, ◌+◌, ℕ, zero, suc, Bool, true, false, cond, eqb, List, [], ◌∷◌, length}
+use Rattle.std.proofs.Common.{◌≡◌, ◌∙◌, ◌<◌, ◌+◌, ℕ, Bool, true, false, cond, eqb, List, length}
 use Rattle.std.proofs.Common.{get_or, set, ap, sym, subst, arith, refl, Option, Some, None, ⊎_elim, get_or-set_same}
 use Rattle.std.proofs.Common.{get_or-set_other}
 use Rattle.std.specs.Prelude.{IsSome, option_and_then}

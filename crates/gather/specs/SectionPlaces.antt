@@ -1,9 +1,8 @@
 -- The places of input sections in their list, and the sections that relocations refer to, by these.
 use Rattle.std.specs.Prelude.{◌≡◌, ◌<◌, ◌++◌, ◌↔◌, ◌&&◌, ◌==◌, ℕ, Bool, List, Option, Some, None, Contains}
 use Rattle.std.specs.Prelude.{IsSome, option_and_then, slice_set}
-use Rattle.std.specs.Prelude.{IsTrue, slice_get, slice_index_or}
+use Rattle.std.specs.Prelude.{IsTrue, slice_index_or}
 use Rattle.std.specs.List.{list_any}
-use Rattle.std.specs.Option.{option_map_or}
 use Rattle.elfobj.specs.declared.relocation.Relocation.{Relocation}
 use Rattle.gather.specs.Apart.{AscendingSections}
 use Rattle.gather.specs.Gathered.{AreGathered}
@@ -13,8 +12,6 @@ use Rattle.ldmodel.specs.HandedOver.{section_id}
 use Rattle.ldmodel.specs.Live.{is_section, refers_to, target_section}
 use Rattle.ldmodel.specs.Project.{Project}
 use Rattle.ldmodel.specs.Sections.{InputSection, SectionId, is_same_part}
-use Rattle.ldmodel.specs.declared.sections.Part.{Part}
-use Rattle.ldmodel.specs.declared.sections.Part.TheVariants.{InTable, InCommon}
 use Rattle.ldmodel.specs.declared.sections.SectionKey.{SectionKey}
 use Rattle.ldnaming.specs.Naming.{IsNaming, NamingState}
 use Rattle.gather.specs.ProjectMembers.{by_place}

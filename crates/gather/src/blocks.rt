@@ -117,11 +117,7 @@ pub(crate) fn common_blocks(
 }
 
 /// Adds the ranks of the common blocks of the object at a place.
-fn add_ranks(
-    ranks: &mut Vec<Rank>,
-    place: usize,
-    blocks: &[CommonBlock],
-) -> Result<(), NoMemory>
+fn add_ranks(ranks: &mut Vec<Rank>, place: usize, blocks: &[CommonBlock]) -> Result<(), NoMemory>
     ensures { OnOk result (ranks.new.items ≡ ranks.old.items ++ map (block_rank place) blocks.now) }
 {
     for block in blocks {

@@ -89,15 +89,7 @@ fn add_row(
             Some(object) => {
                 let relocations = relocations_at(object, number);
                 let place = key.object.0;
-                add_targets(
-                    project,
-                    naming,
-                    places,
-                    place,
-                    object,
-                    relocations,
-                    targets,
-                )
+                add_targets(project, naming, places, place, object, relocations, targets)
             }
             None => Ok(()),
         },

@@ -1,24 +1,18 @@
 -- Each input section in the output is of an object of the project.
 use Rattle.std.proofs.Common.{◌≡◌, ◌∙◌, ◌<◌, ℕ, Bool, true, false, cond, not, sym, subst, refl, arith, ◌+◌}
-use Rattle.std.proofs.Common.{List, [], ◌∷◌, length, map, filter, flat_map, Option, Some, None}
-use Rattle.std.specs.List.{Contains, cons_option, enumerate_from, filter_map, list_any, range_with_len}
+use Rattle.std.proofs.Common.{List, [], ◌∷◌, length, filter, flat_map}
+use Rattle.std.specs.List.{Contains, enumerate_from, list_any, range_with_len}
 use Rattle.std.proofs.lemmas.Bool.{eqb-false, true≢false}
-use Rattle.elfobj.specs.Sections.{LinkedSection}
-use Rattle.elfobj.specs.Symbols.{NamedSymbol}
 use Rattle.ldtree.specs.Numbering.{InputStatementAt, input_statements, output_sections}
 use Rattle.ldmodel.specs.FileLayout.{Each}
 use Rattle.ldmodel.specs.Gathering.{candidates, is_out}
-use Rattle.ldmodel.specs.InputSections.{block_at, block_of, common_block, common_blocks, input_sections, is_same_entry}
-use Rattle.ldmodel.specs.InputSections.{linked_section, sections_of}
+use Rattle.ldmodel.specs.InputSections.{input_sections}
 use Rattle.ldmodel.specs.Live.{live}
-use Rattle.ldmodel.specs.Names.{Decision, Entry, Strong, Script, Common, Weak, Provided, Undefined, Duplicate, decision}
 use Rattle.ldmodel.specs.Project.{NamedObject, Project}
 use Rattle.ldmodel.specs.Rows.{Piece, below, is_in_section, is_taken_by, piece_of, pieces_in, row, rows, sorted_pieces}
 use Rattle.ldmodel.specs.Rows.{taken}
 use Rattle.ldmodel.specs.Sections.{InputSection}
 use Rattle.ldmodel.specs.declared.sections.Part.{Part}
-use Rattle.ldmodel.specs.declared.sections.Part.TheVariants.{InTable, InCommon}
-use Rattle.elfobj.specs.declared.relocation.SymbolIndex.{SymbolIndex}
 use Rattle.ldmodel.specs.Sorting.{insert_by, sort_by}
 use Rattle.ldlayout.proofs.Lists.{each_filter, each_into_map}
 use Rattle.ldproject.specs.Inputs.{shown_input, shown_inputs}

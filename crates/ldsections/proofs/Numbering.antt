@@ -1,24 +1,23 @@
 -- The numbers of input sections: each part has one number at most, and no two have the same one.
 use Rattle.std.proofs.Common.{◌≡◌, ◌<◌, ◌≤◌, ◌+◌, ◌⊎◌, inl, inr, ℕ, suc, refl, sym, ap, subst, arith, ◌∙◌}
-use Rattle.std.proofs.Common.{List, [], ◌∷◌, length, get_or, map, flat_map, cond, Bool, true, false, Option, Some, None}
-use Rattle.std.proofs.lemmas.Bool.{cases_lt, false≢true, lt-ltb, ltb-false, ltb-true, true≢false}
+use Rattle.std.proofs.Common.{List, [], ◌∷◌, length, get_or, map, cond, Bool, true, false, Option, Some, None}
+use Rattle.std.proofs.lemmas.Bool.{cases_lt, lt-ltb, ltb-false, ltb-true, true≢false}
 use Rattle.std.proofs.lemmas.List.Elements.{All-append, All-cons, All-nil}
 use Rattle.std.proofs.lemmas.List.Quantifiers.{position-Some}
 use Rattle.std.proofs.lemmas.List.Sorted.{Contains-permutation}
 use Rattle.std.proofs.lemmas.List.Sums.{fails_before_first}
 use Rattle.std.proofs.lemmas.Option.{same_Some}
-use Rattle.std.specs.List.{All, Contains, enumerate_from, position, position_or_len, slice_get}
+use Rattle.std.specs.List.{All, Contains, position, position_or_len, slice_get}
 use Rattle.std.specs.List.Sorted.{IsPermutation}
 use Rattle.std.specs.Option.{option_map}
-use Rattle.std.specs.Ordering.{is_eq}
 use Rattle.std.specs.Prelude.{IsSome, nat_lt}
 use Rattle.elfobj.specs.Sections.{LinkedSection}
-use Rattle.ldmodel.specs.InputSections.{common_blocks, input_sections, linked_section, sections_of}
+use Rattle.ldmodel.specs.InputSections.{common_blocks, linked_section, sections_of}
 use Rattle.ldmodel.specs.Project.{NamedObject, Project}
 use Rattle.ldmodel.specs.Sections.{InputSection}
 use Rattle.ldmodel.specs.declared.sections.Part.{Part}
 use Rattle.ldmodel.specs.declared.sections.Part.TheVariants.{InTable, InCommon}
-use Rattle.ldsections.specs.Ranks.{is_ranked, rank_cmp, rank_of}
+use Rattle.ldsections.specs.Ranks.{is_ranked}
 use Rattle.ldsections.specs.Slots.{AreLaid, AreLinkedCounted, slots_of}
 use Rattle.ldsections.specs.SectionTable.{AreBlockRanks, IsBlockAmong, IsTableOf, block_of, len_of, number_of, slot_of}
 use Rattle.ldsections.specs.declared.section_table.SectionTable.{SectionTable}

@@ -8,10 +8,7 @@ use Rattle.std.specs.Prelude.{nat_lt}
 use mathlib.Core.Bool.{beq}
 use Rattle.std.specs.declared.cmp.Ordering.{Ordering}
 use Rattle.std.specs.declared.cmp.Ordering.TheVariants.{Less, Equal, Greater}
-use Rattle.ldmodel.specs.Sections.{is_same_part}
-use Rattle.ldmodel.specs.declared.sections.Part.{Part}
-use Rattle.ldmodel.specs.declared.sections.Part.TheVariants.{InTable, InCommon}
-use Rattle.ldsections.specs.Ranks.{rank_cmp, rank_of}
+use Rattle.ldsections.specs.Ranks.{rank_cmp}
 
 pub rank_total : IsTotalOrder rank_cmp
 rank_total =

@@ -1,5 +1,5 @@
 -- The numbers of input sections.
-use Rattle.std.specs.Prelude.{◌≡◌, ◌<◌, ◌+◌, ℕ, Bool, true, false, List, length, Option, Some, None, position}
+use Rattle.std.specs.Prelude.{◌≡◌, ◌<◌, ◌+◌, ℕ, Bool, true, List, length, Option, Some, None, position}
 use Rattle.std.specs.Prelude.{nat_lt, if◌then◌else◌, slice_get, All, Contains, IsSome}
 use Rattle.std.specs.Option.{option_map}
 use Rattle.ldmodel.specs.InputSections.{common_blocks, input_sections}

@@ -1,4 +1,4 @@
-use Rattle.std.proofs.Common.{◌∙◌, arith, subst, sym, List}
+use Rattle.std.proofs.Common.{subst, sym, List}
 use Rattle.ldsections.specs.declared.slots.Slots.{Slots}
 use Rattle.ldsections.proofs.Counting.{LaidUpTo, all_linked, none_laid, one_laid}
 use Rattle.ldsections.proofs.slots.lay_slots.Goals as goal
