@@ -1,10 +1,10 @@
 -- Input sections of a project under their keys.
 use Rattle.std.proofs.Common.{◌≡◌, ◌∙◌, ◌<◌, ℕ, zero, suc, true, eqb, List, [], ◌∷◌, length, get_or, map, ap, sym}
 use Rattle.std.proofs.Common.{subst, arith, refl, Option, Some, None}
-use Rattle.std.specs.Prelude.{slice_get, IsSome, option_and_then}
+use Rattle.std.specs.Prelude.{slice_get, Contains, IsSome, option_and_then}
 use Rattle.std.specs.Option.{option_map}
 use Rattle.std.proofs.lemmas.Bool.{and_parts, and_from, eqb-true, eq-eqb}
-use Rattle.std.proofs.lemmas.List.{length-map, get_or-map}
+use Rattle.std.proofs.lemmas.List.{length-map, get_or-map, get_or_default}
 use Rattle.std.proofs.lemmas.Option.{slice_get_within, get_or_from_slice_get}
 use Rattle.gather.specs.Gathered.{AreGathered, Facts, facts, shown_facts}
 use Rattle.gather.specs.LiveMarks.{IsSectionAt}
@@ -15,9 +15,10 @@ use Rattle.ldmodel.specs.Project.{Project}
 use Rattle.ldmodel.specs.Sections.{InputSection, SectionId, is_same, is_same_part}
 use Rattle.ldmodel.specs.declared.sections.SectionKey.{SectionKey}
 use Rattle.gather.specs.ProjectMembers.{by_place}
-use Rattle.gather.specs.Numbers.{AreNumbers, AreProjectNumbers, IsNumberOf, number_in}
-use Rattle.gather.specs.declared.numbers.Numbers.{Numbers}
-use Rattle.gather.proofs.Tables.{part_itself, same_part}
+use Rattle.gather.specs.SectionPlaces.{ArePlaces, AreProjectPlaces, IsPlaceOf}
+use Rattle.ldsections.specs.SectionTable.{IsTableOf, number_of}
+use Rattle.ldsections.specs.declared.section_table.SectionTable.{SectionTable}
+use Rattle.gather.proofs.PlacesUnder.{part_itself, same_part}
 
 abbrev pub id_in : SectionKey → SectionId
 id_in k = section_id (λ key. key) k
@@ -72,66 +73,77 @@ module _ (p : Project) (xs : List Gathered) (are : AreGathered p (by_place p) xs
       let within : b < length (input_sections p) = slice_get_within (input_sections p) b s at in
       omega (arith, within, as_many)
 
-  module _ (t : Numbers) (numbers : AreNumbers xs (length xs) t)
+  -- each of them has a number
+  pub are_numbered : (t : SectionTable) → IsTableOf p t → (b : ℕ) (x : Gathered) → b < length xs
+      → IsSome (number_of t (get_or xs b x).section.object.0 (get_or xs b x).section.part)
+  are_numbered t table b x low =
+      let s = there (input_sections p) b (omega (arith, low, as_many)) in
+      let y : Gathered = get_or xs b x in
+      let inside : Contains (input_sections p) s.0 =
+      (b, omega (arith, low, as_many), get_or_from_slice_get (input_sections p) b s.0 s.0 s.1) in
+      subst (λ (i : SectionId). IsSome (number_of t i.object i.part))
+      (sym (id_at b s.0 y s.1 (get_or_default xs b y x low))) (table.all s.0 inside)
+
+  module _ (place : SectionKey → Option ℕ) (places : ArePlaces xs (length xs) place)
       (apart : (a b : ℕ) (s u : InputSection) → IsSectionAt p a s → IsSectionAt p b u → s.id ≡ u.id → a ≡ b) where
     -- the number m that the key has, at which x and section u of the project stand, is that of section s
     one_place : (k : SectionKey) (b m : ℕ) (s u : InputSection) (x : Gathered) → IsSectionAt p b s → id_in k ≡ s.id
-        → number_in t k ≡ Some m → get_or xs m x ≡ x → IsSectionAt p m u → m ≡ b
+        → place k ≡ Some m → get_or xs m x ≡ x → IsSectionAt p m u → m ≡ b
     one_place k b m s u x at same is here stands =
-        let its : x.section ≡ k = ap (λ (z : Gathered). z.section) (sym here) ∙ numbers.is k m x is in
+        let its : x.section ≡ k = ap (λ (z : Gathered). z.section) (sym here) ∙ places.is k m x is in
         let alike : u.id ≡ s.id = sym (id_at m u x stands here) ∙ (ap id_in its ∙ same) in
         apart m b u s stands at alike
 
-    with_number : (k : SectionKey) (b m : ℕ) (s : InputSection) → IsSectionAt p b s → id_in k ≡ s.id
-        → number_in t k ≡ Some m → number_in t k ≡ Some b
-    with_number k b m s at same is =
-        let low : m < length xs = numbers.below k m is in
+    with_place : (k : SectionKey) (b m : ℕ) (s : InputSection) → IsSectionAt p b s → id_in k ≡ s.id
+        → place k ≡ Some m → place k ≡ Some b
+    with_place k b m s at same is =
+        let low : m < length xs = places.below k m is in
         let x = there xs m low in
         let u = there (input_sections p) m (omega (arith, low, as_many)) in
         is ∙ ap (λ i. Some i)
         (one_place k b m s u.0 x.0 at same is (get_or_from_slice_get xs m x.0 x.0 x.1) u.1)
 
-    has_number : (k : SectionKey) (b : ℕ) (s : InputSection) (x : Gathered) → IsSectionAt p b s → id_in k ≡ s.id
-        → get_or xs b x ≡ x → IsSome (number_in t k)
-    has_number k b s x at same here =
+    has_place : (k : SectionKey) (b : ℕ) (s : InputSection) (x : Gathered) → IsSectionAt p b s → id_in k ≡ s.id
+        → get_or xs b x ≡ x → IsSome (place k)
+    has_place k b s x at same here =
         let key : x.section ≡ k = key_is x.section k (id_at b s x at here ∙ sym same) in
         let own : (get_or xs b x).section ≡ k = ap (λ (y : Gathered). y.section) here ∙ key in
-        subst (λ (q : SectionKey). IsSome (number_in t q)) own (numbers.all b x (within_gathered b s at))
+        subst (λ (q : SectionKey). IsSome (place q)) own (places.all b x (within_gathered b s at))
 
-    at_once : (k : SectionKey) (b : ℕ) (s : InputSection) → IsSectionAt p b s → id_in k ≡ s.id → number_in t k ≡ Some b
+    at_once : (k : SectionKey) (b : ℕ) (s : InputSection) → IsSectionAt p b s → id_in k ≡ s.id → place k ≡ Some b
     at_once k b s at same =
         let x = there xs b (within_gathered b s at) in
-        let m = the_some (number_in t k)
-        (has_number k b s x.0 at same (get_or_from_slice_get xs b x.0 x.0 x.1)) in
-        with_number k b m.0 s at same m.1
+        let m = the_some (place k)
+        (has_place k b s x.0 at same (get_or_from_slice_get xs b x.0 x.0 x.1)) in
+        with_place k b m.0 s at same m.1
 
-    at_number : (k : SectionKey) (b : ℕ) (s : InputSection) (x : Gathered) → IsSectionAt p b s
-        → number_in t k ≡ Some b → get_or xs b x ≡ x → s.id ≡ id_in k
-    at_number k b s x at h here =
-        let its : x.section ≡ k = ap (λ (z : Gathered). z.section) (sym here) ∙ numbers.is k b x h in
+    at_its_place : (k : SectionKey) (b : ℕ) (s : InputSection) (x : Gathered) → IsSectionAt p b s
+        → place k ≡ Some b → get_or xs b x ≡ x → s.id ≡ id_in k
+    at_its_place k b s x at h here =
+        let its : x.section ≡ k = ap (λ (z : Gathered). z.section) (sym here) ∙ places.is k b x h in
         sym (id_at b s x at here) ∙ ap id_in its
 
-    from_number : (k : SectionKey) (b : ℕ) (s : InputSection) → IsSectionAt p b s → number_in t k ≡ Some b
+    from_place : (k : SectionKey) (b : ℕ) (s : InputSection) → IsSectionAt p b s → place k ≡ Some b
         → s.id ≡ id_in k
-    from_number k b s at h =
+    from_place k b s at h =
         let x = there xs b (within_gathered b s at) in
-        at_number k b s x.0 at h (get_or_from_slice_get xs b x.0 x.0 x.1)
+        at_its_place k b s x.0 at h (get_or_from_slice_get xs b x.0 x.0 x.1)
 
-    pub project_numbers : AreProjectNumbers p t
-    project_numbers k b s at = (
+    pub project_places : AreProjectPlaces p place
+    project_places k b s at = (
       λ same. at_once k b s at (sym (same_id s.id (id_in k) same)),
-      λ h. subst (λ (i : SectionId). is_same s.id i ≡ true) (from_number k b s at h) (id_itself s.id),
+      λ h. subst (λ (i : SectionId). is_same s.id i ≡ true) (from_place k b s at h) (id_itself s.id),
     )
 
 -- of a key, if there is one
-pub number_of_key : (p : Project) (t : Numbers) (key : Option SectionKey) (id : Option SectionId) (number : Option ℕ)
-    → AreProjectNumbers p t → option_map (section_id (λ key. key)) key ≡ id
-    → number ≡ option_and_then (number_in t) key → IsNumberOf p id number
-number_of_key p t key id number are same is =
-    subst (λ (i : Option SectionId). IsNumberOf p i number) same
-    (subst (λ (n : Option ℕ). IsNumberOf p (option_map (section_id (λ key. key)) key) n) (sym is) (go key))
+pub place_of_key : (p : Project) (place : SectionKey → Option ℕ) (key : Option SectionKey) (id : Option SectionId) (number : Option ℕ)
+    → AreProjectPlaces p place → option_map (section_id (λ key. key)) key ≡ id
+    → number ≡ option_and_then (place) key → IsPlaceOf p id number
+place_of_key p place key id number are same is =
+    subst (λ (i : Option SectionId). IsPlaceOf p i number) same
+    (subst (λ (n : Option ℕ). IsPlaceOf p (option_map (section_id (λ key. key)) key) n) (sym is) (go key))
   where
-    go : (key : Option SectionKey) → IsNumberOf p (option_map (section_id (λ key. key)) key)
-        (option_and_then (number_in t) key)
+    go : (key : Option SectionKey) → IsPlaceOf p (option_map (section_id (λ key. key)) key)
+        (option_and_then (place) key)
     go None b s at = (λ h. absurd (cc), λ h. absurd (cc))
     go (Some k) b s at = are k b s at

@@ -20,9 +20,10 @@ pub mod ByNumber
 pub mod Named
 pub mod Preparing
 pub mod NamedRows
-pub mod Tables
+pub mod PlacesUnder
 pub mod Keyed
 pub mod Refers
 pub mod Starting
 pub mod OwnWords
 pub mod Knowing
+mod Ranked

@@ -1,5 +1,5 @@
 -- The sections that are reached in a graph are the live ones, whatever numbers the sections have in it.
-use Rattle.std.proofs.Common.{◌≡◌, ◌<◌, ◌↔◌, ℕ, Bool, true, false, not, ◌&&◌, List, length, filter, refl, ap}
+use Rattle.std.proofs.Common.{◌≡◌, ◌↔◌, ℕ, Bool, true, false, not, ◌&&◌, List, filter, refl, ap}
 use Rattle.std.proofs.Common.{sym, ◌∙◌, subst, cond, [], ◌∷◌}
 use Rattle.std.specs.Prelude.{IsTrue, slice_index_or}
 use Rattle.std.specs.List.{Contains}

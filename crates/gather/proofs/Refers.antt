@@ -21,10 +21,9 @@ use Rattle.ldmodel.specs.HandedOver.{section_id}
 use Rattle.ldmodel.specs.Project.{Project}
 use Rattle.ldmodel.specs.Sections.{InputSection}
 use Rattle.ldmodel.specs.declared.sections.SectionKey.{SectionKey}
-use Rattle.gather.specs.Numbers.{AddsTargets, AreProjectNumbers, IsNumberOf, number_in}
-use Rattle.gather.specs.declared.numbers.Numbers.{Numbers}
+use Rattle.gather.specs.SectionPlaces.{AddsTargets, AreProjectPlaces, IsPlaceOf}
 use Rattle.gather.proofs.ByNumber.{found, at_place}
-use Rattle.gather.proofs.Keyed.{number_of_key, there}
+use Rattle.gather.proofs.Keyed.{place_of_key, there}
 
 -- the relocations of the section of a header number
 pub relocations_there : (xs : List LinkedSection) (i : ℕ) (number : SectionIndex) (rs : List Relocation)
@@ -97,7 +96,7 @@ option_in (Some n) b h = (0, omega arith, same_Some n b h)
 -- one relocation more
 module _ (p : Project) (i : ℕ) (rs : List Relocation) (n : ℕ) (r : Relocation) (number : Option ℕ)
     (old before new : List ℕ) (low : n < length rs) (here : get_or rs n r ≡ r)
-    (is : IsNumberOf p (target_section p i r) number) (pushed : new ≡ before ++ option_to_list number)
+    (is : IsPlaceOf p (target_section p i r) number) (pushed : new ≡ before ++ option_to_list number)
     (had : AddsTargets p i (take n rs) old before) where
   more : (s : InputSection) → list_any (λ r. is_section (target_section p i r) s) (take (n + 1) rs)
       ≡ (list_any (λ r. is_section (target_section p i r) s) (take n rs) || is_section (target_section p i r) s)
@@ -123,21 +122,21 @@ module _ (p : Project) (i : ℕ) (rs : List Relocation) (n : ℕ) (r : Relocatio
   }
 
 -- the number of the target of a relocation
-pub target_number : (p : Project) (t : Numbers) (i : ℕ) (r : Relocation) (key : Option SectionKey) (number : Option ℕ)
-    → AreProjectNumbers p t
+pub target_place : (p : Project) (place : SectionKey → Option ℕ) (i : ℕ) (r : Relocation) (key : Option SectionKey) (number : Option ℕ)
+    → AreProjectPlaces p place
     → option_map (section_id (λ key. key)) key ≡ option_and_then (section_of_symbol p i) (symbol_at p i r.symbol.0)
-    → number ≡ option_and_then (number_in t) key → IsNumberOf p (target_section p i r) number
+    → number ≡ option_and_then (place) key → IsPlaceOf p (target_section p i r) number
 unfolding target_section
-target_number p t i r key number are same is =
-    number_of_key p t key (option_and_then (section_of_symbol p i) (symbol_at p i r.symbol.0)) number are same is
+target_place p place i r key number are same is =
+    place_of_key p place key (option_and_then (section_of_symbol p i) (symbol_at p i r.symbol.0)) number are same is
 
 -- the same of the relocation at a place
-pub next_targets : (p : Project) (t : Numbers) (i : ℕ) (rs : List Relocation) (n : ℕ) (d : Relocation)
-    (key : Option SectionKey) (number : Option ℕ) (old before new : List ℕ) → AreProjectNumbers p t → n < length rs
+pub next_targets : (p : Project) (place : SectionKey → Option ℕ) (i : ℕ) (rs : List Relocation) (n : ℕ) (d : Relocation)
+    (key : Option SectionKey) (number : Option ℕ) (old before new : List ℕ) → AreProjectPlaces p place → n < length rs
     → option_map (section_id (λ key. key)) key
     ≡ option_and_then (section_of_symbol p i) (symbol_at p i (get_or rs n d).symbol.0)
-    → number ≡ option_and_then (number_in t) key → new ≡ before ++ option_to_list number
+    → number ≡ option_and_then (place) key → new ≡ before ++ option_to_list number
     → AddsTargets p i (take n rs) old before → AddsTargets p i (take (n + 1) rs) old new
-next_targets p t i rs n d key number old before new are low same is pushed had =
+next_targets p place i rs n d key number old before new are low same is pushed had =
     more_targets p i rs n (get_or rs n d) number old before new low (get_or_default rs n (get_or rs n d) d low)
-    (target_number p t i (get_or rs n d) key number are same is) pushed had
+    (target_place p place i (get_or rs n d) key number are same is) pushed had

@@ -26,7 +26,7 @@ use Rattle.ldmodel.specs.declared.sections.Part.{Part}
 use Rattle.ldmodel.specs.declared.sections.Part.TheVariants.{InTable}
 use Rattle.gather.specs.Found.{relocations_of}
 use Rattle.gather.specs.ProjectMembers.{by_place}
-use Rattle.gather.specs.Numbers.{AddsTargets, IsNumberOf, Refers}
+use Rattle.gather.specs.SectionPlaces.{AddsTargets, IsPlaceOf, Refers}
 use Rattle.gather.specs.Symbols.{IsObjectAt}
 use Rattle.gather.proofs.Keyed.{as_many, id_at, id_in, there}
 use Rattle.gather.proofs.Named.{found_one}
@@ -104,7 +104,7 @@ refers_at p xs n d old new up are low none adds b below =
 
 -- the graph of the project
 pub graph_is : (p : Project) (out : List Bool) (roots : List ℕ) (entry : Option ℕ)
-    → out ≡ map (is_out p) (input_sections p) → IsNumberOf p (entry_section p) entry
+    → out ≡ map (is_out p) (input_sections p) → IsPlaceOf p (entry_section p) entry
     → ((k : ℕ) (s : InputSection) → IsSectionAt p k s
     → (IsTrue (is_kept (taken_by p s)) ⊎ (entry ≡ Some k)) ↔ Contains roots k)
     → IsGraphOf p (graph_of out roots (Refers p))

@@ -6,9 +6,11 @@ use Rattle.ldmodel.specs.Project.{Project}
 use Rattle.ldmodel.specs.Rows.{rows}
 use Rattle.ldmodel.specs.declared.fault.Fault.TheVariants.{Orphan}
 use Rattle.ldproject.specs.ByPlace.{rows_in}
+use Rattle.ldsections.specs.SectionTable.{IsTableOf}
 use Rattle.gather.specs.declared.gathering.Gathering.{Gathering}
 
--- its rows are those of the project, and its orphans are the faults
+-- its table numbers the input sections of the project, its rows are those of the project, and its orphans are the faults
 pub record IsGathering (p : Project) (g : Gathering) : Type 0 where
+  pub table : IsTableOf p g.table
   pub rows : rows_in p g.rows.items ≡ rows p
   pub orphans : map (λ k. fault_of p (λ key. key) (Orphan k)) g.orphans.items ≡ gathering_faults p

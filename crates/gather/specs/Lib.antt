@@ -16,5 +16,5 @@ pub mod Symbols
 pub mod ProjectMatches
 pub mod ProjectMembers
 pub mod Found
-pub mod Numbers
+pub mod SectionPlaces
 pub mod Gathering

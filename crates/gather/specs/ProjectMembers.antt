@@ -1,5 +1,6 @@
 -- What is found of each object of a project before its sections are listed.
 use Rattle.std.specs.Prelude.{◌≡◌, ◌<◌, ◌==◌, ℕ, List, [], map, Option, Some, None, Vec, if◌then◌else◌, slice_index_or}
+use Rattle.std.specs.Prelude.{Bool, true}
 use Rattle.std.specs.Global.{Global}
 use Rattle.std.specs.List.{AllPairs, AllZip, enumerate_from}
 use Rattle.std.specs.List.Sorted.{IsNonDecreasingBy, IsPermutation}
@@ -32,6 +33,10 @@ block_here i _ = None
 -- the blocks of object number i
 abbrev pub blocks_at : List (Vec CommonBlock Global) → ℕ → List CommonBlock
 blocks_at all i = slice_index_or (map (λ (v : Vec CommonBlock Global). v.items) all) i []
+
+-- where a block of object number i comes among all parts of objects
+abbrev pub block_rank : ℕ → CommonBlock → ℕ × Bool × ℕ
+block_rank i b = (i, true, b.symbol.0)
 
 -- the same blocks in the order of their symbols
 pub record IsInOrder (old new : List CommonBlock) : Type 0 where

@@ -1,9 +1,11 @@
 //! The common blocks of objects.
 
-ghost use Rattle.std.specs.Prelude.{◌≡◌, ◌<◌, ◌++◌, ℕ, [], IfOk, OnOk, length, option_to_list};
+ghost use Rattle.std.specs.Prelude.{◌≡◌, ◌<◌, ◌++◌, ℕ, [], IfOk, OnOk, length, map, option_to_list};
 ghost use Rattle.std.specs.List.{filter_map};
-ghost use Rattle.gather.specs.ProjectMembers.{AreBlocks, IsInOrder, block_here, blocks_at};
+ghost use Rattle.gather.specs.ProjectMembers.{AreBlocks, IsInOrder, block_here, block_rank, blocks_at};
+ghost use Rattle.ldmodel.specs.Project.{Project};
 ghost use Rattle.ldnaming.specs.Naming.{IsNaming};
+ghost use Rattle.ldsections.specs.SectionTable.{AreBlockRanks};
 
 use crate::member::CommonBlock;
 use elfobj::relocation::SymbolIndex;
@@ -11,6 +13,7 @@ use ldmodel::memory::NoMemory;
 use ldmodel::names::{Case, NameKey};
 use ldnaming::naming::Naming;
 use ldproject::view::ProjectView;
+use ldsections::rank::Rank;
 use std::alloc::Global;
 
 /// No common blocks, of this many objects.
@@ -111,4 +114,29 @@ pub(crate) fn common_blocks(
     sort_all(&mut all);
     naming.all_keyed();
     Ok(all)
+}
+
+/// Adds the ranks of the common blocks of the object at a place.
+fn add_ranks(ranks: &mut Vec<Rank>, place: usize, blocks: &[CommonBlock]) -> Result<(), NoMemory>
+    ensures { OnOk result (ranks.new.items ≡ ranks.old.items ++ map (block_rank place) blocks.now) }
+{
+    for block in blocks {
+        ranks.push((place, true, block.symbol.0))?;
+    }
+    Ok(())
+}
+
+/// The ranks of common blocks, of which these are those of each object.
+///
+/// # Errors
+///
+/// Where memory runs out.
+pub(crate) fn block_ranks(alloc: Global, all: &[Vec<CommonBlock>]) -> Result<Vec<Rank>, NoMemory>
+    ensures { IfOk result (λ ranks. (p : Project) → AreBlocks p all.now → AreBlockRanks p ranks.items) }
+{
+    let mut ranks = Vec::new(alloc);
+    for (place, blocks) in all.iter().enumerate() {
+        add_ranks(&mut ranks, place, blocks)?;
+    }
+    Ok(ranks)
 }

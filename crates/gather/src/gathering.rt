@@ -10,8 +10,9 @@ ghost use Rattle.gather.specs.ProjectMembers.{by_place};
 ghost use Rattle.ldmodel.specs.InputSections.{input_sections};
 ghost use Rattle.ldmodel.specs.Live.{live};
 ghost use Rattle.ldnaming.specs.Naming.{IsNaming};
+ghost use Rattle.ldsections.specs.SectionTable.{IsTableOf};
 
-use crate::blocks::common_blocks;
+use crate::blocks::{block_ranks, common_blocks};
 use crate::gathered::Gathered;
 use crate::left_out::left_out;
 use crate::live::mark_live;
@@ -26,11 +27,14 @@ use ldmodel::rows::Piece;
 use ldmodel::sections::SectionKey;
 use ldnaming::naming::Naming;
 use ldproject::view::ProjectView;
+use ldsections::section_table::SectionTable;
 use std::alloc::Global;
 
-/// What gathering finds: the row of each output section, and the orphans.
+/// What gathering finds: the numbers of the input sections, the row of each output section, and the orphans.
 #[derive(Drop)]
 pub struct Gathering {
+    /// The numbers of the input sections.
+    pub table: SectionTable,
     /// One row for each output section, in the order of the script.
     pub rows: Vec<Vec<Piece>>,
     /// The live input sections that no statement takes, in object order and then section order. Each is a fault.
@@ -43,7 +47,9 @@ fn sorted_out(
     project: &ProjectView<'_>,
     sections: &[Gathered<'_>],
     marks: &[bool],
+    table: SectionTable,
 ) -> Result<Gathering, NoMemory>
+    requires table { IsTableOf project.now table }
     requires ascending { AscendingSections project.now }
     requires sections { AreGathered project.now (by_place project.now) sections.now }
     requires marks { marked marks.now (input_sections project.now) ≡ live project.now }
@@ -53,7 +59,11 @@ fn sorted_out(
     let orphans = orphans(alloc, sections, marks)?;
     let pieces = taken(alloc, sections, marks)?;
     let rows = rows(alloc, project.script(), &pieces)?;
-    Ok(Gathering { rows, orphans })
+    Ok(Gathering {
+        table,
+        rows,
+        orphans,
+    })
 }
 
 impl Gathering {
@@ -78,7 +88,9 @@ impl Gathering {
         let sections = input_sections(alloc, &members)?;
         let options = project.options();
         let out = left_out(alloc, project.script(), options.orphans(), &sections)?;
-        let marks = mark_live(alloc, project, naming, &sections, &out)?;
-        sorted_out(alloc, project, &sections, &marks)
+        let ranks = block_ranks(alloc, &blocks)?;
+        let table = SectionTable::of(alloc, project, ranks)?;
+        let marks = mark_live(alloc, project, naming, &table, &sections, &out)?;
+        sorted_out(alloc, project, &sections, &marks, table)
     }
 }

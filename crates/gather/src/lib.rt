@@ -1,10 +1,11 @@
 //! Which input sections are in a link, and in which order they stand. Takes objects, the script and what names stand
-//! for; gives for each object the statements that take its sections, and of a project its rows and orphans.
+//! for; gives for each object the statements that take its sections, and of a project the numbers of its input
+//! sections, its rows and its orphans.
 //!
 //! - `matcher` over `file_search`, `file_tables`, `word_table`, `word`, `name_places`: first match; `matches`: of one
 //!   object, and of all;
 //! - `member`, `members`, `gathered`, `blocks`, `cases`: the input sections, common blocks among them; `left_out`;
-//! - `roots`, `marking`, `references`, and of a project `live`, `referring`, `targets`, `numbers`: which sections are
+//! - `roots`, `marking`, `references`, and of a project `live`, `referring`, `targets`, `places`: which sections are
 //!   live;
 //! - `rows`, `sorting`, `live_sections`: rows and orphans; `gathering`: all of it, for a project; `law`.
 #![tactic(auto)]
@@ -25,7 +26,7 @@ pub mod matches;
 pub mod member;
 mod members;
 mod name_places;
-mod numbers;
+mod places;
 pub mod references;
 mod referring;
 pub mod roots;

@@ -9,17 +9,19 @@ ghost use Rattle.ldmodel.specs.Gathering.{is_out};
 ghost use Rattle.ldmodel.specs.InputSections.{input_sections};
 ghost use Rattle.ldmodel.specs.Live.{live};
 ghost use Rattle.ldnaming.specs.Naming.{IsNaming};
+ghost use Rattle.ldsections.specs.SectionTable.{IsTableOf};
 
 use crate::gathered::Gathered;
 use crate::live_sections::not_out;
 use crate::marking::mark;
-use crate::numbers::Numbers;
+use crate::places::{Places, places_of};
 use crate::referring::ProjectReferences;
 use crate::roots::roots;
 use crate::targets::entry_section;
 use ldmodel::memory::NoMemory;
 use ldnaming::naming::Naming;
 use ldproject::view::ProjectView;
+use ldsections::section_table::SectionTable;
 use std::alloc::Global;
 
 /// Marks the sections that the program needs. `out` says of each whether it is left out. The relocations of the other
@@ -28,23 +30,29 @@ fn mark_needed(
     alloc: Global,
     project: &ProjectView<'_>,
     naming: &Naming,
+    table: &SectionTable,
     sections: &[Gathered<'_>],
     out: &[bool],
 ) -> Result<Vec<bool>, NoMemory>
     requires naming { IsNaming project.now naming.now }
+    requires table { IsTableOf project.now table.now }
     requires collected { project.now.options.gc ≡ true }
     requires ascending { AscendingSections project.now }
     requires sections { AreGathered project.now (by_place project.now) sections.now }
     requires out { out.now ≡ map (is_out project.now) (input_sections project.now) }
     ensures { IfOk result (λ marks. marked marks.items (input_sections project.now) ≡ live project.now) }
 {
-    let numbers = Numbers::of(alloc, sections)?;
-    let entry = numbers.find(entry_section(project, naming));
+    let column = places_of(alloc, project, table, sections)?;
+    let places = Places {
+        table: &*table,
+        places: &column,
+    };
+    let entry = places.find(entry_section(project, naming));
     let roots = roots(alloc, project.script(), sections, entry)?;
     let references = ProjectReferences {
         project,
         naming,
-        numbers: &numbers,
+        places: &places,
         sections,
     };
     mark(alloc, out, &roots, &references)
@@ -59,10 +67,12 @@ pub(crate) fn mark_live(
     alloc: Global,
     project: &ProjectView<'_>,
     naming: &Naming,
+    table: &SectionTable,
     sections: &[Gathered<'_>],
     out: &[bool],
 ) -> Result<Vec<bool>, NoMemory>
     requires naming { IsNaming project.now naming.now }
+    requires table { IsTableOf project.now table.now }
     requires ascending { AscendingSections project.now }
     requires sections { AreGathered project.now (by_place project.now) sections.now }
     requires out { out.now ≡ map (is_out project.now) (input_sections project.now) }
@@ -70,7 +80,7 @@ pub(crate) fn mark_live(
 {
     let options = project.options();
     if options.gc() {
-        mark_needed(alloc, project, naming, sections, out)
+        mark_needed(alloc, project, naming, table, sections, out)
     } else {
         not_out(alloc, out)
     }

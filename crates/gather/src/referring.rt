@@ -1,17 +1,17 @@
-//! The input sections that relocations refer to, by numbers.
+//! The input sections that relocations refer to, by their places.
 
 ghost use Rattle.std.specs.Prelude.{◌≡◌, ◌==◌, ◌++◌, OnOk, length, option_to_list, []};
 ghost use Rattle.std.specs.List.{find};
 ghost use Rattle.std.specs.Option.{option_map_or};
 ghost use Rattle.elfobj.specs.Sections.{LinkedSection};
 ghost use Rattle.gather.specs.Found.{relocations_of};
-ghost use Rattle.gather.specs.Numbers.{AddsTargets, AreProjectNumbers, AreProjectReferences, Refers};
+ghost use Rattle.gather.specs.SectionPlaces.{AddsTargets, AreProjectPlaces, AreProjectReferences, Refers, place_in};
 ghost use Rattle.gather.specs.Symbols.{IsObjectAt};
 ghost use Rattle.ldmodel.specs.InputSections.{input_sections};
 ghost use Rattle.ldnaming.specs.Naming.{IsNaming};
 
 use crate::gathered::Gathered;
-use crate::numbers::Numbers;
+use crate::places::Places;
 use crate::references::References;
 use crate::targets::target_section;
 use elfobj::object::Object;
@@ -51,7 +51,7 @@ fn relocations_at(object: &Object, number: SectionIndex) -> &[Relocation]
 fn add_targets(
     project: &ProjectView<'_>,
     naming: &Naming,
-    numbers: &Numbers,
+    places: &Places<'_>,
     place: usize,
     object: &Object,
     relocations: &[Relocation],
@@ -59,12 +59,12 @@ fn add_targets(
 ) -> Result<(), NoMemory>
     requires naming { IsNaming project.now naming.now }
     requires object { IsObjectAt project.now place object.now }
-    requires numbers { AreProjectNumbers project.now numbers.now }
+    requires places { AreProjectPlaces project.now (place_in places.now) }
     ensures { OnOk result (AddsTargets project.now place relocations.now targets.old.items targets.new.items) }
 {
     for relocation in relocations {
         let section = target_section(project, naming, place, object, relocation);
-        add_number(targets, numbers.find(section))?;
+        add_number(targets, places.find(section))?;
     }
     Ok(())
 }
@@ -73,12 +73,12 @@ fn add_targets(
 fn add_row(
     project: &ProjectView<'_>,
     naming: &Naming,
-    numbers: &Numbers,
+    places: &Places<'_>,
     section: &Gathered<'_>,
     targets: &mut Vec<usize>,
 ) -> Result<(), NoMemory>
     requires naming { IsNaming project.now naming.now }
-    requires numbers { AreProjectNumbers project.now numbers.now }
+    requires places { AreProjectPlaces project.now (place_in places.now) }
     ensures { OnOk result (AddsTargets project.now section.now.section.object.0
         (relocations_of project.now section.now.section.object.0 section.now.section.part)
         targets.old.items targets.new.items) }
@@ -89,15 +89,7 @@ fn add_row(
             Some(object) => {
                 let relocations = relocations_at(object, number);
                 let place = key.object.0;
-                add_targets(
-                    project,
-                    naming,
-                    numbers,
-                    place,
-                    object,
-                    relocations,
-                    targets,
-                )
+                add_targets(project, naming, places, place, object, relocations, targets)
             }
             None => Ok(()),
         },
@@ -111,12 +103,12 @@ fn add_row(
 pub(crate) struct ProjectReferences<'a, 'p, 's> {
     pub(crate) project: &'a ProjectView<'p>,
     pub(crate) naming: &'a Naming,
-    pub(crate) numbers: &'a Numbers,
+    pub(crate) places: &'a Places<'a>,
     pub(crate) sections: &'a [Gathered<'s>],
 }
 
 impl<'a, 'p, 's> References for ProjectReferences<'a, 'p, 's> {
-    ghost can_find = { λ r. AreProjectReferences r.project.now r.naming.now r.numbers.now r.sections.now };
+    ghost can_find = { λ r. AreProjectReferences r.project.now r.naming.now r.places.now r.sections.now };
 
     ghost count = { λ r. length (input_sections r.project.now) };
 
@@ -125,6 +117,6 @@ impl<'a, 'p, 's> References for ProjectReferences<'a, 'p, 's> {
     fn find_targets(&self, section: usize, targets: &mut Vec<usize>) -> Result<(), NoMemory> {
         targets.clear();
         let section = &self.sections[section];
-        add_row(self.project, self.naming, self.numbers, section, targets)
+        add_row(self.project, self.naming, self.places, section, targets)
     }
 }

@@ -2,7 +2,7 @@
 use Rattle.std.proofs.Common.{◌≡◌, ◌≢◌, ◌<◌, ◌≤◌, ◌+◌, ◌==◌, ℕ, suc, refl, sym, ap, subst, arith, ◌∙◌}
 use Rattle.std.proofs.Common.{List, [], ◌∷◌, ◌++◌, length, get_or, set, take, map, find, cond, Bool, true, false}
 use Rattle.std.proofs.Common.{Option, Some, None}
-use Rattle.std.proofs.lemmas.Bool.{eq-eqb, eqb-false, eqb-true, false≢true, true≢false}
+use Rattle.std.proofs.lemmas.Bool.{eq-eqb, eqb-false, eqb-true, false≢true}
 use Rattle.std.proofs.lemmas.List.{get_or-set_other, get_or-set_same, get_or_default, length-set, take_more}
 use Rattle.std.proofs.lemmas.List.Folds.{find-append}
 use Rattle.std.proofs.lemmas.Option.{slice_get-get_or, slice_get-map, slice_get_past}
@@ -11,12 +11,16 @@ use Rattle.std.specs.List.{slice_get}
 use Rattle.std.specs.Option.{option_and_then, option_map, option_or}
 use Rattle.std.specs.Prelude.{IsSome}
 use Rattle.ldmodel.specs.declared.sections.Part.{Part}
-use Rattle.ldlayout.specs.Entries.{has_rank, rank_of}
-use Rattle.ldlayout.specs.SectionTable.{AreOwners, HasNumbers, has_number, is_number, len_of, number_of}
+use Rattle.ldmodel.specs.declared.sections.Part.TheVariants.{InTable, InCommon}
+use Rattle.ldmodel.specs.Project.{Project}
+use Rattle.ldmodel.specs.Sections.{is_same_part}
+use Rattle.ldlayout.specs.Columns.{AreOwners, HaveNumbers, has_number, is_number}
+use Rattle.ldlayout.specs.Entries.{is_part_of}
 use Rattle.ldlayout.specs.declared.entry.Entry.{Entry}
-use Rattle.ldlayout.specs.declared.section_table.SectionTable.{SectionTable}
+use Rattle.ldsections.specs.SectionTable.{IsTableOf, len_of, number_of}
+use Rattle.ldsections.specs.declared.section_table.SectionTable.{SectionTable}
 use Rattle.ldlayout.specs.declared.starts.PartPlace.{PartPlace}
-use Rattle.ldlayout.proofs.Ranks.{one_of}
+use Rattle.ldlayout.proofs.Members.{both_of, of_both}
 
 -- ---- what is found
 
@@ -48,28 +52,43 @@ number_is (Some n) at h = ap Some (sym (eqb-true at n h))
 abbrev place_of : Entry → PartPlace
 place_of e = e.place
 
+same_part : (q r : Part) → is_same_part q r ≡ true → q ≡ r
+same_part (InTable k) (InTable n) e = ap (λ m. InTable (record { 0 = m })) (eqb-true k.0 n.0 e)
+same_part (InTable k) (InCommon n) e = absurd (false≢true e)
+same_part (InCommon k) (InTable n) e = absurd (false≢true e)
+same_part (InCommon k) (InCommon n) e = ap (λ m. InCommon (record { 0 = m })) (eqb-true k.0 n.0 e)
+
+part_itself : (q : Part) → is_same_part q q ≡ true
+part_itself (InTable k) = eq-eqb k.0 k.0 refl
+part_itself (InCommon s) = eq-eqb s.0 s.0 refl
+
 -- a column of the first entries has the place of the first entry of each part
-module _ (entries : List Entry) (t : SectionTable) (owners : List ℕ) (places : List PartPlace)
-    (numbers : HasNumbers t entries) (owned : AreOwners t entries owners)
+module _ (p : Project) (entries : List Entry) (t : SectionTable) (owners : List ℕ) (places : List PartPlace)
+    (table : IsTableOf p t) (numbers : HaveNumbers t entries) (owned : AreOwners t entries owners)
     (are : places ≡ map (λ (e : Entry). e.place) entries) (n : ℕ) (part : Part) where
   abbrev sought : Entry → Bool
-  sought = has_rank (rank_of n part)
+  sought = is_part_of n part
 
   same_number : (e : Entry) → sought e ≡ true → number_of t e.object e.part ≡ number_of t n part
   same_number e h =
-      let k = one_of e.object n e.part part h in
-      ap (λ i. number_of t i e.part) k.0 ∙ ap (number_of t n) k.1
+      let k = both_of (e.object == n) (is_same_part e.part part) h in
+      ap (λ i. number_of t i e.part) (eqb-true e.object n k.0) ∙ ap (number_of t n) (same_part e.part part k.1)
+
+  is_sought : (e : Entry) → (e.object ≡ n) × (e.part ≡ part) → sought e ≡ true
+  is_sought e k =
+      of_both (e.object == n) (is_same_part e.part part) (eq-eqb e.object n k.0)
+      (subst (λ (q : Part). is_same_part e.part q ≡ true) k.1 (part_itself e.part))
 
   module _ (at : ℕ) (is : number_of t n part ≡ Some at) where
     same_test : (e : Entry) → sought e ≡ has_number t at e
     same_test e =
         both_ways (sought e) (has_number t at e)
         (λ h. ap (is_number at) (same_number e h ∙ is) ∙ eq-eqb at at refl)
-        (λ h. numbers.apart e.object n e.part part at (number_is (number_of t e.object e.part) at h) is)
+        (λ h. is_sought e (table.apart e.object n e.part part at (number_is (number_of t e.object e.part) at h) is))
 
     found : option_and_then (slice_get places) (slice_get owners at) ≡ option_map place_of (find sought entries)
     found =
-        let low : at < len_of t = numbers.below n part at is in
+        let low : at < len_of t = table.below n part at is in
         let within : at < length owners = omega (arith, owned.long, low) in
         ap (option_and_then (slice_get places)) (slice_get-get_or owners at 0 within)
         ∙ ap (λ xs. slice_get xs (get_or owners at 0)) are
@@ -83,11 +102,11 @@ module _ (entries : List Entry) (t : SectionTable) (owners : List ℕ) (places :
       go : (b : Bool) → sought (get_or entries i d) ≡ b → b ≡ false
       go false h = refl
       go true h =
-          absurd (false≢true (subst IsSome (same_number (get_or entries i d) h ∙ e) (numbers.all i d l)))
+          absurd (false≢true (subst IsSome (same_number (get_or entries i d) h ∙ e) (numbers i d l)))
 
   pub has_first :
       option_and_then (λ (at : ℕ). option_and_then (slice_get places) (slice_get owners at)) (number_of t n part)
-      ≡ option_map (λ (e : Entry). e.place) (find (has_rank (rank_of n part)) entries)
+      ≡ option_map (λ (e : Entry). e.place) (find (is_part_of n part) entries)
   has_first = go (number_of t n part) refl
     where
       go : (o : Option ℕ) → number_of t n part ≡ o

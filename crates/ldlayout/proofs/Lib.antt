@@ -8,14 +8,10 @@ mod Named
 mod Ascending
 pub mod Members
 mod Owned
-mod Parted
 pub mod Walking
-mod Ranks
-mod Searching
 mod Numbers
+mod AllNumbered
 mod Collecting
-mod Counting
-mod Numbering
 mod Column
 mod Cutting
 mod Placing

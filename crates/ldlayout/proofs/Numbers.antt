@@ -3,7 +3,6 @@ use Rattle.std.proofs.Common.{◌≡◌, ◌<◌, ◌≤◌, ℕ, zero, suc, Boo
 use Rattle.std.proofs.Common.{bytes_eq, List, [], ◌∷◌, length, Option, Some, None}
 use Rattle.std.proofs.lemmas.Bool.{eqb-true, eq-eqb}
 use Rattle.std.proofs.lemmas.List.Sums.{sum_by-cons}
-use Rattle.std.proofs.lemmas.Option.{slice_get_within}
 use Rattle.std.proofs.lemmas.Slice.Eq.{bytes_eq-Decides}
 use Rattle.std.specs.Cmp.{both_ways}
 use Rattle.std.specs.List.{count_by, slice_get}
@@ -50,14 +49,6 @@ own_name name o e = (bytes_eq-Decides o.name name).1 e
 
 abbrev name_of : Option NamedObject → List ℕ
 name_of o = option_map_or (λ (x : NamedObject). x.name) o []
-
--- an object whose name has bytes is there
-pub in_project : (p : Project) (i : ℕ) → 0 < length (object_name p i) → i < length p.objects
-in_project p i some = go (slice_get p.objects i) refl some
-  where
-    go : (o : Option NamedObject) → slice_get p.objects i ≡ o → 0 < length (name_of o) → i < length p.objects
-    go None at some = let none : 0 < 0 = some in absurd (omega (arith, none))
-    go (Some o) at some = slice_get_within p.objects i o at
 
 pub same_key : (p : Project) → AreNamesDistinct p.objects → (i j : ℕ) → 0 < length (object_name p i)
     → (i == j) ≡ bytes_eq (object_name p i) (object_name p j)

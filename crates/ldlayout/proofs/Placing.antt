@@ -1,13 +1,12 @@
 -- The entries of all rows say where input sections stand.
-use Rattle.std.proofs.Common.{◌≡◌, ◌+◌, ◌&&◌, ◌||◌, ℕ, Bool, true, false, cond, refl, sym, ap, subst, arith, bytes_eq}
-use Rattle.std.proofs.Common.{◌==◌, ◌<◌, ◌∙◌, zero, suc}
+use Rattle.std.proofs.Common.{◌≡◌, ◌+◌, ◌&&◌, ◌||◌, ℕ, Bool, true, false, cond, refl, sym, ap, subst, bytes_eq}
+use Rattle.std.proofs.Common.{◌<◌, ◌∙◌}
 use Rattle.std.proofs.Common.{Vec, Global}
-use Rattle.std.proofs.Common.{List, [], ◌∷◌, ◌++◌, length, drop, map, flat_map, filter, find, Option, Some, None}
+use Rattle.std.proofs.Common.{List, [], ◌∷◌, ◌++◌, length, drop, map, flat_map, find, Option, Some, None}
 use Rattle.std.proofs.lemmas.List.{drop_at, length-map}
-use Rattle.std.proofs.lemmas.Bool.{true≢false}
 use Rattle.std.proofs.lemmas.Iterator.Adapters.{position_from-zero}
 use Rattle.std.proofs.lemmas.List.Folds.{find-append}
-use Rattle.std.specs.List.{All, list_any, position_from}
+use Rattle.std.specs.List.{list_any, position_from}
 use Rattle.std.specs.Option.{is_some, option_map, option_or}
 use Rattle.std.specs.Vec.{vec_items}
 use Rattle.ldmodel.specs.Edits.{AreNamesDistinct}
@@ -23,23 +22,22 @@ use Rattle.ldmodel.specs.declared.rows.Piece.{Piece}
 use Rattle.ldmodel.specs.declared.sections.SectionKey.{SectionKey}
 use Rattle.ldlaws.specs.Spread.{entries_in}
 use Rattle.ldproject.specs.ByPlace.{piece_in, rows_in}
-use Rattle.ldlayout.specs.Entries.{all_entries, entry_of, has_rank, rank_of, row_entries}
+use Rattle.ldlayout.specs.Columns.{AreOwners, HaveNumbers}
+use Rattle.ldlayout.specs.Entries.{all_entries, entry_of, is_part_of, row_entries}
 use Rattle.ldlayout.specs.InPlace.{AreInPlace, IsOwned, entries_of}
-use Rattle.ldlayout.specs.SectionTable.{AreOwners, HasNumbers}
+use Rattle.ldsections.specs.SectionTable.{IsTableOf}
 use Rattle.ldlayout.specs.Starts.{AreStarts, IsPartPlace, place_in}
 use Rattle.ldlayout.specs.declared.entry.Entry.{Entry}
 use Rattle.ldlayout.specs.declared.starts.PartPlace.{PartPlace}
 use Rattle.ldlayout.specs.declared.starts.Starts.{Starts}
 use Rattle.ldlayout.proofs.Lists.{each_append}
-use Rattle.ldlayout.proofs.Members.{each_join}
-use Rattle.ldlayout.proofs.Numbers.{in_project, same_key}
-use Rattle.ldlayout.proofs.Ranks.{one_rank}
+use Rattle.ldlayout.proofs.Numbers.{same_key}
 use Rattle.ldlayout.proofs.Column.{has_first}
 
 module _ (p : Project) (distinct : AreNamesDistinct p.objects) (k : SectionKey) where
   -- an entry is the one that is looked for
   abbrev sought : Entry → Bool
-  sought = has_rank (rank_of k.object.0 k.part)
+  sought = is_part_of k.object.0 k.part
 
   -- and so is a piece
   abbrev test : PlacedPiece → Bool
@@ -48,8 +46,7 @@ module _ (p : Project) (distinct : AreNamesDistinct p.objects) (k : SectionKey) 
   same_test : (n t : ℕ) (x : Piece) (y : PlacedPiece) → y.piece ≡ piece_in p x → IsOwned p y.piece
       → sought (entry_of n (x, t)) ≡ test y
   same_test n t x y e owned =
-      one_rank x.section.object.0 k.object.0 x.section.part k.part
-      ∙ ap (λ b. b && is_same_part x.section.part k.part)
+      ap (λ b. b && is_same_part x.section.part k.part)
       (same_key p distinct x.section.object.0 k.object.0
       (subst (λ (z : model.Piece). 0 < length z.object) e owned.some))
       ∙ ap (λ (z : model.Piece). bytes_eq z.object (object_name p k.object.0) && is_same_part z.part k.part) (sym e)
@@ -193,9 +190,9 @@ module _ (p : Project) (distinct : AreNamesDistinct p.objects) (k : SectionKey) 
 pub all_places : (p : Project) (s : Layout) (rows : List (Vec Piece Global)) (starts : List ℕ) (collected : List Entry)
     (t : Starts) → AreNamesDistinct p.objects → AreInPlace p s → map entries_in s.sections ≡ rows_in p rows
     → starts ≡ flat_map starts_of s.sections → collected ≡ all_entries 0 rows starts
-    → HasNumbers t.table collected → AreOwners t.table collected t.owners.items
+    → IsTableOf p t.table → HaveNumbers t.table collected → AreOwners t.table collected t.owners.items
     → t.places.items ≡ map (λ (e : Entry). e.place) collected → AreStarts p s t
-all_places p s rows starts collected t distinct apart placed begin all numbers owned are =
+all_places p s rows starts collected t distinct apart placed begin all table numbers owned are =
     record {
       places = λ k. subst (IsPartPlace p s k) (sym (same k)) (is_place p distinct k s rows placed apart.owned);
       apart = apart;
@@ -203,47 +200,8 @@ all_places p s rows starts collected t distinct apart placed begin all numbers o
   where
     same : (k : SectionKey) → place_in t k
         ≡ option_map (λ (e : Entry). e.place)
-        (find (has_rank (rank_of k.object.0 k.part)) (all_entries 0 rows (flat_map starts_of s.sections)))
+        (find (is_part_of k.object.0 k.part) (all_entries 0 rows (flat_map starts_of s.sections)))
     same k =
-        has_first collected t.table t.owners.items t.places.items numbers owned are k.object.0 k.part
-        ∙ ap (λ xs. option_map (λ (e : Entry). e.place) (find (has_rank (rank_of k.object.0 k.part)) xs))
+        has_first p collected t.table t.owners.items t.places.items table numbers owned are k.object.0 k.part
+        ∙ ap (λ xs. option_map (λ (e : Entry). e.place) (find (is_part_of k.object.0 k.part) xs))
         (all ∙ ap (all_entries 0 rows) begin)
-
--- ---- all are of objects of the project
-
-abbrev IsWithin : Project → Entry → Type 0
-IsWithin p e = e.object < length p.objects
-
-row_within : (p : Project) (n : ℕ) (row : List Piece) (starts : List ℕ) → Each (IsOwned p) (map (piece_in p) row)
-    → Each (IsWithin p) (row_entries n row starts)
-row_within p n [] starts h = tt
-row_within p n (x ∷ row) [] h = tt
-row_within p n (x ∷ row) (t ∷ starts) h =
-    (in_project p x.section.object.0 (h.0).some, row_within p n row starts h.1)
-
-rows_within : (p : Project) (n : ℕ) (rows : List (Vec Piece Global)) (starts : List ℕ)
-    → Each (IsOwned p) (flat_map (λ (row : List model.Piece). row) (rows_in p rows))
-    → Each (IsWithin p) (all_entries n rows starts)
-rows_within p n [] starts h = tt
-rows_within p n (row ∷ rows) starts h =
-    let k = each_append (IsOwned p) (map (piece_in p) row.items)
-    (flat_map (λ (r : List model.Piece). r) (rows_in p rows)) h in
-    each_join (IsWithin p) (row_entries n row.items starts)
-    (all_entries (n + 1) rows (drop (length row.items) starts)) (row_within p n row.items starts k.0)
-    (rows_within p (n + 1) rows (drop (length row.items) starts) k.1)
-
-each_all : {X : Type 0} (P : X → Type 0) (xs : List X) → Each P xs → All P xs
-each_all P [] h k d below = absurd (omega (arith, below))
-each_all P (x ∷ xs) h zero d below = h.0
-each_all P (x ∷ xs) h (suc k) d below = each_all P xs h.1 k d (omega (arith, below))
-
-pub all_within : (p : Project) (rows : List (Vec Piece Global)) (starts : List ℕ) (collected : List Entry) (limit : ℕ)
-    → rows_in p rows ≡ model.rows p → Each (IsOwned p) (flat_map (λ (row : List model.Piece). row) (model.rows p))
-    → collected ≡ all_entries 0 rows starts → limit ≡ length p.objects
-    → All (λ (e : Entry). e.object < limit) collected
-all_within p rows starts collected limit same owned all end =
-    subst (λ m. All (λ (e : Entry). e.object < m) collected) (sym end)
-    (subst (All (IsWithin p)) (sym all)
-    (each_all (IsWithin p) (all_entries 0 rows starts)
-    (rows_within p 0 rows starts
-    (subst (λ r. Each (IsOwned p) (flat_map (λ (row : List model.Piece). row) r)) (sym same) owned))))

@@ -1,41 +1,15 @@
--- Input sections with their places, and the order that they are sorted in.
-use Rattle.std.specs.Prelude.{ℕ, ◌+◌, List, [], ◌∷◌, ◌++◌, map, length, drop, Bool, true, false}
+-- Input sections with their places.
+use Rattle.std.specs.Prelude.{ℕ, ◌+◌, ◌&&◌, ◌==◌, List, [], ◌∷◌, ◌++◌, map, length, drop, Bool}
 use Rattle.std.specs.List.{zip}
-use Rattle.std.specs.Ordering.{bool_cmp, is_eq, nat_cmp, ordering_then}
-use Rattle.std.specs.declared.cmp.Ordering.{Ordering}
 use Rattle.std.proofs.Common.{Vec, Global}
+use Rattle.ldmodel.specs.Sections.{is_same_part}
 use Rattle.ldmodel.specs.declared.rows.Piece.{Piece}
 use Rattle.ldmodel.specs.declared.sections.Part.{Part}
-use Rattle.ldmodel.specs.declared.sections.Part.TheVariants.{InTable, InCommon}
 use Rattle.ldlayout.specs.declared.entry.Entry.{Entry}
 
--- by the number of the object, then sections before common blocks, then by the number of the part
-abbrev pub rank_of : ℕ → Part → ℕ × Bool × ℕ
-rank_of object (InTable k) = (object, false, k.0)
-rank_of object (InCommon x) = (object, true, x.0)
-
-abbrev pub rank_in : Entry → ℕ × Bool × ℕ
-rank_in e = rank_of e.object e.part
-
-abbrev pub rank_cmp : ℕ × Bool × ℕ → ℕ × Bool × ℕ → Ordering
-rank_cmp x y = ordering_then (ordering_then (nat_cmp x.0 y.0) (bool_cmp x.1 y.1)) (nat_cmp x.2 y.2)
-
-abbrev pub rank_self : ℕ × Bool × ℕ → ℕ × Bool × ℕ
-rank_self r = r
-
-abbrev pub is_ranked : ℕ × Bool × ℕ → ℕ × Bool × ℕ → Bool
-is_ranked sought r = is_eq (rank_cmp r sought)
-
-abbrev pub has_rank : ℕ × Bool × ℕ → Entry → Bool
-has_rank sought e = is_eq (rank_cmp (rank_in e) sought)
-
--- whether an entry is a common block
-abbrev pub is_block_part : Part → Bool
-is_block_part (InTable k) = false
-is_block_part (InCommon x) = true
-
-abbrev pub is_block : Entry → Bool
-is_block e = is_block_part e.part
+-- whether an entry is this part of object number n
+abbrev pub is_part_of : ℕ → Part → Entry → Bool
+is_part_of n part e = (e.object == n) && is_same_part e.part part
 
 -- an entry of a row and the address that it starts at, in an output section
 abbrev pub entry_of : ℕ → Piece × ℕ → Entry

@@ -4,8 +4,7 @@ pub mod Length
 pub mod Laying
 pub mod Offsets
 pub mod Entries
-pub mod Headers
 pub mod InPlace
-pub mod SectionTable
+pub mod Columns
 pub mod Starts
 pub mod Cut

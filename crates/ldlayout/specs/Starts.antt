@@ -9,7 +9,7 @@ use Rattle.ldmodel.specs.SymbolValues.{is_part, placed_part}
 use Rattle.ldmodel.specs.declared.sections.Part.{Part}
 use Rattle.ldmodel.specs.declared.sections.SectionKey.{SectionKey}
 use Rattle.ldlayout.specs.InPlace.{AreInPlace}
-use Rattle.ldlayout.specs.SectionTable.{number_of}
+use Rattle.ldsections.specs.SectionTable.{number_of}
 use Rattle.ldlayout.specs.declared.starts.PartPlace.{PartPlace}
 use Rattle.ldlayout.specs.declared.starts.Starts.{Starts}
 

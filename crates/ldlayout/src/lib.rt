@@ -1,22 +1,21 @@
 //! Layout, a phase of a link: where everything stands in memory and in the file. Takes a project, its rows and names,
-//! and perhaps an earlier layout; gives the layout or its faults, and where an input section stands, by its key.
+//! the numbers of its input sections, and perhaps an earlier layout; gives the layout or its faults, and where an input
+//! section stands, by its key.
 //!
 //! - `laying`: the phase, over `place`;
 //! - `segments` over `group`: what is loaded as one, and its offset in the file; `offsets`: where output sections begin
 //!   in the file; `length`: how long the image is;
-//! - `starts` over `collected`, `entry`, and `sections` with `headers`: where each input section stands; `numbered`:
-//!   the sections of an object have different numbers.
+//! - `starts` over `collected` and `entry`: where each input section stands; `numbered`: the sections of an object have
+//!   different numbers; `rows`: rows as one list.
 #![tactic(auto)]
 
 mod collected;
 mod entry;
 mod group;
-mod headers;
 pub mod laying;
 pub mod length;
 pub mod numbered;
 mod offsets;
 pub mod rows;
-pub mod section_table;
 pub mod segments;
 pub mod starts;

@@ -8,13 +8,13 @@ ghost use Rattle.ldlayout.specs.Laying.{IsLaying};
 ghost use Rattle.ldmodel.specs.Rows as model;
 ghost use Rattle.ldproject.specs.ByPlace.{rows_in};
 ghost use Rattle.ldlayout.specs.InPlace.{has_no_name};
-ghost use Rattle.ldlayout.specs.SectionTable.{AreOwners};
+ghost use Rattle.ldlayout.specs.Columns.{AreOwners};
+ghost use Rattle.ldsections.specs.SectionTable.{IsTableOf};
 
 use crate::collected::collect;
 use crate::entry::Entry;
 use crate::laying::Laying;
 use crate::numbered::are_numbered;
-use crate::section_table::{SectionId, SectionTable};
 use ldlaws::gathering::{live_by_path, once_in_rows};
 use ldlaws::layout::{nothing_meets, placed_are_rows};
 use ldmodel::laid::OutputIndex;
@@ -24,6 +24,8 @@ use ldmodel::rows::Piece;
 use ldmodel::sections::{Part, SectionKey};
 use ldproject::input::InputObject;
 use ldproject::view::ProjectView;
+use ldsections::law::sections_of_objects;
+use ldsections::section_table::{SectionId, SectionTable};
 use std::alloc::{AllocError, Global};
 
 /// Where an input section stands.
@@ -87,7 +89,7 @@ fn places(alloc: Global, entries: &[Entry]) -> Result<Vec<PartPlace>, NoMemory>
 impl Starts {
     ghost use Rattle.ldlayout.specs.Starts.{AreStarts, IsPartPlace, part_in, place_in, place_under};
 
-    /// Where the input sections of these rows stand, by their layout.
+    /// Where the input sections of these rows stand, by their numbers and their layout.
     ///
     /// # Errors
     ///
@@ -95,16 +97,19 @@ impl Starts {
     pub fn of(
         alloc: Global,
         project: &ProjectView<'_>,
+        table: SectionTable,
         rows: &[Vec<Piece>],
         laying: &Laying,
     ) -> Result<Starts, NoMemory>
-        requires { rows_in project.now rows.now ≡ model.rows project.now }
+        requires table { IsTableOf project.now table }
+        requires rows { rows_in project.now rows.now ≡ model.rows project.now }
         ensures { IfOk result (λ t. (s : Layout) → IsLaying project.now s laying.now → AreStarts project.now s t) }
     {
         nothing_meets();
         placed_are_rows();
         once_in_rows();
         live_by_path();
+        sections_of_objects();
         are_numbered(project);
         let inputs = project.inputs();
         if has_unnamed(inputs) {
@@ -112,7 +117,6 @@ impl Starts {
             return Err(AllocError);
         }
         let entries = collect(alloc, rows, laying.placement.pieces())?;
-        let table = SectionTable::of(alloc, &entries, inputs.len())?;
         let owners = owners(alloc, &table, &entries)?;
         let places = places(alloc, &entries)?;
         Ok(Starts {

@@ -14,6 +14,7 @@ ghost use Rattle.relink.specs.Worked.{HasWorked};
 use crate::lent::Lent;
 use crate::passes::{asserted, drawn, gathered, laid, named, relocated, valued};
 use crate::stop::Stop;
+use gather::gathering::Gathering;
 use gather::matches::Matches;
 use ldfields::canvas::Canvas;
 use ldkept::good::Good;
@@ -59,9 +60,9 @@ fn relinked(lent: Lent<'_, '_>, canvas: &mut Canvas, meter: &mut Meter) -> Resul
         ..
     } = lent;
     named(lent)?;
-    let rows = gathered(lent)?;
+    let Gathering { table, rows, .. } = gathered(lent)?;
     let laying = laid(lent, &rows, meter)?;
-    let starts = Starts::of(alloc, project, &rows, &laying)?;
+    let starts = Starts::of(alloc, project, table, &rows, &laying)?;
     let given = GivenValues::of(alloc, &*project, &*naming, &laying)?;
     let view = LinkView::new(alloc, &*project, &*naming, &starts, &given)?;
     let values = valued(lent, &laying, &view, &given)?;

@@ -1,6 +1,7 @@
 //! The passes of a link, each with what holds after it.
 
 ghost use Rattle.std.specs.Prelude.{◌≡◌, IfErr, IfOk, IfSome, OnErr, OnOk, map};
+ghost use Rattle.gather.specs.Gathering.{IsGathering};
 ghost use Rattle.ldkept.specs.Stays.{last_of};
 ghost use Rattle.ldkept.specs.SymbolTable.{AreSymbolValues};
 ghost use Rattle.ldlayout.specs.Laying.{HasLayout, IsLaying};
@@ -70,12 +71,12 @@ fn orphan_faults(alloc: Global, orphans: &[SectionKey]) -> Result<Vec<Fault>, No
     orphans.iter().map(|key| Fault::Orphan(*key)).collect(alloc)
 }
 
-/// Gathering: the row of each output section.
-pub(crate) fn gathered(lent: Lent<'_, '_>) -> Result<Vec<Vec<Piece>>, Stop>
+/// Gathering: the numbers of the input sections, and the row of each output section.
+pub(crate) fn gathered(lent: Lent<'_, '_>) -> Result<Gathering, Stop>
     requires lent { IsLent lent }
     requires rest { link (project_of lent)
         ≡ unless (gathering_faults (project_of lent)) (placed (project_of lent) (layout (project_of lent))) }
-    ensures rows { IfOk result (λ v. rows_in (project_of lent.entry) v.items ≡ model.rows (project_of lent.entry)) }
+    ensures gathering { IfOk result (λ g. IsGathering (project_of lent.entry) g) }
     ensures rest { OnOk result (link (project_of lent.entry)
         ≡ placed (project_of lent.entry) (layout (project_of lent.entry))) }
     ensures stop { IfErr result (λ stop. IsStop (link (project_of lent.entry)) stop) }
@@ -83,7 +84,7 @@ pub(crate) fn gathered(lent: Lent<'_, '_>) -> Result<Vec<Vec<Piece>>, Stop>
     let gathering = Gathering::of(lent.alloc, lent.project, lent.naming, lent.matches)?;
     let faults = orphan_faults(lent.alloc, &gathering.orphans)?;
     match end_if_faulty(lent.alloc, lent.project, &faults) {
-        Ok(()) => Ok(gathering.rows),
+        Ok(()) => Ok(gathering),
         Err(stop) => Err(stop),
     }
 }

@@ -10,6 +10,7 @@ returns c =
     let p = c.args.project.now in
     let in_order = c.live_by_path.ensures.in_order p in
     record {
+      table = c.requires.table;
       rows = same_rows p c.in_ok-rows.rows.items
           ∙ c.in_ok-rows.ensures p (by_place p).naming (sym c.script.ensures)
           (subst (AreTaken p (by_place p).naming) (sym c.deref.ensures.value)

@@ -1,4 +1,4 @@
-use Rattle.std.proofs.Common.{◌≡◌, ◌⊎◌, ◌↔◌, ◌∙◌, ℕ, List, Some, ap, length, sym, subst, Vec, Bool, Global}
+use Rattle.std.proofs.Common.{◌≡◌, ◌⊎◌, ◌↔◌, ◌∙◌, ℕ, List, Option, Some, ap, length, sym, subst, Vec, Bool, Global}
 use Rattle.std.specs.Prelude.{Contains, IsTrue}
 use Rattle.std.proofs.lemmas.List.{length-map}
 use Rattle.std.proofs.lemmas.Result.{IfOk-weaker}
@@ -8,8 +8,8 @@ use Rattle.ldmodel.specs.InputSections.{input_sections}
 use Rattle.ldmodel.specs.Live.{entry_section, is_kept}
 use Rattle.ldmodel.specs.Sections.{InputSection}
 use Rattle.gather.specs.ProjectMembers.{by_place}
-use Rattle.gather.specs.Numbers.{IsNumberOf}
-use Rattle.gather.proofs.Keyed.{number_of_key}
+use Rattle.gather.specs.SectionPlaces.{AreProjectPlaces, IsPlaceOf, place_under}
+use Rattle.gather.proofs.Keyed.{place_of_key}
 use Rattle.gather.proofs.Starting.{graph_is}
 use Rattle.gather.proofs.live.mark_needed.Goals as goal
 
@@ -21,17 +21,17 @@ mark-requires-clause-count c =
 pub returns : goal.returns
 returns c =
     let p = c.args.project.now in
-    let number : IsNumberOf p (entry_section p) c.find-entry.result =
-    number_of_key p c.in_ok-numbers.numbers c.entry_section.result (entry_section p) c.find-entry.result
-    (c.in_ok-numbers.ensures p c.requires.ascending c.requires.sections) c.entry_section.ensures
-    c.find-entry.ensures in
+    let place : IsPlaceOf p (entry_section p) c.find-entry.result =
+    place_of_key p (place_under c.args.table.now c.deref.result.now) c.entry_section.result (entry_section p) c.find-entry.result
+    (subst (λ (l : List (Option ℕ)). AreProjectPlaces p (place_under c.args.table.now l)) (sym c.deref.ensures.value)
+    c.in_ok-column.ensures) c.entry_section.ensures c.find-entry.ensures in
     let roots : (k : ℕ) (s : InputSection) → IsSectionAt p k s
-    → (IsTrue (is_kept (taken_by p s)) ⊎ (c.find-entry.result ≡ Some k)) ↔ Contains c.deref.result.now k =
+    → (IsTrue (is_kept (taken_by p s)) ⊎ (c.find-entry.result ≡ Some k)) ↔ Contains c.deref-2.result.now k =
     subst (λ (l : List ℕ). (k : ℕ) (s : InputSection) → IsSectionAt p k s
     → (IsTrue (is_kept (taken_by p s)) ⊎ (c.find-entry.result ≡ Some k)) ↔ Contains l k)
-    (sym c.deref.ensures.value)
+    (sym c.deref-2.ensures.value)
     (c.in_ok-roots.ensures p (by_place p) (sym c.script.ensures) c.requires.sections) in
     IfOk-weaker c.mark.result _ _
     (λ (marks : Vec Bool Global) h. h p c.requires.collected
-    (graph_is p c.args.out.now c.deref.result.now c.find-entry.result c.requires.out number roots))
+    (graph_is p c.args.out.now c.deref-2.result.now c.find-entry.result c.requires.out place roots))
     c.mark.ensures.live

@@ -1,7 +1,7 @@
 use Rattle.std.proofs.Common.{subst, List, ap, sym, ◌∙◌}
 use Rattle.std.specs.Prelude.{OnOk, option_copied}
 use Rattle.elfobj.specs.declared.relocation.Relocation.{Relocation}
-use Rattle.gather.specs.Numbers.{AddsTargets}
+use Rattle.gather.specs.SectionPlaces.{AddsTargets}
 use Rattle.gather.proofs.Starting.{row_of}
 use Rattle.gather.proofs.referring.add_row.Goals as goal
 

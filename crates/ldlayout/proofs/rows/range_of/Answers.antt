@@ -1,4 +1,4 @@
-use Rattle.std.proofs.Common.{◌≡◌, ◌<◌, [], ap, arith, length, sym, ◌∙◌, ⊎_elim}
+use Rattle.std.proofs.Common.{◌<◌, [], ap, arith, length, sym, ◌∙◌, ⊎_elim}
 use Rattle.std.specs.Prelude.{slice_range}
 use Rattle.std.proofs.lemmas.List.{get_or_past, get_or_default}
 use Rattle.ldlayout.specs.Cut.{begin_of, cut}

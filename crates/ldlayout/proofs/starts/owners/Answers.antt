@@ -1,6 +1,6 @@
 use Rattle.std.proofs.Common.{◌∙◌, ap, arith, sym, ℕ, Vec, Global}
 use Rattle.std.specs.Option.{option_map}
-use Rattle.ldlayout.specs.declared.section_table.SectionId.{SectionId}
+use Rattle.ldsections.specs.declared.section_table.SectionId.{SectionId}
 use Rattle.ldlayout.proofs.Column.{first_owned, later_owned, none_owned}
 use Rattle.ldlayout.proofs.starts.owners.Goals as goal
 use Rattle.ldlayout.proofs.starts.owners.Goals.{in-Some+then-index-none, in-Some+else-index-none, in_default-find}

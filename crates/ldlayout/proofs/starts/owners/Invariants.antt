@@ -1,4 +1,5 @@
-use Rattle.ldlayout.specs.SectionTable.{has_number, len_of}
+use Rattle.ldlayout.specs.Columns.{has_number}
+use Rattle.ldsections.specs.SectionTable.{len_of}
 use Rattle.ldlayout.proofs.Column.{OwnFirst}
 use Rattle.ldlayout.proofs.starts.owners.Given as goal
 

@@ -1,45 +1,39 @@
-use Rattle.std.proofs.Common.{rules, ◌∙◌, ap, flat_map, length, map, subst, sym, List}
-use Rattle.std.proofs.lemmas.List.{length-map}
+use Rattle.std.proofs.Common.{◌∙◌, ap, flat_map, map, subst, sym, List}
 use Rattle.ldlaws.specs.PlacedOnce.{Differ}
 use Rattle.ldlaws.specs.Spread.{EachLater}
 use Rattle.ldmodel.specs.FileLayout.{Each}
 use Rattle.ldmodel.specs.Names.{provided}
 use Rattle.ldmodel.specs.Rows.{Piece, rows}
-use Rattle.ldproject.specs.Inputs.{shown_input}
+use Rattle.ldlayout.specs.Columns.{AreOwners}
 use Rattle.ldlayout.specs.InPlace.{IsOwned}
-use Rattle.ldlayout.specs.SectionTable.{AreOwners, HasNumbers}
 use Rattle.ldlayout.specs.declared.entry.Entry.{Entry}
-use Rattle.ldlayout.proofs.Owned.{all_owned}
-use Rattle.ldlayout.proofs.Placing.{all_places, all_within}
+use Rattle.ldlayout.proofs.AllNumbered.{all_numbered}
+use Rattle.ldlayout.proofs.Owned.{all_inputs, all_owned}
+use Rattle.ldlayout.proofs.Placing.{all_places}
 use Rattle.ldlayout.proofs.starts.Starts.of.Goals as goal
-
-pub of-requires : goal.of-requires
-of-requires c =
-    let p = c.args.project.now in
-    all_within p c.args.rows.now c.pieces.result.now c.deref.result.now (length c.inputs-inputs.result.now) c.requires
-    (all_owned p c.inputs-inputs.result.now c.inputs-inputs.ensures.same
-    (sym c.has_unnamed.ensures ∙ c.if-has_unnamed.false) (c.live_by_path.ensures.in_order p))
-    (c.deref.ensures.value ∙ c.in_ok-entries.ensures)
-    (sym (length-map c.inputs-inputs.result.now shown_input) ∙ ap length c.inputs-inputs.ensures.same)
 
 pub returns : goal.returns
 returns c = λ s laid.
     let p = c.args.project.now in
     let placed = c.placed_are_rows.ensures p (provided p) s laid.placed in
     let flat : List (List Piece) → List Piece = flat_map (λ (row : List Piece). row) in
+    let inputs = all_inputs p (c.live_by_path.ensures.in_order p) in
+    let owned : Each (IsOwned p) (flat (rows p)) =
+    all_owned p c.inputs-inputs.result.now c.inputs-inputs.ensures.same
+    (sym c.has_unnamed.ensures ∙ c.if-has_unnamed.false) (c.sections_of_objects.ensures p) (flat (rows p)) inputs in
+    let are = c.in_ok-entries.ensures in
     all_places p s c.args.rows.now c.pieces.result.now c.in_ok-entries.entries.items _
     c.inputs-inputs.ensures.distinct
     (record {
       once = subst (EachLater Differ) (ap flat (sym placed))
           (c.once_in_rows.ensures p c.inputs-inputs.ensures.distinct c.are_numbered.ensures);
-      owned = subst (Each (IsOwned p)) (ap flat (sym placed))
-          (all_owned p c.inputs-inputs.result.now c.inputs-inputs.ensures.same
-          (sym c.has_unnamed.ensures ∙ c.if-has_unnamed.false) (c.live_by_path.ensures.in_order p));
+      owned = subst (Each (IsOwned p)) (ap flat (sym placed)) owned;
       spread = c.nothing_meets.ensures p.script (rows p) (provided p) s laid.placed;
     })
-    (placed ∙ sym c.requires)
-    (c.pieces.ensures ∙ laid.places.starts) c.in_ok-entries.ensures
-    (subst (HasNumbers c.in_ok-table.table) c.deref.ensures.value c.in_ok-table.ensures)
-    (subst (λ (l : List Entry). AreOwners c.in_ok-table.table l c.in_ok-owners.owners.items) c.deref-2.ensures.value
+    (placed ∙ sym c.requires.rows)
+    (c.pieces.ensures ∙ laid.places.starts) are c.requires.table
+    (all_numbered p c.args.table c.inputs-inputs.ensures.distinct c.requires.table (c.sections_of_objects.ensures p)
+    c.args.rows.now c.pieces.result.now c.in_ok-entries.entries.items c.requires.rows owned inputs are)
+    (subst (λ (l : List Entry). AreOwners c.args.table l c.in_ok-owners.owners.items) c.deref.ensures.value
     c.in_ok-owners.ensures)
-    (c.in_ok-places.ensures ∙ ap (map (λ (e : Entry). e.place)) c.deref-3.ensures.value)
+    (c.in_ok-places.ensures ∙ ap (map (λ (e : Entry). e.place)) c.deref-2.ensures.value)

@@ -1,0 +1,168 @@
+-- Columns of places under the numbers of input sections.
+use Rattle.std.proofs.Common.{◌≡◌, ◌∙◌, ◌<◌, ◌+◌, ℕ, Bool, true, false, cond, eqb, List, length}
+use Rattle.std.proofs.Common.{get_or, set, ap, sym, subst, arith, refl, Option, Some, None, ⊎_elim, get_or-set_same}
+use Rattle.std.proofs.Common.{get_or-set_other}
+use Rattle.std.specs.Prelude.{IsSome, option_and_then}
+use Rattle.std.specs.Option.{option_map}
+use Rattle.std.proofs.lemmas.Bool.{and_parts, and_from, cases_eq, eqb-true, eq-eqb, false≢true}
+use Rattle.std.proofs.lemmas.List.{get_or_default, length-set}
+use Rattle.std.proofs.lemmas.Option.{same_Some}
+use Rattle.gather.specs.declared.gathered.Gathered.{Gathered}
+use Rattle.ldmodel.specs.Project.{Project}
+use Rattle.ldmodel.specs.Sections.{is_same_part}
+use Rattle.ldmodel.specs.declared.sections.Part.{Part}
+use Rattle.ldmodel.specs.declared.sections.Part.TheVariants.{InTable, InCommon}
+use Rattle.ldmodel.specs.declared.sections.SectionKey.{SectionKey}
+use Rattle.gather.specs.SectionPlaces.{ArePlaces, is_same_key, place_at, place_under, with_place}
+use Rattle.ldsections.specs.SectionTable.{IsTableOf, len_of, number_of}
+use Rattle.ldsections.specs.declared.section_table.SectionId.{SectionId}
+use Rattle.ldsections.specs.declared.section_table.SectionTable.{SectionTable}
+
+pub same_part : (a b : Part) → is_same_part a b ≡ true → a ≡ b
+same_part (InTable k) (InTable n) h = ap (λ x. InTable (record { 0 = x })) (eqb-true k.0 n.0 h)
+same_part (InTable k) (InCommon t) h = absurd (cc)
+same_part (InCommon s) (InTable n) h = absurd (cc)
+same_part (InCommon s) (InCommon t) h = ap (λ x. InCommon (record { 0 = x })) (eqb-true s.0 t.0 h)
+
+pub part_itself : (a : Part) → is_same_part a a ≡ true
+part_itself (InTable k) = eq-eqb k.0 k.0 refl
+part_itself (InCommon s) = eq-eqb s.0 s.0 refl
+
+same_key : (a b : SectionKey) → is_same_key a b ≡ true → a ≡ b
+same_key a b h =
+    let both = and_parts (eqb a.object.0 b.object.0) (is_same_part a.part b.part) h in
+    ap (λ n. record { object = record { 0 = n }; part = a.part }) (eqb-true a.object.0 b.object.0 both.0)
+    ∙ ap (λ q. record { object = b.object; part = q }) (same_part a.part b.part both.1)
+
+key_itself : (a : SectionKey) → is_same_key a a ≡ true
+key_itself a =
+    and_from (eqb a.object.0 a.object.0) (is_same_part a.part a.part) (eq-eqb a.object.0 a.object.0 refl)
+    (part_itself a.part)
+
+pub none_placed : (xs : List Gathered) (place : SectionKey → Option ℕ) → ((k : SectionKey) → place k ≡ None)
+    → ArePlaces xs 0 place
+none_placed xs place none = record {
+  below = λ k m h. let is : None ≡ Some m = sym (none k) ∙ h in absurd (cc);
+  is = λ k m x h. let is : None ≡ Some m = sym (none k) ∙ h in absurd (cc);
+  all = λ m x h. absurd (omega (arith, h));
+}
+
+-- a column of a table, with one more place
+module _ (p : Project) (t : SectionTable) (table : IsTableOf p t) (s : SectionKey) (n : ℕ) (old : List (Option ℕ))
+    (long : length old ≡ len_of t) where
+  module _ (at : ℕ) (is : number_of t s.object.0 s.part ≡ Some at) where
+    own_place : (k : SectionKey) → k ≡ s → place_under t (set old at (Some n)) k ≡ Some n
+    own_place k same =
+        ap (place_under t (set old at (Some n))) same ∙ ap (option_and_then (place_at (set old at (Some n)))) is
+        ∙ get_or-set_same old at (Some n) None (omega (arith, long, table.below s.object.0 s.part at is))
+
+    elsewhere : (k : SectionKey) → is_same_key k s ≡ false
+        → place_under t (set old at (Some n)) k ≡ place_under t old k
+    elsewhere k differ = go (number_of t k.object.0 k.part) refl
+      where
+        go : (o : Option ℕ) → number_of t k.object.0 k.part ≡ o
+            → option_and_then (place_at (set old at (Some n))) o ≡ option_and_then (place_at old) o
+        go None e = refl
+        go (Some m) e =
+            get_or-set_other old at m (Some n) None (λ same.
+            let both = table.apart k.object.0 s.object.0 k.part s.part at (e ∙ ap Some same) is in
+            absurd (false≢true (sym differ ∙ and_from (eqb k.object.0 s.object.0) (is_same_part k.part s.part)
+            (eq-eqb k.object.0 s.object.0 both.0)
+            (subst (λ (q : Part). is_same_part k.part q ≡ true) both.1 (part_itself k.part)))))
+
+    put_at : (k : SectionKey) → place_under t (set old at (Some n)) k
+        ≡ cond (is_same_key k s) (Some n) (place_under t old k)
+    put_at k = go (is_same_key k s) refl
+      where
+        go : (b : Bool) → is_same_key k s ≡ b
+            → place_under t (set old at (Some n)) k ≡ cond b (Some n) (place_under t old k)
+        go true e = own_place k (same_key k s e)
+        go false e = elsewhere k e
+
+  is_none : (o : Option ℕ) → None ≡ o → IsSome o → ⊥
+  is_none None e some = cc
+  is_none (Some m) e some = cc
+
+  pub put_under : (id : Option SectionId) → option_map (λ (i : SectionId). i.0) id ≡ number_of t s.object.0 s.part
+      → IsSome (number_of t s.object.0 s.part) → (k : SectionKey)
+      → place_under t (with_place id n old) k ≡ cond (is_same_key k s) (Some n) (place_under t old k)
+  put_under None e some k = absurd (is_none (number_of t s.object.0 s.part) e some)
+  put_under (Some i) e some k = put_at i.0 (sym e) k
+
+-- one more section has its place
+module _ (xs : List Gathered) (n : ℕ) (old new : SectionKey → Option ℕ) (s : Gathered) (low : n < length xs)
+    (is : get_or xs n s ≡ s)
+    (put : (k : SectionKey) → new k ≡ cond (is_same_key k s.section) (Some n) (old k))
+    (before : ArePlaces xs n old) where
+  other : (d : Gathered) → get_or xs n d ≡ s
+  other d = get_or_default xs n d s low ∙ is
+
+  below : (k : SectionKey) (m : ℕ) → new k ≡ Some m → m < n + 1
+  below k m h = go (is_same_key k s.section) (sym (put k) ∙ h)
+    where
+      go : (b : Bool) → cond b (Some n) (old k) ≡ Some m → m < n + 1
+      go true e = let same : n ≡ m = same_Some n m e in omega (arith, same)
+      go false e = let less : m < n = before.below k m e in omega (arith, less)
+
+  at_key : (k : SectionKey) (m : ℕ) (x : Gathered) → new k ≡ Some m → (get_or xs m x).section ≡ k
+  at_key k m x h = go (is_same_key k s.section) refl (sym (put k) ∙ h)
+    where
+      go : (b : Bool) → is_same_key k s.section ≡ b → cond b (Some n) (old k) ≡ Some m
+          → (get_or xs m x).section ≡ k
+      go true same e =
+          ap (λ i. (get_or xs i x).section) (sym (same_Some n m e))
+          ∙ (ap (λ (y : Gathered). y.section) (other x) ∙ sym (same_key k s.section same))
+      go false same e = before.is k m x e
+
+  known : (k : SectionKey) → IsSome (old k) → IsSome (new k)
+  known k h = subst (λ (o : Option ℕ). IsSome o) (sym (put k)) (go (is_same_key k s.section))
+    where
+      go : (b : Bool) → IsSome (cond b (Some n) (old k))
+      go true = refl
+      go false = h
+
+  last_known : IsSome (new s.section)
+  last_known = subst (λ (o : Option ℕ). IsSome o) (sym (put s.section
+      ∙ ap (λ b. cond b (Some n) (old s.section)) (key_itself s.section))) refl
+
+  all_known : (m : ℕ) (x : Gathered) → m < n + 1 → IsSome (new (get_or xs m x).section)
+  all_known m x h = ⊎_elim
+      (λ (e : m ≡ n). subst (λ (k : SectionKey). IsSome (new k))
+      (sym (ap (λ i. (get_or xs i x).section) e ∙ ap (λ (y : Gathered). y.section) (other x))) last_known)
+      (λ ne. known (get_or xs m x).section (before.all m x (omega (arith, h, ne))))
+      (cases_eq m n)
+
+  pub more_placed : ArePlaces xs (n + 1) new
+  more_placed = record { below = below; is = at_key; all = all_known }
+
+-- the same of the section at a place
+pub next_placed : (xs : List Gathered) (n : ℕ) (d : Gathered) (old new : SectionKey → Option ℕ) → n < length xs
+    → ((k : SectionKey) → new k
+    ≡ cond (is_same_key k (get_or xs n d).section) (Some n) (old k))
+    → ArePlaces xs n old → ArePlaces xs (n + 1) new
+next_placed xs n d old new low put before =
+    more_placed xs n old new (get_or xs n d) low (get_or_default xs n (get_or xs n d) d low) put before
+
+-- the same of a column of a table
+pub column_placed : (p : Project) (t : SectionTable) (xs : List Gathered) (n : ℕ) (d : Gathered) (id : Option SectionId)
+    (old : List (Option ℕ)) → IsTableOf p t → length old ≡ len_of t → n < length xs
+    → option_map (λ (i : SectionId). i.0) id
+    ≡ number_of t (get_or xs n d).section.object.0 (get_or xs n d).section.part
+    → IsSome (number_of t (get_or xs n d).section.object.0 (get_or xs n d).section.part)
+    → ArePlaces xs n (place_under t old) → ArePlaces xs (n + 1) (place_under t (with_place id n old))
+column_placed p t xs n d id old table long low is some before =
+    next_placed xs n d (place_under t old) (place_under t (with_place id n old)) low
+    (put_under p t table (get_or xs n d).section n old long id is some) before
+
+-- a column without places
+pub none_under : (t : SectionTable) (xs : List Gathered) (old : List (Option ℕ))
+    → ((at : ℕ) → place_at old at ≡ None) → ArePlaces xs 0 (place_under t old)
+none_under t xs old none = none_placed xs (place_under t old) (λ k. go (number_of t k.object.0 k.part))
+  where
+    go : (o : Option ℕ) → option_and_then (place_at old) o ≡ None
+    go None = refl
+    go (Some at) = none at
+
+pub long_with : (id : Option SectionId) (n : ℕ) (old : List (Option ℕ)) → length (with_place id n old) ≡ length old
+long_with None n old = refl
+long_with (Some i) n old = length-set old i.0 (Some n)

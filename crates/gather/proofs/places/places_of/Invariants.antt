@@ -1,0 +1,11 @@
+-- The sections so far have their places.
+use Rattle.std.proofs.Common.{◌≡◌, length}
+use Rattle.gather.specs.SectionPlaces.{ArePlaces, place_under}
+use Rattle.ldsections.specs.SectionTable.{len_of}
+use Rattle.gather.proofs.places.places_of.Given as goal
+
+abbrev pub invariant-loop-place : goal.invariant-loop-place
+invariant-loop-place l = record {
+  long : length l.places.items ≡ len_of l.table;
+  are : ArePlaces l.sections l.place (place_under l.table l.places.items);
+}

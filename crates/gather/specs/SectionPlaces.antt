@@ -1,0 +1,78 @@
+-- The places of input sections in their list, and the sections that relocations refer to, by these.
+use Rattle.std.specs.Prelude.{◌≡◌, ◌<◌, ◌++◌, ◌↔◌, ◌&&◌, ◌==◌, ℕ, Bool, List, Option, Some, None, Contains}
+use Rattle.std.specs.Prelude.{IsSome, option_and_then, slice_set}
+use Rattle.std.specs.Prelude.{IsTrue, slice_index_or}
+use Rattle.std.specs.List.{list_any}
+use Rattle.elfobj.specs.declared.relocation.Relocation.{Relocation}
+use Rattle.gather.specs.Apart.{AscendingSections}
+use Rattle.gather.specs.Gathered.{AreGathered}
+use Rattle.gather.specs.LiveMarks.{IsSectionAt}
+use Rattle.gather.specs.declared.gathered.Gathered.{Gathered}
+use Rattle.ldmodel.specs.HandedOver.{section_id}
+use Rattle.ldmodel.specs.Live.{is_section, refers_to, target_section}
+use Rattle.ldmodel.specs.Project.{Project}
+use Rattle.ldmodel.specs.Sections.{InputSection, SectionId, is_same_part}
+use Rattle.ldmodel.specs.declared.sections.SectionKey.{SectionKey}
+use Rattle.ldnaming.specs.Naming.{IsNaming, NamingState}
+use Rattle.gather.specs.ProjectMembers.{by_place}
+use Rattle.gather.specs.declared.places.Places.{Places}
+use Rattle.ldsections.specs.SectionTable.{number_of}
+use Rattle.ldsections.specs.declared.section_table.SectionId as code
+use Rattle.ldsections.specs.declared.section_table.SectionTable.{SectionTable}
+
+abbrev pub place_at : List (Option ℕ) → ℕ → Option ℕ
+place_at places at = slice_index_or places at None
+
+-- the place of the section of a key, by the column of a table
+abbrev pub place_under : SectionTable → List (Option ℕ) → SectionKey → Option ℕ
+place_under t places k = option_and_then (place_at places) (number_of t k.object.0 k.part)
+
+abbrev pub place_in : Places → SectionKey → Option ℕ
+place_in x k = place_under x.table.now x.places.now k
+
+-- a column with one more place
+abbrev pub with_place : Option code.SectionId → ℕ → List (Option ℕ) → List (Option ℕ)
+with_place None place places = places
+with_place (Some i) place places = slice_set places i.0 (Some place)
+
+abbrev pub is_same_key : SectionKey → SectionKey → Bool
+is_same_key a b = (a.object.0 == b.object.0) && is_same_part a.part b.part
+
+-- each of the first n sections has its place, and nothing else has one
+pub record ArePlaces (xs : List Gathered) (n : ℕ) (place : SectionKey → Option ℕ) : Type 0 where
+  pub below : (k : SectionKey) (m : ℕ) → place k ≡ Some m → m < n
+  pub is : (k : SectionKey) (m : ℕ) (x : Gathered) → place k ≡ Some m → (slice_index_or xs m x).section ≡ k
+  pub all : (m : ℕ) (x : Gathered) → m < n → IsSome (place (slice_index_or xs m x).section)
+
+-- the place is that of the section of this key in the project; there is none where the key is of no input section
+abbrev pub IsPlaceOf : Project → Option SectionId → Option ℕ → Type 0
+IsPlaceOf p id place =
+    (b : ℕ) (s : InputSection) → IsSectionAt p b s → IsTrue (is_section id s) ↔ (place ≡ Some b)
+
+-- the places are those of the input sections of the project
+abbrev pub AreProjectPlaces : Project → (SectionKey → Option ℕ) → Type 0
+AreProjectPlaces p place = (k : SectionKey) → IsPlaceOf p (Some (section_id (λ key. key) k)) (place k)
+
+-- the numbers are those of the sections that these relocations of object number i refer to
+abbrev pub AreTargets : Project → ℕ → List Relocation → List ℕ → Type 0
+AreTargets p i rs numbers =
+    (b : ℕ) (s : InputSection) → IsSectionAt p b s
+    → IsTrue (list_any (λ r. is_section (target_section p i r) s) rs) ↔ Contains numbers b
+
+-- the numbers of those that these relocations refer to come after those that are there
+pub record AddsTargets (p : Project) (i : ℕ) (rs : List Relocation) (old new : List ℕ) : Type 0 where
+  pub added : List ℕ
+  pub is : new ≡ old ++ added
+  pub are : AreTargets p i rs added
+
+-- a relocation of section number a refers to section number b, where there are such sections
+abbrev pub Refers : Project → ℕ → ℕ → Type 0
+Refers p a b = (s t : InputSection) → IsSectionAt p a s → IsSectionAt p b t → IsTrue (refers_to p s t)
+
+-- the parts by which references are found are those of the project
+pub record AreProjectReferences (p : Project) (naming : NamingState) (places : Places) (xs : List Gathered)
+    : Type 0 where
+  pub named : IsNaming p naming
+  pub ascending : AscendingSections p
+  pub sections : AreGathered p (by_place p) xs
+  pub placed : AreProjectPlaces p (place_in places)

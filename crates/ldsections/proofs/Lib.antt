@@ -1,0 +1,5 @@
+mod Counting
+mod Ranks
+mod Searching
+mod OfObjects
+mod Numbering

@@ -1,0 +1,4 @@
+pub mod Slots
+pub mod Ranks
+pub mod SectionTable
+pub mod OfObjects
