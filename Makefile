@@ -6,7 +6,7 @@ PREFIX ?= /usr/local
 export LDI
 
 .PHONY: help demo ldi install check test test-client fmt examples bench check-real check-images check-model \
-        check-link check-readers check-session check-counts check-memory mutants soak-client
+        check-link check-readers check-session check-counts check-memory mutants soak-client row
 .PHONY: self dist dist-test
 
 help: ## this list
@@ -79,6 +79,9 @@ check-counts: ## looks whether work can be done without being counted: rules ove
 
 check-memory: ## refuses each allocation of a session in turn, and compares the answers
 	tools/fail-alloc "$(LDI)"
+
+row: ## shows one row of trylink's stored run, NAME=.., with its commands and answers; without NAME all names
+	@tools/row "$(NAME)"
 
 mutants: ## tries the wrong bodies under mutants/, of one crate with CRATE=NAME; all take an hour or more
 	tools/mutants $(CRATE)
