@@ -174,8 +174,10 @@ class Watch:
     # events
 
     def _take(self, events: Iterable[Event]) -> None:
-        """Notes what the events say of inputs and sources."""
+        """Notes what the events say of inputs and sources; where some may be missing, all is looked at next."""
         now = time.monotonic()
+        if self.watcher.is_disturbed:
+            self.next_look = now
         for event in events:
             concerned = self.places.at(event.path)
             for one in concerned:
@@ -188,7 +190,11 @@ class Watch:
                     self.writers.discard(one)
             if concerned or self._is_of_sources(event):
                 self.last_event = now
-                self.first_event = now if self.first_event is None else self.first_event
+                self._note(now)
+
+    def _note(self, now: float) -> None:
+        """There is something to deal with, from now on if there was nothing before."""
+        self.first_event = now if self.first_event is None else self.first_event
 
     def _is_of_sources(self, event: Event) -> bool:
         """Whether the event wants a run of --make's command."""
@@ -208,20 +214,22 @@ class Watch:
                 one.writing = None
                 one.dirty = True
                 self.writers.discard(one)
-                self.first_event = now if self.first_event is None else self.first_event
+                self._note(now)
                 self.teller.note(one.path, f"its writer has not closed it for {LONGEST_WRITING:g} s: read as it is")
 
     def _look_at_all(self, now: float) -> None:
         """Looks at all inputs and folders, for events that the system lost."""
         self.next_look = now + PERIOD
+        disturbed, self.watcher.is_disturbed = self.watcher.is_disturbed, False
         self.places.look()
-        self.watcher.look()
+        if (self.watcher.look() or disturbed) and self.making is not None and self.making.look():
+            self._note(now)
         changed = [one for one in self._inputs() if not one.dirty and one.failure is None and not one.is_same()]
         changed += [one for one in self._inputs() if one.failure is not None]
         for one in changed:
             one.dirty = True
         if changed or isinstance(self.state, Waiting):
-            self.first_event = now if self.first_event is None else self.first_event
+            self._note(now)
 
     # commands
 
@@ -236,8 +244,7 @@ class Watch:
             if status is not None:
                 self._drain()
                 self.making.finish(status)
-                now = time.monotonic()
-                self.first_event = now if self.first_event is None else self.first_event
+                self._note(time.monotonic())
 
     def _is_made(self) -> bool:
         """Whether the objects are made, as far as a command of --make does that; starts it where it is wanted."""
@@ -392,9 +399,8 @@ class Watch:
         for one in changed:
             one.dirty = True
         self._drain()
-        if self.writers or any([one.dirty for one in self._inputs()]):
-            now = time.monotonic()
-            self.first_event = now if self.first_event is None else self.first_event
+        if self.writers or self.watcher.is_disturbed or any([one.dirty for one in self._inputs()]):
+            self._note(time.monotonic())
             return True
         return False
 
@@ -481,7 +487,7 @@ class Watch:
         if self.ends < MOST_ENDS:
             self.teller.restarted(f"the session {how_ended(status)}")
             now = time.monotonic()
-            self.first_event = now if self.first_event is None else self.first_event
+            self._note(now)
             self.last_event = min(self.last_event, now - QUIET)
         else:
             self._set_state(Waiting((("the session", "it ends again and again"),)), at_once=True)
