@@ -2,10 +2,11 @@
 import os
 import resource
 import stat
+import subprocess
 import tempfile
 import unittest
 
-from client.tests.watching import Folder, numbered, run_once
+from client.tests.watching import PROGRAM, Folder, numbered, run_once
 
 OUT_OF_MEMORY = """#!/usr/bin/python3
 import sys
@@ -71,7 +72,9 @@ class OnceTest(unittest.TestCase):
         self.assertEqual(run_once(self.folder).returncode, 3)
         os.rmdir(self.folder / "o1.o")
         self.folder.renew(1, 1)
-        self.assertEqual(run_once(self.folder, "--Map", "nowhere/map").returncode, 3)
+        done = run_once(self.folder, "--Map", "nowhere/map")
+        self.assertEqual(done.returncode, 3)
+        self.assertIn("waiting: nowhere/map: it cannot be written: ", done.stdout)
         self.assertFalse((self.folder / "image").exists())
 
     def test_memory(self) -> None:
@@ -80,6 +83,19 @@ class OnceTest(unittest.TestCase):
         os.chmod(self.folder / "ldi", 0o755)
         done = run_once(self.folder, env={**os.environ, "LDI": str(self.folder / "ldi")})
         self.assertEqual(done.returncode, 4)
+
+    def test_own_memory(self) -> None:
+        """Status 4 where `ldi-watch` itself gets no memory, and no image."""
+        names = [f"big{number}.o" for number in range(8)]
+        for name in names:
+            with open(self.folder / name, "wb") as file:
+                file.truncate(1 << 26)
+        limit = 1 << 29
+        done = run_once(
+            self.folder, names=names, preexec_fn=lambda: resource.setrlimit(resource.RLIMIT_AS, (limit, limit))
+        )
+        self.assertEqual((done.returncode, done.stderr), (4, "ldi-watch: out of memory\n"))
+        self.assertFalse((self.folder / "image").exists())
 
     def test_names(self) -> None:
         """Names that a session refuses are said at the start, with status 2."""
@@ -98,6 +114,8 @@ class OnceTest(unittest.TestCase):
         before = (self.folder / "o1.o").read_bytes()
         self.assertEqual(run_once(self.folder, "--Map", "./o1.o").returncode, 2)
         self.assertEqual(run_once(self.folder, "--Map", "image").returncode, 2)
+        for name in ("./o1.o", "image", "map"):
+            self.assertEqual(run_once(self.folder, "--Map", "map", "--gdb", name).returncode, 2)
         self.assertEqual((self.folder / "o1.o").read_bytes(), before)
 
     def test_words(self) -> None:
@@ -130,6 +148,18 @@ class PlaceTest(unittest.TestCase):
         os.symlink("/dev/null", self.folder / "image")
         self.assertEqual(run_once(self.folder, "--Map", "/dev/null").returncode, 0)
         self.assertTrue(stat.S_ISCHR(os.stat("/dev/null").st_mode))
+
+    def test_long_names(self) -> None:
+        """An image and a map whose names are as long as names can be, and begin alike."""
+        for stem in ("x" * 250, "\u20ac" * 83):
+            (self.folder / stem).touch()
+            image, other = stem + "1", stem + "2"
+            words = ["-T", "t.ld", "-o", image, "--Map", other, "--once", *self.folder.names]
+            done = subprocess.run([PROGRAM, *words], cwd=self.folder.path, capture_output=True, text=True, timeout=20)
+            self.assertEqual((done.returncode, done.stderr), (0, ""))
+            self.assertEqual((self.folder / image).read_bytes(), self.folder.link("--Map", "linked.map"))
+            self.assertEqual((self.folder / other).read_bytes(), (self.folder / "linked.map").read_bytes())
+            self.assertEqual(self.folder.left_over(), [])
 
     def test_full(self) -> None:
         """Where the image cannot be written whole, the old one stays, and nothing beside it."""

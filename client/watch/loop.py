@@ -11,6 +11,7 @@ import time
 import typing
 from collections.abc import Iterable
 from concurrent.futures import ThreadPoolExecutor, wait
+from contextlib import nullcontext
 from types import ModuleType
 
 from client.protocol import SessionEnded
@@ -18,9 +19,9 @@ from client.watch.commands import Command
 from client.watch.events import Event, Kind, Watcher
 from client.watch.inputs import Input, changed_among
 from client.watch.kept import SCRIPT, Kept, Project
-from client.watch.listing import NamesRefused, object_names
+from client.watch.listing import NamesRefused, check_outputs, object_names
 from client.watch.making import Making
-from client.watch.output import IMAGE_MODE, MAP_MODE, Output, is_beside
+from client.watch.output import IMAGE_MODE, MAP_MODE, NotWritten, Output, is_beside
 from client.watch.places import Places
 from client.watch.says import Faulty, Good, RefusedInputs, State, Teller, Waiting, how_ended
 from client.watch.stops import Stops
@@ -326,6 +327,7 @@ class Watch:
         self.listed = listed
         try:
             names = object_names(self.words.objects, {path: self._data_of(one) for path, one in self.lists.items()})
+            check_outputs(self.words, names)
             self.names_refused = None
         except NamesRefused as refused:
             self.names_refused = refused
@@ -350,9 +352,9 @@ class Watch:
     def _refusals(self) -> list[tuple[str, Message]]:
         found: list[tuple[str, Message]] = []
         for name, refused in self.kept.refused.items():
-            one = self.script if name == SCRIPT else self.objects[name]
-            said = messages().refusal_messages(one.path, refused, one.data)
-            found += [(one.path, message) for message in said]
+            one = self.script if name == SCRIPT else self.objects.get(name)
+            path, data = (one.path, one.data) if one else (name, None)  # one that could not be removed is no input
+            found += [(path, message) for message in messages().refusal_messages(path, refused, data)]
         return found
 
     def _tell_faults(self) -> None:
@@ -361,6 +363,7 @@ class Watch:
         entry = self.words.options.entry
         inputs = messages().Inputs(self.script.path, self._data_of(self.script), objects, entry=entry)
         found = messages().fault_messages(self.kept.session.faults(), inputs)
+        self.ends = 0
         self.is_current = False
         self._set_state(Faulty(tuple(found), tuple(self.after)), at_once=True)
         self.after.clear()
@@ -388,8 +391,8 @@ class Watch:
                 self._commit()
                 self._write_gdb(map_text)
                 self._placed(len(image), written=True)
-        except OSError as fault:
-            self._set_state(Waiting(((self.words.image, f"it cannot be written: {fault.strerror or fault}"),)))
+        except NotWritten as fault:
+            self._set_state(Waiting(((fault.path, str(fault)),)))
         finally:
             wait([look])
             self._drop()
@@ -413,10 +416,12 @@ class Watch:
         self.image.prepare(image)
 
     def _commit(self) -> None:
-        with self.stops.shield():
-            if self.map is not None:
-                self.map.commit()
-            self.image.commit()
+        """Puts map and image in place; where both are renamed, no signal comes between."""
+        outputs = [self.image] if self.map is None else [self.map, self.image]
+        waits = any(output.is_in_place() for output in outputs)
+        with nullcontext() if waits else self.stops.shield():
+            for output in outputs:
+                output.commit()
 
     def _write_gdb(self, map_text: bytes) -> None:
         """Writes the script of --gdb for the image that was put in place."""
@@ -428,8 +433,8 @@ class Watch:
         try:
             output.prepare(gdb_script(map_text, ".").encode(errors="surrogateescape"))
             output.commit()
-        except OSError as fault:
-            self.teller.note(self.words.gdb, f"it cannot be written: {fault.strerror or fault}")
+        except NotWritten as fault:
+            self.teller.note(fault.path, str(fault))
         finally:
             output.drop()
 

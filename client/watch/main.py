@@ -4,8 +4,8 @@ from __future__ import annotations
 import os
 import sys
 
-from client.watch.listing import NamesRefused, check_names, object_names
-from client.watch.loop import STATUS_DEVICE, STATUS_REFUSED, Watch
+from client.watch.listing import NamesRefused, check_names, check_outputs, object_names
+from client.watch.loop import STATUS_DEVICE, STATUS_MEMORY, STATUS_REFUSED, Watch
 from client.watch.says import Teller
 from client.watch.stops import Stopped, Stops
 from client.watch.words import USAGE, ListFile, Words, WordsRefused, read_words
@@ -34,6 +34,9 @@ def main(words: list[str]) -> int:
     except OSError as fault:
         print(f"ldi-watch: {fault}", file=sys.stderr)
         return STATUS_DEVICE
+    except MemoryError:
+        print("ldi-watch: out of memory", file=sys.stderr)
+        return STATUS_MEMORY
     finally:
         watch.end()
 
@@ -49,11 +52,4 @@ def check_files(words: Words) -> None:
             except OSError:
                 lists[item.path] = b""  # it may come
     check_names([item for item in words.objects if not isinstance(item, ListFile)])
-    names = object_names(words.objects, lists)
-    outputs = [path for path in (words.image, words.map) if path is not None]
-    inputs = {os.path.realpath(path) for path in (words.script, *lists, *names)}
-    for path in outputs:
-        if os.path.realpath(path) in inputs:
-            raise NamesRefused(f"`{path}` is an input, and so it cannot be written")
-    if len(outputs) == 2 and os.path.realpath(outputs[0]) == os.path.realpath(outputs[1]) != os.devnull:
-        raise NamesRefused(f"`{outputs[0]}` cannot be the image and the map")
+    check_outputs(words, object_names(words.objects, lists))
