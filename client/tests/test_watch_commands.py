@@ -124,6 +124,17 @@ class MakeTest(FolderTest):
         self.assertEqual((self.folder / "o2.o").read_bytes(), numbered(2, 5, 3))
         self.assertEqual((self.folder / "order").read_text().split(), ["begin", "end"] * 2)
 
+    def test_back_meanwhile(self) -> None:
+        """A source that was removed, and comes again while the command runs, is no file of the command's."""
+        (self.folder / "other.h").write_text("1")
+        watching = self.watch("--make", f"{MAKE}; cat other.h >> seen 2> /dev/null; sleep 0.4")
+        self.assertEqual(watching.next()["event"], "linked")
+        os.unlink(self.folder / "other.h")
+        self.assertTrue(wait_until(lambda: self.runs() == 2))
+        time.sleep(0.1)
+        (self.folder / "other.h").write_text("2")
+        self.assertTrue(wait_until(lambda: (self.folder / "seen").read_text().endswith("2"), 5))
+
     def test_patterns(self) -> None:
         """--sources names others than the default ones, in folders below too, that come later."""
         watching = self.watch("--make", MAKE, "--sources", "*.x", "y*.z")

@@ -97,6 +97,36 @@ class OnceTest(unittest.TestCase):
         self.assertEqual((done.returncode, done.stderr), (4, "ldi-watch: out of memory\n"))
         self.assertFalse((self.folder / "image").exists())
 
+    def test_packages(self) -> None:
+        """Without the package of events: a line and status 3; without that of debug information: messages."""
+        (self.folder / "without").mkdir()
+        environment = {**os.environ, "PYTHONPATH": str(self.folder / "without")}
+        for package in ("elftools", "watchdog"):
+            (self.folder / "without" / f"{package}.py").write_text(f"raise ModuleNotFoundError(name='{package}')")
+            self.folder.put("o1.o", numbered(1, 1, 3, calls="nothing"))
+            done = run_once(self.folder, env=environment)
+            if package == "elftools":
+                self.assertEqual((done.returncode, done.stderr), (1, ""))
+                self.assertIn("undefined reference to `nothing'", done.stdout)
+            else:
+                self.assertEqual(done.returncode, 3)
+                self.assertIn("python3-watchdog is not installed", done.stderr)
+
+    def test_characters(self) -> None:
+        """Names that the terminal has no characters for."""
+        environment = {**os.environ, "PYTHONIOENCODING": "ascii"}
+        command = [PROGRAM, "--once", "-T", "\u20ac.ld", "-o", "image", *self.folder.names]
+        done = subprocess.run(command, cwd=self.folder.path, capture_output=True, text=True, env=environment)
+        self.assertEqual((done.returncode, done.stderr), (3, ""))
+        self.assertEqual(done.stdout, "waiting: \\u20ac.ld: it is not there; there is no image yet\n")
+
+    def test_list_is_a_pipe(self) -> None:
+        """A list that is a pipe nobody writes is not waited for."""
+        os.mkfifo(self.folder / "list")
+        done = run_once(self.folder, names=["@list"])
+        self.assertEqual(done.returncode, 3)
+        self.assertIn("list: it cannot be read: it is no regular file", done.stdout)
+
     def test_names(self) -> None:
         """Names that a session refuses are said at the start, with status 2."""
         for name in ("my file.o", "caf\xe9.o", "x" * 256, ""):
@@ -171,6 +201,13 @@ class PlaceTest(unittest.TestCase):
         self.assertEqual(done.returncode, 3)
         self.assertIn("cannot be written", done.stdout)
         self.assertEqual((self.folder.image(), self.folder.left_over()), (b"old", []))
+
+    def test_full_device(self) -> None:
+        """What is written in place, and takes nothing: status 3."""
+        os.symlink("/dev/full", self.folder / "image")
+        done = run_once(self.folder)
+        self.assertEqual(done.returncode, 3)
+        self.assertIn("waiting: image: it cannot be written: No space left on device", done.stdout)
 
     @unittest.skipUnless(os.path.isdir("/dev/shm"), "there is no /dev/shm")
     def test_other_device(self) -> None:

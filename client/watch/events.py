@@ -14,7 +14,8 @@ from dataclasses import dataclass
 try:
     from watchdog.observers.inotify_c import InotifyConstants, inotify_add_watch, inotify_init, inotify_rm_watch
 except ModuleNotFoundError:
-    sys.exit("ldi-watch: the package python3-watchdog is not installed: apt-get install python3-watchdog")
+    print("ldi-watch: python3-watchdog is not installed: apt-get install python3-watchdog", file=sys.stderr)
+    sys.exit(3)  # as of a file that cannot be read
 
 PLACED = InotifyConstants.IN_CLOSE_WRITE | InotifyConstants.IN_MOVED_TO
 GONE = InotifyConstants.IN_DELETE | InotifyConstants.IN_MOVED_FROM
@@ -64,6 +65,7 @@ class Watcher:
         self._folders: dict[str, tuple[int, int] | None] = {}
         self._names: dict[int, list[str]] = {}
         """The folders' names by the numbers of the watches: one for each, unless a folder has several names."""
+        self._numbers: dict[str, int] = {}
         self._descriptor = -1
 
     def fileno(self) -> int:
@@ -120,9 +122,10 @@ class Watcher:
         except (FileNotFoundError, NotADirectoryError):
             self._folders[folder] = None
             return False
-        for names in self._names.values():
-            if folder in names:
-                names.remove(folder)
+        before = self._numbers.get(folder)
+        if before in self._names:
+            self._names[before].remove(folder)
+        self._numbers[folder] = number
         self._names.setdefault(number, []).append(folder)
         return True
 
@@ -130,6 +133,7 @@ class Watcher:
         """A watch has no folder any longer that has its names."""
         for folder in self._names.pop(number, ()):
             self._folders[folder] = None
+            del self._numbers[folder]
             self.is_disturbed = True
 
 

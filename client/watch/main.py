@@ -1,9 +1,10 @@
 """`ldi-watch`: reads the words, and watches until a signal, or with --once for one link."""
 from __future__ import annotations
 
-import os
+import io
 import sys
 
+from client.watch.inputs import Changing, read_whole
 from client.watch.listing import NamesRefused, check_names, check_outputs, object_names
 from client.watch.loop import STATUS_DEVICE, STATUS_MEMORY, STATUS_REFUSED, Watch
 from client.watch.says import Teller
@@ -13,6 +14,9 @@ from client.watch.words import USAGE, ListFile, Words, WordsRefused, read_words
 
 def main(words: list[str]) -> int:
     """Runs the program with these words; gives the exit status."""
+    for stream in (sys.stdout, sys.stderr):
+        if isinstance(stream, io.TextIOWrapper):
+            stream.reconfigure(errors="backslashreplace")  # what the locale has no character for
     if words in (["-h"], ["--help"]):
         print(USAGE, end="")
         return 0
@@ -47,9 +51,8 @@ def check_files(words: Words) -> None:
     for item in words.objects:
         if isinstance(item, ListFile):
             try:
-                with open(item.path, "rb") as file:
-                    lists[item.path] = file.read()
-            except OSError:
+                lists[item.path] = read_whole(item.path)[0]
+            except (OSError, Changing):
                 lists[item.path] = b""  # it may come
     check_names([item for item in words.objects if not isinstance(item, ListFile)])
     check_outputs(words, object_names(words.objects, lists))

@@ -15,7 +15,7 @@ TIMES = 3
 class Making:
     """Runs a command, once at a time, when it is wanted.
 
-    inotify does not say who wrote a file. What did not exist before a run and came in it is the command's own; so is
+    inotify does not say who wrote a file. What never existed before a run and came in it is the command's own; so is
     what changed in three runs that nothing else had caused. What has the same bytes as before is no change.
     """
 
@@ -90,7 +90,7 @@ class Making:
 
     def _changed_in_run(self, path: str) -> None:
         digest = digest_of(path)
-        is_new = self._known.get(path) is None
+        is_new = path not in self._known
         if digest == self._known.get(path) or path in self._own:
             return
         self._known[path] = digest
