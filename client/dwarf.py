@@ -1,8 +1,8 @@
 """Source lines of an object, by its debug information (DWARF 2 to 5).
 
 Lines of code come from `.debug_line`, those of variables and the folder of a compilation from `.debug_info`, by
-pyelftools. The relocations of the debug sections are applied first. Whatever an object has there, nothing fails: what
-is odd has no line.
+pyelftools; without that package they have none. The relocations of the debug sections are applied first. Whatever an
+object has there, nothing fails: what is odd has no line.
 """
 from __future__ import annotations
 
@@ -14,10 +14,15 @@ from functools import cached_property
 from itertools import islice
 from typing import NamedTuple
 
-from elftools.dwarf.compileunit import CompileUnit
-from elftools.dwarf.die import DIE
-from elftools.dwarf.dwarfinfo import DWARFInfo
-from elftools.elf.elffile import ELFFile
+try:
+    from elftools.dwarf.compileunit import CompileUnit
+    from elftools.dwarf.die import DIE
+    from elftools.dwarf.dwarfinfo import DWARFInfo
+    from elftools.elf.elffile import ELFFile
+except ModuleNotFoundError:
+    HAS_ELFTOOLS = False
+else:
+    HAS_ELFTOOLS = True
 
 from client import line_program
 from client.elf_object import FIELD_BYTES, R_X86_64_64, SHF_ALLOC, SHF_COMPRESSED, SHN_ABS, ElfObject, plain
@@ -198,7 +203,7 @@ class SourceLines:
         """The debug information by pyelftools, over a file whose debug sections are relocated already: its own
         relocation takes a second for 6,000 entries."""
         number = self.elf.numbers.get(".debug_info", 0)
-        if not number or len(self.elf.contents(number)) > MOST_INFO_BYTES:
+        if not HAS_ELFTOOLS or not number or len(self.elf.contents(number)) > MOST_INFO_BYTES:
             return None
         try:
             return ELFFile(io.BytesIO(self._relocated_file())).get_dwarf_info(

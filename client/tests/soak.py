@@ -11,7 +11,8 @@ may have been on disk whole: from before its first byte could be seen there to a
 - these texts were on disk together: the latest beginning is before the earliest end, and before the image was read;
 - after the writers rest, the image is `ldi link`'s of what is there, within LIMIT seconds (1).
 
-Prints the figures and ends with 0 where all of it holds.
+Prints the figures and ends with 0 where all of it holds. Beside the time of an image that is late stands for how long
+the processes could run, and waited for a processor.
 """
 from __future__ import annotations
 
@@ -147,6 +148,45 @@ def read(image: Path, orders: Connection) -> None:
             seen, opened = {}, 0
 
 
+class Waits:
+    """For how long the processes of a watch, and this one, ran and waited for a processor, as the system says."""
+
+    def __init__(self, watching: Watching) -> None:
+        self._watching = watching
+        self._begun: dict[str, tuple[int, int]] = {}
+
+    def begin(self) -> None:
+        """Counts from now on."""
+        self._begun = self._now()
+
+    def said(self) -> str:
+        """The times since `begin`."""
+        parts = []
+        for name, (ran, waited) in self._now().items():
+            ran_before, waited_before = self._begun.get(name, (0, 0))
+            parts.append(f"{name} ran {(ran - ran_before) / 1e9:.2f} s, waited {(waited - waited_before) / 1e9:.2f} s")
+        return "; ".join(parts)
+
+    def _now(self) -> dict[str, tuple[int, int]]:
+        try:
+            pids = {"ldi-watch": self._watching.process.pid, "the session": self._watching.session()}
+        except (AssertionError, OSError):
+            pids = {"ldi-watch": self._watching.process.pid}
+        return {name: times_of(pid) for name, pid in {**pids, "the judge": os.getpid()}.items()}
+
+
+def times_of(pid: int) -> tuple[int, int]:
+    """The nanoseconds for which a process's threads ran, and waited for a processor."""
+    ran = waited = 0
+    for file in Path(f"/proc/{pid}/task").glob("*/schedstat"):
+        try:
+            words = file.read_text().split()
+        except OSError:
+            continue  # a thread that has ended
+        ran, waited = ran + int(words[0]), waited + int(words[1])
+    return ran, waited
+
+
 @dataclass
 class Soak:
     """The project, its watch and the processes around it, and what was found."""
@@ -160,13 +200,15 @@ class Soak:
     lives: dict[tuple[int, int], Life] = field(default_factory=dict)
     images: int = 0
     opened: int = 0
-    slowest: float = 0.0
+    times: list[float] = field(default_factory=list)
+    """Of each round, after how many seconds of rest the image was that of the files."""
     wrong: list[str] = field(default_factory=list)
 
     def run(self, rounds: int) -> None:
         """So many rounds."""
         watching = Watching(self.folder)
         processes, ends = [], []
+        self.waits = Waits(watching)
         try:
             watching.wait_for("linked")
             for number in range(WRITERS + 1):
@@ -201,6 +243,7 @@ class Soak:
             self.lives.update({(which, version): (begins, ends) for which, version, begins, ends in ended})
             standing.update({(which, version): (begins, float("inf")) for which, (version, begins) in born.items()})
         rest = time.monotonic()
+        self.waits.begin()
         self.lives.update(standing)
         expected = self._settles(number, rest)
         reader.send(True)
@@ -216,9 +259,10 @@ class Soak:
         while self.folder.image() != expected and time.monotonic() < rest + 10 * self.limit:
             time.sleep(0.002)
         took = time.monotonic() - rest
-        self.slowest = max(self.slowest, took)
+        self.times.append(took)
         if took > self.limit:
-            self.wrong.append(f"round {number}: the image is that of the files after {took:.1f} s, not {self.limit:g}")
+            text = f"round {number}: the image is that of the files after {took:.2f} s, not {self.limit:g}"
+            self.wrong.append(f"{text}; {self.waits.said()}")
         return expected
 
     def _judge(self, number: int, image: bytes, when: float, expected: bytes) -> None:
@@ -263,7 +307,11 @@ def main(words: list[str]) -> int:
     started = time.monotonic()
     done = soak(rounds, limit, int(words[2]) if len(words) > 2 else 1)
     print(f"{rounds} rounds in {time.monotonic() - started:.0f} s: the image was opened {done.opened} times, "
-          f"{done.images} images were judged; at rest it was that of the files after {done.slowest:.3f} s at most")
+          f"{done.images} images were judged")
+    times = sorted(done.times)
+    if times:
+        print(f"at rest it was that of the files after {times[len(times) // 2]:.3f} s at the median, "
+              f"{times[len(times) * 99 // 100]:.3f} s in 99 of 100 rounds, {times[-1]:.3f} s at most")
     for line in done.wrong[:20]:
         print(line)
     print(f"{len(done.wrong)} wrong")

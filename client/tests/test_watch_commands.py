@@ -124,6 +124,17 @@ class MakeTest(FolderTest):
         self.assertEqual((self.folder / "o2.o").read_bytes(), numbered(2, 5, 3))
         self.assertEqual((self.folder / "order").read_text().split(), ["begin", "end"] * 2)
 
+    def test_back_meanwhile(self) -> None:
+        """A source that was removed, and comes again while the command runs, is no file of the command's."""
+        (self.folder / "other.h").write_text("1")
+        watching = self.watch("--make", f"{MAKE}; cat other.h >> seen 2> /dev/null; sleep 0.4")
+        self.assertEqual(watching.next()["event"], "linked")
+        os.unlink(self.folder / "other.h")
+        self.assertTrue(wait_until(lambda: self.runs() == 2))
+        time.sleep(0.1)
+        (self.folder / "other.h").write_text("2")
+        self.assertTrue(wait_until(lambda: (self.folder / "seen").read_text().endswith("2"), 5))
+
     def test_patterns(self) -> None:
         """--sources names others than the default ones, in folders below too, that come later."""
         watching = self.watch("--make", MAKE, "--sources", "*.x", "y*.z")
@@ -177,6 +188,20 @@ class RunTest(FolderTest):
         self.assertFalse(os.path.exists(f"/proc/{child}"))
 
 
+    def test_signal_while_it_is_ended(self) -> None:
+        """A signal that comes while it is waited for ends it all the same."""
+        watching = self.watch("--run", "trap '' TERM; echo $$ >> log; while :; do sleep 0.1; done")
+        log = self.folder / "log"
+        self.assertTrue(wait_until(lambda: log.exists() and log.read_text().endswith("\n")))
+        self.folder.renew(1, 2)
+        watching.wait_for("linked")
+        watching.wait_for("linked")
+        time.sleep(0.3)
+        self.assertEqual(watching.end(), 0)
+        for child in log.read_text().split():
+            self.assertFalse(os.path.exists(f"/proc/{child}"))
+
+
 class ListTest(FolderTest):
     """@LIST."""
 
@@ -213,3 +238,19 @@ class ListTest(FolderTest):
         self.listed(*reversed(self.folder.names))
         self.assertEqual(watching.next()["event"], "linked")
         self.assertEqual(self.folder.image(), self.folder.link(names=self.folder.names[::-1]))
+
+    def test_output_in_list(self) -> None:
+        """A list that gets the name of the image, or another name of it, is refused, and the file stays."""
+        self.listed(*self.folder.names)
+        watching = self.watch("--Map", "map", names=["@list"])
+        self.assertEqual(watching.next()["event"], "linked")
+        self.folder.put("map", numbered(7, 1, 3, calls="f0"))
+        before = (self.folder / "map").read_bytes()
+        self.listed(*self.folder.names, "./map")
+        said = watching.next()
+        self.assertEqual((said["event"], said["inputs"][0]["name"]), ("refused", "list"))
+        self.folder.renew(1, 2)
+        self.assertTrue(watching.is_silent(0.5))
+        self.assertEqual((self.folder / "map").read_bytes(), before)
+        self.listed(*self.folder.names)
+        self.assertEqual(watching.next()["event"], "linked")

@@ -2,10 +2,11 @@
 import os
 import resource
 import stat
+import subprocess
 import tempfile
 import unittest
 
-from client.tests.watching import Folder, numbered, run_once
+from client.tests.watching import PROGRAM, Folder, numbered, run_once
 
 OUT_OF_MEMORY = """#!/usr/bin/python3
 import sys
@@ -71,7 +72,9 @@ class OnceTest(unittest.TestCase):
         self.assertEqual(run_once(self.folder).returncode, 3)
         os.rmdir(self.folder / "o1.o")
         self.folder.renew(1, 1)
-        self.assertEqual(run_once(self.folder, "--Map", "nowhere/map").returncode, 3)
+        done = run_once(self.folder, "--Map", "nowhere/map")
+        self.assertEqual(done.returncode, 3)
+        self.assertIn("waiting: nowhere/map: it cannot be written: ", done.stdout)
         self.assertFalse((self.folder / "image").exists())
 
     def test_memory(self) -> None:
@@ -80,6 +83,49 @@ class OnceTest(unittest.TestCase):
         os.chmod(self.folder / "ldi", 0o755)
         done = run_once(self.folder, env={**os.environ, "LDI": str(self.folder / "ldi")})
         self.assertEqual(done.returncode, 4)
+
+    def test_own_memory(self) -> None:
+        """Status 4 where `ldi-watch` itself gets no memory, and no image."""
+        names = [f"big{number}.o" for number in range(8)]
+        for name in names:
+            with open(self.folder / name, "wb") as file:
+                file.truncate(1 << 26)
+        limit = 1 << 29
+        done = run_once(
+            self.folder, names=names, preexec_fn=lambda: resource.setrlimit(resource.RLIMIT_AS, (limit, limit))
+        )
+        self.assertEqual((done.returncode, done.stderr), (4, "ldi-watch: out of memory\n"))
+        self.assertFalse((self.folder / "image").exists())
+
+    def test_packages(self) -> None:
+        """Without the package of events: a line and status 3; without that of debug information: messages."""
+        (self.folder / "without").mkdir()
+        environment = {**os.environ, "PYTHONPATH": str(self.folder / "without")}
+        for package in ("elftools", "watchdog"):
+            (self.folder / "without" / f"{package}.py").write_text(f"raise ModuleNotFoundError(name='{package}')")
+            self.folder.put("o1.o", numbered(1, 1, 3, calls="nothing"))
+            done = run_once(self.folder, env=environment)
+            if package == "elftools":
+                self.assertEqual((done.returncode, done.stderr), (1, ""))
+                self.assertIn("undefined reference to `nothing'", done.stdout)
+            else:
+                self.assertEqual(done.returncode, 3)
+                self.assertIn("python3-watchdog is not installed", done.stderr)
+
+    def test_characters(self) -> None:
+        """Names that the terminal has no characters for."""
+        environment = {**os.environ, "PYTHONIOENCODING": "ascii"}
+        command = [PROGRAM, "--once", "-T", "\u20ac.ld", "-o", "image", *self.folder.names]
+        done = subprocess.run(command, cwd=self.folder.path, capture_output=True, text=True, env=environment)
+        self.assertEqual((done.returncode, done.stderr), (3, ""))
+        self.assertEqual(done.stdout, "waiting: \\u20ac.ld: it is not there; there is no image yet\n")
+
+    def test_list_is_a_pipe(self) -> None:
+        """A list that is a pipe nobody writes is not waited for."""
+        os.mkfifo(self.folder / "list")
+        done = run_once(self.folder, names=["@list"])
+        self.assertEqual(done.returncode, 3)
+        self.assertIn("list: it cannot be read: it is no regular file", done.stdout)
 
     def test_names(self) -> None:
         """Names that a session refuses are said at the start, with status 2."""
@@ -98,6 +144,8 @@ class OnceTest(unittest.TestCase):
         before = (self.folder / "o1.o").read_bytes()
         self.assertEqual(run_once(self.folder, "--Map", "./o1.o").returncode, 2)
         self.assertEqual(run_once(self.folder, "--Map", "image").returncode, 2)
+        for name in ("./o1.o", "image", "map"):
+            self.assertEqual(run_once(self.folder, "--Map", "map", "--gdb", name).returncode, 2)
         self.assertEqual((self.folder / "o1.o").read_bytes(), before)
 
     def test_words(self) -> None:
@@ -131,6 +179,18 @@ class PlaceTest(unittest.TestCase):
         self.assertEqual(run_once(self.folder, "--Map", "/dev/null").returncode, 0)
         self.assertTrue(stat.S_ISCHR(os.stat("/dev/null").st_mode))
 
+    def test_long_names(self) -> None:
+        """An image and a map whose names are as long as names can be, and begin alike."""
+        for stem in ("x" * 250, "\u20ac" * 83):
+            (self.folder / stem).touch()
+            image, other = stem + "1", stem + "2"
+            words = ["-T", "t.ld", "-o", image, "--Map", other, "--once", *self.folder.names]
+            done = subprocess.run([PROGRAM, *words], cwd=self.folder.path, capture_output=True, text=True, timeout=20)
+            self.assertEqual((done.returncode, done.stderr), (0, ""))
+            self.assertEqual((self.folder / image).read_bytes(), self.folder.link("--Map", "linked.map"))
+            self.assertEqual((self.folder / other).read_bytes(), (self.folder / "linked.map").read_bytes())
+            self.assertEqual(self.folder.left_over(), [])
+
     def test_full(self) -> None:
         """Where the image cannot be written whole, the old one stays, and nothing beside it."""
         (self.folder / "image").write_bytes(b"old")
@@ -141,6 +201,13 @@ class PlaceTest(unittest.TestCase):
         self.assertEqual(done.returncode, 3)
         self.assertIn("cannot be written", done.stdout)
         self.assertEqual((self.folder.image(), self.folder.left_over()), (b"old", []))
+
+    def test_full_device(self) -> None:
+        """What is written in place, and takes nothing: status 3."""
+        os.symlink("/dev/full", self.folder / "image")
+        done = run_once(self.folder)
+        self.assertEqual(done.returncode, 3)
+        self.assertIn("waiting: image: it cannot be written: No space left on device", done.stdout)
 
     @unittest.skipUnless(os.path.isdir("/dev/shm"), "there is no /dev/shm")
     def test_other_device(self) -> None:

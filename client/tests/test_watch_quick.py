@@ -1,12 +1,13 @@
 """`ldi-watch`: the entry symbol in a script's text, and the session kept in step, by the quick way and edit by edit."""
 import random
 import unittest
+from unittest import mock
 
-from client.protocol import Options, Refused
+from client.protocol import Answer, Options, Refused
 from client.tests.watching import SCRIPT, Folder, numbered
 from client.watch import kept
 from client.watch.kept import Kept, Project, longest_increasing
-from client.watch.quick import with_entry
+from client.watch.quick import SCRIPT_WITHOUT_LINK, with_entry
 
 COUNT = 12
 
@@ -81,6 +82,30 @@ class KeptTest(unittest.TestCase):
                 numbers = [0, *chance.sample(range(1, COUNT), chance.randrange(COUNT))]
                 chance.shuffle(numbers)
                 self.follow(one, self.project(numbers, chance.choice((version, 1))))
+            one.end()
+
+    def test_handful(self) -> None:
+        """More than a handful of edits are sent under a script of one line, and the script itself last."""
+        sent: list[str] = []
+
+        class Noting(kept.Session):
+            """A session that notes the words of edits."""
+
+            def _edit(self, line: bytes, payload: bytes = b"") -> Answer:
+                sent.append(payload.decode() if line.startswith(b"script") else line.split()[0].decode())
+                return super()._edit(line, payload)
+
+        with mock.patch.object(kept, "Session", Noting):
+            one = Kept(Options())
+            objects = self.project(list(range(COUNT)), 1).objects
+            for count, edits in ((0, ["add"] * COUNT), (3, ["replace"] * 3), (4, ["replace"] * 4)):
+                for number in range(count):
+                    objects[f"o{number}.o"] = numbered(number, 10 * count, COUNT, calls="f0")
+                one.bring(Project(SCRIPT, dict(objects)))
+                self.assertEqual((one.refused, one.status), ({}, 0))
+                quick = [SCRIPT_WITHOUT_LINK.decode(), *edits, SCRIPT.decode()]
+                self.assertEqual(sent, quick if len(edits) > self.handful else edits)
+                sent.clear()
             one.end()
 
     def test_entry(self) -> None:

@@ -4,11 +4,13 @@ import json
 import os
 import pty
 import subprocess
+import time
 import unittest
+from unittest import mock
 
 from client.messages import Message
 from client.tests.watching import PROGRAM, Folder
-from client.watch.inputs import Input, changed_among
+from client.watch.inputs import Input, Stamp, changed_among, is_settled
 from client.watch.says import Faulty, Good, RefusedInputs, Teller, Waiting
 from client.watch.words import ListFile, WordsRefused, read_words
 
@@ -166,3 +168,27 @@ class InputTest(unittest.TestCase):
         self.assertEqual(changed_among([one]), [one])
         one.settled = True
         self.assertEqual(changed_among([one]), [])
+
+    def test_slow_reading(self) -> None:
+        """A reading that takes long says nothing of a change that came while it went on."""
+        path = self.folder / "o1.o"
+        path.write_bytes(b"one")
+
+        def read_slowly(descriptor: int, length: int) -> bytes:
+            data = slow(descriptor, length)
+            time.sleep(0.05)
+            return data
+
+        slow = os.read
+        one = Input(str(path))
+        with mock.patch("os.read", read_slowly):
+            one.read()
+        self.assertFalse(one.settled)
+
+    def test_whole_seconds(self) -> None:
+        """Times without a part of a second may be those of a file system that has no finer ones."""
+        second, now = 1_000_000_000, 1_700_000_001_500_000_000
+        half = second // 2
+        for changed, settled in ((now - half, False), (now - half + 1, True), (now - second - half, False),
+                                 (now - 3 * second - half, True), (now + half, False)):
+            self.assertEqual(is_settled(Stamp(1, 1, 1, changed, changed), now), settled, changed)

@@ -4,7 +4,28 @@ import signal
 import time
 import unittest
 
-from client.tests.watching import Folder, Watching, wait_until
+from client.protocol import find_program
+from client.tests.watching import Folder, Watching, numbered, wait_until
+from client.watch.stops import ENDING, Stopped, Stops
+
+NO_MEMORY = """#!/usr/bin/python3
+import subprocess, sys
+session = subprocess.Popen([%r, *sys.argv[1:]], stdin=subprocess.PIPE, stdout=subprocess.PIPE)
+while line := sys.stdin.buffer.readline():
+    words = line.split()
+    data = sys.stdin.buffer.read(int(words[-1])) if words[0] in (b"add", b"replace", b"script") else b""
+    if words[0] == b"remove":
+        answer = b"refused 7 0\\n"
+    else:
+        session.stdin.write(line + data)
+        session.stdin.flush()
+        answer = session.stdout.readline()
+    sys.stdout.buffer.write(answer)
+    if answer.startswith(b"bytes"):
+        sys.stdout.buffer.write(session.stdout.read(int(answer.split()[1])))
+    sys.stdout.flush()
+"""
+"""A linker in front of the linker, which has no memory to remove an object."""
 
 
 def is_running(pid: int) -> bool:
@@ -102,3 +123,50 @@ class SessionTest(unittest.TestCase):
         self.assertEqual(events, ["restarted", "restarted", "waiting"])
         self.assertTrue(watching.is_silent(1.5))
         self.assertEqual((watching.end(), watching.errors), (0, ""))
+
+    def test_remove_refused(self) -> None:
+        """A session without memory to remove an object: it is said, and the old image stays."""
+        self.folder.put("ldi", (NO_MEMORY % find_program()).encode())
+        os.chmod(self.folder / "ldi", 0o755)
+        (self.folder / "list").write_text("o0.o\no1.o\no2.o\n")
+        for number in range(3):
+            self.folder.put(f"o{number}.o", numbered(number, 1, 3, calls="f0"))
+        watching = Watching(self.folder, names=["@list"], env={**os.environ, "LDI": str(self.folder / "ldi")})
+        self.addCleanup(watching.end)
+        self.assertEqual(watching.next()["event"], "linked")
+        before = self.folder.image()
+        (self.folder / "list").write_text("o0.o\no1.o\n")
+        said = watching.next()
+        self.assertEqual((said["event"], said["inputs"][0]["line"]), ("refused", "o2.o: refused 7 0"))
+        self.assertEqual(self.folder.image(), before)
+
+    def test_killed_while_faults_stand(self) -> None:
+        """A session that is killed again and again while the link has faults is started again each time."""
+        watching = self.opened()
+        self.folder.put("o1.o", numbered(1, 2, 3, calls="nothing"))
+        self.assertEqual(watching.next()["event"], "faults")
+        for _ in range(5):
+            os.kill(watching.session(), signal.SIGKILL)
+            self.assertEqual(watching.next()["event"], "restarted")
+            self.assertTrue(wait_until(lambda: len(watching.children()) == 1))
+            time.sleep(0.2)
+        self.folder.renew(1, 2)
+        self.assertEqual(watching.next()["event"], "linked")
+        self.assertEqual(self.folder.image(), self.folder.link())
+
+
+class StopsTest(unittest.TestCase):
+    """Signals that come while the end is put off."""
+
+    def test_with_a_fault(self) -> None:
+        """A signal is not forgotten where what is done within fails."""
+        handlers = {number: signal.getsignal(number) for number in (*ENDING, signal.SIGCHLD)}
+        stops = Stops()
+        try:
+            with self.assertRaises(Stopped), stops.shield():
+                os.kill(os.getpid(), signal.SIGTERM)
+                raise OSError("no")
+        finally:
+            signal.set_wakeup_fd(-1)
+            for number, handler in handlers.items():
+                signal.signal(number, handler)

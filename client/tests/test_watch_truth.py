@@ -5,7 +5,7 @@ import unittest
 
 from client.protocol import find_program
 from client.tests.watching import SCRIPT, Folder, Watching, numbered, wait_until
-
+from client.watch.events import Kind, Watcher
 
 MEDDLING = """#!/usr/bin/python3
 import os, subprocess, sys
@@ -100,6 +100,26 @@ class TruthTest(unittest.TestCase):
         self.folder.renew(1, 1)
         said = watching.next()
         self.assertEqual((said["event"], said["written"]), ("linked", False))
+
+    def test_many_refused_and_back(self) -> None:
+        """Objects that were refused and have their old bytes again: from then on nothing is sent without a change."""
+        self.folder.remove()
+        self.folder = Folder(6)
+        self.addCleanup(self.folder.remove)
+        watching = self.opened()
+        for name in self.folder.names:
+            self.folder.put(name, b"no object")
+        self.assertEqual(watching.next()["event"], "refused")
+        for number in range(6):
+            self.folder.renew(number, 1)
+        watching.wait_for("linked")
+        self.assertTrue(watching.is_silent(0.4))
+        self.assertEqual(self.folder.image(), self.folder.link())
+        before = os.stat(self.folder / "image").st_ino
+        for _ in range(2):
+            os.utime(self.folder / "o1.o")
+            self.assertTrue(watching.is_silent(0.4))
+        self.assertEqual(os.stat(self.folder / "image").st_ino, before)
 
     def test_refused_for_a_moment(self) -> None:
         """An object that is refused for less than 0.3 s is not said."""
@@ -234,6 +254,63 @@ class TruthTest(unittest.TestCase):
         self.folder.renew(1, 1)
         self.assertTrue(wait_until(lambda: (self.folder / "image").exists()))
         self.assertEqual(watching.next()["event"], "linked")
+
+    def test_image_is_another_file(self) -> None:
+        """An image that is a symbolic link, and now names another file: that one is written with the next event."""
+        os.symlink("one", self.folder / "image")
+        watching = self.opened()
+        os.unlink(self.folder / "image")
+        os.symlink("two", self.folder / "image")
+        os.utime(self.folder / "o1.o")
+        self.assertTrue(watching.next()["written"])
+        self.assertEqual((self.folder / "two").read_bytes(), self.folder.link())
+
+    def test_cannot_be_written(self) -> None:
+        """An image whose folder is not there is written within a second after it comes."""
+        os.symlink("out/image", self.folder / "image")
+        watching = self.watch()
+        said = watching.next()
+        self.assertEqual((said["event"], said["reasons"][0]["name"]), ("waiting", "image"))
+        self.assertTrue(watching.is_silent(1.2))
+        os.mkdir(self.folder / "out")
+        begins = time.monotonic()
+        self.assertEqual(watching.next()["event"], "linked")
+        self.assertLess(time.monotonic() - begins, 2)
+        self.assertEqual(self.folder.image(), self.folder.link())
+
+    def test_pipe(self) -> None:
+        """An image that is a pipe nobody reads is waited for, and a signal ends that; one that is read gets all."""
+        os.mkfifo(self.folder / "image")
+        watching = self.watch()
+        self.assertEqual(watching.next()["event"], "waiting")
+        self.assertEqual(watching.end(), 0)
+        watching = self.watch()
+        with open(self.folder / "image", "rb") as file:
+            self.assertEqual(file.read(), self.folder.link())
+        self.assertEqual(watching.wait_for("linked")["event"], "linked")
+
+    def test_pipe_is_not_emptied(self) -> None:
+        """A signal ends the writing of a pipe that is full."""
+        os.mkfifo(self.folder / "image")
+        self.folder.put("t.ld", SCRIPT.replace(b"*(.tail)", b"*(.tail) . = . + 0x40000;"))
+        reader = os.open(self.folder / "image", os.O_RDONLY | os.O_NONBLOCK)
+        self.addCleanup(os.close, reader)
+        watching = self.watch()
+        self.assertTrue(watching.is_silent(1))
+        begins = time.monotonic()
+        self.assertEqual(watching.end(), 0)
+        self.assertLess(time.monotonic() - begins, 5)
+
+    def test_map_first(self) -> None:
+        """The map is put in place before the image."""
+        watching = self.opened("--Map", "map")
+        watcher = Watcher()
+        self.addCleanup(watcher.close)
+        watcher.watch(str(self.folder.path))
+        self.folder.renew(1, 2)
+        self.assertEqual(watching.next()["event"], "linked")
+        names = [os.path.basename(event.path) for event in watcher.read() if event.kind is Kind.WHOLE]
+        self.assertEqual([name for name in names if name in ("image", "map")], ["map", "image"])
 
     def test_folder_anew(self) -> None:
         """A folder of objects that is removed and comes again is watched again."""

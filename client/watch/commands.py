@@ -51,7 +51,7 @@ class Command:
 
     def end(self) -> None:
         """Ends it and what it started: SIGTERM, and SIGKILL after a while."""
-        process, self._process = self._process, None
+        process = self._process
         if process is None:
             return
         signal_group(process.pid, signal.SIGTERM)
@@ -61,6 +61,7 @@ class Command:
             pass
         signal_group(process.pid, signal.SIGKILL)
         process.wait()
+        self._process = None  # at the end: where a signal ends this, it is done once more
 
 
 def signal_group(group: int, number: signal.Signals) -> None:

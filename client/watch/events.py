@@ -1,28 +1,41 @@
 """What the system says about files: inotify, by Debian's python3-watchdog."""
 from __future__ import annotations
 
+import ctypes
 import enum
+import errno
 import os
+import stat
+import struct
 import sys
+from collections.abc import Iterator
 from dataclasses import dataclass
 
 try:
-    from watchdog.observers.inotify_c import Inotify, InotifyConstants, InotifyEvent
+    from watchdog.observers.inotify_c import InotifyConstants, inotify_add_watch, inotify_init, inotify_rm_watch
 except ModuleNotFoundError:
-    sys.exit("ldi-watch: the package python3-watchdog is not installed: apt-get install python3-watchdog")
+    print("ldi-watch: python3-watchdog is not installed: apt-get install python3-watchdog", file=sys.stderr)
+    sys.exit(3)  # as of a file that cannot be read
 
+PLACED = InotifyConstants.IN_CLOSE_WRITE | InotifyConstants.IN_MOVED_TO
+GONE = InotifyConstants.IN_DELETE | InotifyConstants.IN_MOVED_FROM
+ITSELF = InotifyConstants.IN_DELETE_SELF | InotifyConstants.IN_MOVE_SELF | InotifyConstants.IN_UNMOUNT
 MASK = (
     InotifyConstants.IN_MODIFY
     | InotifyConstants.IN_ATTRIB
-    | InotifyConstants.IN_CLOSE_WRITE
     | InotifyConstants.IN_CREATE
-    | InotifyConstants.IN_DELETE
-    | InotifyConstants.IN_MOVED_FROM
-    | InotifyConstants.IN_MOVED_TO
+    | PLACED
+    | GONE
     | InotifyConstants.IN_DELETE_SELF
     | InotifyConstants.IN_MOVE_SELF
     | InotifyConstants.IN_ONLYDIR
+    | InotifyConstants.IN_EXCL_UNLINK  # who closes a file that was removed has closed none of this name
 )
+
+HEADER = struct.Struct("iIII")
+"""What an event begins with: the number of the watch, the mask, a number that is not needed, the bytes of the name."""
+
+BUFFER = 1 << 16
 
 
 class Kind(enum.Enum):
@@ -47,17 +60,21 @@ class Watcher:
     """Watches folders. `read` waits, so that it is called only where `fileno` has something to read."""
 
     def __init__(self) -> None:
+        self.is_disturbed = False
+        """Whether events may be missing: the system lost some, or a watched folder came, went or moved."""
         self._folders: dict[str, tuple[int, int] | None] = {}
-        self._inotify: Inotify | None = None
+        self._names: dict[int, list[str]] = {}
+        """The folders' names by the numbers of the watches: one for each, unless a folder has several names."""
+        self._numbers: dict[str, int] = {}
+        self._descriptor = -1
 
     def fileno(self) -> int:
         """The descriptor to wait on; -1 where nothing is watched."""
-        return self._inotify.fd if self._inotify else -1
+        return self._descriptor
 
     def watch(self, folder: str) -> None:
         """Watches a folder too, if it is there; `look` tries those again that are not."""
-        if folder not in self._folders:
-            self._folders[folder] = None
+        if folder not in self._folders or identity(folder) != self._folders[folder]:
             self._try(folder)
 
     def look(self) -> bool:
@@ -70,52 +87,74 @@ class Watcher:
 
     def read(self) -> list[Event]:
         """What has happened."""
-        if self._inotify is None:
-            return []
-        try:
-            found = self._inotify.read_events()
-        except KeyError:  # of a folder that went and came again: its books are out of order
-            self._renew()
-            return []
-        self._inotify.clear_move_records()
         events = []
-        for one in found:
-            if one.is_ignored or one.is_delete_self or one.is_move_self:
-                if os.fsdecode(one.src_path) in self._folders:
-                    self._folders[os.fsdecode(one.src_path)] = None
-            elif (event := event_of(one)) is not None:
-                events.append(event)
+        for number, mask, name in parsed(os.read(self._descriptor, BUFFER)):
+            if mask & InotifyConstants.IN_Q_OVERFLOW:
+                self.is_disturbed = True
+            elif mask & InotifyConstants.IN_IGNORED:
+                self._forget(number)
+            elif mask & ITSELF:
+                self._forget(number)
+                inotify_rm_watch(self._descriptor, number)
+            else:
+                is_folder = bool(mask & InotifyConstants.IN_ISDIR)
+                for folder in self._names.get(number, ()):
+                    path = os.path.join(folder, name)
+                    self.is_disturbed = self.is_disturbed or (is_folder and path in self._folders)
+                    events.append(Event(path, kind_of(path, mask), is_folder))
         return events
 
     def close(self) -> None:
         """Ends all watches."""
-        if self._inotify is not None:
-            self._inotify.close()
-            self._inotify = None
+        if self._descriptor >= 0:
+            os.close(self._descriptor)
+            self._descriptor = -1
 
     def _try(self, folder: str) -> bool:
-        path = os.fsencode(folder)
         self._folders[folder] = identity(folder)
         if self._folders[folder] is None:
             return False
+        if self._descriptor < 0:
+            self._descriptor = checked(inotify_init(), folder)
+            os.set_inheritable(self._descriptor, False)
         try:
-            if self._inotify is None:
-                self._inotify = Inotify(path, event_mask=MASK)
-            else:
-                self._inotify.add_watch(path)
-        except OSError as fault:
+            number = checked(inotify_add_watch(self._descriptor, os.fsencode(folder), MASK), folder)
+        except (FileNotFoundError, NotADirectoryError):
             self._folders[folder] = None
-            if isinstance(fault, (FileNotFoundError, NotADirectoryError)):
-                return False
-            raise
+            return False
+        before = self._numbers.get(folder)
+        if before in self._names:
+            self._names[before].remove(folder)
+        self._numbers[folder] = number
+        self._names.setdefault(number, []).append(folder)
         return True
 
-    def _renew(self) -> None:
-        folders = list(self._folders)
-        self.close()
-        self._folders = {}
-        for folder in folders:
-            self.watch(folder)
+    def _forget(self, number: int) -> None:
+        """A watch has no folder any longer that has its names."""
+        for folder in self._names.pop(number, ()):
+            self._folders[folder] = None
+            del self._numbers[folder]
+            self.is_disturbed = True
+
+
+def parsed(data: bytes) -> Iterator[tuple[int, int, str]]:
+    """The events in what was read: the number of the watch, the mask, the name."""
+    at = 0
+    while at < len(data):
+        number, mask, _, length = HEADER.unpack_from(data, at)
+        at += HEADER.size
+        yield number, mask, os.fsdecode(data[at : at + length].rstrip(b"\0"))
+        at += length
+
+
+def checked(number: int, folder: str) -> int:
+    """A number that the system gave; OSError where it gave none."""
+    if number >= 0:
+        return number
+    failed = ctypes.get_errno()
+    if failed in (errno.ENOSPC, errno.EMFILE):
+        raise OSError(failed, "no more folders can be watched: see fs.inotify of sysctl", folder)
+    raise OSError(failed, os.strerror(failed), folder)
 
 
 def identity(folder: str) -> tuple[int, int] | None:
@@ -127,24 +166,26 @@ def identity(folder: str) -> tuple[int, int] | None:
     return status.st_dev, status.st_ino
 
 
-def event_of(one: InotifyEvent) -> Event | None:
-    """An event of inotify as one of ours."""
-    path = os.fsdecode(one.src_path)
-    if one.is_close_write or one.is_moved_to:
-        return Event(path, Kind.WHOLE, one.is_directory)
-    if one.is_create:
-        return Event(path, Kind.WRITING if has_writer(path) else Kind.WHOLE, one.is_directory)
-    if one.is_modify:
-        return Event(path, Kind.WRITING)
-    if one.is_delete or one.is_moved_from:
-        return Event(path, Kind.GONE, one.is_directory)
-    return Event(path, Kind.TOUCHED, one.is_directory) if one.is_attrib else None
+def kind_of(path: str, mask: int) -> Kind:
+    """What an event's mask says of a file."""
+    if mask & PLACED:
+        return Kind.WHOLE
+    if mask & InotifyConstants.IN_CREATE:
+        return Kind.WRITING if has_writer(path) else Kind.WHOLE
+    if mask & InotifyConstants.IN_MODIFY:
+        return Kind.WRITING
+    return Kind.GONE if mask & GONE else Kind.TOUCHED
 
 
 def has_writer(path: str) -> bool:
-    """Whether a name that came by no rename is that of a new file: a link has no writer who would close it."""
+    """Whether a name that came by no rename is that of a new file: a link has no writer who would close it.
+
+    A link's file has another name still, or was changed before it got this one. While a new file is written, it was
+    changed when it was last modified; what its writer does to it afterwards comes after the events of his writing.
+    """
     try:
         status = os.lstat(path)
     except OSError:
         return False
-    return (status.st_mode & 0o170000) == 0o100000 and status.st_nlink == 1
+    is_new = status.st_nlink == 1 and status.st_mtime_ns == status.st_ctime_ns
+    return is_new and stat.S_ISREG(status.st_mode)

@@ -13,6 +13,10 @@ from client.protocol import GREATEST_PAYLOAD
 TICK = 20_000_000
 """Nanoseconds: a file's times go by ticks of the system, so that two changes within one may leave the same stamp."""
 
+SECOND = 1_000_000_000
+COARSE_TICK = 2 * SECOND + TICK
+"""The same where a time is one of whole seconds, as some file systems have them, and even seconds."""
+
 GREATEST_READ = GREATEST_PAYLOAD + 1
 """No more bytes of a file are read: so many are refused already."""
 
@@ -32,10 +36,11 @@ def stamp_of(status: os.stat_result) -> Stamp:
     return Stamp(status.st_dev, status.st_ino, status.st_size, status.st_mtime_ns, status.st_ctime_ns)
 
 
-def is_settled(stamp: Stamp) -> bool:
-    """Whether a change from now on is certain to give another stamp."""
-    now = time.time_ns()
-    return all(when + TICK < now for when in (stamp.modified, stamp.changed))
+def is_settled(stamp: Stamp, now: int) -> bool:
+    """Whether a change from `now` on is certain to give another stamp."""
+    return all(
+        when + (TICK if when % SECOND else COARSE_TICK) < now for when in (stamp.modified, stamp.changed)
+    )
 
 
 class Changing(Exception):
@@ -68,6 +73,7 @@ class Input:
         """Reads the file; says whether its bytes are others than before."""
         self.dirty = False
         self.missing = False
+        begun = time.time_ns()
         try:
             data, stamp = read_whole(self.path)
         except Changing:
@@ -78,7 +84,7 @@ class Input:
             self.failure = "it is not there" if self.missing else f"it cannot be read: {fault.strerror or fault}"
             return False
         self.failure = None
-        self.settled = is_settled(stamp)
+        self.settled = is_settled(stamp, begun)
         self.stamp = stamp
         if data == self.data:
             return False
@@ -96,10 +102,11 @@ class Input:
             return False
 
     def _is_same_again(self) -> bool:
+        begun = time.time_ns()
         data, stamp = read_whole(self.path)
         if data != self.data or stamp != self.stamp:
             return False
-        self.settled = is_settled(stamp)
+        self.settled = is_settled(stamp, begun)
         return True
 
 

@@ -69,7 +69,7 @@ class Kept:
             self._start(options)
         self.refused = {}
         in_order = self._order == list(project.objects)
-        others = [name for name, data in project.objects.items() if self._held.get(name) is not data]
+        others = [name for name, data in project.objects.items() if not self._holds(name, data)]
         count = len(others) + (script != self._script) + (0 if in_order else self._count_of_order(project))
         if count > HANDFUL and options.entry is None and self._answered(
             SCRIPT, self._running().script(SCRIPT_WITHOUT_LINK)
@@ -81,6 +81,13 @@ class Kept:
         self._replace(project, others)
         if script != self._script and self._answered(SCRIPT, self._set_script(script)):
             self._script = script
+
+    def _holds(self, name: str, data: bytes) -> bool:
+        """Whether the session has these bytes under this name."""
+        held = self._held.get(name)
+        if held is not data and held == data:
+            self._held[name] = data  # so that the next look costs nothing
+        return held is data or held == data
 
     def _start(self, options: Options) -> None:
         program = self._program or find_program()
@@ -148,7 +155,7 @@ class Kept:
         session = self._running()
         for name in others:
             data = project.objects[name]
-            if name in self._held and self._held[name] != data:
+            if name in self._held and not self._holds(name, data):
                 answer = TOO_LONG if len(data) > GREATEST_PAYLOAD else session.replace(name.encode(), data)
                 if self._answered(name, answer):
                     self._held[name] = data

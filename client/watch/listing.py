@@ -1,10 +1,11 @@
 """The objects' names in their order: words of the command line, and lines of the files that `@LIST` names."""
 from __future__ import annotations
 
+import os
 from collections.abc import Mapping, Sequence
 
 from client.protocol import GREATEST_NAME, is_name
-from client.watch.words import ListFile
+from client.watch.words import ListFile, Words
 
 GREATEST_COUNT = 4096
 """The objects that a session has at most."""
@@ -46,3 +47,19 @@ def check_names(names: Sequence[str]) -> None:
         seen.add(name)
     if len(names) > GREATEST_COUNT:
         raise NamesRefused(f"{len(names)} objects are named; a session has at most {GREATEST_COUNT:,}")
+
+
+def check_outputs(words: Words, names: Sequence[str]) -> None:
+    """Refuses an output that is an input or another output; `names` are the objects'."""
+    lists = [item.path for item in words.objects if isinstance(item, ListFile)]
+    inputs = {os.path.realpath(path) for path in (words.script, *lists, *names)}
+    taken: dict[str, str] = {}
+    for path in (words.image, words.map, words.gdb):
+        if path is None:
+            continue
+        real = os.path.realpath(path)
+        if real in inputs:
+            raise NamesRefused(f"`{path}` is an input, and so it cannot be written")
+        if real in taken and real != os.devnull:
+            raise NamesRefused(f"`{taken[real]}` and `{path}` are one file, and so they cannot both be written")
+        taken[real] = path

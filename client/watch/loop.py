@@ -11,6 +11,7 @@ import time
 import typing
 from collections.abc import Iterable
 from concurrent.futures import ThreadPoolExecutor, wait
+from contextlib import nullcontext
 from types import ModuleType
 
 from client.protocol import SessionEnded
@@ -18,9 +19,9 @@ from client.watch.commands import Command
 from client.watch.events import Event, Kind, Watcher
 from client.watch.inputs import Input, changed_among
 from client.watch.kept import SCRIPT, Kept, Project
-from client.watch.listing import NamesRefused, object_names
+from client.watch.listing import NamesRefused, check_outputs, object_names
 from client.watch.making import Making
-from client.watch.output import IMAGE_MODE, MAP_MODE, Output, is_beside
+from client.watch.output import IMAGE_MODE, MAP_MODE, NotWritten, Output, is_beside
 from client.watch.places import Places
 from client.watch.says import Faulty, Good, RefusedInputs, State, Teller, Waiting, how_ended
 from client.watch.stops import Stops
@@ -174,8 +175,10 @@ class Watch:
     # events
 
     def _take(self, events: Iterable[Event]) -> None:
-        """Notes what the events say of inputs and sources."""
+        """Notes what the events say of inputs and sources; where some may be missing, all is looked at next."""
         now = time.monotonic()
+        if self.watcher.is_disturbed:
+            self.next_look = now
         for event in events:
             concerned = self.places.at(event.path)
             for one in concerned:
@@ -188,7 +191,11 @@ class Watch:
                     self.writers.discard(one)
             if concerned or self._is_of_sources(event):
                 self.last_event = now
-                self.first_event = now if self.first_event is None else self.first_event
+                self._note(now)
+
+    def _note(self, now: float) -> None:
+        """There is something to deal with, from now on if there was nothing before."""
+        self.first_event = now if self.first_event is None else self.first_event
 
     def _is_of_sources(self, event: Event) -> bool:
         """Whether the event wants a run of --make's command."""
@@ -208,20 +215,22 @@ class Watch:
                 one.writing = None
                 one.dirty = True
                 self.writers.discard(one)
-                self.first_event = now if self.first_event is None else self.first_event
+                self._note(now)
                 self.teller.note(one.path, f"its writer has not closed it for {LONGEST_WRITING:g} s: read as it is")
 
     def _look_at_all(self, now: float) -> None:
         """Looks at all inputs and folders, for events that the system lost."""
         self.next_look = now + PERIOD
+        disturbed, self.watcher.is_disturbed = self.watcher.is_disturbed, False
         self.places.look()
-        self.watcher.look()
+        if (self.watcher.look() or disturbed) and self.making is not None and self.making.look():
+            self._note(now)
         changed = [one for one in self._inputs() if not one.dirty and one.failure is None and not one.is_same()]
         changed += [one for one in self._inputs() if one.failure is not None]
         for one in changed:
             one.dirty = True
         if changed or isinstance(self.state, Waiting):
-            self.first_event = now if self.first_event is None else self.first_event
+            self._note(now)
 
     # commands
 
@@ -236,8 +245,7 @@ class Watch:
             if status is not None:
                 self._drain()
                 self.making.finish(status)
-                now = time.monotonic()
-                self.first_event = now if self.first_event is None else self.first_event
+                self._note(time.monotonic())
 
     def _is_made(self) -> bool:
         """Whether the objects are made, as far as a command of --make does that; starts it where it is wanted."""
@@ -319,6 +327,7 @@ class Watch:
         self.listed = listed
         try:
             names = object_names(self.words.objects, {path: self._data_of(one) for path, one in self.lists.items()})
+            check_outputs(self.words, names)
             self.names_refused = None
         except NamesRefused as refused:
             self.names_refused = refused
@@ -343,9 +352,9 @@ class Watch:
     def _refusals(self) -> list[tuple[str, Message]]:
         found: list[tuple[str, Message]] = []
         for name, refused in self.kept.refused.items():
-            one = self.script if name == SCRIPT else self.objects[name]
-            said = messages().refusal_messages(one.path, refused, one.data)
-            found += [(one.path, message) for message in said]
+            one = self.script if name == SCRIPT else self.objects.get(name)
+            path, data = (one.path, one.data) if one else (name, None)  # one that could not be removed is no input
+            found += [(path, message) for message in messages().refusal_messages(path, refused, data)]
         return found
 
     def _tell_faults(self) -> None:
@@ -354,6 +363,7 @@ class Watch:
         entry = self.words.options.entry
         inputs = messages().Inputs(self.script.path, self._data_of(self.script), objects, entry=entry)
         found = messages().fault_messages(self.kept.session.faults(), inputs)
+        self.ends = 0
         self.is_current = False
         self._set_state(Faulty(tuple(found), tuple(self.after)), at_once=True)
         self.after.clear()
@@ -381,8 +391,8 @@ class Watch:
                 self._commit()
                 self._write_gdb(map_text)
                 self._placed(len(image), written=True)
-        except OSError as fault:
-            self._set_state(Waiting(((self.words.image, f"it cannot be written: {fault.strerror or fault}"),)))
+        except NotWritten as fault:
+            self._set_state(Waiting(((fault.path, str(fault)),)))
         finally:
             wait([look])
             self._drop()
@@ -392,9 +402,8 @@ class Watch:
         for one in changed:
             one.dirty = True
         self._drain()
-        if self.writers or any([one.dirty for one in self._inputs()]):
-            now = time.monotonic()
-            self.first_event = now if self.first_event is None else self.first_event
+        if self.writers or self.watcher.is_disturbed or any([one.dirty for one in self._inputs()]):
+            self._note(time.monotonic())
             return True
         return False
 
@@ -407,10 +416,12 @@ class Watch:
         self.image.prepare(image)
 
     def _commit(self) -> None:
-        with self.stops.shield():
-            if self.map is not None:
-                self.map.commit()
-            self.image.commit()
+        """Puts map and image in place; where both are renamed, no signal comes between."""
+        outputs = [self.image] if self.map is None else [self.map, self.image]
+        waits = any(output.is_in_place() for output in outputs)
+        with nullcontext() if waits else self.stops.shield():
+            for output in outputs:
+                output.commit()
 
     def _write_gdb(self, map_text: bytes) -> None:
         """Writes the script of --gdb for the image that was put in place."""
@@ -422,8 +433,8 @@ class Watch:
         try:
             output.prepare(gdb_script(map_text, ".").encode(errors="surrogateescape"))
             output.commit()
-        except OSError as fault:
-            self.teller.note(self.words.gdb, f"it cannot be written: {fault.strerror or fault}")
+        except NotWritten as fault:
+            self.teller.note(fault.path, str(fault))
         finally:
             output.drop()
 
@@ -481,7 +492,7 @@ class Watch:
         if self.ends < MOST_ENDS:
             self.teller.restarted(f"the session {how_ended(status)}")
             now = time.monotonic()
-            self.first_event = now if self.first_event is None else self.first_event
+            self._note(now)
             self.last_event = min(self.last_event, now - QUIET)
         else:
             self._set_state(Waiting((("the session", "it ends again and again"),)), at_once=True)

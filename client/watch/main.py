@@ -1,11 +1,12 @@
 """`ldi-watch`: reads the words, and watches until a signal, or with --once for one link."""
 from __future__ import annotations
 
-import os
+import io
 import sys
 
-from client.watch.listing import NamesRefused, check_names, object_names
-from client.watch.loop import STATUS_DEVICE, STATUS_REFUSED, Watch
+from client.watch.inputs import Changing, read_whole
+from client.watch.listing import NamesRefused, check_names, check_outputs, object_names
+from client.watch.loop import STATUS_DEVICE, STATUS_MEMORY, STATUS_REFUSED, Watch
 from client.watch.says import Teller
 from client.watch.stops import Stopped, Stops
 from client.watch.words import USAGE, ListFile, Words, WordsRefused, read_words
@@ -13,6 +14,9 @@ from client.watch.words import USAGE, ListFile, Words, WordsRefused, read_words
 
 def main(words: list[str]) -> int:
     """Runs the program with these words; gives the exit status."""
+    for stream in (sys.stdout, sys.stderr):
+        if isinstance(stream, io.TextIOWrapper):
+            stream.reconfigure(errors="backslashreplace")  # what the locale has no character for
     if words in (["-h"], ["--help"]):
         print(USAGE, end="")
         return 0
@@ -34,6 +38,9 @@ def main(words: list[str]) -> int:
     except OSError as fault:
         print(f"ldi-watch: {fault}", file=sys.stderr)
         return STATUS_DEVICE
+    except MemoryError:
+        print("ldi-watch: out of memory", file=sys.stderr)
+        return STATUS_MEMORY
     finally:
         watch.end()
 
@@ -44,16 +51,8 @@ def check_files(words: Words) -> None:
     for item in words.objects:
         if isinstance(item, ListFile):
             try:
-                with open(item.path, "rb") as file:
-                    lists[item.path] = file.read()
-            except OSError:
+                lists[item.path] = read_whole(item.path)[0]
+            except (OSError, Changing):
                 lists[item.path] = b""  # it may come
     check_names([item for item in words.objects if not isinstance(item, ListFile)])
-    names = object_names(words.objects, lists)
-    outputs = [path for path in (words.image, words.map) if path is not None]
-    inputs = {os.path.realpath(path) for path in (words.script, *lists, *names)}
-    for path in outputs:
-        if os.path.realpath(path) in inputs:
-            raise NamesRefused(f"`{path}` is an input, and so it cannot be written")
-    if len(outputs) == 2 and os.path.realpath(outputs[0]) == os.path.realpath(outputs[1]) != os.devnull:
-        raise NamesRefused(f"`{outputs[0]}` cannot be the image and the map")
+    check_outputs(words, object_names(words.objects, lists))

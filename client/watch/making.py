@@ -15,7 +15,7 @@ TIMES = 3
 class Making:
     """Runs a command, once at a time, when it is wanted.
 
-    inotify does not say who wrote a file. What did not exist before a run and came in it is the command's own; so is
+    inotify does not say who wrote a file. What never existed before a run and came in it is the command's own; so is
     what changed in three runs that nothing else had caused. What has the same bytes as before is no change.
     """
 
@@ -58,6 +58,11 @@ class Making:
         self.wanted = True
         return True
 
+    def look(self) -> bool:
+        """Looks at all sources, for events that are missing; says whether there is a change."""
+        gone = [path for path in self._known if not os.path.exists(path)]
+        return any([self._watch_below(self._folder), *map(self.changed, gone)])
+
     def start(self) -> None:
         """Starts the command."""
         self.wanted = False
@@ -85,7 +90,7 @@ class Making:
 
     def _changed_in_run(self, path: str) -> None:
         digest = digest_of(path)
-        is_new = self._known.get(path) is None
+        is_new = path not in self._known
         if digest == self._known.get(path) or path in self._own:
             return
         self._known[path] = digest
@@ -101,13 +106,13 @@ class Making:
         return not any(part.startswith(".") for part in os.path.relpath(path, self._folder).split("/")[:-1])
 
     def _watch_below(self, top: str) -> bool:
-        """Watches a folder and those below it; says whether there is a source that was not known."""
+        """Watches a folder and those below it; says whether a source there is another than was known."""
         found = False
         for folder, folders, names in os.walk(top):
             folders[:] = [name for name in folders if not name.startswith(".")]
             self._watcher.watch(folder)
             for path in (os.path.join(folder, name) for name in names):
-                if path not in self._known and self.is_source(path):
+                if self.is_source(path):
                     found = self.changed(path) or found
         return found
 

@@ -45,14 +45,14 @@ class Stops:
 
     @contextmanager
     def shield(self) -> Iterator[None]:
-        """Puts off the end to the end of what is done within."""
+        """Puts off the end to the end of what is done within, though that may fail."""
         self._shielded = True
         try:
             yield
         finally:
             self._shielded = False
-        if self._came is not None:
-            self._raise(self._came)
+            if self._came is not None:
+                self._raise(self._came)
 
     def _ended(self, number: int, frame: FrameType | None) -> None:
         if self._came is None:
