@@ -1,7 +1,12 @@
 """The map of a link, read into tables (docs/manual.md, 'The map')."""
 from __future__ import annotations
 
+import re
+from collections.abc import Iterable
 from dataclasses import dataclass, field
+
+NO_VALUE = b"-" * 16
+"""The value of a symbol whose section is not in the output."""
 
 
 @dataclass(frozen=True)
@@ -70,10 +75,17 @@ def _take(result: LinkMap, words: list[bytes]) -> None:
         case [b"piece", address, size, owner, name]:
             result.sections[-1].pieces.append(Piece(int(address, 16), int(size, 16), owner, name))
         case [b"symbol", value, name, owner]:
-            result.symbols.append(Symbol(None if value == b"-" * 16 else int(value, 16), name, owner))
+            result.symbols.append(Symbol(None if value == NO_VALUE else int(value, 16), name, owner))
         case [b"section", name, start, load, size, flags]:
             result.sections.append(Section(name, int(start, 16), int(load, 16), int(size, 16), flags))
         case [b"entry", value]:
             result.entry = int(value, 16)
         case _:
             raise ValueError
+
+
+def symbol_values(data: bytes, names: Iterable[bytes]) -> dict[bytes, int]:
+    """The values that a map has of these symbols; the map is searched, and not read as a whole."""
+    wanted = b"|".join(re.escape(name) for name in sorted(names))
+    found = re.compile(rb"^symbol ([0-9a-f]{16}) (%s) " % wanted, re.MULTILINE).findall(data)
+    return {name: int(value, 16) for value, name in found}

@@ -3,6 +3,7 @@ from __future__ import annotations
 
 import struct
 from collections.abc import Iterator
+from functools import cached_property
 from typing import NamedTuple
 
 ALLOC, EXECUTABLE = 2, 4
@@ -10,7 +11,14 @@ PROGBITS, SYMTAB, STRTAB, NOTE, NOBITS = 1, 2, 3, 7, 8
 LOCAL, GLOBAL, WEAK = 0, 1, 2
 NOTYPE, OBJECT, FUNCTION, SECTION, FILE = range(5)
 UNDEFINED, ABSOLUTE, COMMON = 0, 0xFFF1, 0xFFF2
-ENTRY_SIZE = 24
+ELF_HEADER, ENTRY_SIZE = 64, 24
+
+HEADER = struct.Struct("<IIQQQQIIQQ")
+KIND = struct.Struct("<4xI56x")
+"""The kind alone of a section header."""
+SYMBOL = struct.Struct("<IBBHQQ")
+NAMED = struct.Struct("<IBxH16x")
+"""Of an entry of the symbol table the name, the binding and the section."""
 
 
 class NotElf(Exception):
@@ -48,18 +56,29 @@ class ObjectFile:
     """An object or an image in memory."""
 
     def __init__(self, data: bytes) -> None:
-        """Reads the section headers; NotElf where there are none."""
+        """Finds the section headers; NotElf where there are none."""
         if data[:6] != b"\x7fELF\2\1":
             raise NotElf("no ELF-64 file")
+        if len(data) < ELF_HEADER:
+            raise NotElf("its section headers are past its end")
         self.data = data
-        try:
-            (start,) = struct.unpack_from("<Q", data, 40)
-            count, self.names_in = struct.unpack_from("<HH", data, 60)
-            self.headers = [
-                Header(*struct.unpack_from("<IIQQQQIIQQ", data, start + 64 * index)) for index in range(count)
-            ]
-        except (struct.error, OverflowError) as fault:
-            raise NotElf("its section headers are past its end") from fault
+        (self.headers_at,) = struct.unpack_from("<Q", data, 40)
+        self.count, self.names_in = struct.unpack_from("<HH", data, 60)
+        """e_shoff, e_shnum and e_shstrndx."""
+        if self.headers_at + HEADER.size * self.count > len(data):
+            raise NotElf("its section headers are past its end")
+
+    @cached_property
+    def headers(self) -> list[Header]:
+        """The section headers."""
+        return [Header._make(header) for header in HEADER.iter_unpack(self._table())]
+
+    def kinds(self) -> list[int]:
+        """The kinds of the sections."""
+        return [kind for kind, in KIND.iter_unpack(self._table())]
+
+    def _table(self) -> bytes:
+        return self.data[self.headers_at : self.headers_at + HEADER.size * self.count]
 
     @property
     def kind(self) -> int:
@@ -77,7 +96,8 @@ class ObjectFile:
 
     def symbol_table(self) -> int | None:
         """The number of the symbol table's section."""
-        return next((index for index, header in enumerate(self.headers) if header.kind == SYMTAB), None)
+        kinds = self.kinds()
+        return kinds.index(SYMTAB) if SYMTAB in kinds else None
 
     def symbols(self, first: int = 0, last: int | None = None) -> Iterator[tuple[bytes, Symbol]]:
         """The symbols from one number to before another, with their names."""
@@ -87,10 +107,9 @@ class ObjectFile:
         header = self.headers[index]
         names = self.content(header.link)
         table = self.content(index)
-        end = len(table) // ENTRY_SIZE if last is None else last
-        for name, info, other, section, value, size in struct.iter_unpack(
-            "<IBBHQQ", table[ENTRY_SIZE * first : ENTRY_SIZE * end]
-        ):
+        end = len(table) // ENTRY_SIZE
+        end = end if last is None else min(end, last)
+        for name, info, other, section, value, size in SYMBOL.iter_unpack(table[ENTRY_SIZE * first : ENTRY_SIZE * end]):
             stop = names.find(b"\0", name)
             if stop < 0:
                 raise NotElf("the name of a symbol is past its table")
@@ -99,12 +118,26 @@ class ObjectFile:
     def first_global(self) -> int:
         """The number of the first symbol that is not local."""
         index = self.symbol_table()
-        return 0 if index is None else self.headers[index].info
+        return 0 if index is None else self._header(index).info
+
+    def globals(self) -> Iterator[tuple[bytes, int, int]]:
+        """The symbols that are not local: the name, the binding and the section of each."""
+        index = self.symbol_table()
+        if index is None:
+            return
+        header = self._header(index)
+        names, table = self.content(header.link), self.content(index)[ENTRY_SIZE * header.info :]
+        find = names.find
+        for name, info, section in NAMED.iter_unpack(table[: len(table) - len(table) % ENTRY_SIZE]):
+            stop = find(b"\0", name)
+            if stop < 0:
+                raise NotElf("the name of a symbol is past its table")
+            yield names[name:stop], info >> 4, section
 
     def _header(self, index: int) -> Header:
-        if index >= len(self.headers):
+        if index >= self.count:
             raise NotElf(f"there is no section {index}")
-        return self.headers[index]
+        return Header._make(HEADER.unpack_from(self.data, self.headers_at + HEADER.size * index))
 
     def _string(self, table: int, begin: int) -> bytes:
         header = self._header(table)

@@ -172,11 +172,27 @@ class Session:
         self.process.kill()
         return self.close()
 
-    def _send(self, line: bytes, payload: bytes = b"") -> list[bytes]:
+    def write(self, *commands: bytes) -> None:
+        """Sends edits whose answers are read afterwards, each by `answer`; in a session without `timeout`."""
         try:
-            self._to.write(line + b"\n")
-            self._to.write(payload)
+            for part in commands:
+                self._to.write(part)
             self._to.flush()
+        except (OSError, ValueError) as fault:
+            self._is_closed = True
+            raise SessionEnded(str(fault)) from fault
+
+    def answer(self) -> Answer:
+        """The answer to the first edit of `write` that has none yet."""
+        return self._edited(self._words())
+
+    def _send(self, line: bytes, payload: bytes = b"") -> list[bytes]:
+        self.write(line + b"\n", payload)
+        return self._words()
+
+    def _words(self) -> list[bytes]:
+        """The words of the next answer."""
+        try:
             if self.timeout is not None and not select.select([self._from], [], [], self.timeout)[0]:
                 raise SessionEnded(f"the session gave no answer for {self.timeout:g} s")
             answer = self._from.readline()
@@ -189,7 +205,10 @@ class Session:
         return answer.split()
 
     def _edit(self, line: bytes, payload: bytes = b"") -> Answer:
-        words = self._send(line, payload)
+        return self._edited(self._send(line, payload))
+
+    @staticmethod
+    def _edited(words: list[bytes]) -> Answer:
         match words:
             case [b"linked", status, length]:
                 return Linked(int(status), int(length))

@@ -46,14 +46,15 @@ class Adapted:
 
 
 def adapt(script: os.PathLike[str] | str | bytes, defsyms: Sequence[tuple[str, str]] = (),
-          objects: Mapping[str, bytes] | Iterable[str] | None = None,
+          objects: Objects | Mapping[str, bytes] | Iterable[str] | None = None,
           include_path: Sequence[str] = (), path: str = "script", orphans: bool = True,
           values: Mapping[str, int] | None = None) -> Adapted:
     """Rewrites `script` into the profile.
 
     `script` is a file's path as a `Path`, or a text (`str` or `bytes`), whose name in the report is then `path`.
     `defsyms` are pairs of a symbol and its expression. `objects` are the objects of the link in their order: names and
-    bytes, or paths of files; with `None` nothing is known of them. A member of an archive is named `lib.a(member.o)`.
+    bytes, or paths of files, or what an earlier call read of them; with `None` nothing is known of them. A member of an
+    archive is named `lib.a(member.o)`.
     `include_path` are the folders where INCLUDE looks after the current one. With `orphans`, and objects, input
     sections that no statement takes are reported as left. `values` are addresses of objects' symbols that an earlier
     link of the same objects gave: where an expression outside of ASSERT names one, which is left otherwise, its number
@@ -72,13 +73,16 @@ def adapt(script: os.PathLike[str] | str | bytes, defsyms: Sequence[tuple[str, s
         raise NoParse(path, 1, reason) from None
 
 
-def _adapted(data: bytes, defsyms: Sequence[tuple[str, str]], objects: Mapping[str, bytes] | Iterable[str] | None,
+def _adapted(data: bytes, defsyms: Sequence[tuple[str, str]],
+             objects: Objects | Mapping[str, bytes] | Iterable[str] | None,
              include_path: Sequence[str], path: str, orphans: bool, values: Mapping[str, int] | None) -> Adapted:
     """The same, of a text."""
+    if objects is not None and not isinstance(objects, Objects):
+        objects = Objects(objects)
     front = "".join(f"{_checked(name, value)} = {value}; " for name, value in defsyms)
     source = Source(path, front.encode("latin-1", "replace") + data, tuple(include_path))
     nodes, hashes = parse(source)
-    model = Model(source, nodes, None if objects is None else Objects(objects))
+    model = Model(source, nodes, objects)
     model.values = values
     for start, end in hashes:
         inside = source.text[start + 1:end].strip().replace("*/", "* /")

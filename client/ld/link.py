@@ -1,14 +1,19 @@
 """A link by `ldi session`: all objects and the script sent, and what came of it."""
 from __future__ import annotations
 
-from collections.abc import Sequence
+import threading
+from collections.abc import Iterator, Sequence
 from dataclasses import dataclass, field
 
 from client.ld.command import Command
 from client.ld.inputs import Object
 from client.ld.script import Script
-from client.protocol import GREATEST_PAYLOAD, Answer, Linked, Options, Refused, Session
+from client.protocol import GREATEST_PAYLOAD, Answer, Linked, Options, Refused, Session, SessionEnded
 from client.watch.quick import SCRIPT_WITHOUT_LINK
+
+PIECE = 1 << 22
+"""The bytes of objects that are joined to be written at once."""
+
 
 @dataclass
 class Result:
@@ -27,30 +32,59 @@ def too_large(data: bytes) -> Refused | None:
     return Refused(6, 0) if len(data) > GREATEST_PAYLOAD else None
 
 
-def _send(session: Session, objects: Sequence[Object], result: Result) -> None:
-    """Adds the objects, in their order."""
-    position = 0
-    for item in objects:
-        answer: Answer = too_large(item.data) or session.add(item.name, position, item.data)
-        if isinstance(answer, Refused):
-            result.refused.append((item, answer))
-        else:
-            position += 1
+def _commands(objects: Sequence[Object]) -> Iterator[bytes]:
+    """The edits that add the objects, in pieces.
+
+    The last object comes first, and each goes before those that are there: so the places are right also where the
+    session refuses some.
+    """
+    parts, size = [b"script %d\n" % len(SCRIPT_WITHOUT_LINK), SCRIPT_WITHOUT_LINK], 0
+    for item in reversed(objects):
+        if not too_large(item.data):
+            parts += [b"add %s 0 %d\n" % (item.name, len(item.data)), item.data]
+            size += len(item.data)
+        if size >= PIECE:
+            yield b"".join(parts)
+            parts, size = [], 0
+    yield b"".join(parts)
 
 
-def send_objects(session: Session, objects: Sequence[Object]) -> bool:
-    """Adds the objects where that costs no link; says whether all were accepted."""
-    result = Result()
-    session.script(SCRIPT_WITHOUT_LINK)
-    _send(session, objects, result)
-    return not result.refused
+class Opened:
+    """A session to which the objects are being sent by a thread, while something else is done.
+
+    They are sent under a script with which that costs no link.
+    """
+
+    def __init__(self, options: Options, objects: Sequence[Object]) -> None:
+        self.objects = objects
+        self.session = Session(options)
+        self._thread = threading.Thread(target=self._write, daemon=True)
+        self._thread.start()
+
+    def _write(self) -> None:
+        try:
+            for commands in _commands(self.objects):
+                self.session.write(commands)
+        except SessionEnded:
+            pass  # the thread that reads the answers sees it too
+
+    def refused(self) -> list[tuple[Object, Refused]]:
+        """Waits until all objects are there; gives those that the session refused."""
+        self.session.answer()
+        answers = [(item, too_large(item.data) or self.session.answer()) for item in reversed(self.objects)]
+        self._thread.join()
+        return [(item, answer) for item, answer in reversed(answers) if isinstance(answer, Refused)]
+
+    def end(self) -> None:
+        """Ends the session."""
+        self.session.kill()
+        self._thread.join()
 
 
-def link(session: Session, script: bytes, objects: Sequence[Object]) -> Result:
-    """Links the objects under the script, by a session that has none yet; they are sent where that costs no link."""
-    result = Result()
-    session.script(SCRIPT_WITHOUT_LINK)
-    _send(session, objects, result)
+def link(opened: Opened, script: bytes, with_map: bool) -> Result:
+    """Links the objects under the script; the result has the map `with_map`."""
+    result = Result(refused=opened.refused())
+    session = opened.session
     answer: Answer = too_large(script) or session.script(script)
     if isinstance(answer, Refused):
         result.script_refused = answer
@@ -59,12 +93,13 @@ def link(session: Session, script: bytes, objects: Sequence[Object]) -> Result:
     assert isinstance(answer, Linked)
     result.status = answer.status
     if answer.status == 0:
-        result.image, result.map = session.image(), session.map()
+        result.image = session.image()
+        result.map = session.map() if with_map else b""
     else:
         result.faults = session.faults()
     return result
 
 
-def options_of(command: Command, script: Script) -> Options:
-    """The options of the session; the entry symbol stands in the script where that can name it."""
-    return Options(command.gc_sections, script.entry, command.orphan_handling)
+def options_of(command: Command, entry: str | None = None) -> Options:
+    """The options of the session; `entry` is the entry symbol where the script cannot name it."""
+    return Options(command.gc_sections, entry, command.orphan_handling)

@@ -21,15 +21,13 @@ def read_linkage(data: bytes) -> Linkage:
     """The names of an object; none where it is not an object of this machine, which the linker will say."""
     linkage = Linkage()
     try:
-        file = ObjectFile(data)
-        for name, symbol in file.symbols(file.first_global()):
-            weak = symbol.binding == WEAK
-            if symbol.section == UNDEFINED:
-                (linkage.undefined_weak if weak else linkage.undefined).append(name)
-            elif symbol.section == COMMON:
+        for name, binding, section in ObjectFile(data).globals():
+            if section == UNDEFINED:
+                (linkage.undefined_weak if binding == WEAK else linkage.undefined).append(name)
+            elif section == COMMON:
                 linkage.common.append(name)
             else:
-                (linkage.weak if weak else linkage.defined).append(name)
+                (linkage.weak if binding == WEAK else linkage.defined).append(name)
     except NotElf:
         return Linkage()
     return linkage

@@ -7,13 +7,14 @@ import subprocess
 import sys
 from types import FrameType
 
+from client.adapt.objects import Objects as Known
 from client.adapt.segments import about_segments
 from client.ld.command import Command, read_command
 from client.ld.fallback import hand_over
 from client.ld.flat import NoFlatImage, flat_binary
 from client.ld.help import HELP
 from client.ld.inputs import BadInput, CannotLink, Loader, MissingInput, Object
-from client.ld.link import Result, link, options_of
+from client.ld.link import Opened, Result, link, options_of
 from client.ld.options import WordsRefused
 from client.ld.output import PROGRAM, TEXT, write_file
 from client.ld.page_size import PAGE, TooFar, with_pages
@@ -127,21 +128,37 @@ class Link:
         self._check_outputs([*loader.files, *command.scripts])
         if self.source.commands.binary and self.source.own and command.output_format is None:
             command.output_format = "binary"
-        script = write_script(self.source, command, self.objects)
-        if script.valued:
-            script = with_values(self.source, command, self.objects) or script
-        report_script(script, command.verbose)
-        if script.left:
-            say(f"{self.source.path}: {len(script.left)} places cannot be linked by ldi; they are named above")
-            return REFUSED
-        for note in command.notes:
-            say(note)
-        session = Session(options_of(command, script))
+        opened = Opened(options_of(command), self.objects)
         try:
-            result = link(session, script.text, self.objects)
-            return self._finish(session, script, result, loader.files)
+            script = self._script()
+            report_script(script, command.verbose)
+            if script.left:
+                say(f"{self.source.path}: {len(script.left)} places cannot be linked by ldi; they are named above")
+                return REFUSED
+            for note in command.notes:
+                say(note)
+            if script.entry is not None:
+                opened.end()
+                opened = Opened(options_of(command, script.entry), self.objects)
+            result = link(opened, script.text, self._wants_map())
+            return self._finish(opened.session, script, result, loader.files)
         finally:
-            session.kill()
+            opened.end()
+
+    def _script(self) -> Script:
+        """The script for the session, with the values of objects' symbols that it names."""
+        known = Known({item.name.decode(): item.data for item in self.objects})
+        script = write_script(self.source, self.command, known, {})
+        if not script.valued:
+            return script
+        valued = with_values(self.source, self.command, self.objects, known, script)
+        return valued or write_script(self.source, self.command, known)
+
+    def _wants_map(self) -> bool:
+        """Whether the map is written, or something is printed from it."""
+        command = self.command
+        tables = command.print_memory_usage or command.gc_sections and command.print_gc_sections
+        return command.map_file is not None or command.print_map or tables
 
     def _check_required(self, loader: Loader) -> None:
         """The names of --require-defined are defined."""
@@ -232,12 +249,11 @@ class Link:
     def _report(self, session: Session, script: Script, result: Result) -> None:
         """Prints the tables and lists that were asked for."""
         command = self.command
-        link_map = read_map(result.map)
         if command.gc_sections and command.print_gc_sections:
-            for line in removed_sections(self.objects, link_map):
+            for line in removed_sections(self.objects, read_map(result.map)):
                 say(line)
         if command.print_memory_usage:
-            print(memory_usage(session, script.text, link_map, result.image), end="")
+            print(memory_usage(session, script.text, read_map(result.map), result.image), end="")
 
 
 def run(words: list[str]) -> int:

@@ -13,7 +13,7 @@ from client.adapt.objects import Objects as Known
 from client.adapt.segments import Segments
 from client.ld.command import Command, number
 from client.ld.default_script import DEFAULT
-from client.ld.inputs import BadInput, MissingInput, Object
+from client.ld.inputs import BadInput, MissingInput
 from client.ld.script_commands import Commands, read_commands
 from client.ld.script_text import outline, set_address
 from client.watch.quick import with_entry
@@ -100,7 +100,7 @@ class Script:
 
 
 def adapt_source(
-    source: Source, command: Command, objects: list[Object], values: Mapping[str, int] | None = None
+    source: Source, command: Command, known: Known, values: Mapping[str, int] | None = None
 ) -> Adapted:
     """The script as `ldi-adapt` writes it; BadInput where it is no script."""
     defsyms = []
@@ -109,13 +109,12 @@ def adapt_source(
         if not equals:
             raise BadInput(f"--defsym {defsym}: no NAME=EXPRESSION")
         defsyms.append((name.strip(), value.strip()))
-    named = {item.name.decode(): item.data for item in objects}
     text = source.text
     if command.page_size is not None:
         text = MAX_PAGE_SIZE.sub(f"0x{command.page_size:x}", text)
     data = text.encode(errors="surrogateescape")
     try:
-        return adapt(data, defsyms, named, command.folders, source.path, orphans=False,
+        return adapt(data, defsyms, known, command.folders, source.path, orphans=False,
                      values=values)
     except NoParse as fault:
         raise BadInput(str(fault)) from fault
@@ -124,13 +123,13 @@ def adapt_source(
 
 
 def write_script(
-    source: Source, command: Command, objects: list[Object], values: Mapping[str, int] | None = None
+    source: Source, command: Command, known: Known, values: Mapping[str, int] | None = None
 ) -> Script:
     """The script for the session, with the entry and the addresses that the command line gives.
 
-    `values` are the addresses of objects' symbols for expressions of the script (`client/ld/valued.py`).
+    `known` is what the adapter knows of the objects, read once for all scripts of a link. `values` are the addresses of objects' symbols for expressions of the script (`client/ld/valued.py`).
     """
-    adapted = adapt_source(source, command, objects, values)
+    adapted = adapt_source(source, command, known, values)
     text = adapted.text
     for section, start in command.section_starts.items():
         changed = set_address(text, os.fsencode(section), start)
@@ -138,7 +137,7 @@ def write_script(
             command.note(f"the address of {section}: the script has no such section")
         text = changed or text
     if command.entry is None:
-        text, entry = _default_entry(text, command, objects)
+        text, entry = _default_entry(text, command, known)
     else:
         entry = os.fsencode(command.entry)
     if entry is None:
@@ -152,13 +151,13 @@ def write_script(
                   adapted.segments)
 
 
-def _default_entry(text: bytes, command: Command, objects: list[Object]) -> tuple[bytes, bytes | None]:
+def _default_entry(text: bytes, command: Command, known: Known) -> tuple[bytes, bytes | None]:
     """Where neither ENTRY nor -e says it: the symbol `start` of an object, else the start of .text, as for GNU ld."""
     found = outline(text)
     if found.has_entry:
         return text, None
     if not command.gc_sections:
-        if Known({item.name.decode(): item.data for item in objects}).definition("start") is not None:
+        if known.definition("start") is not None:
             return text, b"start"
         if any(head.name == b".text" for head in found.sections):
             return text + b" %s = ADDR(.text);" % NUMBER_ENTRY, NUMBER_ENTRY

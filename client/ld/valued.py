@@ -9,40 +9,41 @@ from __future__ import annotations
 from collections.abc import Sequence
 from dataclasses import replace
 
+from client.adapt.objects import Objects as Known
 from client.ld.command import Command
 from client.ld.inputs import Object
-from client.ld.link import options_of, send_objects
+from client.ld.link import Opened, options_of
 from client.ld.script import Script, Source, write_script
-from client.link_map import read_map
-from client.object_file import PROGBITS, NotElf, ObjectFile
-from client.protocol import Linked, Session
+from client.link_map import symbol_values
+from client.object_file import HEADER, PROGBITS, NotElf, ObjectFile
+from client.protocol import Linked
 
 ROUNDS = 8
 """Links after which values that still change are given up."""
 
 RELA = 4
-HEADER = 64
+KIND_AT = 4
+"""Where the kind of a section stands in its header."""
 
 
 def without_relocations(data: bytes) -> bytes:
     """The object with its sections of relocations as other sections without ALLOC, which a link passes over."""
     try:
-        headers = ObjectFile(data).headers
+        file = ObjectFile(data)
     except NotElf:
         return data
-    start = int.from_bytes(data[40:48], "little")
     changed = bytearray(data)
-    for index, header in enumerate(headers):
-        if header.kind == RELA:
-            at = start + HEADER * index + 4
+    for index, kind in enumerate(file.kinds()):
+        if kind == RELA:
+            at = file.headers_at + HEADER.size * index + KIND_AT
             changed[at : at + 4] = PROGBITS.to_bytes(4, "little")
     return bytes(changed)
 
 
 def values_in(map_text: bytes, names: frozenset[str]) -> dict[str, int]:
     """The values that a map has of these symbols."""
-    symbols = ((symbol.name.decode(errors="replace"), symbol.value) for symbol in read_map(map_text).symbols)
-    return {name: value for name, value in symbols if name in names and value is not None}
+    found = symbol_values(map_text, {name.encode("latin-1", "replace") for name in names})
+    return {name.decode("latin-1"): value for name, value in found.items()}
 
 
 def asserted(script: Script, values: dict[str, int]) -> Script:
@@ -52,14 +53,18 @@ def asserted(script: Script, values: dict[str, int]) -> Script:
     return replace(script, text=script.text + "\n".join(["", *lines, ""]).encode(), lines=places)
 
 
-def with_values(source: Source, command: Command, objects: list[Object]) -> Script | None:
-    """The script with the values of objects' symbols written into it; None where no link gives them."""
+def with_values(source: Source, command: Command, objects: list[Object], known: Known,
+                script: Script) -> Script | None:
+    """The script with the values of objects' symbols written into it; None where no link gives them.
+
+    `script` is the one that has 0 for each of them, `known` what the adapter knows of the objects.
+    """
     bare = _linked_beforehand(command, objects)
     values: dict[str, int] = {}
-    script = write_script(source, command, objects, values)
-    session = Session(options_of(command, script))
+    opened = Opened(options_of(command, script.entry), bare)
+    session = opened.session
     try:
-        if not send_objects(session, bare):
+        if opened.refused():
             return None
         for _ in range(ROUNDS):
             answer = session.script(script.text)
@@ -69,9 +74,9 @@ def with_values(source: Source, command: Command, objects: list[Object]) -> Scri
             if found == values:
                 return asserted(script, values)
             values = found
-            script = write_script(source, command, objects, values)
+            script = write_script(source, command, known, values)
     finally:
-        session.kill()
+        opened.end()
     return None
 
 
