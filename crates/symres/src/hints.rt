@@ -188,6 +188,14 @@ impl Hints {
         }
     }
 
+    /// Whether the name of a symbol is likely to have no place yet, by how many symbols stand before it as for `place`.
+    pub fn is_new(&self, symbol: usize) -> bool {
+        match self.found.get(symbol) {
+            Some(hint) => hint.place == 0 && self.lines.len() > 0,
+            None => false,
+        }
+    }
+
     /// Notes the place of the name of a symbol. If there is no memory for it, or no room near its hash, it is lost.
     pub fn note(&mut self, symbol: usize, place: usize) {
         let hash = match self.found.get(symbol) {

@@ -1,11 +1,11 @@
 //! Numbers of names. A name keeps its number until it is forgotten.
 
 ghost use Rattle.std.specs.Prelude.{◌≡◌, ◌≢◌, ◌==◌, ℕ, List, [], IfOk, IfSome, Some, None, MatchOption, OnOk, length};
-ghost use Rattle.std.specs.Prelude.{take};
+ghost use Rattle.std.specs.Prelude.{take, IfNone, ◌++◌, ◌∷◌};
 ghost use Rattle.std.specs.Prelude.{map, filter, is_some, if◌then◌else◌, nat_lt, OnErr, ◌<◌, slice_index_or};
 ghost use Rattle.slab.specs.Slab.{ContainsKey, get, Updates};
 ghost use Rattle.symres.specs.Known.{AddsNames, AreApart, entry_spelled, Files, HaveSlots, IsConsistent, IsKeptWhere};
-ghost use Rattle.symres.specs.Known.{kept_if};
+ghost use Rattle.symres.specs.Known.{kept_if, number_in};
 ghost use Rattle.std.proofs.Common.{Vec, Global};
 ghost use Rattle.symres.specs.Numbers.{is_used};
 ghost use Rattle.symres.specs.State.{slot, AreDistinct, IsInByteOrder, IsListing, IsNamed, KeepsNames};
@@ -13,7 +13,7 @@ ghost use Rattle.symres.specs.State.{slot, AreDistinct, IsInByteOrder, IsListing
 use crate::hashing::WordState;
 use crate::objects::Objects;
 use indexmap::IndexMap;
-use indexmap::map::Iter;
+use indexmap::map::{Entry, Iter};
 use slab::Slab;
 use std::alloc::{AllocError, Global};
 use std::hash::RandomState;
@@ -76,6 +76,27 @@ fn number_at(numbers: &IndexMap<Vec<u8>, usize, WordState>, place: usize) -> usi
     match numbers.get_index(place) {
         Some((_name, number)) => *number,
         None => unreachable!(),
+    }
+}
+
+/// Puts a name with this number behind the others, or gives the number that it has.
+fn put_new(
+    numbers: &mut IndexMap<Vec<u8>, usize, WordState>,
+    key: Vec<u8>,
+    number: usize,
+) -> Result<Option<usize>, AllocError>
+    ensures same { IfOk result (λ o. IfSome o (λ n. numbers.new.entries ≡ numbers.old.entries)) }
+    ensures known { IfOk result (λ o. IfSome o (λ n. number_in key.items numbers.old.entries ≡ Some n)) }
+    ensures absent { IfOk result (λ o. IfNone o (number_in key.items numbers.old.entries ≡ None)) }
+    ensures put { IfOk result (λ o. IfNone o (numbers.new.entries ≡ numbers.old.entries ++ (key, number) ∷ [])) }
+    ensures refused { OnErr result (numbers.new.entries ≡ numbers.old.entries) }
+{
+    match numbers.entry(key)? {
+        Entry::Occupied(entry) => Ok(Some(*entry.get())),
+        Entry::Vacant(entry) => {
+            entry.insert(number);
+            Ok(None)
+        }
     }
 }
 
@@ -144,6 +165,22 @@ impl NameTable {
         match self.number_of(name) {
             Some(number) => Ok(number),
             None => self.insert(name),
+        }
+    }
+
+    /// The same as `add`, where the name is likely to be new: it is hashed once.
+    #[inline(never)]
+    pub fn add_new(&mut self, name: &[u8]) -> Result<usize, AllocError>
+        ensures ok { IfOk result (λ n. IsNamed self.new.slots n name.now) }
+        ensures kept { KeepsNames self.old.slots self.new.slots }
+        ensures added { AddsNames self.old self.new }
+    {
+        let key = Vec::from_slice(*self.numbers.allocator(), name)?;
+        self.places.reserve(1)?;
+        let place = self.numbers.len();
+        match put_new(&mut self.numbers, key, self.places.vacant_key())? {
+            Some(number) => Ok(number),
+            None => Ok(self.places.insert_reserved(place)),
         }
     }
 

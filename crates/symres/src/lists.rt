@@ -305,6 +305,25 @@ fn note_new(known: &NameTable, count: usize, hints: &mut Hints, symbol: usize) {
     }
 }
 
+/// The number of a name by the hint for a symbol that has it. It becomes known if it isn't.
+#[inline(always)]
+fn add_hinted(
+    known: &mut NameTable,
+    hints: &Hints,
+    symbol: usize,
+    name: &[u8],
+) -> Result<usize, AllocError>
+    ensures ok { IfOk result (λ n. IsNamed known.new.slots n name.now) }
+    ensures kept { KeepsNames known.old.slots known.new.slots }
+    ensures added { AddsNames known.old known.new }
+{
+    if hints.is_new(symbol) {
+        known.add_new(name)
+    } else {
+        known.add_at(hints.place(symbol), name)
+    }
+}
+
 /// The number of the name of a symbol that comes after those of the list. It becomes known if it isn't. A long name,
 /// which other symbols of the object may share, is hashed once for all of them.
 #[inline(always)]
@@ -330,7 +349,12 @@ fn add_name(
         }
     }
     let count = known.len();
-    let name = known.add_at(hints.place(list.len()), object.name_of(SymbolIndex(number)))?;
+    let name = add_hinted(
+        known,
+        hints,
+        list.len(),
+        object.name_of(SymbolIndex(number)),
+    )?;
     note_new(known, count, hints, list.len());
     if is_long(place) {
         repeats.note(place, list.len())?;
