@@ -32,7 +32,7 @@ class InstallTest(unittest.TestCase):
         os.mkdir(programs)
         for name in ("ldi", "readobj", "readscript"):
             os.symlink(find_program(name), os.path.join(programs, name))
-        install = [ROOT / "tools" / "install", self.prefix, programs]
+        install = [str(ROOT / "tools" / "install"), self.prefix, programs]
         subprocess.run(install, check=True, capture_output=True, timeout=60)
         done = self.once()
         self.assertEqual((done.returncode, done.stderr), (0, ""))
