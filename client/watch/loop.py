@@ -206,7 +206,8 @@ class Watch:
         return self.making.changed(event.path)
 
     def _is_written_here(self, path: str) -> bool:
-        return any(output is not None and os.path.realpath(output.path) == path for output in (self.image, self.map))
+        outputs = (self.words.image, self.words.map, self.words.gdb)
+        return any(name is not None and os.path.realpath(name) == path for name in outputs)
 
     def _give_up_on_writers(self, now: float) -> None:
         """Takes files as they are whose writers do not close them."""
