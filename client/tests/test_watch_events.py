@@ -9,6 +9,7 @@ from unittest import mock
 
 from client.tests.test_watch_commands import MAKE, FolderTest
 from client.tests.watching import Watching, numbered, wait_until
+from client.watch.inputs import Input
 from client.watch.loop import Watch
 from client.watch.says import Teller
 from client.watch.words import read_words
@@ -54,6 +55,19 @@ class EventsTest(FolderTest):
         for last, due in ((100.0, 100.015), (100.1, 100.115), (100.19, 100.2), (107.0, 100.2)):
             watch.first_event, watch.last_event = 100.0, last
             self.assertAlmostEqual(watch._due(), due)
+
+    def test_event_without_a_change(self) -> None:
+        """An event always leads to a reading, though the file's times are what they were."""
+        watch = Watch(read_words(["-T", "t.ld", "-o", "image"]), mock.Mock(), Teller(True, "image", io.StringIO()))
+        self.addCleanup(watch.end)
+        one = Input(str(self.folder / "o1.o"))
+        one.read()
+        watch.places.put(one)
+        with open(one.path, "r+b"):
+            pass
+        watch._drain()
+        self.assertTrue(one.dirty)
+        self.assertTrue(one.is_same())
 
     def test_without_events(self) -> None:
         """A change that no event tells of, as in a file that is mapped into memory, is found within a second."""
