@@ -130,22 +130,39 @@ def write(folder: Path, number: int, seed: int, pace: float, orders: Connection)
         orders.send((writer.lives, dict(writer.born)))
 
 
+@dataclass
+class Reader:
+    """Opens the image all the time, and notes what it saw and when."""
+
+    image: Path
+    seen: dict[bytes, float] = field(default_factory=dict)
+    """The images that were new, and when each was first seen."""
+    opened: int = 0
+    last: bytes = b""
+    since: float = 0.0
+    """When the last image that was seen was there for the first time since it was another."""
+
+    def look(self) -> None:
+        """Opens the image once."""
+        data = self.image.read_bytes()
+        self.opened += 1
+        if data != self.last:
+            self.last, self.since = data, time.monotonic()
+            self.seen.setdefault(data, self.since)
+
+
 def read(image: Path, orders: Connection) -> None:
-    """The reader's process: opens the image all the time, and answers an order with the images that were new."""
-    seen: dict[bytes, float] = {}
-    opened, last = 0, b""
+    """The reader's process: answers an order with what it saw since the one before."""
+    reader = Reader(image)
     while True:
-        data = image.read_bytes()
-        opened += 1
-        if data != last:
-            seen.setdefault(data, time.monotonic())
-            last = data
+        reader.look()
         time.sleep(0.0005)
         if orders.poll():
             if not orders.recv():
                 return
-            orders.send((seen, opened))
-            seen, opened = {}, 0
+            reader.look()
+            orders.send((reader.seen, reader.opened, reader.since))
+            reader.seen, reader.opened = {}, 0
 
 
 class Waits:
@@ -201,7 +218,7 @@ class Soak:
     images: int = 0
     opened: int = 0
     times: list[float] = field(default_factory=list)
-    """Of each round, after how many seconds of rest the image was that of the files."""
+    """Of each round, after how many seconds of rest the reader saw the image of the files for good."""
     wrong: list[str] = field(default_factory=list)
 
     def run(self, rounds: int) -> None:
@@ -245,25 +262,31 @@ class Soak:
         rest = time.monotonic()
         self.waits.begin()
         self.lives.update(standing)
-        expected = self._settles(number, rest)
+        expected = self._settles(rest)
+        waits = self.waits.said()
         reader.send(True)
-        seen, opened = reader.recv()
+        seen, opened, since = reader.recv()
+        self._time(number, max(0.0, since - rest), waits)
         self.opened += opened
         for image, when in seen.items():
             self._judge(number, image, when, expected)
         self.lives = standing  # what ended before is in no image that is still to come
 
-    def _settles(self, number: int, rest: float) -> bytes:
-        """The image becomes that of what is there, in time; gives that image."""
+    def _settles(self, rest: float) -> bytes:
+        """Waits until the image is that of what is there, and gives that image; the judging says if it is not."""
         expected = self.folder.link()
         while self.folder.image() != expected and time.monotonic() < rest + 10 * self.limit:
             time.sleep(0.002)
-        took = time.monotonic() - rest
+        if self.folder.image() != expected:
+            self.wrong.append(f"the image is not that of the files after {10 * self.limit:g} s")
+        return expected
+
+    def _time(self, number: int, took: float, waits: str) -> None:
+        """Notes after how many seconds of rest the image became the one that stands."""
         self.times.append(took)
         if took > self.limit:
             text = f"round {number}: the image is that of the files after {took:.2f} s, not {self.limit:g}"
-            self.wrong.append(f"{text}; {self.waits.said()}")
-        return expected
+            self.wrong.append(f"{text}; {waits}")
 
     def _judge(self, number: int, image: bytes, when: float, expected: bytes) -> None:
         """The image is `ldi link`'s of the texts that it names, and these were on disk together."""

@@ -300,11 +300,13 @@ class WithoutInputsTest(LinkTest):
     """Messages without what they could be looked up in."""
 
     def test_lines_alone(self) -> None:
-        """Each line has a sentence, and a line that is none of the manual's stands as it is."""
+        """Each of the fifteen has a sentence, and a line that is none of the manual's stands as it is."""
         lines = ["F1 f c.o a.o", "F1 f c.o script", "F3 a.o .data", "F4 2 first", "F5 2", "F6 4", "F7 .d r", "F8 4",
                  "F9 .e .d", "F10 .e .d", "F11 268439928", "F12 a.o .text 0000000000000001 f",
                  "F13 a.o .text 0000000000000001 1", "F13 entry", "F14 a.o .data 0000000000000004 11 0000000080000000",
-                 "F14 a.o .data 0000000000000004 99 0000000080000000", "F15 1 text too big", "F16 a", "F5", "F12 a.o"]
+                 "F14 a.o .data 0000000000000004 99 0000000080000000", "F15 1 text too big", "F16 a", "F5", "F12 a.o",
+                 "F2 start"]
+        self.assertEqual({line.split()[0] for line in lines}, {f"F{number}" for number in range(1, 17)})
         faults = "".join(line + "\n" for line in lines).encode()
         messages = fault_messages(faults, Inputs("image.ld", b""))
         self.assertEqual([message.line for message in messages], lines)

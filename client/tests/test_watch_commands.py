@@ -135,6 +135,15 @@ class MakeTest(FolderTest):
         (self.folder / "other.h").write_text("2")
         self.assertTrue(wait_until(lambda: (self.folder / "seen").read_text().endswith("2"), 5))
 
+    def test_outputs_are_no_sources(self) -> None:
+        """What is written of a link is no source, whatever its name."""
+        watching = self.watch("--make", MAKE, "--Map", "map.h", "--gdb", "gdb.h")
+        self.assertEqual(watching.next()["event"], "linked")
+        self.source(1, 2)
+        self.assertEqual(watching.next()["event"], "linked")
+        self.assertTrue(watching.is_silent(0.5))
+        self.assertEqual(self.runs(), 2)
+
     def test_patterns(self) -> None:
         """--sources names others than the default ones, in folders below too, that come later."""
         watching = self.watch("--make", MAKE, "--sources", "*.x", "y*.z")

@@ -1,12 +1,18 @@
 """`ldi-watch`: what the system says of files, what it does not say, and what it loses."""
+import io
 import mmap
 import os
 import signal
 import time
 from pathlib import Path
+from unittest import mock
 
 from client.tests.test_watch_commands import MAKE, FolderTest
 from client.tests.watching import Watching, numbered, wait_until
+from client.watch.inputs import Input
+from client.watch.loop import Watch
+from client.watch.says import Teller
+from client.watch.words import read_words
 
 QUEUE = Path("/proc/sys/fs/inotify/max_queued_events")
 """How many events the system keeps for a program that does not read them."""
@@ -43,14 +49,25 @@ class EventsTest(FolderTest):
         self.assert_linked()
 
     def test_gathered_at_most(self) -> None:
-        """Changes that pause for less than 15 ms, without end, lead to an image all the same."""
-        watching = self.opened()
-        begins, version = time.monotonic(), 1
-        while watching.is_silent(0.011) and time.monotonic() < begins + 10:
-            version += 1
-            self.folder.renew(1, version)
-        self.assertLess(time.monotonic() - begins, 10)
-        self.assertGreater(version, 2)
+        """Events are dealt with after 15 ms that bring none, and after 200 ms though others come."""
+        watch = Watch(read_words(["-T", "t.ld", "-o", "image"]), mock.Mock(), Teller(True, "image", io.StringIO()))
+        self.addCleanup(watch.end)
+        for last, due in ((100.0, 100.015), (100.1, 100.115), (100.19, 100.2), (107.0, 100.2)):
+            watch.first_event, watch.last_event = 100.0, last
+            self.assertAlmostEqual(watch._due(), due)
+
+    def test_event_without_a_change(self) -> None:
+        """An event always leads to a reading, though the file's times are what they were."""
+        watch = Watch(read_words(["-T", "t.ld", "-o", "image"]), mock.Mock(), Teller(True, "image", io.StringIO()))
+        self.addCleanup(watch.end)
+        one = Input(str(self.folder / "o1.o"))
+        one.read()
+        watch.places.put(one)
+        with open(one.path, "r+b"):
+            pass
+        watch._drain()
+        self.assertTrue(one.dirty)
+        self.assertTrue(one.is_same())
 
     def test_without_events(self) -> None:
         """A change that no event tells of, as in a file that is mapped into memory, is found within a second."""
@@ -83,6 +100,37 @@ class EventsTest(FolderTest):
                 new.write(numbered(1, 5, 3))
         self.assertEqual(watching.wait_for("linked")["after"], ["o1.o"])
         self.assert_linked()
+
+    def test_renamed_while_it_is_written(self) -> None:
+        """An object that is renamed into place by one who has not closed it is being written still."""
+        watching = self.opened()
+        before = self.folder.image()
+        with open(self.folder / "next", "wb", buffering=0) as file:
+            file.write(numbered(1, 2, 3))
+            os.rename(self.folder / "next", self.folder / "o1.o")
+            time.sleep(0.2)
+            self.assertEqual(self.folder.image(), before)
+            file.seek(0)
+            file.write(numbered(1, 5, 3))
+        self.assertEqual(watching.wait_for("linked")["after"], ["o1.o"])
+        self.assert_linked()
+
+    def test_created_and_not_written(self) -> None:
+        """A script that was created, and given a mode, but not written yet: it is not taken for an empty one."""
+        watching = self.opened("--orphan-handling", "discard", "-e", "f0")
+        before = os.stat(self.folder / "image").st_ino
+        script = (self.folder / "t.ld").read_bytes()
+        os.kill(watching.process.pid, signal.SIGSTOP)
+        os.unlink(self.folder / "t.ld")
+        with open(self.folder / "t.ld", "wb", buffering=0) as file:
+            time.sleep(0.05)
+            os.fchmod(file.fileno(), 0o600)
+            os.kill(watching.process.pid, signal.SIGCONT)
+            said = watching.next()
+            self.assertEqual((said["event"], said["reasons"][0]["name"]), ("waiting", "t.ld"))
+            file.write(script)
+        self.assertFalse(watching.next()["written"])
+        self.assertEqual(os.stat(self.folder / "image").st_ino, before)
 
     def test_link_alone(self) -> None:
         """An object that comes as a link, whose other name is removed at once, has no writer to wait for."""

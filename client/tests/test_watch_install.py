@@ -1,5 +1,6 @@
 """`ldi-watch` as `make install` puts it there."""
 import os
+import shutil
 import subprocess
 import tempfile
 import unittest
@@ -32,7 +33,7 @@ class InstallTest(unittest.TestCase):
         os.mkdir(programs)
         for name in ("ldi", "readobj", "readscript"):
             os.symlink(find_program(name), os.path.join(programs, name))
-        install = [ROOT / "tools" / "install", self.prefix, programs]
+        install = [str(ROOT / "tools" / "install"), self.prefix, programs]
         subprocess.run(install, check=True, capture_output=True, timeout=60)
         done = self.once()
         self.assertEqual((done.returncode, done.stderr), (0, ""))
@@ -44,3 +45,26 @@ class InstallTest(unittest.TestCase):
         self.assertIn("[o1.o: refused 4 3]", done.stdout)
         said = subprocess.run([find_program("readobj"), "o1.o"], cwd=self.folder.path, capture_output=True, text=True)
         self.assertIn(said.stdout.splitlines()[-1].strip(), done.stdout)
+
+
+class ExampleTest(unittest.TestCase):
+    """examples/watch, in a copy."""
+
+    def test_once(self) -> None:
+        """`make once` makes the objects, links and runs the program; where something fails it runs none."""
+        with tempfile.TemporaryDirectory() as top:
+            for name in ("linux", "watch"):
+                shutil.copytree(ROOT / "examples" / name, os.path.join(top, "examples", name))
+            os.symlink(ROOT / "client", os.path.join(top, "client"))
+            command = ["make", "-s", "-C", os.path.join(top, "examples", "watch"), "once", f"LDI={find_program()}"]
+            done = subprocess.run(command, capture_output=True, text=True, timeout=60)
+            self.assertEqual(done.returncode, 0, done)
+            self.assertIn("primes below 100: 25", done.stdout)
+            for name, text, said in (("text.c", "int nothing;\n", "undefined reference to `write_line'"),
+                                     ("main.c", "no C\n", "the old image stays")):
+                with open(os.path.join(top, "examples", "linux", name), "w", encoding="utf-8") as file:
+                    file.write(text)
+                done = subprocess.run(command, capture_output=True, text=True, timeout=60)
+                self.assertNotEqual(done.returncode, 0)
+                self.assertIn(said, done.stdout)
+                self.assertNotIn("primes", done.stdout)

@@ -3,7 +3,7 @@ import random
 import unittest
 from unittest import mock
 
-from client.protocol import Answer, Options, Refused
+from client.protocol import Answer, Options, Refused, Session
 from client.tests.watching import SCRIPT, Folder, numbered
 from client.watch import kept
 from client.watch.kept import Kept, Project, longest_increasing
@@ -88,7 +88,7 @@ class KeptTest(unittest.TestCase):
         """More than a handful of edits are sent under a script of one line, and the script itself last."""
         sent: list[str] = []
 
-        class Noting(kept.Session):
+        class Noting(Session):
             """A session that notes the words of edits."""
 
             def _edit(self, line: bytes, payload: bytes = b"") -> Answer:

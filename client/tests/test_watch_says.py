@@ -119,6 +119,11 @@ class WordsTest(unittest.TestCase):
         read = read_words(["-Ts", "-oi", "--make", "m", "--sources", "*.c *.h", "*.z", "--", "a.o", "@x", "-y.o"])
         self.assertEqual((read.sources, read.objects), (("*.c", "*.h", "*.z"), ("a.o", "@x", "-y.o")))
 
+    def test_default_sources(self) -> None:
+        """The sources where no words name any."""
+        read = read_words(["-Ts", "-oi", "--make", "m", "a.o"])
+        self.assertEqual(read.sources, ("*.c", "*.h", "*.s", "*.S", "*.cc", "*.rs", "*.ld", "Makefile"))
+
     def test_refused(self) -> None:
         """Words that are refused."""
         for words in (

@@ -145,11 +145,12 @@ class SessionTest(unittest.TestCase):
         watching = self.opened()
         self.folder.put("o1.o", numbered(1, 2, 3, calls="nothing"))
         self.assertEqual(watching.next()["event"], "faults")
-        for _ in range(5):
+        for number in range(5):
             os.kill(watching.session(), signal.SIGKILL)
             self.assertEqual(watching.next()["event"], "restarted")
-            self.assertTrue(wait_until(lambda: len(watching.children()) == 1))
-            time.sleep(0.2)
+            self.folder.put("o1.o", numbered(1, 2, 3, calls=f"none{number}"))
+            while f"none{number}" not in watching.wait_for("faults")["faults"][0]["line"]:
+                pass
         self.folder.renew(1, 2)
         self.assertEqual(watching.next()["event"], "linked")
         self.assertEqual(self.folder.image(), self.folder.link())

@@ -33,7 +33,8 @@ MASK = (
 )
 
 HEADER = struct.Struct("iIII")
-"""What an event begins with: the number of the watch, the mask, a number that is not needed, the bytes of the name."""
+"""What an event begins with: the number of the watch, the mask, a number that both events of a rename have, the bytes of
+the name."""
 
 BUFFER = 1 << 16
 
@@ -66,6 +67,10 @@ class Watcher:
         self._names: dict[int, list[str]] = {}
         """The folders' names by the numbers of the watches: one for each, unless a folder has several names."""
         self._numbers: dict[str, int] = {}
+        self._written: set[str] = set()
+        """The files, inputs or not, that are being written."""
+        self._moving: set[int] = set()
+        """The numbers of renames of such files."""
         self._descriptor = -1
 
     def fileno(self) -> int:
@@ -74,8 +79,9 @@ class Watcher:
 
     def watch(self, folder: str) -> None:
         """Watches a folder too, if it is there; `look` tries those again that are not."""
-        if folder not in self._folders or identity(folder) != self._folders[folder]:
-            self._try(folder)
+        is_new = folder not in self._folders
+        if is_new or identity(folder) != self._folders[folder]:
+            self.is_disturbed = (self._try(folder) and not is_new) or self.is_disturbed
 
     def look(self) -> bool:
         """Watches folders that came since, or that others stand in place of; says whether there are such."""
@@ -88,7 +94,7 @@ class Watcher:
     def read(self) -> list[Event]:
         """What has happened."""
         events = []
-        for number, mask, name in parsed(os.read(self._descriptor, BUFFER)):
+        for number, mask, pair, name in parsed(os.read(self._descriptor, BUFFER)):
             if mask & InotifyConstants.IN_Q_OVERFLOW:
                 self.is_disturbed = True
             elif mask & InotifyConstants.IN_IGNORED:
@@ -101,8 +107,22 @@ class Watcher:
                 for folder in self._names.get(number, ()):
                     path = os.path.join(folder, name)
                     self.is_disturbed = self.is_disturbed or (is_folder and path in self._folders)
-                    events.append(Event(path, kind_of(path, mask), is_folder))
+                    events.append(Event(path, self._kind(path, mask, pair), is_folder))
         return events
+
+    def _kind(self, path: str, mask: int, pair: int) -> Kind:
+        """What an event says of a file; one that is renamed while it is being written is being written still."""
+        kind = kind_of(path, mask)
+        if mask & InotifyConstants.IN_MOVED_TO and pair in self._moving:
+            self._moving.remove(pair)
+            kind = Kind.WRITING
+        if kind is Kind.WRITING:
+            self._written.add(path)
+        elif kind is not Kind.TOUCHED and path in self._written:
+            self._written.remove(path)
+            if mask & InotifyConstants.IN_MOVED_FROM:
+                self._moving.add(pair)
+        return kind
 
     def close(self) -> None:
         """Ends all watches."""
@@ -137,13 +157,13 @@ class Watcher:
             self.is_disturbed = True
 
 
-def parsed(data: bytes) -> Iterator[tuple[int, int, str]]:
-    """The events in what was read: the number of the watch, the mask, the name."""
+def parsed(data: bytes) -> Iterator[tuple[int, int, int, str]]:
+    """The events in what was read: the number of the watch, the mask, the number of a rename, the name."""
     at = 0
     while at < len(data):
-        number, mask, _, length = HEADER.unpack_from(data, at)
+        number, mask, pair, length = HEADER.unpack_from(data, at)
         at += HEADER.size
-        yield number, mask, os.fsdecode(data[at : at + length].rstrip(b"\0"))
+        yield number, mask, pair, os.fsdecode(data[at : at + length].rstrip(b"\0"))
         at += length
 
 
@@ -180,12 +200,12 @@ def kind_of(path: str, mask: int) -> Kind:
 def has_writer(path: str) -> bool:
     """Whether a name that came by no rename is that of a new file: a link has no writer who would close it.
 
-    A link's file has another name still, or was changed before it got this one. While a new file is written, it was
-    changed when it was last modified; what its writer does to it afterwards comes after the events of his writing.
+    A link's file has another name still, or was last written before it got this one. What has been written to a new
+    file has events that follow.
     """
     try:
         status = os.lstat(path)
     except OSError:
         return False
-    is_new = status.st_nlink == 1 and status.st_mtime_ns == status.st_ctime_ns
-    return is_new and stat.S_ISREG(status.st_mode)
+    is_new = status.st_size == 0 or status.st_mtime_ns == status.st_ctime_ns
+    return is_new and status.st_nlink == 1 and stat.S_ISREG(status.st_mode)

@@ -69,7 +69,12 @@ class Kept:
             self._start(options)
         self.refused = {}
         in_order = self._order == list(project.objects)
-        others = [name for name, data in project.objects.items() if not self._holds(name, data)]
+        held = self._held  # asked here already, as there may be thousands
+        others = [
+            name
+            for name, data in project.objects.items()
+            if held.get(name) is not data and not self._holds(name, data)
+        ]
         count = len(others) + (script != self._script) + (0 if in_order else self._count_of_order(project))
         if count > HANDFUL and options.entry is None and self._answered(
             SCRIPT, self._running().script(SCRIPT_WITHOUT_LINK)
@@ -84,10 +89,10 @@ class Kept:
 
     def _holds(self, name: str, data: bytes) -> bool:
         """Whether the session has these bytes under this name."""
-        held = self._held.get(name)
-        if held is not data and held == data:
-            self._held[name] = data  # so that the next look costs nothing
-        return held is data or held == data
+        if self._held.get(name) != data:
+            return False
+        self._held[name] = data  # so that the next look costs nothing
+        return True
 
     def _start(self, options: Options) -> None:
         program = self._program or find_program()

@@ -206,7 +206,8 @@ class Watch:
         return self.making.changed(event.path)
 
     def _is_written_here(self, path: str) -> bool:
-        return any(output is not None and os.path.realpath(output.path) == path for output in (self.image, self.map))
+        outputs = (self.words.image, self.words.map, self.words.gdb)
+        return any(name is not None and os.path.realpath(name) == path for name in outputs)
 
     def _give_up_on_writers(self, now: float) -> None:
         """Takes files as they are whose writers do not close them."""
@@ -221,9 +222,10 @@ class Watch:
     def _look_at_all(self, now: float) -> None:
         """Looks at all inputs and folders, for events that the system lost."""
         self.next_look = now + PERIOD
-        disturbed, self.watcher.is_disturbed = self.watcher.is_disturbed, False
         self.places.look()
-        if (self.watcher.look() or disturbed) and self.making is not None and self.making.look():
+        disturbed = self.watcher.look() or self.watcher.is_disturbed
+        self.watcher.is_disturbed = False
+        if disturbed and self.making is not None and self.making.look():
             self._note(now)
         changed = [one for one in self._inputs() if not one.dirty and one.failure is None and not one.is_same()]
         changed += [one for one in self._inputs() if one.failure is not None]
@@ -402,10 +404,13 @@ class Watch:
         for one in changed:
             one.dirty = True
         self._drain()
-        if self.writers or self.watcher.is_disturbed or any([one.dirty for one in self._inputs()]):
-            self._note(time.monotonic())
-            return True
-        return False
+        now = time.monotonic()
+        if self.watcher.is_disturbed:
+            self.next_look = now
+        elif not self.writers and not any([one.dirty for one in self._inputs()]):
+            return False
+        self._note(now)
+        return True
 
     def _are_placed(self) -> bool:
         return self.image.is_placed() and (self.map is None or self.map.is_placed())
