@@ -9,7 +9,7 @@ from client.adapt.notes import CHANGED, DROPPED, LEFT, REWRITTEN, SEGMENTS, Left
 from client.adapt.objects import NOBITS
 from client.adapt.patterns import is_name
 from client.adapt.statements import needs_writing
-from client.adapt.taking import flags_of, inputs, row
+from client.adapt.taking import OWN_ALIGN, flags_of, inputs, row, takes_own
 from client.adapt.tree import Assign, Command, Data, Expr, Input, Part, Region, Section
 from client.adapt.values import Place
 
@@ -101,6 +101,8 @@ class Sections(Heads):
         if align is not None and address is None and self._empty(section):
             self.blank(align, REWRITTEN, f"ALIGN of {section.name}: it takes nothing of these objects, so that GNU ld "
                        "leaves it out")
+        elif address is None and self._own_alignment(section, align):
+            pass
         elif align is not None and align.value is not None:
             self.write(align.value, Place(step.index, None), f"ALIGN of {section.name}:")
         region = self._tail(section)
@@ -109,6 +111,24 @@ class Sections(Heads):
         self._fill(section)
         self._order(section)
         self._comma(section)
+
+    def _own_alignment(self, section: Section, align: Part | None) -> bool:
+        """Writes ALIGN for a section that has one of GNU ld's own sections, which are aligned, and stays without it."""
+        model = self.model
+        if not takes_own(model, section) or any(item.align >= OWN_ALIGN for item in row(model, section)):
+            return False
+        stays = any(isinstance(node, (Assign, Data)) for node in section.body) \
+            or any(item.size for item in row(model, section))
+        head = 1 if align is None or align.value is None else ex.constant(align.value)
+        if not stays or head is None or head >= OWN_ALIGN:
+            return False
+        if align is None:
+            model.edits.insert(section.open, f"ALIGN({OWN_ALIGN}) ")
+        else:
+            model.edits.replace(align.start, align.end, f"ALIGN({OWN_ALIGN})")
+        model.note(REWRITTEN, section.start, f"{section.name} is aligned by {OWN_ALIGN}, as sections are that GNU ld "
+                   "makes itself and places there, without contents in a static link")
+        return True
 
     def _empty(self, section: Section) -> bool:
         """Whether a section has nothing but input statements, and these take nothing of the objects."""

@@ -152,8 +152,30 @@ def row(model: Model, section: Section) -> list[InputSection]:
 
 
 def alignment_of(model: Model, section: Section) -> int:
-    """The greatest alignment of a section's row."""
-    return max([item.align for item in row(model, section)], default=1)
+    """The greatest alignment of a section's row, with what GNU ld itself puts there."""
+    own = OWN_ALIGN if takes_own(model, section) else 1
+    return max([own, *(item.align for item in row(model, section))])
+
+
+OWN_ALIGN = 8
+_OWN = (".got", ".got.plt", ".igot.plt", ".rela.got", ".rela.iplt")
+"""Sections that GNU ld makes in every link, with that alignment; without contents in a static link."""
+
+
+def takes_own(model: Model, section: Section) -> bool:
+    """Whether a statement of the section is the first that takes one of GNU ld's own sections."""
+    if model.own is None:
+        model.own = set()
+        found: set[str] = set()
+        for output in all_sections(model.nodes):
+            if id(output) in model.dropped:
+                continue
+            names = {name for name in _OWN for node in inputs(output)
+                     if node.file.word == "*" and not node.flags and may_take(node, name)} - found
+            found |= names
+            if names and output.name != "/DISCARD/":
+                model.own.add(id(output))
+    return id(section) in model.own
 
 
 def inputs(section: Section) -> list[Input]:
