@@ -4,7 +4,7 @@ from __future__ import annotations
 from client.adapt.model import Model
 from client.adapt.notes import CHANGED, DROPPED, LEFT, REWRITTEN
 from client.adapt.patterns import is_word, word_of
-from client.adapt.taking import file_names, is_outside, literal, takes, taking
+from client.adapt.taking import file_names, is_outside, literal, may_take, takes, taking
 from client.adapt.tree import Assert, Assign, Command, Data, Input, Node, Pattern, Section
 
 _SORTS = {"SORT": "SORT_BY_NAME", "SORT_BY_NAME": "SORT_BY_NAME", "SORT_BY_ALIGNMENT": "SORT_BY_ALIGNMENT",
@@ -265,7 +265,9 @@ def inputs(model: Model, section: Section) -> None:
 def _unloaded(model: Model, node: Input) -> None:
     """Says where a statement takes what is not loaded too, which GNU ld then loads."""
     if model.objects is not None:
-        found = next((item for item in model.objects.unloaded() if takes(node, item)), None)
+        unloaded = model.objects.unloaded()
+        names = [name for name in unloaded if may_take(node, name)]
+        found = next((item for name in names for item in unloaded[name] if takes(node, item)), None)
         if found is None:
             return
         what = f"{found.name} of {found.object}"

@@ -2,6 +2,7 @@
 from __future__ import annotations
 
 import re
+from collections import deque
 from collections.abc import Iterable, Mapping
 
 from client.adapt import expressions
@@ -58,6 +59,8 @@ class Model:
         self.source, self.nodes, self.objects = source, nodes, objects
         self.edits = Edits(source)
         self._notes: list[tuple[int, int, Note]] = []
+        self._recent: deque[tuple[str, int, str, str]] = deque(maxlen=8)
+        """What the last lines of the report say."""
         self.steps: list[Step] = []
         self.definitions: dict[str, list[Definition]] = {}
         self.sections: dict[str, Section] = {}
@@ -102,14 +105,17 @@ class Model:
         """Adds a line to the report; the same line twice is one."""
         path, line = self.source.place(offset)
         note = Note(kind, path, line, text)
-        if all(old != note for _, _, old in self._notes[-8:]):
+        if note.key() not in self._recent:
+            self._recent.append(note.key())
             self._notes.append((offset, len(self._notes), note))
 
     def report(self) -> list[Note]:
         """The report in the order of the text."""
         result: list[Note] = []
+        recent: deque[tuple[str, int, str, str]] = deque(maxlen=20)
         for _, _, note in sorted(self._notes, key=lambda entry: entry[:2]):
-            if note not in result[-20:]:
+            if note.key() not in recent:
+                recent.append(note.key())
                 result.append(note)
         return result
 

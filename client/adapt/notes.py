@@ -22,11 +22,15 @@ class Note:
     def __init__(self, kind: str, path: str, line: int, text: str) -> None:
         self.kind, self.path, self.line, self.text = kind, path, line, text
 
+    def key(self) -> tuple[str, int, str, str]:
+        """All that it says."""
+        return self.text, self.line, self.path, self.kind
+
     def __eq__(self, other: object) -> bool:
-        return isinstance(other, Note) and str(self) == str(other)
+        return isinstance(other, Note) and self.key() == other.key()
 
     def __hash__(self) -> int:
-        return hash(str(self))
+        return hash(self.key())
 
     def __str__(self) -> str:
         return f"{self.path}:{self.line}: {self.kind}: {self.text}"

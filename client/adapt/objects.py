@@ -2,12 +2,14 @@
 from __future__ import annotations
 
 import struct
-from collections.abc import Iterable, Mapping
+from collections.abc import Iterable, Iterator, Mapping
 
 LINKED = frozenset((1, 7, 8, 14, 15, 16, 0x70000001))
 NOBITS = 8
 WRITE, ALLOC, EXEC = 1, 2, 4
 _ABS, _COMMON = 0xFFF1, 0xFFF2
+_HEADER = struct.Struct("<IIQQQQIIQQ")
+_SYMBOL = struct.Struct("<IBBHQQ")
 
 
 class InputSection:
@@ -42,26 +44,36 @@ class Objects:
                 with open(path, "rb") as file:
                     self._files[path] = file.read()
         self.names = list(self._files)
+        self._tables: list[_Tables] | None = None
         self._sections: list[InputSection] | None = None
-        self._unloaded: list[InputSection] | None = None
+        self._unloaded: dict[str, list[InputSection]] | None = None
         self._definitions: dict[str, Definition] = {}
         self._undefined: set[str] = set()
         self._read = False
+
+    def _read_tables(self) -> list[_Tables]:
+        """The tables of the objects, read once."""
+        if self._tables is None:
+            self._tables = [_Tables(name, data) for name, data in self._files.items()]
+        return self._tables
 
     def sections(self) -> list[InputSection]:
         """The linked sections with ALLOC, and the common blocks."""
         if self._sections is None:
             self._sections = []
-            for name, data in self._files.items():
-                self._sections.extend(section for section, _ in _sections(name, data) if section.flags & ALLOC)
-                self._sections.extend(_commons(name, data))
+            for tables in self._read_tables():
+                self._sections.extend(section for section in tables.sections.values() if section.flags & ALLOC)
+                self._sections.extend(tables.commons())
         return self._sections
 
-    def unloaded(self) -> list[InputSection]:
-        """Sections with contents and without ALLOC, but for symbol tables and relocations."""
+    def unloaded(self) -> dict[str, list[InputSection]]:
+        """By name: sections with contents and without ALLOC, but for symbol tables and relocations."""
         if self._unloaded is None:
-            self._unloaded = [section for name, data in self._files.items() for section, _ in _sections(name, data)
-                              if not section.flags & ALLOC and section.size]
+            self._unloaded = {}
+            for tables in self._read_tables():
+                for section in tables.sections.values():
+                    if not section.flags & ALLOC and section.size:
+                        self._unloaded.setdefault(section.name, []).append(section)
         return self._unloaded
 
     def definition(self, name: str) -> Definition | None:
@@ -83,14 +95,61 @@ class Objects:
         if self._read:
             return
         self._read = True
-        for name, data in self._files.items():
-            for symbol, shndx, value, weak, section in _symbols(data):
+        definitions = self._definitions
+        for tables in self._read_tables():
+            for symbol, shndx, value, weak in tables.symbols():
                 if shndx == 0:
                     self._undefined.add(symbol)
                     continue
-                old = self._definitions.get(symbol)
+                old = definitions.get(symbol)
                 if old is None or old.weak and not weak or old.section == "COMMON" and shndx != _COMMON:
-                    self._definitions[symbol] = Definition(name, section, value, weak)
+                    definitions[symbol] = Definition(tables.name, tables.section_name(shndx), value, weak)
+
+
+class _Tables:
+    """The section headers and the symbol table of an object; of another file they are empty."""
+
+    __slots__ = ("name", "data", "sections", "_table", "_names")
+
+    def __init__(self, name: str, data: bytes) -> None:
+        self.name, self.data = name, data
+        self.sections: dict[int, InputSection] = {}
+        """By number: the sections of types that are linked."""
+        self._table = b""
+        """The entries of the symbol table that are not local."""
+        self._names = 0
+        """Where the names of symbols stand."""
+        headers = _headers(data)
+        if not headers:
+            return
+        names = headers[struct.unpack_from("<H", data, 62)[0]][4]
+        for number, (word, kind, flags, _, _, size, _, _, align, _) in enumerate(headers):
+            if kind in LINKED:
+                self.sections[number] = InputSection(name, _text(data, names + word), kind, flags, size, max(align, 1))
+        header = next((header for header in headers if header[1] == 2), None)
+        if header is not None:
+            self._table = data[header[4] + _SYMBOL.size * header[7]:header[4] + header[5]]
+            self._names = headers[header[6]][4]
+
+    def section_name(self, shndx: int) -> str:
+        """The name of a symbol's section."""
+        if shndx == _ABS:
+            return ""
+        if shndx == _COMMON:
+            return "COMMON"
+        section = self.sections.get(shndx)
+        return "?" if section is None else section.name
+
+    def symbols(self) -> Iterator[tuple[str, int, int, bool]]:
+        """The entries that are not local: name, section number, value, weak."""
+        data, names = self.data, self._names
+        for name, info, _, shndx, value, _ in _SYMBOL.iter_unpack(self._table):
+            yield _text(data, names + name), shndx, value, info >> 4 == 2
+
+    def commons(self) -> list[InputSection]:
+        """The common blocks as sections."""
+        return [InputSection(self.name, "COMMON", NOBITS, ALLOC | WRITE, size, max(value, 1))
+                for _, _, _, shndx, value, size in _SYMBOL.iter_unpack(self._table) if shndx == _COMMON]
 
 
 def _headers(data: bytes) -> list[tuple[int, ...]]:
@@ -99,54 +158,10 @@ def _headers(data: bytes) -> list[tuple[int, ...]]:
         return []
     offset, = struct.unpack_from("<Q", data, 40)
     count, = struct.unpack_from("<H", data, 60)
-    if offset + 64 * count > len(data):
+    if offset + _HEADER.size * count > len(data):
         return []
-    return [struct.unpack_from("<IIQQQQIIQQ", data, offset + 64 * i) for i in range(count)]
+    return list(_HEADER.iter_unpack(data[offset:offset + _HEADER.size * count]))
 
 
 def _text(data: bytes, at: int) -> str:
     return data[at:data.find(b"\0", at)].decode("latin-1")
-
-
-def _sections(name: str, data: bytes) -> list[tuple[InputSection, int]]:
-    """The sections of an object with their numbers."""
-    headers = _headers(data)
-    if not headers:
-        return []
-    names = headers[struct.unpack_from("<H", data, 62)[0]][4]
-    return [(InputSection(name, _text(data, names + h[0]), h[1], h[2], h[5], max(h[8], 1)), number)
-            for number, h in enumerate(headers) if h[1] in LINKED]
-
-
-def _table(data: bytes) -> tuple[tuple[int, ...], int] | None:
-    """The symbol table's header, and where its names stand."""
-    headers = _headers(data)
-    for header in headers:
-        if header[1] == 2:
-            return header, headers[header[6]][4]
-    return None
-
-
-def _symbols(data: bytes) -> list[tuple[str, int, int, bool, str]]:
-    """The entries that are not local: name, section number, value, weak, the section's name."""
-    table = _table(data)
-    if table is None:
-        return []
-    header, names = table
-    sections = {number: section.name for section, number in _sections("", data)}
-    result = []
-    entries = data[header[4] + 24 * header[7]:header[4] + header[5]]
-    for name, info, _, shndx, value, _ in struct.iter_unpack("<IBBHQQ", entries):
-        section = "" if shndx == _ABS else "COMMON" if shndx == _COMMON else sections.get(shndx, "?")
-        result.append((_text(data, names + name), shndx, value, info >> 4 == 2, section))
-    return result
-
-
-def _commons(name: str, data: bytes) -> list[InputSection]:
-    table = _table(data)
-    if table is None:
-        return []
-    header, _ = table
-    entries = data[header[4] + 24 * header[7]:header[4] + header[5]]
-    return [InputSection(name, "COMMON", NOBITS, ALLOC | WRITE, size, max(value, 1))
-            for _, _, _, shndx, value, size in struct.iter_unpack("<IBBHQQ", entries) if shndx == _COMMON]

@@ -1,6 +1,9 @@
 """Which sections of the objects a statement takes, where the objects are known."""
 from __future__ import annotations
 
+import re
+from collections.abc import Sequence
+
 from client.adapt.model import Model
 from client.adapt.objects import EXEC, NOBITS, WRITE, InputSection
 from client.adapt.patterns import has_wildcard, matcher
@@ -50,6 +53,11 @@ def takes(node: Input, section: InputSection) -> Pattern | None:
     return None
 
 
+def may_take(node: Input, name: str) -> bool:
+    """Whether a statement has a pattern for a name, of whatever file."""
+    return node.patterns is None or any(matcher(pattern.word).fullmatch(name) for pattern in node.patterns)
+
+
 class Taking:
     """The rows of a script over its objects: each section goes to the first statement that takes it."""
 
@@ -61,9 +69,10 @@ class Taking:
             return
         names: dict[str, list[tuple[Section, Input]]] = {}
         statements = [(section, node) for section in sections for node in section.body if isinstance(node, Input)]
+        index = _Index([node for _, node in statements])
         for item in model.objects.sections():
             if item.name not in names:
-                names[item.name] = [entry for entry in statements if _may_take(entry[1], item.name)]
+                names[item.name] = [statements[number] for number in index.of(item.name)]
             for section, node in names[item.name]:
                 if takes(node, item):
                     self.rows[id(section)].append(item)
@@ -73,8 +82,37 @@ class Taking:
                 self.orphans.append(item)
 
 
-def _may_take(node: Input, name: str) -> bool:
-    return node.patterns is None or any(matcher(pattern.word).fullmatch(name) for pattern in node.patterns)
+class _Index:
+    """Which of some statements have a pattern that matches a name: by what stands before a pattern's first wildcard."""
+
+    def __init__(self, nodes: Sequence[Input]) -> None:
+        self._whole: dict[str, list[int]] = {}
+        """By name: the numbers of the statements with a pattern that is this name."""
+        self._fronts: dict[str, list[tuple[int, re.Pattern[str]]]] = {}
+        """By what a pattern begins with: the statements' numbers, and the pattern."""
+        for number, node in enumerate(nodes):
+            for word in ["*"] if node.patterns is None else [pattern.word for pattern in node.patterns]:
+                front = _FRONT.match(word).group()  # type: ignore[union-attr]
+                if front == word:
+                    self._whole.setdefault(word, []).append(number)
+                else:
+                    self._fronts.setdefault(front, []).append((number, matcher(word)))
+        self._lengths = sorted({len(front) for front in self._fronts})
+
+    def of(self, name: str) -> list[int]:
+        """The numbers of the statements, in their order."""
+        found = set(self._whole.get(name, ()))
+        for length in self._lengths:
+            if length > len(name):
+                break
+            for number, pattern in self._fronts.get(name[:length], ()):
+                if number not in found and pattern.fullmatch(name):
+                    found.add(number)
+        return sorted(found)
+
+
+_FRONT = re.compile(r"[^*?\[\\]*")
+"""What stands before the first wildcard or escape of a pattern."""
 
 
 def taking(model: Model) -> Taking:
