@@ -63,7 +63,7 @@ class GdbTest(ImageTest):
         self.assertRegex(text, rf"#0  call \(number=number@entry=60, .*\) at system\.c:{line}\n")
         self.assertIn("$1 = 60", text)
         self.assertIn("$2 = 0x0", text)
-        self.assertRegex(text, rf"#1  0x[0-9a-f]+ in begin \(\) at system\.c:{caller}\n#2  0x[0-9a-f]+ in _start \(\)\n")
+        self.assertRegex(text, rf"#1  0x\w+ in begin \(\) at system\.c:{caller}\n#2  0x\w+ in _start \(\)\n")
         self.assertIn("primes below 100: 25", text)
         self.assertIn("$3 = 100", text)
         self.assertRegex(text, r'"never_called" is a function at address 0x80000000000')
