@@ -25,7 +25,8 @@ def parser() -> argparse.ArgumentParser:
         allow_abbrev=False,
     )
     words.add_argument("map", metavar="MAP", help="the map of the link")
-    words.add_argument("addresses", metavar="ADDRESS", nargs="*", default=[], help="with --lines: addresses in hexadecimal")
+    words.add_argument("addresses", metavar="ADDRESS", nargs="*", default=[],
+                       help="with --lines: addresses in hexadecimal")
     words.add_argument("-o", dest="output", metavar="OUT", help="the file to write in place of standard output")
     words.add_argument("--objects", metavar="FOLDER", default=".",
                        help="the folder that the names of objects count from; the current one by default")

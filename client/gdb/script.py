@@ -16,6 +16,10 @@ from client.object_file import ALLOC, NotElf, ObjectFile
 NOWHERE = 1 << 63
 """Where sections are put that are not in the image: an address that no x86-64 has, so that gdb sets nothing there."""
 
+UNWINDING = b".eh_frame"
+"""A section that is not put anywhere where it is not in the image: gdb would count its entries from there, and lose the
+callers of functions. Without it gdb finds them by the code of the functions."""
+
 
 @dataclass
 class Placed:
@@ -53,7 +57,7 @@ def _left_out(placed: Placed, data: bytes) -> list[tuple[str, int]]:
     for section in sections:
         if inside[section]:
             inside[section] -= 1
-        else:
+        elif section[0] != UNWINDING:
             result.append((section[0].decode(errors="replace"), address))
             address += -(-section[1] // 4096) * 4096
     return result

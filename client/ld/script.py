@@ -127,7 +127,8 @@ def write_script(
 ) -> Script:
     """The script for the session, with the entry and the addresses that the command line gives.
 
-    `known` is what the adapter knows of the objects, read once for all scripts of a link. `values` are the addresses of objects' symbols for expressions of the script (`client/ld/valued.py`).
+    `known` is what the adapter knows of the objects, read once for all scripts of a link; `values` are the addresses
+    of objects' symbols for expressions of the script (`client/ld/valued.py`).
     """
     adapted = adapt_source(source, command, known, values)
     text = adapted.text

@@ -29,6 +29,9 @@ __attribute__((noreturn)) void begin(void)
 NO_COPIES = ("-fno-inline", "-fno-ipa-sra", "-fno-ipa-cp")
 """Flags with which static functions keep their names and arguments."""
 
+CALLERS = "-fno-optimize-sibling-calls"
+"""Without it `begin` ends in a jump to `call`, and is no more on the stack when that runs: its caller follows."""
+
 
 class ImageTest(LinkTest):
     """Images of `ldi link`, with their maps."""
@@ -49,20 +52,30 @@ class GdbTest(ImageTest):
 
     @needs("gdb")
     def test_static_function(self) -> None:
-        """gdb stops at a static function, and prints its line, an argument and where it is called from."""
-        self.link(*self.compile_example("-g", *NO_COPIES))
+        """gdb stops at a static function, and prints its line, an argument and all its callers."""
+        self.link(*self.compile_example("-g", *NO_COPIES, CALLERS))
         self.run_tool(LDI_GDB, "hello.map", "-o", "hello.gdb")
         self.write("drive", "source hello.gdb\nbreak call if number == 60\nrun\nframe\nprint number\nprint/x a\nbt\n"
                             "info symbol call\nprint sizeof(composite)\ninfo address never_called\n")
         text = self.run_tool("gdb", "-batch", "-nx", "-x", "drive", "./hello")
-        line = (self.folder / "system.c").read_text(encoding="utf-8").splitlines().index("    long result;") + 2
-        self.assertRegex(text, rf"call \(number=(number@entry=)?60, .*\) at system\.c:{line}")
+        lines = (self.folder / "system.c").read_text(encoding="utf-8").splitlines()
+        line, caller = lines.index("    long result;") + 2, lines.index("    call(60, main(), 0, 0);") + 1
+        self.assertRegex(text, rf"#0  call \(number=number@entry=60, .*\) at system\.c:{line}\n")
         self.assertIn("$1 = 60", text)
         self.assertIn("$2 = 0x0", text)
-        self.assertRegex(text, r"#1 .* in (begin \(\) at system\.c:|_start \(\))")
+        self.assertRegex(text, rf"#1  0x\w+ in begin \(\) at system\.c:{caller}\n#2  0x\w+ in _start \(\)\n")
         self.assertIn("primes below 100: 25", text)
         self.assertIn("$3 = 100", text)
         self.assertRegex(text, r'"never_called" is a function at address 0x80000000000')
+
+    @needs("gdb")
+    def test_tail_call(self) -> None:
+        """A function that ended in a jump to another is not among the callers."""
+        self.link(*self.compile_example("-g", *NO_COPIES))
+        self.run_tool(LDI_GDB, "hello.map", "-o", "hello.gdb")
+        self.write("drive", "source hello.gdb\nbreak call if number == 60\nrun\nbt\n")
+        text = self.run_tool("gdb", "-batch", "-nx", "-x", "drive", "./hello")
+        self.assertRegex(text, r"#0  call \(number=60, .*\) at system\.c:[0-9]+\n#1  0x[0-9a-f]+ in _start \(\)\n")
 
     def test_script(self) -> None:
         """Objects with what is in the image, what is left out at no address, COMMON and empty sections not named."""
