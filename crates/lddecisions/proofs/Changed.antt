@@ -1,5 +1,5 @@
 -- A change of one object, from its first step to its last.
-use Rattle.std.proofs.Common.{◌≡◌, ◌∙◌, ◌+◌, ℕ, Bool, false, cond, List, [], ◌++◌, Option, Some, None, length, ap, sym}
+use Rattle.std.proofs.Common.{◌≡◌, ◌∙◌, ◌+◌, ℕ, Bool, true, false, cond, List, [], ◌++◌, Option, Some, None, length, ap, sym}
 use Rattle.std.proofs.Common.{subst, arith}
 use Rattle.ldbase.specs.Counts.{Counts}
 use Rattle.ldbase.specs.Raised.{raised}
@@ -12,7 +12,7 @@ use Rattle.lddecisions.specs.Change.{reversed}
 use Rattle.lddecisions.specs.Change.{put_in, symbols_at, symbols_or}
 use Rattle.lddecisions.specs.Counted.{CountsNames}
 use Rattle.lddecisions.specs.Decided.{AreCases, HasCase, case_at}
-use Rattle.lddecisions.specs.Decisions.{IsNoted, IsWhole}
+use Rattle.lddecisions.specs.Decisions.{AreUsedIf, IsNoted, IsWhole}
 use Rattle.lddecisions.specs.Texts.{AreDone, DecidedFor, HasPlaces, AreFound, IsCleared, declares, touches}
 use Rattle.lddecisions.specs.declared.change.ObjectAt.{ObjectAt}
 use Rattle.lddecisions.specs.declared.change.ObjectChange.{ObjectChange}
@@ -22,6 +22,8 @@ use Rattle.lddecisions.proofs.Exchanging.{Law, in_names, in_objects, in_order, o
 use Rattle.lddecisions.proofs.Exchanging.{room_back}
 use Rattle.lddecisions.proofs.OneName.{raised_twice}
 use Rattle.lddecisions.proofs.Tables.{fits_back}
+use Rattle.lddecisions.specs.Room.{HaveEntries}
+use Rattle.lddecisions.proofs.Used.{used_changed}
 use Rattle.lddecisions.proofs.Touched.{case_within, complete_after, entries_same, sound_after}
 
 -- ---- of an object, if there is one
@@ -120,6 +122,15 @@ module _ (script : List Statement) (c : ObjectChange) (s0 s1 s2 : State)
       ∙ (ap (λ (t : Bool). cond t None (case_at cases1 k)) into
       ∙ (h.cleared.at k ∙ (ap (λ (t : Bool). cond t None (case_at cases0 k)) out ∙ was.1))) in
       new_decided.kept k was.0 (old_decided.kept k was.0 left) ∙ sym was.1
+
+  -- each known name has an entry, if those of both objects have
+  pub used_after : (old used : Bool) → AreUsedIf s0 old → (used ≡ true → old ≡ true)
+      → (used ≡ true → HaveEntries s2.objects (symbols_or c.out))
+      → (used ≡ true → HaveEntries s2.objects (symbols_or c.into)) → AreUsedIf s2 used
+  used_after old used =
+      used_changed s0 s2 (symbols_or c.out) (symbols_or c.into) old used names_after
+      (λ name a b.
+      ap (entries_of name) objects_after ∙ entries_same name c.key.0 c.out c.into s0.objects h.ready.fits.out a b)
 
   pub noted_after : (noted : Bool) → IsNoted s0 noted → IsNoted s2 noted
   noted_after noted is sure =

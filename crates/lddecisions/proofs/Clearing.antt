@@ -77,7 +77,7 @@ or_false : (b : Bool) → (b || false) ≡ b
 or_false true = refl
 or_false false = refl
 
-declares_seen : (ss : List NamedSymbol) (x : NamedSymbol) (name : List ℕ) → is_local x.symbol.binding ≡ false
+pub declares_seen : (ss : List NamedSymbol) (x : NamedSymbol) (name : List ℕ) → is_local x.symbol.binding ≡ false
     → declares (ss ++ x ∷ []) name ≡ (declares ss name || bytes_eq name x.name)
 declares_seen ss x name e =
     ap (λ (ns : List (List ℕ)). is_member bytes_eq ns name) (declared_seen ss x e)

@@ -15,3 +15,4 @@ pub mod Changed
 pub mod MakingRoom
 pub mod ProjectNames
 mod SameCases
+pub mod Used

@@ -6,6 +6,7 @@ use Rattle.ldmodel.specs.Names.{decided}
 use Rattle.ldmodel.specs.ScriptNames.{is_assigned, is_provided}
 use Rattle.ldmodel.specs.declared.names.Case.{Case}
 use Rattle.symres.specs.State.{State, HasName, IsInByteOrder, IsNamed, entries_of}
+use Rattle.lddecisions.specs.Counted.{is_used}
 use Rattle.lddecisions.specs.Decided.{AreCases, HasCase, case_at}
 
 -- the table of names, and the cases by their keys
@@ -21,6 +22,10 @@ pub record IsWhole (names : State) (cases : List (Option Case)) : Type 0 where
 -- where this is noted, the names stand in byte order
 abbrev pub IsNoted : State → Bool → Type 0
 IsNoted names in_order = in_order ≡ true → IsInByteOrder names.order
+
+-- where this is noted, each known name has an entry
+abbrev pub AreUsedIf : State → Bool → Type 0
+AreUsedIf s used = used ≡ true → (k : ℕ) (name : List ℕ) → IsNamed s.names k name → is_used s.objects name ≡ true
 
 -- each case is what its name stands for over the entered objects and this script
 abbrev pub AreKept : List Statement → DecisionsState → Type 0

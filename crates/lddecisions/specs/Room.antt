@@ -1,10 +1,12 @@
 -- Names that become known, and names that are forgotten.
 use Rattle.std.specs.Prelude.{◌⊎◌, ℕ, ◌≡◌, ◌<◌, ◌≤◌, List, [], Option, Some, None, true, drop, length, slice_index_or}
 use Rattle.std.specs.List.{All}
+use Rattle.elfobj.specs.Symbols.{NamedSymbol}
 use Rattle.ldmodel.specs.declared.names.Case.{Case}
 use Rattle.symres.specs.State.{IsNamed, State, entries_of, slot}
 use Rattle.lddecisions.specs.Counted.{is_used}
 use Rattle.lddecisions.specs.Decided.{HasCase, case_at}
+use Rattle.lddecisions.specs.Texts.{declares}
 
 -- the names that stand from a place on in the list have no entries
 abbrev pub AreUnused : State → ℕ → Type 0
@@ -49,3 +51,7 @@ abbrev pub AreOldOrNew : (old new : State) → Type 0
 AreOldOrNew old new =
     (k : ℕ) (name : List ℕ) → IsNamed new.names k name
     → IsNamed old.names k name ⊎ StandsFrom new.order (length old.order) k
+
+-- each name that these symbols declare has an entry
+abbrev pub HaveEntries : List (ℕ × List NamedSymbol) → List NamedSymbol → Type 0
+HaveEntries tables symbols = (name : List ℕ) → declares symbols name ≡ true → is_used tables name ≡ true

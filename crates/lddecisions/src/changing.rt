@@ -1,10 +1,11 @@
 //! A change of one object, and the cases of the names that it touches.
 
-ghost use Rattle.std.specs.Prelude.{◌≡◌, ◌++◌, ℕ, List, false, length};
+ghost use Rattle.std.specs.Prelude.{◌≡◌, ◌++◌, ℕ, List, false, length, true};
 ghost use Rattle.lddecisions.specs.Change.{AreThere, changed_tables, declared_by, IsReadyFor, reversed, symbols_or};
 ghost use Rattle.lddecisions.specs.Counted.{CountsNames};
 ghost use Rattle.lddecisions.specs.Decided.{AreCases, case_at};
 ghost use Rattle.lddecisions.specs.Decisions.{AreKept};
+ghost use Rattle.lddecisions.specs.Room.{HaveEntries};
 ghost use Rattle.lddecisions.specs.Texts.{AreDone, AreKnown, AreNoted, DecidedFor, HasPlaces, IsCleared, declares};
 ghost use Rattle.symres.specs.State.{AreDistinct, IsNamed};
 
@@ -13,7 +14,7 @@ use crate::change::{ObjectAt, ObjectChange, reverse};
 use crate::decisions::Decisions;
 use crate::exchange::{put_in, take_out};
 use crate::noted::note_keys;
-use crate::texts::{KeySource, clear_names, decide_names};
+use crate::texts::{KeySource, clear_names, decide_names, have_entries};
 use ldbase::meter::Meter;
 use ldmodel::names::NameKey;
 use ldscript::script::Script;
@@ -31,6 +32,53 @@ fn clear_names_of(names: &Names, at: Option<ObjectAt<'_>>, cases: &mut Cases)
         Some(at) => clear_names(names, KeySource::Entered(at.place), at.object, cases),
         None => {}
     }
+}
+
+/// Whether each name has an entry that an object declared that went, if one went. `noted` are keys of them.
+fn are_gone_used(names: &Names, out: Option<ObjectAt<'_>>, noted: &[NameKey]) -> bool
+    requires known { AreKnown names.now.names (symbols_or out) }
+    requires noted { AreNoted names.now.names (symbols_or out) noted.now }
+    ensures { result ≡ true → HaveEntries names.now.objects (symbols_or out.entry) }
+{
+    match out {
+        Some(at) => have_entries(names, KeySource::Noted(noted), at.object),
+        None => true,
+    }
+}
+
+/// Whether each name has an entry that an object declares that came, if one came.
+fn are_come_used(names: &Names, into: Option<ObjectAt<'_>>) -> bool
+    requires { AreThere names.now into }
+    ensures { result ≡ true → HaveEntries names.now.objects (symbols_or into.entry) }
+{
+    match into {
+        Some(at) => have_entries(names, KeySource::Entered(at.place), at.object),
+        None => true,
+    }
+}
+
+/// Whether each known name has an entry after a change, if each had one before it. `noted` are keys of the names of what
+/// went.
+fn are_still_used(
+    all_used: bool,
+    names: &Names,
+    change: &ObjectChange<'_>,
+    noted: &[NameKey],
+) -> bool
+    requires known { AreKnown names.now.names (symbols_or change.now.out) }
+    requires noted { AreNoted names.now.names (symbols_or change.now.out) noted.now }
+    requires place { AreThere names.now change.now.into }
+    ensures before { result ≡ true → all_used ≡ true }
+    ensures gone { result ≡ true → HaveEntries names.now.objects (symbols_or change.now.out) }
+    ensures come { result ≡ true → HaveEntries names.now.objects (symbols_or change.now.into) }
+{
+    if !all_used {
+        return false;
+    }
+    if !are_gone_used(names, change.out, noted) {
+        return false;
+    }
+    are_come_used(names, change.into)
 }
 
 /// Decides the names that an object declared that went, if one went. `noted` are keys of them.
@@ -126,6 +174,7 @@ impl Decisions {
             meter,
         );
         decide_come(&self.names, script, change.into, &mut self.cases, meter);
+        self.all_used = are_still_used(self.all_used, &self.names, change, &self.noted);
     }
 
     /// Makes the change back, after a change was made: the objects are as they were before it. It takes no memory.

@@ -40,18 +40,20 @@ pub struct Decisions {
     pub(crate) cases: Cases,
     // whether the names are known to stand in byte order
     pub(crate) in_order: bool,
+    // whether each known name is known to have an entry
+    pub(crate) all_used: bool,
     // room for the keys of the names of the object that goes at a change
     pub(crate) noted: Vec<NameKey>,
 }
 
 impl Model for Decisions {
-    ghost use Rattle.lddecisions.specs.Decisions.{DecisionsState, IsNoted, IsWhole};
+    ghost use Rattle.lddecisions.specs.Decisions.{AreUsedIf, DecisionsState, IsNoted, IsWhole};
 
     ghost Value = { DecisionsState };
 
     ghost view = { λ a. record { names = a.names; cases = a.cases } };
 
-    ghost invariant = { λ a. IsWhole a.names a.cases × IsNoted a.names a.in_order };
+    ghost invariant = { λ a. IsWhole a.names a.cases × IsNoted a.names a.in_order × AreUsedIf a.names a.all_used };
 }
 
 impl Decisions {
@@ -80,6 +82,7 @@ impl Decisions {
             names,
             cases,
             in_order: true,
+            all_used: false,
             noted: Vec::new(alloc),
         })
     }

@@ -5,7 +5,7 @@ ghost use Rattle.ldtree.specs.declared.statement.Statement.{Statement};
 ghost use Rattle.lddecisions.specs.Change.{CanGo, Fits, IsReadyFor};
 ghost use Rattle.lddecisions.specs.Counted.{is_used};
 ghost use Rattle.lddecisions.specs.Decided.{AreCases, case_at, HasCase};
-ghost use Rattle.lddecisions.specs.Decisions.{AreKept, IsNoted, IsWhole};
+ghost use Rattle.lddecisions.specs.Decisions.{AreKept, AreUsedIf, IsNoted, IsWhole};
 ghost use Rattle.lddecisions.specs.Room.{AreKeptWhere, AreUnused, HaveCasesBelow, HaveCasesFrom, kept_where, KeepsUsed};
 ghost use Rattle.lddecisions.specs.Room.{AreOldOrNew, OnlyDrops};
 ghost use Rattle.symres.specs.State.{entries_of, Forgets, HasName, IsNamed, MayEnter, slot};
@@ -125,13 +125,16 @@ fn make_room(
     object: &Object,
     cases: &mut Cases,
     in_order: &mut bool,
+    all_used: &mut bool,
 ) -> Result<(), NoMemory>
     requires whole { IsWhole names.old cases.old }
     requires order { IsNoted names.old in_order.old }
+    requires all { AreUsedIf names.old all_used.old }
     requires sound { AreCases script.now names.old cases.old }
     ensures objects { names.new.objects ≡ names.old.objects }
     ensures whole { IsWhole names.new cases.new }
     ensures order { IsNoted names.new in_order.new }
+    ensures all { AreUsedIf names.new all_used.new }
     ensures sound { AreCases script.now names.new cases.new }
     ensures used { KeepsUsed names.old names.new }
     ensures ready { OnOk result (MayEnter names.new object.now.symbols) }
@@ -143,6 +146,7 @@ fn make_room(
         return Ok(());
     }
     *in_order = false;
+    *all_used = false;
     match settle_new(names, script, from, cases) {
         Ok(()) => Ok(()),
         Err(refused) => {
@@ -172,13 +176,14 @@ impl Decisions {
                 at.object,
                 &mut self.cases,
                 &mut self.in_order,
+                &mut self.all_used,
             ),
             None => Ok(()),
         }
     }
 
-    /// Forgets the names without entries. The others keep their keys and their cases. The time is linear in the number
-    /// of names. It takes no memory.
+    /// Forgets the names without entries. The others keep their keys and their cases. Where each name is known to have
+    /// an entry, the time is constant; else it is linear in the number of names. It takes no memory.
     pub fn forget(&mut self)
         ensures forgets { Forgets self.old.names self.new.names }
         ensures objects { self.new.names.objects ≡ self.old.names.objects }
@@ -186,6 +191,11 @@ impl Decisions {
         ensures kept { (script : List Statement) → AreKept script self.old → AreKept script self.new }
         ensures frame { OnlyDrops self.old.names.names self.new.names.names self.old.cases self.new.cases }
     {
+        let _known = self.names.known();
+        if self.all_used {
+            return;
+        }
         drop_unused(&mut self.names, &mut self.cases);
+        self.all_used = true;
     }
 }

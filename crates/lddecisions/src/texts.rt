@@ -1,12 +1,13 @@
 //! The names that the symbol table of an object declares, and their cases.
 
-ghost use Rattle.std.specs.Prelude.{◌≡◌, ◌<◌, ◌++◌, ◌∷◌, ℕ, List, Option, [], false, length};
+ghost use Rattle.std.specs.Prelude.{◌≡◌, ◌<◌, ◌++◌, ◌∷◌, ℕ, List, Option, [], false, length, true};
 ghost use Rattle.std.specs.Prelude.{slice_index_or};
 ghost use Rattle.elfobj.specs.Symbols.{NamedSymbol};
 ghost use Rattle.ldbase.specs.Counts.{Counts};
 ghost use Rattle.ldmodel.specs.Names.{is_local};
 ghost use Rattle.ldmodel.specs.declared.names.Case.{Case};
 ghost use Rattle.lddecisions.specs.Decided.{AreCases};
+ghost use Rattle.lddecisions.specs.Room.{HaveEntries};
 ghost use Rattle.lddecisions.specs.Texts.{AreDone, AreFound, AreKnown, AreNoted, DecidedFor, DecidesOnce, HasPlaces};
 ghost use Rattle.lddecisions.specs.Texts.{IsCleared, IsKeyOf};
 ghost use Rattle.symres.specs.State.{AreDistinct, HasName};
@@ -180,4 +181,30 @@ pub fn decide_names(
     for number in 0..object.symbols().len() {
         decide_name(names, script, source, object, number, cases, meter);
     }
+}
+
+/// Whether the name of a symbol has an entry, unless the symbol is local.
+fn has_entry(names: &Names, source: KeySource<'_>, object: &Object, number: usize) -> bool
+    requires found { AreFound names.now source object.now.symbols }
+    requires number { number < length object.now.symbols }
+    ensures { result ≡ true → (before : List NamedSymbol) (d : NamedSymbol) → HaveEntries names.now.objects before
+        → HaveEntries names.now.objects (before ++ slice_index_or object.now.symbols number d ∷ []) }
+{
+    match key_of(names, source, object, number) {
+        Some(key) => !names.entries(key).is_empty(),
+        None => true,
+    }
+}
+
+/// Whether each name that an object declares has an entry.
+pub fn have_entries(names: &Names, source: KeySource<'_>, object: &Object) -> bool
+    requires found { AreFound names.now source object.now.symbols }
+    ensures { result ≡ true → HaveEntries names.now.objects object.now.symbols }
+{
+    for number in 0..object.symbols().len() {
+        if !has_entry(names, source, object, number) {
+            return false;
+        }
+    }
+    true
 }

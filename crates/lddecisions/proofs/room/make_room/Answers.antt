@@ -1,6 +1,7 @@
 use Rattle.std.proofs.Common.{length, arith, refl}
 use Rattle.lddecisions.proofs.MakingRoom.{below_after, complete_refused, noted_none_more, old_again, old_or_new}
 use Rattle.lddecisions.proofs.MakingRoom.{unused_after, used_twice, whole_same}
+use Rattle.lddecisions.proofs.Used.{used_none_more}
 use Rattle.lddecisions.proofs.room.make_room.Goals as goal
 
 pub returns-then-known-from-clause-whole : goal.returns-then-known-from-clause-whole
@@ -70,3 +71,12 @@ returns-in-Err-clause-fresh c =
     c.drop_unused.ensures.forgets c.known.ensures.listing
     (unused_after c.args.names.now s (length c.args.names.now.order) refl c.reserve.ensures.objects
     c.reserve.ensures.unused)
+
+pub returns-then-known-from-clause-all : goal.returns-then-known-from-clause-all
+returns-then-known-from-clause-all c =
+    let more = c.reserve.ensures.more in
+    used_none_more c.args.names.now c.reserve.new.self c.args.all_used.now
+    (old_or_new c.args.names.now c.reserve.new.self more.listed.0 c.known-from.ensures.listing c.known.ensures.listing
+    more.names more.listed.1)
+    c.reserve.ensures.objects
+    (omega (arith, c.known.ensures.len, c.known-from.ensures.len, c.if-known-from.true)) c.requires.all

@@ -3,7 +3,7 @@ use Rattle.lddecisions.specs.Decided.{case_at}
 use Rattle.lddecisions.specs.Decisions.{DecisionsState}
 use Rattle.symres.specs.State.{AreDistinct, IsFresh, slot}
 use Rattle.lddecisions.proofs.Changed.{Steps, back_after, counted_after, frame_after, kept_after, noted_after, places_after}
-use Rattle.lddecisions.proofs.Changed.{whole_after}
+use Rattle.lddecisions.proofs.Changed.{used_after, whole_after}
 use Rattle.lddecisions.proofs.Clearing.{listed_apart}
 use Rattle.lddecisions.proofs.Exchanging.{in_names, out_known, out_names, out_objects}
 use Rattle.lddecisions.proofs.Tables.{out_fresh}
@@ -89,7 +89,15 @@ decide_come-requires-clause-room c =
     c.self.invariant.0.complete
     (c.decide_gone.ensures.long ∙ c.clear_names_of-2.ensures.long ∙ c.clear_names_of.ensures.long)
 
-steps : (c : goal.After-decide_come)
+pub are_still_used-self-inside-requires-clause-known : goal.are_still_used-self-inside-requires-clause-known
+are_still_used-self-inside-requires-clause-known c =
+    let ch = c.args.change.now in
+    let ready = rw (← c.self.view_is) at c.requires.ready in
+    out_known c.self.inside.names c.take_out.new.names c.put_in.new.names ch.key.0 ch.out
+    (in_names c.take_out.new.names c.put_in.new.names ch.key.0 ch.into c.put_in.ensures) ready.fits.out
+    c.take_out.ensures
+
+steps : (c : goal.After-self-1)
     → Steps c.args.script.now c.args.change.now c.self.inside.names c.take_out.new.names c.put_in.new.names
     c.self.inside.cases c.clear_names_of.new.cases c.clear_names_of-2.new.cases c.decide_gone.new.cases
     c.decide_come.new.cases c.args.meter.now c.decide_gone.new.meter c.decide_come.new.meter
@@ -109,6 +117,8 @@ pub invariant_of-self : goal.invariant_of-self
 invariant_of-self c = (
   whole_after _ _ _ _ _ _ _ _ _ _ _ _ _ (steps c),
   noted_after _ _ _ _ _ _ _ _ _ _ _ _ _ (steps c) c.self.inside.in_order c.self.invariant.1,
+  used_after _ _ _ _ _ _ _ _ _ _ _ _ _ (steps c) c.self.inside.all_used c.are_still_used-self-inside.result c.self.invariant.2
+      c.are_still_used-self-inside.ensures.before c.are_still_used-self-inside.ensures.gone c.are_still_used-self-inside.ensures.come,
 )
 
 pub returns-clause-kept : goal.returns-clause-kept

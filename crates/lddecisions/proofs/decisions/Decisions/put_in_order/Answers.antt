@@ -1,3 +1,4 @@
+use Rattle.lddecisions.proofs.Used.{used_ordered}
 use Rattle.lddecisions.proofs.MakingRoom.{sound_ordered, whole_ordered}
 use Rattle.lddecisions.proofs.decisions.Decisions.put_in_order.Goals as goal
 
@@ -6,6 +7,8 @@ invariant_of-self c = (
   whole_ordered c.self.inside.names c.sort_names.new.self c.self.inside.cases c.sort_names.ensures.same
       c.self.invariant.0,
   λ sure. c.in-Ok.ensures.sorted,
+  used_ordered c.self.inside.names c.sort_names.new.self c.self.inside.all_used c.sort_names.ensures.same
+      c.self.invariant.2,
 )
 
 pub returns-in-Ok-clause-kept : goal.returns-in-Ok-clause-kept

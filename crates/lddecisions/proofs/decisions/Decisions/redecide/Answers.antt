@@ -14,4 +14,5 @@ invariant_of-self c = (
     only = λ k has. (c.decide_all.ensures.sound k has.0 has.1).named;
   },
   c.self.invariant.1,
+  c.self.invariant.2,
 )
