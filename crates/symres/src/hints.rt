@@ -37,6 +37,8 @@ pub struct Hints {
     count: usize,
     // the hints for the symbols that others see of the object that was looked up last
     found: Vec<Hint>,
+    // whether there were places to be found then
+    is_told: bool,
 }
 
 fn word_at(name: &[u8], at: usize) -> u64
@@ -161,11 +163,13 @@ impl Hints {
             lines: Vec::new(alloc),
             count: 0,
             found: Vec::new(alloc),
+            is_told: false,
         }
     }
 
     /// Looks up the names of all symbols of an object that others see.
     pub fn look_up(&mut self, object: &Object) -> Result<(), AllocError> {
+        self.is_told = self.count > 0;
         self.found.clear();
         self.found.reserve(object.symbols().len())?;
         for number in 0..object.symbols().len() {
@@ -191,7 +195,7 @@ impl Hints {
     /// Whether the name of a symbol is likely to have no place yet, by how many symbols stand before it as for `place`.
     pub fn is_new(&self, symbol: usize) -> bool {
         match self.found.get(symbol) {
-            Some(hint) => hint.place == 0 && self.lines.len() > 0,
+            Some(hint) => self.is_told && hint.place == 0,
             None => false,
         }
     }

@@ -1,4 +1,5 @@
-use Rattle.std.proofs.Common.{◌≡◌, ◌≢◌, ◌∙◌, ℕ, sym, ap, Some, None, get_or, length, Vec, Global, map, [], ◌∷◌, ◌++◌, List, subst}
+use Rattle.std.proofs.Common.{◌≡◌, ◌≢◌, ◌∙◌, ℕ, sym, ap, Some, None, get_or, length, Vec, Global, map}
+use Rattle.std.proofs.Common.{[], ◌∷◌, ◌++◌, List, subst}
 use Rattle.std.proofs.lemmas.List.{map-append}
 use Rattle.std.specs.Prelude.{IfNone, IfSome, Option}
 use Rattle.slab.specs.Slab.{Slab}
