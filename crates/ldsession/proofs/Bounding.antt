@@ -67,13 +67,13 @@ link_work_from old new x m0 m1 m2 none w = record {
   changed = w.changed;
   anew = w.anew;
   image = record {
-      relocations = w.image.relocations ∙ ap (λ (n : ℕ). capped n (sites_to_evaluate old new)) none.fields;
-      patched = w.image.patched;
-      few = w.image.few;
-      bytes = w.image.bytes
-          ∙ ap (λ (n : ℕ). capped n
-          (w.image.patched + (image_length new.project new.layout - bytes_stayed old new))) none.bytes;
-    };
+    relocations = w.image.relocations ∙ ap (λ (n : ℕ). capped n (sites_to_evaluate old new)) none.fields;
+    patched = w.image.patched;
+    few = w.image.few;
+    bytes = w.image.bytes
+        ∙ ap (λ (n : ℕ). capped n
+        (w.image.patched + (image_length new.project new.layout - bytes_stayed old new))) none.bytes;
+  };
 }
 
 pub worked_from : (p : Project) (last : Option LastState) (m0 m1 m2 : Counts) (f : Followed) → LinksNothing m0 m1
@@ -118,14 +118,17 @@ pub unchanged_work : (l : Listing) (bytes : List ℕ) (a : Answer) (last : Optio
     (change : Change) (m0 m1 : Counts) → project_of l ≡ p → q ≡ p → AreSmall m0
     → ReadsObjects (objects_read change) m0 m1 → shown bytes a ≡ link p → IsLast l bytes a last
     → IsWholeWork p change q m0 m1
-unchanged_work l bytes a last p q change m0 m1 is same small read answers kept =
-    (reading, (λ s t zero zero_too laid laid_too. record {
-      objects = reading.objects;
-      names = reading.names;
-      pieces = stays_put m0.pieces m1.pieces _ read.pieces;
-      relocations = stays_put m0.fields m1.fields _ read.fields;
-      bytes = stays_put m0.bytes m1.bytes _ read.bytes;
-    }), (λ s t zero zero_too laid laid_too. inl same))
+unchanged_work l bytes a last p q change m0 m1 is same small read answers kept = (
+  reading,
+  (λ s t zero zero_too laid laid_too. record {
+    objects = reading.objects;
+    names = reading.names;
+    pieces = stays_put m0.pieces m1.pieces _ read.pieces;
+    relocations = stays_put m0.fields m1.fields _ read.fields;
+    bytes = stays_put m0.bytes m1.bytes _ read.bytes;
+  }),
+  (λ s t zero zero_too laid laid_too. inl same),
+)
   where
     reading : IsReadingWork p change q m0 m1
     reading = read_alone p change q m0 m1 small read
@@ -201,14 +204,15 @@ pub whole_work : (h : Holding) (s : Staged) (same : Bool) (bytes new : List ℕ)
     → IsReadingWork (held h) change (project_of (next_listing h s)) m0 m2
     → IsWholeWork (held h) change (project_of (next_listing h s)) m0 m2
 whole_work h s same bytes new a e last from f change m0 m1 m2 given answers origins followed worked small read none
-    leaves reading =
-    (reading,
-    (λ t u zero zero_too laid laid_too.
-    (between a last from f e.known refl given.effect given.kept answers origins followed worked t u zero zero_too laid
-    laid_too).0),
-    (λ t u zero zero_too laid laid_too. inr
-    (between a last from f e.known refl given.effect given.kept answers origins followed worked t u zero zero_too laid
-    laid_too).1))
+    leaves reading = (
+      reading,
+      (λ t u zero zero_too laid laid_too.
+          (between a last from f e.known refl given.effect given.kept answers origins followed worked t u zero zero_too laid
+          laid_too).0),
+      (λ t u zero zero_too laid laid_too. inr
+          (between a last from f e.known refl given.effect given.kept answers origins followed worked t u zero zero_too laid
+          laid_too).1),
+    )
   where
     p : Project
     p = held h
@@ -270,19 +274,21 @@ whole_work h s same bytes new a e last from f change m0 m1 m2 given answers orig
         let image : IsImageCount old now m0 m2 =
         subst (λ (g : GoodLink). IsImageCount g now m0 m2) is work.image in
         let written : image.patched + (image_length now.project now.layout - bytes_stayed old now)
-        ≤ bytes_to_write old now = omega (arith, image.few) in
-        (record {
-          objects = reading.objects;
-          names = reading.names;
-          pieces = placed kept.kept.old now state p change s m0 m2 kept.project small.pieces
-              (next_of m x v kept effect origins) leaves work;
-          relocations = rises_by m0.fields m2.fields _ (sites_to_evaluate old now) small.fields image.relocations
-              (omega arith);
-          bytes = rises_by m0.bytes m2.bytes _ (bytes_to_write old now) small.bytes image.bytes written;
-        }, record {
-          objects = none ∙ read.objects;
-          first = work.first;
-          same = subst (λ (g : GoodLink). AreSameBefore g.project q work.first) is work.same;
-          pieces = work.pieces;
-          image = image;
-        }))
+        ≤ bytes_to_write old now = omega (arith, image.few) in (
+          record {
+            objects = reading.objects;
+            names = reading.names;
+            pieces = placed kept.kept.old now state p change s m0 m2 kept.project small.pieces
+                (next_of m x v kept effect origins) leaves work;
+            relocations = rises_by m0.fields m2.fields _ (sites_to_evaluate old now) small.fields image.relocations
+                (omega arith);
+            bytes = rises_by m0.bytes m2.bytes _ (bytes_to_write old now) small.bytes image.bytes written;
+          },
+          record {
+            objects = none ∙ read.objects;
+            first = work.first;
+            same = subst (λ (g : GoodLink). AreSameBefore g.project q work.first) is work.same;
+            pieces = work.pieces;
+            image = image;
+          },
+        ))

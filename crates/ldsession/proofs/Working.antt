@@ -342,9 +342,9 @@ is_work p change q m0 m1 m2 names small r decided few = record {
   objects = rises_by m0.objects m2.objects (objects_read change) (objects_read change) small.objects
       (decided.objects ∙ r.objects) (omega arith);
   names = record {
-      onward = omega (arith, r.names, decided.names.onward);
-      within = omega (arith, r.names, decided.names.within, few);
-    };
+    onward = omega (arith, r.names, decided.names.onward);
+    within = omega (arith, r.names, decided.names.within, few);
+  };
   pieces = omega (arith, r.pieces, decided.pieces);
   fields = omega (arith, r.fields, decided.fields);
   bytes = omega (arith, r.bytes, decided.bytes);

@@ -118,7 +118,13 @@ impl Session {
         distinct_more();
         found_where_placed();
         // so that the ranges of the counts are known
-        let _counts = (meter.objects(), meter.names(), meter.pieces(), meter.fields(), meter.bytes());
+        let _counts = (
+            meter.objects(),
+            meter.names(),
+            meter.pieces(),
+            meter.fields(),
+            meter.bytes(),
+        );
         let staged = match self.project.stage(edit, meter) {
             Err(refusal) => return Err(refusal),
             Ok(staged) => staged,

@@ -1,6 +1,6 @@
 -- What a link over an earlier one counts.
-use Rattle.std.proofs.Common.{◌≡◌, ◌∙◌, ◌+◌, ◌-◌, ◌<◌, ◌≤◌, ℕ, Bool, true, false, cond, List, [], ◌∷◌}
-use Rattle.std.proofs.Common.{ap, length, refl, subst, sym}
+use Rattle.std.proofs.Common.{◌≡◌, ◌∙◌, ◌+◌, ◌-◌, ℕ, Bool, true, false, cond, List, [], ◌∷◌}
+use Rattle.std.proofs.Common.{ap, refl, subst, sym}
 use Rattle.std.specs.Prelude.{IfSome, IsSome, Option, None, Some, Ok, Err, nat_lt}
 use Rattle.ldbase.specs.Counts.{Counts, capped}
 use Rattle.ldbase.specs.Raised.{raised}
