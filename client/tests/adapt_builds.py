@@ -48,7 +48,7 @@ class Noted:
         return any(re.match(r"-T(?!text|data|bss)|--script", word) for word in self.words) and "-r" not in self.words
 
     def again(self, out: str) -> list[str]:
-        """The words for another file: without a build id, with symbols, as ELF."""
+        """The words for another file: a static link without a build id, with symbols and no relocations, as ELF."""
         result: list[str] = []
         rest = [word for word in self.words if not _is_left_out(word)]
         while rest:
@@ -61,7 +61,8 @@ class Noted:
 
 
 def _is_left_out(word: str) -> bool:
-    return word in ("-s", "--strip-all", "-S", "--strip-debug") or word.startswith("--build-id")
+    return word in ("-s", "--strip-all", "-S", "--strip-debug", "-pie", "-q", "--emit-relocs") \
+        or word.startswith("--build-id")
 
 
 def build(commands: str, root: Path, folder: Path) -> list[Noted]:
@@ -109,5 +110,6 @@ def _run(program: list[str], link: Noted, out: Path) -> str:
     done = subprocess.run([*program, *link.again(str(out))], cwd=link.folder, env=environment, capture_output=True,
                           text=True, timeout=600, check=False)
     if done.returncode:
-        raise LinkFailed(re.sub(r"(?m)^.*(warning|NOTE|changed): .*\n?", "", done.stderr) or f"status {done.returncode}")
+        reasons = re.sub(r"(?m)^.*(warning|NOTE|changed): .*\n?", "", done.stderr)
+        raise LinkFailed(reasons or f"status {done.returncode}")
     return done.stderr
