@@ -4,6 +4,7 @@ from __future__ import annotations
 import json
 import os
 import re
+import struct
 import subprocess
 from pathlib import Path
 
@@ -48,7 +49,7 @@ class Noted:
         return any(re.match(r"-T(?!text|data|bss)|--script", word) for word in self.words) and "-r" not in self.words
 
     def again(self, out: str) -> list[str]:
-        """The words for another file: without a build id, with symbols, as ELF."""
+        """The words for another file: a static link without a build id, with symbols and no relocations, as ELF."""
         result: list[str] = []
         rest = [word for word in self.words if not _is_left_out(word)]
         while rest:
@@ -61,7 +62,8 @@ class Noted:
 
 
 def _is_left_out(word: str) -> bool:
-    return word in ("-s", "--strip-all", "-S", "--strip-debug") or word.startswith("--build-id")
+    return word in ("-s", "--strip-all", "-S", "--strip-debug", "-pie", "-q", "--emit-relocs") \
+        or word.startswith("--build-id")
 
 
 def build(commands: str, root: Path, folder: Path) -> list[Noted]:
@@ -95,19 +97,63 @@ def link_of(links: list[Noted], output: str) -> Noted:
 
 
 def linked(link: Noted, folder: Path) -> tuple[Placed, Placed, str]:
-    """What GNU ld and `ld.ldi` make of a link, and what `ld.ldi` says."""
-    _run(["/usr/bin/ld.bfd"], link, folder / "gnu.out")
+    """What GNU ld and `ld.ldi` make of a link, and what `ld.ldi` says.
+
+    GNU ld links copies of the objects whose sections have no flags MERGE and STRINGS: `ldi` merges no strings.
+    """
+    gnu = [_unmerged(word, link.folder, folder / "unmerged") for word in link.again(str(folder / "gnu.out"))]
+    _run(["/usr/bin/ld.bfd", *gnu], link.folder)
     with open(folder / "gnu.out", "rb") as file:
         placed = read_image(file.read())
-    said = _run([str(ROOT / "client/bin/ld.ldi"), "--Map", str(folder / "ldi.map")], link, folder / "ldi.out")
+    program = [str(ROOT / "client/bin/ld.ldi"), "--Map", str(folder / "ldi.map")]
+    said = _run([*program, *link.again(str(folder / "ldi.out"))], link.folder)
     with open(folder / "ldi.map", "rb") as file:
         return placed, read_map(file.read()), said
 
 
-def _run(program: list[str], link: Noted, out: Path) -> str:
+def _unmerged(word: str, root: str, folder: Path) -> str:
+    """The word for a copy without MERGE and STRINGS, where it names an object, or an archive as a kernel has."""
+    path = Path(root, word)
+    if word.startswith("-") or not path.is_file():
+        return word
+    copy = folder / (word if not os.path.isabs(word) else word[1:])
+    with open(path, "rb") as file:
+        data = file.read()
+    if data.startswith(b"\x7fELF"):
+        _write(copy, _without_merge(data))
+    elif data.startswith(b"!<thin>"):
+        members = subprocess.run(["ar", "t", word], cwd=root, capture_output=True, text=True, check=True,
+                                 timeout=60).stdout.split()
+        copies = [_unmerged(member, root, folder) for member in members]
+        copy.parent.mkdir(parents=True, exist_ok=True)
+        copy.unlink(missing_ok=True)
+        subprocess.run(["ar", "cDPrsT", copy, *copies], check=True, timeout=60, capture_output=True)
+    else:
+        return word
+    return str(copy)
+
+
+def _without_merge(data: bytes) -> bytes:
+    """An object without these two flags of its sections."""
+    changed = bytearray(data)
+    offset, = struct.unpack_from("<Q", data, 40)
+    count, = struct.unpack_from("<H", data, 60)
+    for at in range(offset + 8, offset + 64 * count, 64):
+        flags, = struct.unpack_from("<Q", data, at)
+        struct.pack_into("<Q", changed, at, flags & ~0x30)
+    return bytes(changed)
+
+
+def _write(path: Path, data: bytes) -> None:
+    path.parent.mkdir(parents=True, exist_ok=True)
+    path.write_bytes(data)
+
+
+def _run(words: list[str], folder: str) -> str:
+    """What a linker says; it links by itself, without another one behind it."""
     environment = {name: value for name, value in os.environ.items() if name != "LDI_FALLBACK"}
-    done = subprocess.run([*program, *link.again(str(out))], cwd=link.folder, env=environment, capture_output=True,
-                          text=True, timeout=600, check=False)
+    done = subprocess.run(words, cwd=folder, env=environment, capture_output=True, text=True, timeout=1800, check=False)
     if done.returncode:
-        raise LinkFailed(re.sub(r"(?m)^.*(warning|NOTE|changed): .*\n?", "", done.stderr) or f"status {done.returncode}")
+        reasons = re.sub(r"(?m)^.*(warning|NOTE|changed): .*\n?", "", done.stderr)
+        raise LinkFailed(reasons or f"status {done.returncode}")
     return done.stderr

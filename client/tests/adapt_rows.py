@@ -71,8 +71,8 @@ MEMORY = [
          "REST " + TAIL + " }", "dr", known=True),
     _row("numbers", "MEMORY { ram : ORIGIN = 10h, LENGTH = 1m } SECTIONS { . = 0FFH; a = $10; b = 17o; c = 101b; d1 = "
          "12d; e = 4k; f = 08; REST >ram " + TAIL + " }", "r"),
-    _row("GNU ld's own sections", ".b : { BYTE(1) } .got : { a = .; *(.got) b = .; } .c : { BYTE(2) *(.got.plt .igot*) } "
-         ".d : ALIGN(2) { c = .; *(.rela*) } .e : { BYTE(3) *(.got) } .empty : { *(.empty) } REST " + TAIL),
+    _row("GNU ld's own sections", ".b : { BYTE(1) } .got : { a = .; *(.got) b = .; } .c : { BYTE(2) *(.got.plt "
+         ".igot*) } .d : ALIGN(2) { c = .; *(.rela*) } .e : { BYTE(3) *(.got) } .empty : { *(.empty) } REST " + TAIL),
     _row("GNU ld's own sections at an address", ". = 3; .b . : { BYTE(1) *(.got .rel*) } .c : { BYTE(2) *(.got.plt) } "
          "REST " + TAIL, known=True),
     _row("GNU ld's own sections alone", ".b : { BYTE(1) } .got : { *(.got .got.plt) } a = .; .c : { BYTE(1) *(.rel*) } "
