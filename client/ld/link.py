@@ -3,7 +3,7 @@ from __future__ import annotations
 
 import threading
 from collections.abc import Iterator, Sequence
-from dataclasses import dataclass, field
+from dataclasses import dataclass
 
 from client.ld.command import Command
 from client.ld.inputs import Object
@@ -17,13 +17,12 @@ PIECE = 1 << 22
 
 @dataclass
 class Result:
-    """What a link came to: an image with its map, fault lines, or refused inputs."""
+    """What a link came to: an image with its map, fault lines, or a script that is refused."""
 
     status: int = 0
     image: bytes = b""
     map: bytes = b""
     faults: bytes = b""
-    refused: list[tuple[Object, Refused]] = field(default_factory=list)
     script_refused: Refused | None = None
 
 
@@ -81,14 +80,12 @@ class Opened:
         self._thread.join()
 
 
-def link(opened: Opened, script: bytes, with_map: bool) -> Result:
-    """Links the objects under the script; the result has the map `with_map`."""
-    result = Result(refused=opened.refused())
-    session = opened.session
+def link(session: Session, script: bytes, with_map: bool) -> Result:
+    """Links the objects of a session under the script; the result has the map `with_map`."""
+    result = Result()
     answer: Answer = too_large(script) or session.script(script)
     if isinstance(answer, Refused):
         result.script_refused = answer
-    if result.refused or isinstance(answer, Refused):
         return result
     assert isinstance(answer, Linked)
     result.status = answer.status

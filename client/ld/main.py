@@ -21,7 +21,7 @@ from client.ld.page_size import PAGE, TooFar, with_pages
 from client.ld.phdrs import NotWritten, with_program_headers
 from client.ld.reports import memory_usage, removed_sections
 from client.ld.script import Script, Source, find_script, write_script
-from client.ld.valued import with_values
+from client.ld.valued import Valued
 from client.ld.words import expand
 from client.link_map import read_map
 from client.inputs import Inputs
@@ -117,6 +117,8 @@ class Link:
         self.words = words
         self.source = find_script(command)
         self.objects: list[Object] = []
+        self.opened: Opened | None = None
+        self.valued: Valued | None = None
 
     def run(self) -> int:
         """Links, and gives the exit status."""
@@ -128,22 +130,42 @@ class Link:
         self._check_outputs([*loader.files, *command.scripts])
         if self.source.commands.binary and self.source.own and command.output_format is None:
             command.output_format = "binary"
-        opened = Opened(options_of(command), self.objects)
         try:
-            script = self._script()
-            report_script(script, command.verbose)
-            if script.left:
-                say(f"{self.source.path}: {len(script.left)} places cannot be linked by ldi; they are named above")
-                return REFUSED
-            for note in command.notes:
-                say(note)
-            if script.entry is not None:
-                opened.end()
-                opened = Opened(options_of(command, script.entry), self.objects)
-            result = link(opened, script.text, self._wants_map())
-            return self._finish(opened.session, script, result, loader.files)
+            return self._link(loader.files)
         finally:
-            opened.end()
+            for session in (self.opened, self.valued):
+                if session is not None:
+                    session.end()
+
+    def _open(self, entry: str | None = None) -> Opened:
+        """Has the objects sent to a session; `entry` is the entry symbol where the script cannot name it."""
+        if self.opened is not None:
+            self.opened.end()
+        self.opened = Opened(options_of(self.command, entry), self.objects)
+        return self.opened
+
+    def _link(self, files: list[str]) -> int:
+        """Writes the script while the objects are sent, and links."""
+        command, opened = self.command, self._open()
+        script = self._script()
+        if script.left and script.valued and (refused := opened.refused()):
+            return self._refused(refused)
+        report_script(script, command.verbose)
+        if script.left:
+            say(f"{self.source.path}: {len(script.left)} places cannot be linked by ldi; they are named above")
+            return REFUSED
+        for note in command.notes:
+            say(note)
+        if script.entry is not None:
+            opened = self._open(script.entry)
+        if refused := opened.refused():
+            return self._refused(refused)
+        result = link(opened.session, script.text, self._wants_map())
+        if result.status and self.valued is not None:
+            settled = self.valued.settled()
+            if settled is not None and settled.text != script.text:
+                script, result = settled, link(opened.session, settled.text, self._wants_map())
+        return self._finish(opened.session, script, result, files)
 
     def _script(self) -> Script:
         """The script for the session, with the values of objects' symbols that it names."""
@@ -151,8 +173,8 @@ class Link:
         script = write_script(self.source, self.command, known, {})
         if not script.valued:
             return script
-        valued = with_values(self.source, self.command, self.objects, known, script)
-        return valued or write_script(self.source, self.command, known)
+        self.valued = Valued(self.source, self.command, self.objects, known, script)
+        return self.valued.guess() or write_script(self.source, self.command, known)
 
     def _wants_map(self) -> bool:
         """Whether the map is written, or something is printed from it."""
@@ -179,8 +201,6 @@ class Link:
         """Says what came of the link, and writes the files of a good one."""
         data = {item.name.decode(): item.data for item in self.objects}
         inputs = Inputs(script.path, script.text, data, script.lines, self.command.entry)
-        if result.refused:
-            return self._refused(result)
         if result.script_refused:
             return self._script_refused(result.script_refused, script)
         if result.status:
@@ -190,14 +210,14 @@ class Link:
         self._report(session, script, result)
         return GOOD
 
-    def _refused(self, result: Result) -> int:
+    def _refused(self, objects: list[tuple[Object, Refused]]) -> int:
         """Objects that are refused go to the other linker, but not for memory."""
-        for item, refused in result.refused[:GREATEST_LIST]:
+        for item, refused in objects[:GREATEST_LIST]:
             print_refusal(item.name.decode(), refused, item.data, (), 3)
-        if any(refused.number == 7 for _, refused in result.refused):
+        if any(refused.number == 7 for _, refused in objects):
             return MEMORY
-        first = result.refused[0][0].name.decode()
-        others = f" and {len(result.refused) - 1} others" if len(result.refused) > 1 else ""
+        first = objects[0][0].name.decode()
+        others = f" and {len(objects) - 1} others" if len(objects) > 1 else ""
         return hand_over([f"{first}{others}: outside the profile of ldi"], self.words)
 
     def _script_refused(self, refused: Refused, script: Script) -> int:

@@ -7,6 +7,7 @@ import shutil
 import subprocess
 from collections.abc import Mapping
 from dataclasses import dataclass
+from functools import cached_property
 
 from client.adapt.adapt import CHANGED, LEFT, Adapted, NoParse, Note, adapt
 from client.adapt.objects import Objects as Known
@@ -33,7 +34,7 @@ class Source:
     text: str
     own: bool
 
-    @property
+    @cached_property
     def commands(self) -> Commands:
         """What it says of files and names."""
         return read_commands(self.text)

@@ -2,12 +2,14 @@
 
 In the profile an expression is evaluated before objects' symbols have values. So the objects are linked beforehand
 without their relocations, which do not change the layout, with 0 for each such symbol; the map has its value, which is
-written into the script; and again, until the values stay. An ASSERT for each has the link itself prove its value.
+written into the script. An ASSERT for each has the link itself prove its value. Where one fails, as in a layout that
+depends on the values, the objects are linked beforehand again until the values stay.
 """
 from __future__ import annotations
 
-from collections.abc import Sequence
+from collections.abc import Callable, Sequence
 from dataclasses import replace
+from functools import partial
 
 from client.adapt.objects import Objects as Known
 from client.ld.command import Command
@@ -53,31 +55,50 @@ def asserted(script: Script, values: dict[str, int]) -> Script:
     return replace(script, text=script.text + "\n".join(["", *lines, ""]).encode(), lines=places)
 
 
-def with_values(source: Source, command: Command, objects: list[Object], known: Known,
-                script: Script) -> Script | None:
-    """The script with the values of objects' symbols written into it; None where no link gives them.
+class Valued:
+    """A script that names objects' symbols, and the session that links the objects for their values."""
 
-    `script` is the one that has 0 for each of them, `known` what the adapter knows of the objects.
-    """
-    bare = _linked_beforehand(command, objects)
-    values: dict[str, int] = {}
-    opened = Opened(options_of(command, script.entry), bare)
-    session = opened.session
-    try:
-        if opened.refused():
+    def __init__(self, source: Source, command: Command, objects: Sequence[Object], known: Known,
+                 script: Script) -> None:
+        """`script` has 0 for each of the symbols; `known` is what the adapter knows of the objects."""
+        self._write: Callable[[dict[str, int]], Script] = partial(write_script, source, command, known)
+        self._script = script
+        self._values: dict[str, int] = {}
+        self._opened = Opened(options_of(command, script.entry), _linked_beforehand(command, objects))
+
+    def guess(self) -> Script | None:
+        """The script with the values of a first link, which are right where the layout does not depend on them."""
+        found = None if self._opened.refused() else self._linked()
+        if found is None:
             return None
+        self._take(found)
+        return None if self._script.left else asserted(self._script, found)
+
+    def settled(self) -> Script | None:
+        """The script with values that a link leaves as they are; None where there are none."""
         for _ in range(ROUNDS):
-            answer = session.script(script.text)
-            if script.left or not isinstance(answer, Linked) or answer.status:
-                return None
-            found = values_in(session.map(), script.valued)
-            if found == values:
-                return asserted(script, values)
-            values = found
-            script = write_script(source, command, known, values)
-    finally:
-        opened.end()
-    return None
+            found = self._linked()
+            if found is None or found == self._values:
+                return None if found is None else asserted(self._script, found)
+            self._take(found)
+        return None
+
+    def end(self) -> None:
+        """Ends the session."""
+        self._opened.end()
+
+    def _take(self, values: dict[str, int]) -> None:
+        self._values, self._script = values, self._write(values)
+
+    def _linked(self) -> dict[str, int] | None:
+        """The values that a link under the script gives; None where it gives no image."""
+        if self._script.left:
+            return None
+        session = self._opened.session
+        answer = session.script(self._script.text)
+        if not isinstance(answer, Linked) or answer.status:
+            return None
+        return values_in(session.map(), self._script.valued)
 
 
 def _linked_beforehand(command: Command, objects: Sequence[Object]) -> list[Object]:

@@ -91,6 +91,23 @@ class KernelTest(LinkTest):
         for name in ("jiffies", "jiffies_64", "phys_start", "start", "end", "half"):
             self.assertEqual(hex(ours[name]), hex(theirs[name]), name)
 
+    def test_layout_that_depends_on_a_symbol(self) -> None:
+        """Where the values of a first link are not right, they are looked for until a link leaves them as they are."""
+        self.write("t.ld", """ENTRY(start) SECTIONS { . = 0x401000; .text : { *(.text .text.*) } . = ALIGN(0x1000);
+            . = . + (jiffies_64 > 0x1000 ? 0x3000 : 0); copy = jiffies_64; .data : { *(.data .data.*) }
+            .bss : { *(.bss .bss.*) } /DISCARD/ : { *(.eh_frame) *(.note.*) *(.comment) } }""")
+        self.links("-T", "t.ld", "-o", "image", "--defsym", "jiffies=0", *self.objects)
+        symbols = self._symbols("image")
+        self.assertEqual(symbols["copy"], symbols["jiffies_64"])
+        self.assertEqual(symbols["jiffies_64"] & ~0xFFF, 0x405000)
+        self.write("never.ld", """ENTRY(start) SECTIONS { . = 0x401000; .text : { *(.text .text.*) }
+            . = ALIGN(0x1000); . = . + (jiffies_64 & 0x1000 ? 0 : 0x1000); .data : { *(.data .data.*) }
+            .bss : { *(.bss .bss.*) } /DISCARD/ : { *(.eh_frame) *(.note.*) *(.comment) } }""")
+        done = self.ld("-T", "never.ld", "-o", "never", "--defsym", "jiffies=0", *self.objects)
+        self.assertEqual(done.returncode, 1, done.stderr)
+        self.assertIn("jiffies_64 moved", done.stderr)
+        self.assertFalse((self.folder / "never").exists())
+
     def test_symbol_of_no_object(self) -> None:
         """A name that nothing defines is left, and there is no image."""
         self.write("kernel.ld", KERNEL.replace("jiffies_64;", "nothing;"))

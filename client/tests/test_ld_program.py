@@ -5,6 +5,7 @@ import os
 import resource
 import signal
 import subprocess
+from functools import partial
 from pathlib import Path
 
 from client.protocol import find_program
@@ -54,6 +55,6 @@ class OldImageTest(LinkTest):
         for room, left in ((text - 1, before - {"wait.map"}), (size - 1, before - {"wait"})):
             self.run_tool(*self.words)
             done = subprocess.run(self.words, cwd=self.folder, capture_output=True, text=True, timeout=LIMIT,
-                                  check=False, preexec_fn=lambda room=room: greatest_file(room))
+                                  check=False, preexec_fn=partial(greatest_file, room))
             self.assertEqual(done.returncode, 3, done.stderr)
             self.assertEqual(self.names(), left)
