@@ -1,4 +1,6 @@
 """`ldi-watch`: what the system says of files, what it does not say, and what it loses."""
+import ctypes
+import errno
 import io
 import mmap
 import os
@@ -9,6 +11,7 @@ from unittest import mock
 
 from client.tests.test_watch_commands import MAKE, FolderTest
 from client.tests.watching import Watching, numbered, wait_until
+from client.watch.events import Watcher
 from client.watch.inputs import Input
 from client.watch.loop import Watch
 from client.watch.says import Teller
@@ -189,6 +192,36 @@ class EventsTest(FolderTest):
             self.assertNotEqual(self.folder.image(), self.folder.link())
         watching.wait_for("linked")
         self.assert_linked()
+
+
+class WatcherTest(FolderTest):
+    """Folders that cannot be watched."""
+
+    def refuse(self, number: int) -> Watcher:
+        """A watcher of the folder, which the system refused with this error."""
+        watcher = Watcher()
+        self.addCleanup(watcher.close)
+
+        def refused(*_: object) -> int:
+            ctypes.set_errno(number)
+            return -1
+
+        with mock.patch("client.watch.events.inotify_add_watch", refused):
+            watcher.watch(str(self.folder.path))
+        return watcher
+
+    def test_not_readable(self) -> None:
+        """A folder that may not be read is tried again with each look."""
+        watcher = self.refuse(errno.EACCES)
+        self.assertTrue(watcher.look())
+        self.assertFalse(watcher.look())
+        self.folder.renew(1, 2)
+        self.assertIn(str(self.folder / "o1.o"), [event.path for event in watcher.read()])
+
+    def test_limit(self) -> None:
+        """Where the system watches no more folders, the error says so."""
+        with self.assertRaisesRegex(OSError, "no more folders can be watched"):
+            self.refuse(errno.ENOSPC)
 
 
 class LostTest(FolderTest):

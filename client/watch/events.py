@@ -139,7 +139,7 @@ class Watcher:
             os.set_inheritable(self._descriptor, False)
         try:
             number = checked(inotify_add_watch(self._descriptor, os.fsencode(folder), MASK), folder)
-        except (FileNotFoundError, NotADirectoryError):
+        except (FileNotFoundError, NotADirectoryError, PermissionError):
             self._folders[folder] = None
             return False
         before = self._numbers.get(folder)
