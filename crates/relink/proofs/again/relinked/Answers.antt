@@ -22,7 +22,7 @@ valued-requires-clause-known c =
       layout = s;
       laying = is;
       view = c.in_ok-view.ensures s (c.in_ok-given.ensures.values s is) (c.in_ok-starts.ensures s is);
-      rest = c.in_ok-rows.ensures.rest;
+      rest = c.in_ok-table.ensures.rest;
     }
 
 pub relocated-requires-clause-beside : goal.relocated-requires-clause-beside
@@ -71,7 +71,7 @@ returns-clause-ended c =
       table = record {
         good = f.good;
         names = f.names;
-        rows = c.in_ok-rows.ensures.rows;
+        rows = c.in_ok-table.ensures.gathering.rows;
         laying = k.laying;
         starts = c.in_ok-starts.ensures s k.laying;
         symbols = subst (λ (z : Layout). AreSymbolValues p z c.in_ok-symbols.symbols)
