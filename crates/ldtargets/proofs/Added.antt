@@ -74,9 +74,9 @@ module _ (l : KnownLink) where
     tried_fault fs f gs hs m0 m1 is e n = rw own (record {
       fields = rw is (sym (append-nil fs));
       counts = record {
-          faults = rw is (ap (faults_of l) e ∙ map-append (fault_of l.project l.number) gs (f ∷ []));
-          counted = n;
-        };
+        faults = rw is (ap (faults_of l) e ∙ map-append (fault_of l.project l.number) gs (f ∷ []));
+        counted = n;
+      };
     })
 
   -- first some sites, then others
