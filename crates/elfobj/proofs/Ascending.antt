@@ -12,16 +12,16 @@ use Rattle.std.proofs.lemmas.List.{append-nil, map-append}
 use Rattle.std.proofs.lemmas.List.Elements.{All-map}
 use Rattle.std.proofs.lemmas.List.Quantifiers.{all_pairs_push}
 use Rattle.std.proofs.lemmas.List.Sorted.{IsNonDecreasingBy-from_default}
-use Rattle.elffile.specs.ElfHeader.{e_shnum}
-use Rattle.elffile.specs.LinkedKinds.{linked_kind}
+use Rattle.elfobj_file.specs.ElfHeader.{e_shnum}
+use Rattle.elfobj_file.specs.LinkedKinds.{linked_kind}
 use Rattle.elfobj.specs.Numbering.{IsNumberedAt}
-use Rattle.elffile.specs.SectionHeaders.{header}
-use Rattle.elffile.specs.Sections.{linked_section, section_of, sections_below, sections_of}
-use Rattle.elffile.specs.declared.section.Section.{Section}
-use Rattle.elffile.specs.declared.section.SectionIndex.{SectionIndex}
-use Rattle.elffile.specs.declared.section.SectionKind.{SectionKind}
-use Rattle.elffile.specs.declared.section.SectionKind.TheVariants.{Progbits}
-use Rattle.elffile.specs.declared.section_header.SectionHeader.{SectionHeader}
+use Rattle.elfobj_file.specs.SectionHeaders.{header}
+use Rattle.elfobj_file.specs.Sections.{linked_section, section_of, sections_below, sections_of}
+use Rattle.elfobj_file.specs.declared.section.Section.{Section}
+use Rattle.elfobj_file.specs.declared.section.SectionIndex.{SectionIndex}
+use Rattle.elfobj_file.specs.declared.section.SectionKind.{SectionKind}
+use Rattle.elfobj_file.specs.declared.section.SectionKind.TheVariants.{Progbits}
+use Rattle.elfobj_file.specs.declared.section_header.SectionHeader.{SectionHeader}
 use Rattle.elfobj.proofs.RelocationReads.{all_below}
 
 abbrev pub IsBefore : Section → Section → Type 0

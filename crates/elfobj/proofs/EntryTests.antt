@@ -8,19 +8,19 @@ use Rattle.std.proofs.lemmas.Bool.{cases_lt, le-ltb, ltb-false, or_from, or_part
 use Rattle.std.proofs.lemmas.List.{get_or-set_other, get_or-set_same, get_or_default, length-set, take_all}
 use Rattle.std.proofs.lemmas.List.Folds.{list_any-append}
 use Rattle.elfobj.specs.EntryTests.{HavePassed, PassesIn, ends_in, field_ends}
-use Rattle.elffile.specs.RelocationEntries.{relocation_entry_at, relocation_entries_below}
-use Rattle.elffile.specs.Relocations.{field_end, relocation_of}
+use Rattle.elfobj_file.specs.RelocationEntries.{relocation_entry_at, relocation_entries_below}
+use Rattle.elfobj_file.specs.Relocations.{field_end, relocation_of}
 use Rattle.elfobj.specs.Runs.{IsTableOf, has_refused_entry, is_refused_for}
-use Rattle.elffile.specs.Tables.{is_outside}
-use Rattle.elffile.specs.declared.relocation.Relocation.{Relocation}
-use Rattle.elffile.specs.declared.relocation_entry.RelocationEntry.{RelocationEntry}
+use Rattle.elfobj_file.specs.Tables.{is_outside}
+use Rattle.elfobj_file.specs.declared.relocation.Relocation.{Relocation}
+use Rattle.elfobj_file.specs.declared.relocation_entry.RelocationEntry.{RelocationEntry}
 use Rattle.elfobj.specs.declared.relocation_fault.EntryFault.{EntryFault}
 use Rattle.elfobj.specs.declared.relocation_fault.EntryFault.TheVariants.{Any, Symbol, Kind, Bounds}
 use Rattle.elfobj.specs.declared.relocation_run.SectionTable.{SectionTable}
-use Rattle.elffile.specs.declared.section.Section.{Section}
-use Rattle.elffile.specs.declared.section.SectionKind.{SectionKind}
-use Rattle.elffile.specs.declared.section.SectionKind.TheVariants.{Progbits, Nobits, Note, InitArray, FiniArray}
-use Rattle.elffile.specs.declared.section.SectionKind.TheVariants.{PreinitArray, Unwind}
+use Rattle.elfobj_file.specs.declared.section.Section.{Section}
+use Rattle.elfobj_file.specs.declared.section.SectionKind.{SectionKind}
+use Rattle.elfobj_file.specs.declared.section.SectionKind.TheVariants.{Progbits, Nobits, Note, InitArray, FiniArray}
+use Rattle.elfobj_file.specs.declared.section.SectionKind.TheVariants.{PreinitArray, Unwind}
 use Rattle.elfobj.proofs.RelocationReads.{none_mapped}
 
 -- a field that lies in a section lies in all that are no smaller

@@ -9,10 +9,10 @@ use Rattle.std.proofs.lemmas.List.Folds.{list_any_none}
 use Rattle.elfobj.specs.FieldMarks.{IsTaken, IsWindow}
 use Rattle.elfobj.specs.Places.{relocations_in}
 use Rattle.elfobj.specs.Profile.{AreApart}
-use Rattle.elffile.specs.Relocations.{field_end, meets, share_bytes}
-use Rattle.elffile.specs.declared.span.Span.{Span}
-use Rattle.elffile.specs.declared.relocation.Relocation.{Relocation}
-use Rattle.elffile.specs.declared.relocation.RelocationKind.TheVariants as kind
+use Rattle.elfobj_file.specs.Relocations.{field_end, meets, share_bytes}
+use Rattle.elfobj_file.specs.declared.span.Span.{Span}
+use Rattle.elfobj_file.specs.declared.relocation.Relocation.{Relocation}
+use Rattle.elfobj_file.specs.declared.relocation.RelocationKind.TheVariants as kind
 use Rattle.elfobj.proofs.RelocationLimits.{all_apart}
 
 abbrev pub no_relocation : Relocation

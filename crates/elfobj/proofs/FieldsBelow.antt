@@ -11,16 +11,16 @@ use Rattle.std.proofs.lemmas.List.Folds.{list_any_at}
 use Rattle.std.proofs.lemmas.List.Sorted.{All-permutation, IsPermutation-map, list_any-IsPermutation}
 use Rattle.elfobj.specs.FieldMarks.{AreBelow}
 use Rattle.elfobj.specs.Places.{AreRelocated, relocations_in}
-use Rattle.elffile.specs.Refusal.{entry_refusals, holds}
-use Rattle.elffile.specs.RelocationEntries.{relocation_entries_below}
-use Rattle.elffile.specs.Relocations.{field_end, relocation_of, relocations_at, share_bytes}
+use Rattle.elfobj_file.specs.Refusal.{entry_refusals, holds}
+use Rattle.elfobj_file.specs.RelocationEntries.{relocation_entries_below}
+use Rattle.elfobj_file.specs.Relocations.{field_end, relocation_of, relocations_at, share_bytes}
 use Rattle.elfobj.specs.Runs.{AreTablesOf, IsTableOf}
-use Rattle.elffile.specs.Tables.{has_field_outside, has_wrong_bounds, is_outside, linked_sections}
-use Rattle.elffile.specs.declared.span.Span.{Span}
+use Rattle.elfobj_file.specs.Tables.{has_field_outside, has_wrong_bounds, is_outside, linked_sections}
+use Rattle.elfobj_file.specs.declared.span.Span.{Span}
 use Rattle.elfobj.specs.declared.relocation_run.SectionTable.{SectionTable}
-use Rattle.elffile.specs.declared.refusal.ObjectRefusal.TheVariants.{FieldBounds, RelocationSection, RelocationType}
-use Rattle.elffile.specs.declared.relocation.Relocation.{Relocation}
-use Rattle.elffile.specs.declared.section.Section.{Section}
+use Rattle.elfobj_file.specs.declared.refusal.ObjectRefusal.TheVariants.{FieldBounds, RelocationSection, RelocationType}
+use Rattle.elfobj_file.specs.declared.relocation.Relocation.{Relocation}
+use Rattle.elfobj_file.specs.declared.section.Section.{Section}
 use Rattle.elfobj.proofs.FieldMarks.{stretch_at, stretch_length}
 use Rattle.elfobj.proofs.Limits.{cond_none}
 use Rattle.elfobj.proofs.RelocationLimits.{field_inside}

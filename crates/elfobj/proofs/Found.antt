@@ -3,10 +3,10 @@ use Rattle.std.proofs.Common.{find, Some, nat_lt, eqb}
 use Rattle.std.specs.List.{list_any}
 use Rattle.std.proofs.lemmas.Bool.{cases_Bool, or_parts, or_cases, eqb-true, ltb-false}
 use Rattle.std.proofs.lemmas.Option.{none-some, same_Some}
-use Rattle.elffile.specs.Refusal.{is_out_of_bounds}
-use Rattle.elffile.specs.Relocations.{is_relocation_section}
-use Rattle.elffile.specs.Symbols.{is_symbol_table}
-use Rattle.elffile.specs.declared.section_header.SectionHeader.{SectionHeader}
+use Rattle.elfobj_file.specs.Refusal.{is_out_of_bounds}
+use Rattle.elfobj_file.specs.Relocations.{is_relocation_section}
+use Rattle.elfobj_file.specs.Symbols.{is_symbol_table}
+use Rattle.elfobj_file.specs.declared.section_header.SectionHeader.{SectionHeader}
 
 -- a header that is found passes the test, and none that no header passes
 pub found_is : (p : SectionHeader → Bool) (hs : List SectionHeader) (h : SectionHeader)

@@ -9,24 +9,24 @@ use Rattle.std.proofs.lemmas.Bool.{false≢true, or_parts, and_cases, ltb-false,
 use Rattle.std.proofs.lemmas.List.{length-take, length-drop}
 use Rattle.std.proofs.lemmas.List.Elements.{All-nil, All-cons, All-append}
 use Rattle.std.proofs.lemmas.Nat.{le_or_l}
-use Rattle.elffile.specs.ElfHeader.{e_shnum}
+use Rattle.elfobj_file.specs.ElfHeader.{e_shnum}
 use Rattle.elfobj.specs.Linkable.{IsLinkable, PassesTests}
-use Rattle.elffile.specs.Names.{is_name}
+use Rattle.elfobj_file.specs.Names.{is_name}
 use Rattle.elfobj.specs.Places.{IsFileWithin}
 use Rattle.elfobj.specs.Profile.{IsSectionOfProfile, size_in_file}
-use Rattle.elffile.specs.Refusal.{holds, is_looked_at, is_out_of_bounds, is_outside_profile, object_refusal}
-use Rattle.elffile.specs.SectionHeaders.{header}
-use Rattle.elffile.specs.LinkedKinds.{is_alloc, linked_kind}
-use Rattle.elffile.specs.Sections.{linked_as, linked_section, sections_below, sections_of, name_of, contents}
-use Rattle.elffile.specs.declared.refusal.ObjectRefusal.{ObjectRefusal}
-use Rattle.elffile.specs.declared.refusal.ObjectRefusal.TheVariants.{Short, NotElf, Machine, SectionTable, SectionCount}
-use Rattle.elffile.specs.declared.refusal.ObjectRefusal.TheVariants.{SectionBounds, SectionProfile, SymbolTable, Symbol}
-use Rattle.elffile.specs.declared.refusal.ObjectRefusal.TheVariants.{RelocationSection, RelocationType, FieldBounds}
-use Rattle.elffile.specs.declared.refusal.ObjectRefusal.TheVariants.{FieldOverlap}
-use Rattle.elffile.specs.declared.section.SectionKind.{SectionKind}
-use Rattle.elffile.specs.declared.section.SectionKind.TheVariants.{Progbits, Nobits, Note, InitArray, FiniArray}
-use Rattle.elffile.specs.declared.section.SectionKind.TheVariants.{PreinitArray, Unwind}
-use Rattle.elffile.specs.declared.section_header.SectionHeader.{SectionHeader}
+use Rattle.elfobj_file.specs.Refusal.{holds, is_looked_at, is_out_of_bounds, is_outside_profile, object_refusal}
+use Rattle.elfobj_file.specs.SectionHeaders.{header}
+use Rattle.elfobj_file.specs.LinkedKinds.{is_alloc, linked_kind}
+use Rattle.elfobj_file.specs.Sections.{linked_as, linked_section, sections_below, sections_of, name_of, contents}
+use Rattle.elfobj_file.specs.declared.refusal.ObjectRefusal.{ObjectRefusal}
+use Rattle.elfobj_file.specs.declared.refusal.ObjectRefusal.TheVariants.{Short, NotElf, Machine, SectionTable, SectionCount}
+use Rattle.elfobj_file.specs.declared.refusal.ObjectRefusal.TheVariants.{SectionBounds, SectionProfile, SymbolTable, Symbol}
+use Rattle.elfobj_file.specs.declared.refusal.ObjectRefusal.TheVariants.{RelocationSection, RelocationType, FieldBounds}
+use Rattle.elfobj_file.specs.declared.refusal.ObjectRefusal.TheVariants.{FieldOverlap}
+use Rattle.elfobj_file.specs.declared.section.SectionKind.{SectionKind}
+use Rattle.elfobj_file.specs.declared.section.SectionKind.TheVariants.{Progbits, Nobits, Note, InitArray, FiniArray}
+use Rattle.elfobj_file.specs.declared.section.SectionKind.TheVariants.{PreinitArray, Unwind}
+use Rattle.elfobj_file.specs.declared.section_header.SectionHeader.{SectionHeader}
 use Rattle.elfobj.proofs.Passing.{none_at}
 use Rattle.elfobj.proofs.Steps.{linkable, linked_parts, kind_not_null}
 

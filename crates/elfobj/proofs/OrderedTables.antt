@@ -7,17 +7,17 @@ use Rattle.std.proofs.lemmas.Bool.{le-ltb, or_from, or_parts}
 use Rattle.std.proofs.lemmas.List.{length-append, map_push, take_all}
 use Rattle.std.proofs.lemmas.List.Elements.{All-head, All-push, All-tail, All-weaker}
 use Rattle.std.proofs.lemmas.List.Folds.{list_any-append}
-use Rattle.elffile.specs.RelocationEntries.{relocation_entry_at, relocation_entries_below}
-use Rattle.elffile.specs.Relocations.{field_end, meets, relocation_of, relocations_at, share_bytes}
-use Rattle.elffile.specs.Spans.{IsInside}
-use Rattle.elffile.specs.ElfHeader.{e_shnum}
-use Rattle.elffile.specs.Refusal.{holds, relocation_refusals}
-use Rattle.elffile.specs.Symbols.{symbols_of}
-use Rattle.elffile.specs.Tables.{is_outside, is_strange_type, is_wrong_below, linked_sections, names_no_symbol}
-use Rattle.elffile.specs.declared.relocation.Relocation.{Relocation}
-use Rattle.elffile.specs.declared.relocation_entry.RelocationEntry.{RelocationEntry}
-use Rattle.elffile.specs.declared.section.Section.{Section}
-use Rattle.elffile.specs.declared.span.Span.{Span}
+use Rattle.elfobj_file.specs.RelocationEntries.{relocation_entry_at, relocation_entries_below}
+use Rattle.elfobj_file.specs.Relocations.{field_end, meets, relocation_of, relocations_at, share_bytes}
+use Rattle.elfobj_file.specs.Spans.{IsInside}
+use Rattle.elfobj_file.specs.ElfHeader.{e_shnum}
+use Rattle.elfobj_file.specs.Refusal.{holds, relocation_refusals}
+use Rattle.elfobj_file.specs.Symbols.{symbols_of}
+use Rattle.elfobj_file.specs.Tables.{is_outside, is_strange_type, is_wrong_below, linked_sections, names_no_symbol}
+use Rattle.elfobj_file.specs.declared.relocation.Relocation.{Relocation}
+use Rattle.elfobj_file.specs.declared.relocation_entry.RelocationEntry.{RelocationEntry}
+use Rattle.elfobj_file.specs.declared.section.Section.{Section}
+use Rattle.elfobj_file.specs.declared.span.Span.{Span}
 use Rattle.elfobj.specs.Places.{AreRelocated, relocations_in}
 use Rattle.elfobj.specs.Runs.{AreTablesOf, IsTableOf, has_refused_entry, is_refused_for, table_entries}
 use Rattle.elfobj.specs.declared.relocation_fault.EntryFault.TheVariants.{Any}

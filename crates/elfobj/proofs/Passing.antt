@@ -2,11 +2,11 @@ use Rattle.std.proofs.Common.{◌≡◌, ℕ, ◌+◌, ◌<◌, ◌≤◌, List,
 use Rattle.std.specs.List.{list_any}
 use Rattle.std.proofs.lemmas.Bool.{both_ways, or_parts, ltb-false, false_from_ne_true}
 use Rattle.std.proofs.lemmas.List.Folds.{list_any_at}
-use Rattle.elffile.specs.ElfHeader.{e_shnum, e_shstrndx}
-use Rattle.elffile.specs.Refusal.{is_out_of_bounds}
-use Rattle.elffile.specs.SectionHeaders.{header, headers}
-use Rattle.elffile.specs.declared.section_header.SectionHeader.{SectionHeader}
-use Rattle.elffile.proofs.Headers.{headers_length, headers_at}
+use Rattle.elfobj_file.specs.ElfHeader.{e_shnum, e_shstrndx}
+use Rattle.elfobj_file.specs.Refusal.{is_out_of_bounds}
+use Rattle.elfobj_file.specs.SectionHeaders.{header, headers}
+use Rattle.elfobj_file.specs.declared.section_header.SectionHeader.{SectionHeader}
+use Rattle.elfobj_file.proofs.Headers.{headers_length, headers_at}
 
 -- a test that no header passes fails at each
 pub none_at : (p : SectionHeader → Bool) (bytes : List ℕ) (k : ℕ) → list_any p (headers bytes) ≡ false

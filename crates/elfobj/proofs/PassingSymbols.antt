@@ -8,18 +8,18 @@ use Rattle.std.proofs.lemmas.Bool.{and_from, cases_lt, false≢true, le-ltb, lt-
 use Rattle.std.proofs.lemmas.List.{get_or-drop, get_or-take, get_or_append_left, get_or_push, length-drop}
 use Rattle.std.proofs.lemmas.List.{length-take-le, map_push}
 use Rattle.std.proofs.lemmas.List.Folds.{list_any_none}
-use Rattle.elffile.specs.ElfHeader.{e_shnum}
-use Rattle.elffile.specs.Refusal.{holds, symbol_refusals}
-use Rattle.elffile.specs.SectionHeaders.{file_bytes, header, headers}
-use Rattle.elffile.specs.Spans.{IsInside, bytes_at}
-use Rattle.elffile.specs.SymbolEntries.{symbol_entries_below, symbol_entry_at}
-use Rattle.elffile.specs.Symbols.{entries_of, is_symbol_table, named_symbol, null_symbol, symbol_name, symbol_of}
-use Rattle.elffile.specs.Symbols.{symbol_table, symbols_from}
-use Rattle.elffile.specs.Tables.{has_misplaced_entry, has_wrong_header, is_local, is_wrong_symbol}
-use Rattle.elffile.specs.declared.section_header.SectionHeader.{SectionHeader}
-use Rattle.elffile.specs.declared.span.Span.{Span}
-use Rattle.elffile.specs.declared.symbol.Symbol.{Symbol}
-use Rattle.elffile.specs.declared.symbol_entry.SymbolEntry.{SymbolEntry}
+use Rattle.elfobj_file.specs.ElfHeader.{e_shnum}
+use Rattle.elfobj_file.specs.Refusal.{holds, symbol_refusals}
+use Rattle.elfobj_file.specs.SectionHeaders.{file_bytes, header, headers}
+use Rattle.elfobj_file.specs.Spans.{IsInside, bytes_at}
+use Rattle.elfobj_file.specs.SymbolEntries.{symbol_entries_below, symbol_entry_at}
+use Rattle.elfobj_file.specs.Symbols.{entries_of, is_symbol_table, named_symbol, null_symbol, symbol_name, symbol_of}
+use Rattle.elfobj_file.specs.Symbols.{symbol_table, symbols_from}
+use Rattle.elfobj_file.specs.Tables.{has_misplaced_entry, has_wrong_header, is_local, is_wrong_symbol}
+use Rattle.elfobj_file.specs.declared.section_header.SectionHeader.{SectionHeader}
+use Rattle.elfobj_file.specs.declared.span.Span.{Span}
+use Rattle.elfobj_file.specs.declared.symbol.Symbol.{Symbol}
+use Rattle.elfobj_file.specs.declared.symbol_entry.SymbolEntry.{SymbolEntry}
 use Rattle.elfobj.specs.Places.{AreNamed}
 use Rattle.elfobj.proofs.SymbolTables.{entries_length, entry_told, named_push, right_table, symbols_pass, wrong_symbol}
 use Rattle.elfobj.proofs.SymbolTables.{wrong_table}

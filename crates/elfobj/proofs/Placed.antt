@@ -4,14 +4,14 @@ use Rattle.std.proofs.Common.{subst, arith}
 use Rattle.std.proofs.lemmas.List.{get_or-map, length-map, map-set, map_push, set-get_or, take_more, take_more_set}
 use Rattle.elfobj.specs.Linkable.{ArePartsOf}
 use Rattle.elfobj.specs.Places.{AreNamed, ArePlaced, AreRead, AreRelocated, name_in, relocations_in}
-use Rattle.elffile.specs.Sections.{LinkedSection, sections_of}
-use Rattle.elffile.specs.Spans.{IsInside, bytes_at}
-use Rattle.elffile.specs.Symbols.{symbols_of}
-use Rattle.elffile.specs.declared.span.Span.{Span}
+use Rattle.elfobj_file.specs.Sections.{LinkedSection, sections_of}
+use Rattle.elfobj_file.specs.Spans.{IsInside, bytes_at}
+use Rattle.elfobj_file.specs.Symbols.{symbols_of}
+use Rattle.elfobj_file.specs.declared.span.Span.{Span}
 use Rattle.elfobj.specs.declared.place.Place.{Place}
-use Rattle.elffile.specs.declared.relocation.Relocation.{Relocation}
-use Rattle.elffile.specs.declared.section.Section.{Section}
-use Rattle.elffile.specs.declared.symbol.Symbol.{Symbol}
+use Rattle.elfobj_file.specs.declared.relocation.Relocation.{Relocation}
+use Rattle.elfobj_file.specs.declared.section.Section.{Section}
+use Rattle.elfobj_file.specs.declared.symbol.Symbol.{Symbol}
 
 -- a part that a change of one element leaves
 pub part_kept : {X Y : Type 0} (f : X → Y) (xs : List X) (i : ℕ) (d x : X) → i < length xs → f x ≡ f (get_or xs i d)

@@ -5,15 +5,15 @@ use Rattle.std.specs.Option.{option_or}
 use Rattle.std.proofs.lemmas.Option.{none-some, same_Some}
 use Rattle.std.proofs.lemmas.Bool.{false≢true}
 use Rattle.std.proofs.lemmas.List.Folds.{find-append}
-use Rattle.elffile.specs.ElfHeader.{e_shstrndx}
-use Rattle.elffile.specs.SectionHeaders.{file_bytes, header, headers}
-use Rattle.elffile.specs.Sections.{name_table}
+use Rattle.elfobj_file.specs.ElfHeader.{e_shstrndx}
+use Rattle.elfobj_file.specs.SectionHeaders.{file_bytes, header, headers}
+use Rattle.elfobj_file.specs.Sections.{name_table}
 use Rattle.elfobj.specs.Linkable.{PassesTests}
-use Rattle.elffile.specs.Refusal.{holds, is_outside_profile_by, header_refusals, section_refusals, symbol_refusals}
-use Rattle.elffile.specs.Refusal.{relocation_refusals, object_refusal}
-use Rattle.elffile.specs.declared.refusal.ObjectRefusal.{ObjectRefusal}
-use Rattle.elffile.specs.declared.refusal.ObjectRefusal.TheVariants.{NoMemory, SectionBounds, SectionProfile}
-use Rattle.elffile.specs.declared.section_header.SectionHeader.{SectionHeader}
+use Rattle.elfobj_file.specs.Refusal.{holds, is_outside_profile_by, header_refusals, section_refusals, symbol_refusals}
+use Rattle.elfobj_file.specs.Refusal.{relocation_refusals, object_refusal}
+use Rattle.elfobj_file.specs.declared.refusal.ObjectRefusal.{ObjectRefusal}
+use Rattle.elfobj_file.specs.declared.refusal.ObjectRefusal.TheVariants.{NoMemory, SectionBounds, SectionProfile}
+use Rattle.elfobj_file.specs.declared.section_header.SectionHeader.{SectionHeader}
 
 -- the ELF header is refused
 pub refused_by_header : (bytes : List ℕ) (r : ObjectRefusal) → find (holds bytes) header_refusals ≡ Some r

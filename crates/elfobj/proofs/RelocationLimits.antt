@@ -5,24 +5,24 @@ use Rattle.std.specs.Option.{option_to_list}
 use Rattle.std.proofs.lemmas.Bool.{leb-false, ltb-false, or_parts, true≢false}
 use Rattle.std.proofs.lemmas.List.Elements.{All-append, All-cons, All-nil}
 use Rattle.std.proofs.lemmas.List.Kept.{AllPairs-cons}
-use Rattle.elffile.specs.ElfHeader.{e_shnum}
-use Rattle.elffile.specs.LinkedKinds.{linked_kind}
+use Rattle.elfobj_file.specs.ElfHeader.{e_shnum}
+use Rattle.elfobj_file.specs.LinkedKinds.{linked_kind}
 use Rattle.elfobj.specs.Profile.{AreApart, HasRelocationsOfProfile, IsRelocationOfProfile}
-use Rattle.elffile.specs.Refusal.{holds, object_refusal}
-use Rattle.elffile.specs.RelocationEntries.{r_sym}
-use Rattle.elffile.specs.Relocations.{field_end, meets, relocation_entries, relocation_of, relocations_at, share_bytes}
-use Rattle.elffile.specs.SectionHeaders.{header}
-use Rattle.elffile.specs.Sections.{LinkedSection, linked_section, section_of, sections_below, sections_of}
-use Rattle.elffile.specs.Symbols.{symbols_of}
-use Rattle.elffile.specs.Tables.{has_field_outside, has_overlap, has_shared_bytes, has_strange_symbol, has_wrong_bounds}
-use Rattle.elffile.specs.Tables.{has_wrong_relocation_section, is_outside, names_no_symbol}
-use Rattle.elffile.specs.declared.relocation.Relocation.{Relocation}
-use Rattle.elffile.specs.declared.relocation_entry.RelocationEntry.{RelocationEntry}
-use Rattle.elffile.specs.declared.section.Section.{Section}
-use Rattle.elffile.specs.declared.section.SectionKind.{SectionKind}
-use Rattle.elffile.specs.declared.section.SectionKind.TheVariants.{Progbits, Nobits, Note, InitArray, FiniArray}
-use Rattle.elffile.specs.declared.section.SectionKind.TheVariants.{PreinitArray, Unwind}
-use Rattle.elffile.specs.declared.section_header.SectionHeader.{SectionHeader}
+use Rattle.elfobj_file.specs.Refusal.{holds, object_refusal}
+use Rattle.elfobj_file.specs.RelocationEntries.{r_sym}
+use Rattle.elfobj_file.specs.Relocations.{field_end, meets, relocation_entries, relocation_of, relocations_at, share_bytes}
+use Rattle.elfobj_file.specs.SectionHeaders.{header}
+use Rattle.elfobj_file.specs.Sections.{LinkedSection, linked_section, section_of, sections_below, sections_of}
+use Rattle.elfobj_file.specs.Symbols.{symbols_of}
+use Rattle.elfobj_file.specs.Tables.{has_field_outside, has_overlap, has_shared_bytes, has_strange_symbol, has_wrong_bounds}
+use Rattle.elfobj_file.specs.Tables.{has_wrong_relocation_section, is_outside, names_no_symbol}
+use Rattle.elfobj_file.specs.declared.relocation.Relocation.{Relocation}
+use Rattle.elfobj_file.specs.declared.relocation_entry.RelocationEntry.{RelocationEntry}
+use Rattle.elfobj_file.specs.declared.section.Section.{Section}
+use Rattle.elfobj_file.specs.declared.section.SectionKind.{SectionKind}
+use Rattle.elfobj_file.specs.declared.section.SectionKind.TheVariants.{Progbits, Nobits, Note, InitArray, FiniArray}
+use Rattle.elfobj_file.specs.declared.section.SectionKind.TheVariants.{PreinitArray, Unwind}
+use Rattle.elfobj_file.specs.declared.section_header.SectionHeader.{SectionHeader}
 use Rattle.elfobj.proofs.Limits.{accepted_parts}
 
 pub field_inside : (kind : SectionKind) (size : ℕ) (r : Relocation) → is_outside kind size r ≡ false

@@ -9,32 +9,32 @@ use Rattle.std.proofs.lemmas.List.Elements.{All-append, All-cons, All-get_or, Al
 use Rattle.std.specs.List.Sorted.{IsPermutation}
 use Rattle.std.proofs.lemmas.List.Folds.{find-append, list_any-append, list_any_none}
 use Rattle.std.proofs.lemmas.List.Sorted.{All-permutation, IsPermutation-map, list_any-IsPermutation}
-use Rattle.elffile.specs.ElfHeader.{e_shnum}
-use Rattle.elffile.specs.LinkedKinds.{linked_kind}
+use Rattle.elfobj_file.specs.ElfHeader.{e_shnum}
+use Rattle.elfobj_file.specs.LinkedKinds.{linked_kind}
 use Rattle.elfobj.specs.Linkable.{PassesTests}
 use Rattle.elfobj.specs.Places.{AreRelocated, relocations_in}
-use Rattle.elffile.specs.Refusal.{entry_refusals, holds, is_out_of_bounds, relocation_refusals}
-use Rattle.elffile.specs.RelocationEntries.{relocation_entry_at, relocation_entries_below}
-use Rattle.elffile.specs.Relocations.{changes, entries_in, relocation_entries, relocation_of, relocation_section}
-use Rattle.elffile.specs.Relocations.{relocations_at, share_bytes}
+use Rattle.elfobj_file.specs.Refusal.{entry_refusals, holds, is_out_of_bounds, relocation_refusals}
+use Rattle.elfobj_file.specs.RelocationEntries.{relocation_entry_at, relocation_entries_below}
+use Rattle.elfobj_file.specs.Relocations.{changes, entries_in, relocation_entries, relocation_of, relocation_section}
+use Rattle.elfobj_file.specs.Relocations.{relocations_at, share_bytes}
 use Rattle.elfobj.specs.Runs.{AreTablesOf, IsTableOf, has_refused_entry, is_refused_for, table_entries}
-use Rattle.elffile.specs.SectionHeaders.{header, headers}
-use Rattle.elffile.specs.Sections.{LinkedSection, linked_section, section_of, sections_below, sections_of}
-use Rattle.elffile.specs.Symbols.{symbols_of}
-use Rattle.elffile.specs.Tables.{has_field_outside, has_overlap, has_shared_bytes, has_strange_symbol, has_strange_type}
-use Rattle.elffile.specs.Tables.{has_wrong_bounds, has_wrong_relocation_section, has_wrong_type, is_outside}
-use Rattle.elffile.specs.Tables.{is_wrong_below, linked_sections}
-use Rattle.elffile.specs.declared.span.Span.{Span}
-use Rattle.elffile.specs.declared.refusal.ObjectRefusal.{ObjectRefusal}
-use Rattle.elffile.specs.declared.refusal.ObjectRefusal.TheVariants.{FieldOverlap, FieldBounds, NoMemory}
-use Rattle.elffile.specs.declared.refusal.ObjectRefusal.TheVariants.{RelocationSection, RelocationType}
-use Rattle.elffile.specs.declared.relocation.Relocation.{Relocation}
-use Rattle.elffile.specs.declared.relocation_entry.RelocationEntry.{RelocationEntry}
+use Rattle.elfobj_file.specs.SectionHeaders.{header, headers}
+use Rattle.elfobj_file.specs.Sections.{LinkedSection, linked_section, section_of, sections_below, sections_of}
+use Rattle.elfobj_file.specs.Symbols.{symbols_of}
+use Rattle.elfobj_file.specs.Tables.{has_field_outside, has_overlap, has_shared_bytes, has_strange_symbol, has_strange_type}
+use Rattle.elfobj_file.specs.Tables.{has_wrong_bounds, has_wrong_relocation_section, has_wrong_type, is_outside}
+use Rattle.elfobj_file.specs.Tables.{is_wrong_below, linked_sections}
+use Rattle.elfobj_file.specs.declared.span.Span.{Span}
+use Rattle.elfobj_file.specs.declared.refusal.ObjectRefusal.{ObjectRefusal}
+use Rattle.elfobj_file.specs.declared.refusal.ObjectRefusal.TheVariants.{FieldOverlap, FieldBounds, NoMemory}
+use Rattle.elfobj_file.specs.declared.refusal.ObjectRefusal.TheVariants.{RelocationSection, RelocationType}
+use Rattle.elfobj_file.specs.declared.relocation.Relocation.{Relocation}
+use Rattle.elfobj_file.specs.declared.relocation_entry.RelocationEntry.{RelocationEntry}
 use Rattle.elfobj.specs.declared.relocation_fault.EntryFault.TheVariants.{Any, Symbol, Kind, Bounds}
 use Rattle.elfobj.specs.declared.relocation_run.SectionTable.{SectionTable}
-use Rattle.elffile.specs.declared.section.Section.{Section}
-use Rattle.elffile.specs.declared.section.SectionKind.{SectionKind}
-use Rattle.elffile.specs.declared.section_header.SectionHeader.{SectionHeader}
+use Rattle.elfobj_file.specs.declared.section.Section.{Section}
+use Rattle.elfobj_file.specs.declared.section.SectionKind.{SectionKind}
+use Rattle.elfobj_file.specs.declared.section_header.SectionHeader.{SectionHeader}
 use Rattle.elfobj.proofs.Found.{found_is, found_not, relocations_in_file}
 
 -- numbers of linked sections are numbers of headers

@@ -7,14 +7,14 @@ use Rattle.std.proofs.lemmas.Bool.{cases_Bool, cases_lt, or_parts, or_from, or_l
 use Rattle.std.proofs.lemmas.Bool.{and_right, false≢true, eqb-true, eqb-false, le-leb, leb-false}
 use Rattle.std.proofs.lemmas.List.{get_or-replicate, get_or-set_same, get_or-set_other, length-replicate, length-set}
 use Rattle.std.proofs.lemmas.List.Folds.{find-append}
-use Rattle.elffile.specs.ElfHeader.{e_shnum}
+use Rattle.elfobj_file.specs.ElfHeader.{e_shnum}
 use Rattle.elfobj.specs.Reading.{AreTables, AreTablesBelow, entered, is_wrong_after}
-use Rattle.elffile.specs.Relocations.{changes, is_relocation_section, relocation_section}
-use Rattle.elffile.specs.SectionHeaders.{header, headers, headers_below}
-use Rattle.elffile.specs.Symbols.{is_symbol_table, symbol_table_number}
-use Rattle.elffile.specs.Tables.{is_linked, is_wrong_below, is_wrong_relocation_section, is_wrong_table}
-use Rattle.elffile.specs.declared.section_header.SectionHeader.{SectionHeader}
-use Rattle.elffile.proofs.Headers.{headers_length}
+use Rattle.elfobj_file.specs.Relocations.{changes, is_relocation_section, relocation_section}
+use Rattle.elfobj_file.specs.SectionHeaders.{header, headers, headers_below}
+use Rattle.elfobj_file.specs.Symbols.{is_symbol_table, symbol_table_number}
+use Rattle.elfobj_file.specs.Tables.{is_linked, is_wrong_below, is_wrong_relocation_section, is_wrong_table}
+use Rattle.elfobj_file.specs.declared.section_header.SectionHeader.{SectionHeader}
+use Rattle.elfobj_file.proofs.Headers.{headers_length}
 
 pub tables_none : (bytes : List ℕ) (n : ℕ) (ts : List (Option SectionHeader)) → n ≡ e_shnum bytes
     → ts ≡ replicate n None → AreTablesBelow bytes 0 ts

@@ -9,17 +9,17 @@ use Rattle.std.proofs.lemmas.List.{length-append, length-drop, length-map, map-a
 use Rattle.std.proofs.lemmas.List.{take_more, map_push}
 use Rattle.std.proofs.lemmas.List.Elements.{All-head, All-more, All-push, All-tail, All-weaker}
 use Rattle.elfobj.specs.Places.{AreRelocated, relocations_in}
-use Rattle.elffile.specs.Spans.{IsInside}
-use Rattle.elffile.specs.RelocationEntries.{relocation_entry_at, relocation_entries_below}
-use Rattle.elffile.specs.Relocations.{relocation_of, relocations_at}
+use Rattle.elfobj_file.specs.Spans.{IsInside}
+use Rattle.elfobj_file.specs.RelocationEntries.{relocation_entry_at, relocation_entries_below}
+use Rattle.elfobj_file.specs.Relocations.{relocation_of, relocations_at}
 use Rattle.elfobj.specs.Runs.{AreRuns, IsCovered, IsRun, IsTableOf, table_entries}
-use Rattle.elffile.specs.declared.span.Span.{Span}
-use Rattle.elffile.specs.declared.relocation.Relocation.{Relocation}
+use Rattle.elfobj_file.specs.declared.span.Span.{Span}
+use Rattle.elfobj_file.specs.declared.relocation.Relocation.{Relocation}
 use Rattle.elfobj.specs.declared.relocation_run.Run.{Run}
 use Rattle.elfobj.specs.declared.relocation_run.SectionTable.{SectionTable}
-use Rattle.elffile.specs.declared.section.Section.{Section}
-use Rattle.elffile.specs.declared.section.SectionKind.TheVariants.{Progbits}
-use Rattle.elffile.proofs.Cuts.{cut_cut}
+use Rattle.elfobj_file.specs.declared.section.Section.{Section}
+use Rattle.elfobj_file.specs.declared.section.SectionKind.TheVariants.{Progbits}
+use Rattle.elfobj_file.proofs.Cuts.{cut_cut}
 
 -- entries one after another
 entries_length : (bytes : List ℕ) (start n : ℕ) → length (relocation_entries_below bytes start n) ≡ n

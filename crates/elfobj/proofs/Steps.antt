@@ -6,21 +6,21 @@ use Rattle.std.proofs.lemmas.Bool.{cases_Bool, false_from_ne_true, or_parts, ltb
 use Rattle.std.proofs.lemmas.List.{map_push}
 use Rattle.std.proofs.lemmas.List.Elements.{All-push}
 use Rattle.std.proofs.lemmas.Option.{none-some, same_Some}
-use Rattle.elffile.specs.ElfHeader.{e_shnum}
+use Rattle.elfobj_file.specs.ElfHeader.{e_shnum}
 use Rattle.elfobj.specs.Linkable.{IsLinkable, IsPlaced, PassesTests}
-use Rattle.elffile.specs.Names.{is_name}
+use Rattle.elfobj_file.specs.Names.{is_name}
 use Rattle.elfobj.specs.Places.{AreRead, IsFileWithin, IsWithin, name_in, bytes_in}
-use Rattle.elffile.specs.Refusal.{holds, is_looked_at, is_out_of_bounds, is_outside_profile}
-use Rattle.elffile.specs.SectionHeaders.{header}
-use Rattle.elffile.specs.SectionKinds.{kind_of}
-use Rattle.elffile.specs.LinkedKinds.{is_alloc, linked_kind}
-use Rattle.elffile.specs.Sections.{LinkedSection, section_of, linked_as, sections_below, name_of}
+use Rattle.elfobj_file.specs.Refusal.{holds, is_looked_at, is_out_of_bounds, is_outside_profile}
+use Rattle.elfobj_file.specs.SectionHeaders.{header}
+use Rattle.elfobj_file.specs.SectionKinds.{kind_of}
+use Rattle.elfobj_file.specs.LinkedKinds.{is_alloc, linked_kind}
+use Rattle.elfobj_file.specs.Sections.{LinkedSection, section_of, linked_as, sections_below, name_of}
 use Rattle.elfobj.specs.declared.place.Place.{Place}
-use Rattle.elffile.specs.declared.section.Section.{Section}
-use Rattle.elffile.specs.declared.section.SectionKind.{SectionKind}
-use Rattle.elffile.specs.declared.section.SectionKind.TheVariants.{Progbits, Nobits, Note, InitArray, FiniArray}
-use Rattle.elffile.specs.declared.section.SectionKind.TheVariants.{PreinitArray, Unwind}
-use Rattle.elffile.specs.declared.section_header.SectionHeader.{SectionHeader}
+use Rattle.elfobj_file.specs.declared.section.Section.{Section}
+use Rattle.elfobj_file.specs.declared.section.SectionKind.{SectionKind}
+use Rattle.elfobj_file.specs.declared.section.SectionKind.TheVariants.{Progbits, Nobits, Note, InitArray, FiniArray}
+use Rattle.elfobj_file.specs.declared.section.SectionKind.TheVariants.{PreinitArray, Unwind}
+use Rattle.elfobj_file.specs.declared.section_header.SectionHeader.{SectionHeader}
 use Rattle.elfobj.proofs.Passing.{none_at}
 
 -- one more section and its place

@@ -6,20 +6,20 @@ use Rattle.std.specs.Option.{option_map_or, unwrap_or}
 use Rattle.std.proofs.lemmas.Bool.{and_cases, or_parts, not-false, false≢true, eqb-true, ltb-false, ltb-true}
 use Rattle.std.proofs.lemmas.List.{length-map}
 use Rattle.std.proofs.lemmas.List.Elements.{All-cons, All-nil}
-use Rattle.elffile.specs.ElfHeader.{e_shnum}
-use Rattle.elffile.specs.Names.{is_name, string_at}
+use Rattle.elfobj_file.specs.ElfHeader.{e_shnum}
+use Rattle.elfobj_file.specs.Names.{is_name, string_at}
 use Rattle.elfobj.specs.Profile.{IsCommonBlock, IsNameOf, IsSectionBelow, IsSymbolOfProfile}
-use Rattle.elffile.specs.Refusal.{holds, object_refusal}
-use Rattle.elffile.specs.SymbolEntries.{st_bind}
-use Rattle.elffile.specs.Symbols.{NamedSymbol, entries_of, named_symbol, null_symbol, strings_of, symbol_of}
-use Rattle.elffile.specs.Symbols.{symbol_table, symbols_from, symbols_in, symbols_of}
-use Rattle.elffile.specs.SymbolKinds.{binding_of}
-use Rattle.elffile.specs.Tables.{has_wrong_entry, has_wrong_symbol, is_local, is_not_local, is_wrong_common}
-use Rattle.elffile.specs.Tables.{is_wrong_non_local, is_wrong_symbol}
-use Rattle.elffile.specs.declared.section_header.SectionHeader.{SectionHeader}
-use Rattle.elffile.specs.declared.symbol.Binding.TheVariants.{Local, Global, Weak}
-use Rattle.elffile.specs.declared.symbol.SymbolPlace.TheVariants.{Common, Undefined, Absolute, Section}
-use Rattle.elffile.specs.declared.symbol_entry.SymbolEntry.{SymbolEntry}
+use Rattle.elfobj_file.specs.Refusal.{holds, object_refusal}
+use Rattle.elfobj_file.specs.SymbolEntries.{st_bind}
+use Rattle.elfobj_file.specs.Symbols.{NamedSymbol, entries_of, named_symbol, null_symbol, strings_of, symbol_of}
+use Rattle.elfobj_file.specs.Symbols.{symbol_table, symbols_from, symbols_in, symbols_of}
+use Rattle.elfobj_file.specs.SymbolKinds.{binding_of}
+use Rattle.elfobj_file.specs.Tables.{has_wrong_entry, has_wrong_symbol, is_local, is_not_local, is_wrong_common}
+use Rattle.elfobj_file.specs.Tables.{is_wrong_non_local, is_wrong_symbol}
+use Rattle.elfobj_file.specs.declared.section_header.SectionHeader.{SectionHeader}
+use Rattle.elfobj_file.specs.declared.symbol.Binding.TheVariants.{Local, Global, Weak}
+use Rattle.elfobj_file.specs.declared.symbol.SymbolPlace.TheVariants.{Common, Undefined, Absolute, Section}
+use Rattle.elfobj_file.specs.declared.symbol_entry.SymbolEntry.{SymbolEntry}
 use Rattle.elfobj.proofs.Limits.{accepted_parts, name_told}
 use Rattle.elfobj.proofs.SymbolTables.{entries_length, table_in_file}
 

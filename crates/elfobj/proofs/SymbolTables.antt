@@ -5,23 +5,23 @@ use Rattle.std.specs.List.{list_any, count_by}
 use Rattle.std.proofs.lemmas.Bool.{or_parts, or_from, or_left, or_right, not-false, false≢true, eqb-true, ltb-false}
 use Rattle.std.proofs.lemmas.List.{length-append, take_more, map_push}
 use Rattle.std.proofs.lemmas.List.Elements.{All-push, All-nil}
-use Rattle.elffile.specs.ElfHeader.{e_shnum}
+use Rattle.elfobj_file.specs.ElfHeader.{e_shnum}
 use Rattle.elfobj.specs.Linkable.{PassesTests}
 use Rattle.elfobj.specs.Places.{AreNamed}
-use Rattle.elffile.specs.Spans.{IsInside, bytes_at}
-use Rattle.elffile.specs.Refusal.{holds, is_out_of_bounds, symbol_refusals}
-use Rattle.elffile.specs.SectionHeaders.{file_bytes, header, headers}
-use Rattle.elffile.specs.SymbolEntries.{symbol_entries_below, symbol_entry_at}
-use Rattle.elffile.specs.Symbols.{NamedSymbol, entries_of, is_symbol_table, named_symbol, null_symbol, strings_of}
-use Rattle.elffile.specs.Symbols.{symbol_name, symbol_of, symbol_table, symbols_from, symbols_in, symbols_of}
-use Rattle.elffile.specs.Tables.{has_misplaced_entry, has_wrong_entry, has_wrong_header, has_wrong_symbol}
-use Rattle.elffile.specs.Tables.{has_wrong_symbol_table, is_string_table, is_wrong_non_local, is_wrong_symbol}
-use Rattle.elffile.specs.Tables.{is_wrong_symbol_table}
-use Rattle.elffile.specs.declared.span.Span.{Span}
-use Rattle.elffile.specs.declared.refusal.ObjectRefusal.TheVariants.{SymbolTable, Symbol as WrongSymbol}
-use Rattle.elffile.specs.declared.section_header.SectionHeader.{SectionHeader}
-use Rattle.elffile.specs.declared.symbol.Symbol.{Symbol}
-use Rattle.elffile.specs.declared.symbol_entry.SymbolEntry.{SymbolEntry}
+use Rattle.elfobj_file.specs.Spans.{IsInside, bytes_at}
+use Rattle.elfobj_file.specs.Refusal.{holds, is_out_of_bounds, symbol_refusals}
+use Rattle.elfobj_file.specs.SectionHeaders.{file_bytes, header, headers}
+use Rattle.elfobj_file.specs.SymbolEntries.{symbol_entries_below, symbol_entry_at}
+use Rattle.elfobj_file.specs.Symbols.{NamedSymbol, entries_of, is_symbol_table, named_symbol, null_symbol, strings_of}
+use Rattle.elfobj_file.specs.Symbols.{symbol_name, symbol_of, symbol_table, symbols_from, symbols_in, symbols_of}
+use Rattle.elfobj_file.specs.Tables.{has_misplaced_entry, has_wrong_entry, has_wrong_header, has_wrong_symbol}
+use Rattle.elfobj_file.specs.Tables.{has_wrong_symbol_table, is_string_table, is_wrong_non_local, is_wrong_symbol}
+use Rattle.elfobj_file.specs.Tables.{is_wrong_symbol_table}
+use Rattle.elfobj_file.specs.declared.span.Span.{Span}
+use Rattle.elfobj_file.specs.declared.refusal.ObjectRefusal.TheVariants.{SymbolTable, Symbol as WrongSymbol}
+use Rattle.elfobj_file.specs.declared.section_header.SectionHeader.{SectionHeader}
+use Rattle.elfobj_file.specs.declared.symbol.Symbol.{Symbol}
+use Rattle.elfobj_file.specs.declared.symbol_entry.SymbolEntry.{SymbolEntry}
 use Rattle.elfobj.proofs.Found.{IsTableIn, found_is, found_not, strings_type, symbols_in_file}
 use Rattle.elfobj.proofs.Passing.{none_at}
 

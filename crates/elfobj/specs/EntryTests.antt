@@ -1,12 +1,12 @@
 -- What the tests of entries keep: which entries have passed, for a section and for all that are no smaller.
 use Rattle.std.specs.Prelude.{◌≡◌, ℕ, ◌+◌, ◌*◌, ◌%◌, ◌<◌, ◌≤◌, List, false, get_or, length}
-use Rattle.elffile.specs.RelocationEntries.{relocation_entry_at}
+use Rattle.elfobj_file.specs.RelocationEntries.{relocation_entry_at}
 use Rattle.elfobj.specs.Runs.{has_refused_entry, is_refused_for}
 use Rattle.elfobj.specs.declared.relocation_fault.EntryFault.{EntryFault}
 use Rattle.elfobj.specs.declared.relocation_run.SectionTable.{SectionTable}
-use Rattle.elffile.specs.declared.section.Section.{Section}
-use Rattle.elffile.specs.declared.section.SectionKind.{SectionKind}
-use Rattle.elffile.specs.declared.section.SectionKind.TheVariants.{Nobits}
+use Rattle.elfobj_file.specs.declared.section.Section.{Section}
+use Rattle.elfobj_file.specs.declared.section.SectionKind.{SectionKind}
+use Rattle.elfobj_file.specs.declared.section.SectionKind.TheVariants.{Nobits}
 
 abbrev pub ends_in : SectionKind → ℕ → ℕ
 ends_in Nobits size = 0

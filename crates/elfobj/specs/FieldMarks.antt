@@ -1,7 +1,7 @@
 -- The fields of a stretch of relocations as marks on the bytes of a section.
 use Rattle.std.specs.Prelude.{◌≡◌, ℕ, ◌<◌, ◌≤◌, List, Bool, false, true, get_or, length}
-use Rattle.elffile.specs.Relocations.{field_end, meets}
-use Rattle.elffile.specs.declared.relocation.Relocation.{Relocation}
+use Rattle.elfobj_file.specs.Relocations.{field_end, meets}
+use Rattle.elfobj_file.specs.declared.relocation.Relocation.{Relocation}
 
 -- byte b lies in the field of relocation number p of a list
 pub record IsTaken (all : List Relocation) (p b : ℕ) : Type 0 where

@@ -1,10 +1,13 @@
-pub use Rattle.elffile.specs.RelocationKinds
-pub use Rattle.elffile.specs.RefusalNumber
-pub use Rattle.elffile.specs.Names
-pub use Rattle.elffile.specs.Symbols
-pub use Rattle.elffile.specs.Relocations
-pub use Rattle.elffile.specs.Sections
-pub use Rattle.elffile.specs.Refusal
+pub use Rattle.elfobj_file.specs as file
+pub use Rattle.elfobj_file.specs.RelocationKinds
+pub use Rattle.elfobj_file.specs.RefusalNumber
+pub use Rattle.elfobj_file.specs.Names
+pub use Rattle.elfobj_file.specs.Symbols
+pub use Rattle.elfobj_file.specs.Relocations
+pub use Rattle.elfobj_file.specs.Sections
+pub use Rattle.elfobj_file.specs.Refusal
+pub mod Counts
+pub mod Raised
 pub mod Runs
 pub mod EntryTests
 pub mod FieldMarks

@@ -1,21 +1,21 @@
 -- What the tests of the section headers leave known of them.
 use Rattle.std.specs.Prelude.{◌≡◌, ℕ, ◌+◌, ◌≤◌, List, length, map, None, true, false}
 use Rattle.std.specs.Option.{option_map_or}
-use Rattle.elffile.specs.ElfHeader.{e_shstrndx}
-use Rattle.elffile.specs.Names.{is_name}
+use Rattle.elfobj_file.specs.ElfHeader.{e_shstrndx}
+use Rattle.elfobj_file.specs.Names.{is_name}
 use Rattle.elfobj.specs.Places.{AreRead, AreNamed, ArePlaced, IsFileWithin, name_in, bytes_in, IsWithin}
-use Rattle.elffile.specs.Refusal.{object_refusal, holds}
-use Rattle.elffile.specs.SectionHeaders.{header}
-use Rattle.elffile.specs.Sections.{sections_of, LinkedSection, section_of, name_of}
-use Rattle.elffile.specs.Symbols.{symbols_of}
+use Rattle.elfobj_file.specs.Refusal.{object_refusal, holds}
+use Rattle.elfobj_file.specs.SectionHeaders.{header}
+use Rattle.elfobj_file.specs.Sections.{sections_of, LinkedSection, section_of, name_of}
+use Rattle.elfobj_file.specs.Symbols.{symbols_of}
 use Rattle.elfobj.specs.declared.place.Place.{Place}
-use Rattle.elffile.specs.declared.span.Span.{Span}
-use Rattle.elffile.specs.declared.relocation.Relocation.{Relocation}
-use Rattle.elffile.specs.declared.refusal.ObjectRefusal.TheVariants.{SectionBounds, SectionProfile}
-use Rattle.elffile.specs.declared.section.Section.{Section}
-use Rattle.elffile.specs.declared.section.SectionKind.{SectionKind}
-use Rattle.elffile.specs.declared.section_header.SectionHeader.{SectionHeader}
-use Rattle.elffile.specs.declared.symbol.Symbol.{Symbol}
+use Rattle.elfobj_file.specs.declared.span.Span.{Span}
+use Rattle.elfobj_file.specs.declared.relocation.Relocation.{Relocation}
+use Rattle.elfobj_file.specs.declared.refusal.ObjectRefusal.TheVariants.{SectionBounds, SectionProfile}
+use Rattle.elfobj_file.specs.declared.section.Section.{Section}
+use Rattle.elfobj_file.specs.declared.section.SectionKind.{SectionKind}
+use Rattle.elfobj_file.specs.declared.section_header.SectionHeader.{SectionHeader}
+use Rattle.elfobj_file.specs.declared.symbol.Symbol.{Symbol}
 
 -- no test of the section headers alone refuses
 pub record PassesTests (bytes : List ℕ) : Type 0 where

@@ -1,7 +1,7 @@
 -- The object that bytes spell.
 use Rattle.std.specs.Prelude.{ℕ, List}
-use Rattle.elffile.specs.Sections.{LinkedSection, sections_of}
-use Rattle.elffile.specs.Symbols.{NamedSymbol, symbols_of}
+use Rattle.elfobj_file.specs.Sections.{LinkedSection, sections_of}
+use Rattle.elfobj_file.specs.Symbols.{NamedSymbol, symbols_of}
 
 -- its own bytes, its linked sections and its symbols, each list in table order
 pub record ObjectData : Type 0 where

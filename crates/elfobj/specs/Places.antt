@@ -1,17 +1,17 @@
 -- What it means that places in a file or a list are those of names, bytes or relocations.
 use Rattle.std.specs.Prelude.{◌≡◌, ℕ, ◌+◌, ◌≤◌, List, length, map}
 use Rattle.std.specs.List.{All, slice_range}
-use Rattle.elffile.specs.Sections.{LinkedSection, section_of}
-use Rattle.elffile.specs.Symbols.{NamedSymbol}
+use Rattle.elfobj_file.specs.Sections.{LinkedSection, section_of}
+use Rattle.elfobj_file.specs.Symbols.{NamedSymbol}
 use Rattle.elfobj.specs.declared.place.Place.{Place}
-use Rattle.elffile.specs.Spans.{IsInside, bytes_at}
-use Rattle.elffile.specs.declared.span.Span.{Span}
-use Rattle.elffile.specs.declared.relocation.Relocation.{Relocation}
-use Rattle.elffile.specs.declared.section.Section.{Section}
-use Rattle.elffile.specs.declared.section.SectionKind.{SectionKind}
-use Rattle.elffile.specs.declared.section.SectionKind.TheVariants.{Nobits}
-use Rattle.elffile.specs.declared.section_header.SectionHeader.{SectionHeader}
-use Rattle.elffile.specs.declared.symbol.Symbol.{Symbol}
+use Rattle.elfobj_file.specs.Spans.{IsInside, bytes_at}
+use Rattle.elfobj_file.specs.declared.span.Span.{Span}
+use Rattle.elfobj_file.specs.declared.relocation.Relocation.{Relocation}
+use Rattle.elfobj_file.specs.declared.section.Section.{Section}
+use Rattle.elfobj_file.specs.declared.section.SectionKind.{SectionKind}
+use Rattle.elfobj_file.specs.declared.section.SectionKind.TheVariants.{Nobits}
+use Rattle.elfobj_file.specs.declared.section_header.SectionHeader.{SectionHeader}
+use Rattle.elfobj_file.specs.declared.symbol.Symbol.{Symbol}
 
 abbrev pub name_in : List ℕ → Place → List ℕ
 name_in bytes p = bytes_at bytes p.name

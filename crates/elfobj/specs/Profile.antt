@@ -3,20 +3,20 @@ use Rattle.std.specs.Prelude.{◌≡◌, ℕ, ◌^◌, ◌<◌, ◌≤◌, ◌�
 use Rattle.std.specs.List.{All, AllPairs}
 use Rattle.std.specs.Int.{is_power_of_two}
 use Rattle.std.specs.Int.Bits.{bit_or}
-use Rattle.elffile.specs.Names.{is_name}
-use Rattle.elffile.specs.Relocations.{field_end, meets}
-use Rattle.elffile.specs.Sections.{LinkedSection}
-use Rattle.elffile.specs.Symbols.{NamedSymbol}
-use Rattle.elffile.specs.declared.constants.TheConstants.{PROFILE_FLAGS, SHF_ALLOC}
-use Rattle.elffile.specs.declared.relocation.Relocation.{Relocation}
-use Rattle.elffile.specs.declared.section.SectionKind.{SectionKind}
-use Rattle.elffile.specs.declared.section.SectionKind.TheVariants.{Nobits}
-use Rattle.elffile.specs.declared.symbol.Binding.{Binding}
-use Rattle.elffile.specs.declared.symbol.Binding.TheVariants.{Local, Global}
-use Rattle.elffile.specs.declared.symbol.Symbol.{Symbol}
-use Rattle.elffile.specs.declared.symbol.SymbolPlace.{SymbolPlace}
-use Rattle.elffile.specs.declared.symbol.SymbolPlace.{SymbolPlace}
-use Rattle.elffile.specs.declared.symbol.SymbolPlace.TheVariants.{Common, Section}
+use Rattle.elfobj_file.specs.Names.{is_name}
+use Rattle.elfobj_file.specs.Relocations.{field_end, meets}
+use Rattle.elfobj_file.specs.Sections.{LinkedSection}
+use Rattle.elfobj_file.specs.Symbols.{NamedSymbol}
+use Rattle.elfobj_file.specs.declared.constants.TheConstants.{PROFILE_FLAGS, SHF_ALLOC}
+use Rattle.elfobj_file.specs.declared.relocation.Relocation.{Relocation}
+use Rattle.elfobj_file.specs.declared.section.SectionKind.{SectionKind}
+use Rattle.elfobj_file.specs.declared.section.SectionKind.TheVariants.{Nobits}
+use Rattle.elfobj_file.specs.declared.symbol.Binding.{Binding}
+use Rattle.elfobj_file.specs.declared.symbol.Binding.TheVariants.{Local, Global}
+use Rattle.elfobj_file.specs.declared.symbol.Symbol.{Symbol}
+use Rattle.elfobj_file.specs.declared.symbol.SymbolPlace.{SymbolPlace}
+use Rattle.elfobj_file.specs.declared.symbol.SymbolPlace.{SymbolPlace}
+use Rattle.elfobj_file.specs.declared.symbol.SymbolPlace.TheVariants.{Common, Section}
 
 -- how many bytes of the file a section of this number of bytes has
 abbrev pub size_in_file : SectionKind → ℕ → ℕ

@@ -1,11 +1,11 @@
 -- What the reader of the relocation sections has found so far.
 use Rattle.std.specs.Prelude.{◌≡◌, ℕ, ◌<◌, List, length, get_or, find, Option, Some, None, Bool, ◌&&◌, ◌||◌}
 use Rattle.std.specs.Prelude.{if◌then◌else◌, is_some, nat_le, slice_set}
-use Rattle.elffile.specs.ElfHeader.{e_shnum}
-use Rattle.elffile.specs.Relocations.{changes, relocation_section}
-use Rattle.elffile.specs.SectionHeaders.{headers_below}
-use Rattle.elffile.specs.Tables.{is_linked, is_wrong_table}
-use Rattle.elffile.specs.declared.section_header.SectionHeader.{SectionHeader}
+use Rattle.elfobj_file.specs.ElfHeader.{e_shnum}
+use Rattle.elfobj_file.specs.Relocations.{changes, relocation_section}
+use Rattle.elfobj_file.specs.SectionHeaders.{headers_below}
+use Rattle.elfobj_file.specs.Tables.{is_linked, is_wrong_table}
+use Rattle.elfobj_file.specs.declared.section_header.SectionHeader.{SectionHeader}
 
 -- at each section number the first of the first n headers that is that of a relocation section which changes it
 pub record AreTablesBelow (bytes : List ℕ) (n : ℕ) (tables : List (Option SectionHeader)) : Type 0 where

@@ -3,16 +3,16 @@
 -- common.
 use Rattle.std.specs.Prelude.{◌≡◌, ℕ, ◌+◌, ◌*◌, ◌/◌, ◌%◌, ◌<◌, ◌≤◌, List, Bool, ◌||◌, get_or, length, map}
 use Rattle.std.specs.List.{All, list_any, slice_range}
-use Rattle.elffile.specs.RelocationEntries.{relocation_entries_below}
-use Rattle.elffile.specs.Relocations.{relocation_entries, relocation_of}
-use Rattle.elffile.specs.Tables.{is_outside, is_strange_type, names_no_symbol}
-use Rattle.elffile.specs.declared.relocation.Relocation.{Relocation}
-use Rattle.elffile.specs.declared.relocation_entry.RelocationEntry.{RelocationEntry}
+use Rattle.elfobj_file.specs.RelocationEntries.{relocation_entries_below}
+use Rattle.elfobj_file.specs.Relocations.{relocation_entries, relocation_of}
+use Rattle.elfobj_file.specs.Tables.{is_outside, is_strange_type, names_no_symbol}
+use Rattle.elfobj_file.specs.declared.relocation.Relocation.{Relocation}
+use Rattle.elfobj_file.specs.declared.relocation_entry.RelocationEntry.{RelocationEntry}
 use Rattle.elfobj.specs.declared.relocation_fault.EntryFault.{EntryFault}
 use Rattle.elfobj.specs.declared.relocation_fault.EntryFault.TheVariants.{Any, Symbol, Kind, Bounds}
 use Rattle.elfobj.specs.declared.relocation_run.Run.{Run}
 use Rattle.elfobj.specs.declared.relocation_run.SectionTable.{SectionTable}
-use Rattle.elffile.specs.declared.section.Section.{Section}
+use Rattle.elfobj_file.specs.declared.section.Section.{Section}
 
 abbrev pub table_entries : List ℕ → SectionTable → List RelocationEntry
 table_entries bytes t = relocation_entries_below bytes t.start t.count

@@ -10,12 +10,12 @@ ghost use Rattle.std.specs.List.{list_any};
 ghost use Rattle.elfobj.specs.EntryTests.{HavePassed};
 ghost use Rattle.elfobj.specs.Runs.{is_refused_for, table_entries};
 ghost use Rattle.elfobj.specs.declared.relocation_fault.EntryFault.{EntryFault};
-ghost use Rattle.elffile.specs.declared.section.Section.{Section};
+ghost use Rattle.elfobj_file.specs.declared.section.Section.{Section};
 
 use crate::relocation_fault::{EntryFault, is_refused_for};
 use crate::relocation_run::SectionTable;
-use elffile::constants::RELA_SIZE;
-use elffile::relocation_entry::read_relocation_entry;
+use elfobj_file::constants::RELA_SIZE;
+use elfobj_file::relocation_entry::read_relocation_entry;
 use std::alloc::{AllocError, Global};
 
 /// The list for entries of which none is known to have passed.

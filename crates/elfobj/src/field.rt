@@ -2,8 +2,8 @@
 
 ghost use Rattle.std.specs.Prelude.{◌≡◌, IfNone, IfSome, OnOk, false, true};
 ghost use Rattle.std.specs.List.Sorted.{IsNonDecreasingBy, IsPermutation};
-ghost use Rattle.elffile.specs.Relocations.{field_end};
-ghost use Rattle.elffile.specs.Tables.{is_outside};
+ghost use Rattle.elfobj_file.specs.Relocations.{field_end};
+ghost use Rattle.elfobj_file.specs.Tables.{is_outside};
 
 use crate::relocation::Relocation;
 use crate::section::SectionKind;

@@ -7,11 +7,11 @@ ghost use Rattle.std.specs.List.{All, list_any, slice_range};
 ghost use Rattle.std.specs.List.Sorted.{IsNonDecreasingBy};
 ghost use Rattle.elfobj.specs.FieldMarks.{AreBelow, IsWindow};
 ghost use Rattle.elfobj.specs.Places.{relocations_in};
-ghost use Rattle.elffile.specs.Spans.{IsInside};
-ghost use Rattle.elffile.specs.Relocations.{field_end, share_bytes};
+ghost use Rattle.elfobj_file.specs.Spans.{IsInside};
+ghost use Rattle.elfobj_file.specs.Relocations.{field_end, share_bytes};
 
 use crate::relocation::Relocation;
-use elffile::span::Span;
+use elfobj_file::span::Span;
 use std::alloc::{AllocError, Global};
 
 /// Whether a byte of a field has a mark.

@@ -3,14 +3,14 @@
 ghost use Rattle.std.specs.Prelude.{◌≡◌, [], ◌∷◌, ◌++◌, IfOk, OnOk};
 ghost use Rattle.elfobj.specs.Linkable.{IsLinkable, IsNameTable, IsPlaced, PassesTests};
 ghost use Rattle.elfobj.specs.Places.{AreRead};
-ghost use Rattle.elffile.specs.SectionHeaders.{headers as headers_of};
-ghost use Rattle.elffile.specs.Sections.{linked_as, sections_of};
-ghost use Rattle.elffile.specs.SectionTable.{HasSectionTable};
+ghost use Rattle.elfobj_file.specs.SectionHeaders.{headers as headers_of};
+ghost use Rattle.elfobj_file.specs.Sections.{linked_as, sections_of};
+ghost use Rattle.elfobj_file.specs.SectionTable.{HasSectionTable};
 
 use crate::place::{Place, place_of};
 use crate::section::{Section, SectionIndex, SectionKind};
-use elffile::names::StringTable;
-use elffile::section_header::SectionHeader;
+use elfobj_file::names::StringTable;
+use elfobj_file::section_header::SectionHeader;
 use std::alloc::{AllocError, Global};
 
 /// The linked sections in table order, and where the parts of each lie.
@@ -23,7 +23,7 @@ pub struct LinkedSections {
 }
 
 /// The section of a header of this number and kind, and its place.
-#[tactic(auto, unfolding(elffile::specs::Sections::name_table))]
+#[tactic(auto, unfolding(elfobj_file::specs::Sections::name_table))]
 fn placed_section(
     bytes: &[u8],
     names: &StringTable,

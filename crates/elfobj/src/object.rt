@@ -4,9 +4,9 @@ ghost use Rattle.std.specs.Prelude.{◌≡◌, ◌≢◌, ◌<◌, ◌^◌, ◌�
 ghost use Rattle.std.specs.Prelude.{length, map, unwrap_or, []};
 ghost use Rattle.std.specs.List.{All, AllPairs, slice_get};
 ghost use Rattle.std.specs.List.Sorted.{IsNonDecreasingBy, IsPermutation};
-ghost use Rattle.ldbase.specs.Raised.{raised};
-ghost use Rattle.ldbase.specs.declared.meter.Count.TheVariants.{Objects};
-ghost use Rattle.elffile.specs.declared.refusal.ObjectRefusal.TheVariants.{NoMemory};
+ghost use Rattle.elfobj.specs.Raised.{raised};
+ghost use Rattle.elfobj.specs.declared.meter.Count.TheVariants.{Objects};
+ghost use Rattle.elfobj_file.specs.declared.refusal.ObjectRefusal.TheVariants.{NoMemory};
 
 use crate::field::put_in_order;
 use crate::place::Place;
@@ -16,7 +16,7 @@ use crate::section::{LinkedIndex, Section, SectionIndex, find_number};
 use crate::section_table::{Parts, read_parts};
 use crate::span::Span;
 use crate::symbol::Symbol;
-use ldbase::meter::{Count, Meter};
+use crate::meter::{Count, Meter};
 use std::alloc::{AllocError, Global};
 use std::marker::Model;
 
@@ -46,14 +46,14 @@ impl Model for Object {
 }
 
 impl Object {
-    ghost use Rattle.elffile.specs.ElfHeader.{e_shnum};
+    ghost use Rattle.elfobj_file.specs.ElfHeader.{e_shnum};
     ghost use Rattle.elfobj.specs.Numbering.{IsNumberedAt};
     ghost use Rattle.elfobj.specs.Object.{object_of};
     ghost use Rattle.elfobj.specs.Profile.{HasRelocationsOfProfile, IsSectionBelow, IsSectionOfProfile};
     ghost use Rattle.elfobj.specs.Profile.{IsSymbolOfProfile};
-    ghost use Rattle.elffile.specs.Refusal.{header_refusals, holds, object_refusal};
-    ghost use Rattle.elffile.specs.Sections.{section_of};
-    ghost use Rattle.elffile.specs.Spans.{bytes_at};
+    ghost use Rattle.elfobj_file.specs.Refusal.{header_refusals, holds, object_refusal};
+    ghost use Rattle.elfobj_file.specs.Sections.{section_of};
+    ghost use Rattle.elfobj_file.specs.Spans.{bytes_at};
 
     /// Reads an object, and counts it whether it is one or not. Bytes that are no object are given back,
     /// with the lowest refusal whose condition holds, or with `NoMemory` where memory runs out. What the ELF

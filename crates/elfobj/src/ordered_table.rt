@@ -3,7 +3,7 @@
 
 ghost use Rattle.std.specs.Prelude.{◌≡◌, ◌≤◌, ◌+◌, ◌*◌, ◌++◌, IfOk, IfSome, false, length, map, true};
 ghost use Rattle.std.specs.List.{All, list_any};
-ghost use Rattle.elffile.specs.Relocations.{relocation_of, relocations_at, share_bytes};
+ghost use Rattle.elfobj_file.specs.Relocations.{relocation_of, relocations_at, share_bytes};
 ghost use Rattle.elfobj.specs.Places.{AreRelocated, relocations_in};
 ghost use Rattle.elfobj.specs.Runs.{IsTableOf, has_refused_entry, is_refused_for, table_entries};
 ghost use Rattle.elfobj.specs.declared.relocation_fault.EntryFault.TheVariants.{Any};
@@ -11,9 +11,9 @@ ghost use Rattle.elfobj.specs.declared.relocation_fault.EntryFault.TheVariants.{
 use crate::field::end_inside;
 use crate::relocation::Relocation;
 use crate::relocation_run::{Relocations, SectionTable};
-use elffile::constants::RELA_SIZE;
-use elffile::relocation_entry::read_relocation_entry;
-use elffile::span::Span;
+use elfobj_file::constants::RELA_SIZE;
+use elfobj_file::relocation_entry::read_relocation_entry;
+use elfobj_file::span::Span;
 use std::alloc::{AllocError, Global};
 
 /// How many entries these tables have.

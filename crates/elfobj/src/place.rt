@@ -2,16 +2,16 @@
 
 ghost use Rattle.std.specs.Prelude.{◌≡◌, ℕ, List, [], false, length, map, true, unwrap_or};
 ghost use Rattle.std.specs.Option.{option_map_or};
-ghost use Rattle.elffile.specs.Names.{string_at, is_name};
-ghost use Rattle.elffile.specs.Sections.{contents};
-ghost use Rattle.elffile.specs.Spans.{IsInside, bytes_at};
-ghost use Rattle.elffile.specs.TableOf.{table_of};
+ghost use Rattle.elfobj_file.specs.Names.{string_at, is_name};
+ghost use Rattle.elfobj_file.specs.Sections.{contents};
+ghost use Rattle.elfobj_file.specs.Spans.{IsInside, bytes_at};
+ghost use Rattle.elfobj_file.specs.TableOf.{table_of};
 ghost use Rattle.elfobj.specs.Places.{IsWithin, IsFileWithin, name_in, bytes_in};
 
 use crate::section::SectionKind;
-use elffile::names::StringTable;
-use elffile::section_header::SectionHeader;
-use elffile::span::{EMPTY_SPAN, Span};
+use elfobj_file::names::StringTable;
+use elfobj_file::section_header::SectionHeader;
+use elfobj_file::span::{EMPTY_SPAN, Span};
 
 /// Where the parts of a section lie.
 #[derive(Clone, Copy)]

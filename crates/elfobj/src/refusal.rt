@@ -1,3 +1,3 @@
 //! Why bytes are no object.
 
-pub use elffile::refusal::ObjectRefusal;
+pub use elfobj_file::refusal::ObjectRefusal;

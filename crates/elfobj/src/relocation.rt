@@ -1,3 +1,3 @@
 //! Relocations as callers see them.
 
-pub use elffile::relocation::{Relocation, RelocationKind, SymbolIndex};
+pub use elfobj_file::relocation::{Relocation, RelocationKind, SymbolIndex};

@@ -10,8 +10,8 @@ use crate::entry_test::{is_table_refused, none_passed};
 use crate::field::is_outside;
 use crate::relocation_run::{SectionTable, class_range};
 use crate::section::{Section, SectionKind};
-use elffile::constants::RELA_SIZE;
-use elffile::relocation_entry::RelocationEntry;
+use elfobj_file::constants::RELA_SIZE;
+use elfobj_file::relocation_entry::RelocationEntry;
 use std::alloc::{AllocError, Global};
 
 /// A way in which an entry is outside the profile, in the order of the refusals' numbers.

@@ -5,15 +5,15 @@
 ghost use Rattle.std.specs.Prelude.{◌≡◌, ◌≤◌, ◌<◌, ◌+◌, ◌*◌, ◌/◌, ◌^◌, ◌++◌, IfOk, OnOk, length, map};
 ghost use Rattle.std.specs.List.{All};
 ghost use Rattle.elfobj.specs.Places.{AreRelocated};
-ghost use Rattle.elffile.specs.RelocationEntries.{relocation_entries_below};
-ghost use Rattle.elffile.specs.Relocations.{relocation_of, relocations_at};
+ghost use Rattle.elfobj_file.specs.RelocationEntries.{relocation_entries_below};
+ghost use Rattle.elfobj_file.specs.Relocations.{relocation_of, relocations_at};
 ghost use Rattle.elfobj.specs.Runs.{AreRuns, IsCovered, IsTableOf, table_entries};
 
 use crate::relocation::Relocation;
 use crate::section::Section;
-use elffile::constants::RELA_SIZE;
-use elffile::relocation_entry::read_relocation_entry;
-use elffile::span::{EMPTY_SPAN, Span};
+use elfobj_file::constants::RELA_SIZE;
+use elfobj_file::relocation_entry::read_relocation_entry;
+use elfobj_file::span::{EMPTY_SPAN, Span};
 use std::alloc::{AllocError, Global};
 
 /// Where the entries that change a linked section lie in the file.

@@ -4,21 +4,21 @@ ghost use Rattle.std.specs.Prelude.{◌≡◌, ℕ, ◌≤◌, ◌<◌, ◌+◌,
 ghost use Rattle.std.specs.Prelude.{true, find, length, map, replicate};
 ghost use Rattle.std.specs.List.{All, list_any};
 ghost use Rattle.std.specs.List.Sorted.{IsNonDecreasingBy, IsPermutation};
-ghost use Rattle.elffile.specs.ElfHeader.{e_shnum};
+ghost use Rattle.elfobj_file.specs.ElfHeader.{e_shnum};
 ghost use Rattle.elfobj.specs.FieldMarks.{AreBelow};
 ghost use Rattle.elfobj.specs.Linkable.{PassesTests};
 ghost use Rattle.elfobj.specs.Places.{AreRelocated, relocations_in};
-ghost use Rattle.elffile.specs.Spans.{IsInside};
+ghost use Rattle.elfobj_file.specs.Spans.{IsInside};
 ghost use Rattle.elfobj.specs.Reading.{AreTables, entered, is_wrong_after};
-ghost use Rattle.elffile.specs.Refusal.{entry_refusals, holds, relocation_refusals};
-ghost use Rattle.elffile.specs.Relocations.{entries_in, relocation_section, relocations_at, share_bytes};
+ghost use Rattle.elfobj_file.specs.Refusal.{entry_refusals, holds, relocation_refusals};
+ghost use Rattle.elfobj_file.specs.Relocations.{entries_in, relocation_section, relocations_at, share_bytes};
 ghost use Rattle.elfobj.specs.Runs.{AreTablesOf, table_entries};
-ghost use Rattle.elffile.specs.SectionHeaders.{headers as headers_of};
-ghost use Rattle.elffile.specs.SectionTable.{HasSectionTable};
-ghost use Rattle.elffile.specs.Sections.{sections_of};
-ghost use Rattle.elffile.specs.Symbols.{symbols_of};
-ghost use Rattle.elffile.specs.Tables.{is_linked, is_wrong_below, is_wrong_table, linked_sections};
-ghost use Rattle.elffile.specs.declared.refusal.ObjectRefusal.TheVariants.{NoMemory, RelocationSection};
+ghost use Rattle.elfobj_file.specs.SectionHeaders.{headers as headers_of};
+ghost use Rattle.elfobj_file.specs.SectionTable.{HasSectionTable};
+ghost use Rattle.elfobj_file.specs.Sections.{sections_of};
+ghost use Rattle.elfobj_file.specs.Symbols.{symbols_of};
+ghost use Rattle.elfobj_file.specs.Tables.{is_linked, is_wrong_below, is_wrong_table, linked_sections};
+ghost use Rattle.elfobj_file.specs.declared.refusal.ObjectRefusal.TheVariants.{NoMemory, RelocationSection};
 
 use crate::field_marks::is_any_shared;
 use crate::ordered_table::read_ordered;
@@ -27,9 +27,9 @@ use crate::relocation_fault::{EntryFault, is_any_refused, smallest_first};
 use crate::relocation_run::{Relocations, SectionTable, read_tables};
 use crate::section::Section;
 use crate::symbol_table::symbol_table_number;
-use elffile::constants::{RELA_SIZE, SHT_REL};
-use elffile::section_header::SectionHeader;
-use elffile::span::Span;
+use elfobj_file::constants::{RELA_SIZE, SHT_REL};
+use elfobj_file::section_header::SectionHeader;
+use elfobj_file::span::Span;
 use std::alloc::{AllocError, Global};
 
 fn is_linked(headers: &[SectionHeader], number: usize) -> bool

@@ -4,7 +4,7 @@ ghost use Rattle.std.specs.Prelude.{◌≢◌, ◌<◌, IfNone, IfSome};
 ghost use Rattle.std.specs.List.{All, AllPairs};
 ghost use Rattle.elfobj.specs.Numbering.{IsNumberedAt};
 
-pub use elffile::section::{LinkedIndex, Section, SectionIndex, SectionKind};
+pub use elfobj_file::section::{LinkedIndex, Section, SectionIndex, SectionKind};
 
 /// The place of the section with this number, by binary search.
 pub fn find_number(sections: &[Section], number: SectionIndex) -> Option<LinkedIndex>

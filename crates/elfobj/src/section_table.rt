@@ -3,13 +3,13 @@
 ghost use Rattle.std.specs.Prelude.{◌≡◌, ◌⊎◌, ◌++◌, IfErr, IfNone, IfOk, IfSome, None, Some, false, find};
 ghost use Rattle.std.specs.List.{list_any};
 ghost use Rattle.elfobj.specs.Linkable.{ArePartsOf, IsNameTable, PassesTests};
-ghost use Rattle.elffile.specs.ElfHeader.{e_shstrndx};
-ghost use Rattle.elffile.specs.Refusal.{holds, is_out_of_bounds, is_outside_profile_by, header_refusals};
-ghost use Rattle.elffile.specs.Refusal.{object_refusal, relocation_refusals, symbol_refusals};
-ghost use Rattle.elffile.specs.SectionHeaders.{header, headers as headers_of};
-ghost use Rattle.elffile.specs.SectionTable.{HasSectionTable};
-ghost use Rattle.elffile.specs.TableOf.{table_of};
-ghost use Rattle.elffile.specs.declared.refusal.ObjectRefusal.TheVariants.{NoMemory, SectionBounds};
+ghost use Rattle.elfobj_file.specs.ElfHeader.{e_shstrndx};
+ghost use Rattle.elfobj_file.specs.Refusal.{holds, is_out_of_bounds, is_outside_profile_by, header_refusals};
+ghost use Rattle.elfobj_file.specs.Refusal.{object_refusal, relocation_refusals, symbol_refusals};
+ghost use Rattle.elfobj_file.specs.SectionHeaders.{header, headers as headers_of};
+ghost use Rattle.elfobj_file.specs.SectionTable.{HasSectionTable};
+ghost use Rattle.elfobj_file.specs.TableOf.{table_of};
+ghost use Rattle.elfobj_file.specs.declared.refusal.ObjectRefusal.TheVariants.{NoMemory, SectionBounds};
 
 use crate::linked::{LinkedSections, linked_sections};
 use crate::place::place_relocations;
@@ -19,14 +19,14 @@ use crate::relocation_run::Relocations;
 use crate::relocation_table::read_relocations;
 use crate::symbol_table::read_symbols;
 use crate::symbols::Symbols;
-use elffile::constants::SHT_STRTAB;
-use elffile::elf_header::{header_refusal, name_table_number};
-use elffile::names::StringTable;
-use elffile::section_header::{SectionHeader, read_headers};
+use elfobj_file::constants::SHT_STRTAB;
+use elfobj_file::elf_header::{header_refusal, name_table_number};
+use elfobj_file::names::StringTable;
+use elfobj_file::section_header::{SectionHeader, read_headers};
 use std::alloc::Global;
 
 /// The header of the table that the sections' names stand in.
-#[tactic(auto, using(elffile::proofs::Headers::count_of, elffile::proofs::Headers::header_of))]
+#[tactic(auto, using(elfobj_file::proofs::Headers::count_of, elfobj_file::proofs::Headers::header_of))]
 fn name_table_header(bytes: &[u8], headers: &[SectionHeader]) -> SectionHeader
     requires table { HasSectionTable bytes.now }
     requires headers { headers.now ≡ headers_of bytes.now }
@@ -48,7 +48,7 @@ fn is_any_outside_profile(headers: &[SectionHeader], names: &StringTable) -> boo
 }
 
 /// Whether the table of names is no string table, or a section is out of bounds.
-#[tactic(auto, using(crate::proofs::Passing::names_within), unfolding(elffile::specs::Refusal::holds))]
+#[tactic(auto, using(crate::proofs::Passing::names_within), unfolding(elfobj_file::specs::Refusal::holds))]
 fn has_wrong_bounds(bytes: &[u8], names: &SectionHeader, headers: &[SectionHeader]) -> bool
     requires table { HasSectionTable bytes.now }
     requires names { names.now ≡ header bytes.now (e_shstrndx bytes.now) }

@@ -1,3 +1,3 @@
 //! Symbols as callers see them.
 
-pub use elffile::symbol::{Binding, Symbol, SymbolKind, SymbolPlace};
+pub use elfobj_file::symbol::{Binding, Symbol, SymbolKind, SymbolPlace};

@@ -4,27 +4,27 @@ ghost use Rattle.std.specs.Prelude.{◌≡◌, ◌≤◌, ◌+◌, ◌⊎◌, �
 ghost use Rattle.std.specs.Prelude.{drop, false, find, length, nat_lt, position};
 ghost use Rattle.std.specs.List.{list_all, list_any};
 ghost use Rattle.elfobj.specs.Places.{AreNamed};
-ghost use Rattle.elffile.specs.Spans.{IsInside, bytes_at};
-ghost use Rattle.elffile.specs.Refusal.{holds, symbol_refusals};
-ghost use Rattle.elffile.specs.SectionHeaders.{headers as headers_of};
-ghost use Rattle.elffile.specs.SectionTable.{HasSectionTable};
-ghost use Rattle.elffile.specs.ElfHeader.{e_shstrndx};
+ghost use Rattle.elfobj_file.specs.Spans.{IsInside, bytes_at};
+ghost use Rattle.elfobj_file.specs.Refusal.{holds, symbol_refusals};
+ghost use Rattle.elfobj_file.specs.SectionHeaders.{headers as headers_of};
+ghost use Rattle.elfobj_file.specs.SectionTable.{HasSectionTable};
+ghost use Rattle.elfobj_file.specs.ElfHeader.{e_shstrndx};
 ghost use Rattle.elfobj.specs.Linkable.{IsNameTable, PassesTests};
-ghost use Rattle.elffile.specs.Symbols.{entries_of, is_symbol_table, symbol_name, symbol_table, symbols_from};
-ghost use Rattle.elffile.specs.Symbols.{symbols_of};
-ghost use Rattle.elffile.specs.TableOf.{table_of};
-ghost use Rattle.elffile.specs.Tables.{has_misplaced_entry, has_wrong_header, is_local, is_string_table};
-ghost use Rattle.elffile.specs.Tables.{is_wrong_non_local, is_wrong_symbol};
-ghost use Rattle.elffile.specs.declared.refusal.ObjectRefusal.TheVariants.{NoMemory};
+ghost use Rattle.elfobj_file.specs.Symbols.{entries_of, is_symbol_table, symbol_name, symbol_table, symbols_from};
+ghost use Rattle.elfobj_file.specs.Symbols.{symbols_of};
+ghost use Rattle.elfobj_file.specs.TableOf.{table_of};
+ghost use Rattle.elfobj_file.specs.Tables.{has_misplaced_entry, has_wrong_header, is_local, is_string_table};
+ghost use Rattle.elfobj_file.specs.Tables.{is_wrong_non_local, is_wrong_symbol};
+ghost use Rattle.elfobj_file.specs.declared.refusal.ObjectRefusal.TheVariants.{NoMemory};
 
 use crate::refusal::ObjectRefusal;
 use crate::symbols::{Symbols, read_passing};
-use elffile::constants::{SHT_STRTAB, SYM_SIZE};
-use elffile::elf_header::name_table_number;
-use elffile::names::StringTable;
-use elffile::section_header::SectionHeader;
-use elffile::span::{EMPTY_SPAN, Span};
-use elffile::symbol_entry::{SymbolEntry, read_symbol_entry};
+use elfobj_file::constants::{SHT_STRTAB, SYM_SIZE};
+use elfobj_file::elf_header::name_table_number;
+use elfobj_file::names::StringTable;
+use elfobj_file::section_header::SectionHeader;
+use elfobj_file::span::{EMPTY_SPAN, Span};
+use elfobj_file::symbol_entry::{SymbolEntry, read_symbol_entry};
 use std::alloc::{AllocError, Global};
 
 /// The number of the first header of a symbol table.

@@ -4,16 +4,16 @@
 ghost use Rattle.std.specs.Prelude.{◌≡◌, ℕ, ◌≤◌, ◌+◌, ◌/◌, ◌++◌, ◌∷◌, [], IfOk, IfSome, List, OnOk, drop, false};
 ghost use Rattle.std.specs.Prelude.{length};
 ghost use Rattle.std.specs.List.{list_any};
-ghost use Rattle.elffile.specs.SectionHeaders.{file_bytes};
-ghost use Rattle.elffile.specs.Symbols.{entries_of, null_symbol, symbols_from};
-ghost use Rattle.elffile.specs.Tables.{has_misplaced_entry, is_wrong_symbol};
+ghost use Rattle.elfobj_file.specs.SectionHeaders.{file_bytes};
+ghost use Rattle.elfobj_file.specs.Symbols.{entries_of, null_symbol, symbols_from};
+ghost use Rattle.elfobj_file.specs.Tables.{has_misplaced_entry, is_wrong_symbol};
 ghost use Rattle.elfobj.specs.Places.{AreNamed};
 
 use crate::symbol::{Binding, Symbol, SymbolKind, SymbolPlace};
-use elffile::constants::SYM_SIZE;
-use elffile::section_header::SectionHeader;
-use elffile::span::{EMPTY_SPAN, Span};
-use elffile::symbol_entry::read_symbol_entry;
+use elfobj_file::constants::SYM_SIZE;
+use elfobj_file::section_header::SectionHeader;
+use elfobj_file::span::{EMPTY_SPAN, Span};
+use elfobj_file::symbol_entry::read_symbol_entry;
 use std::alloc::{AllocError, Global};
 
 /// The symbols in table order, and where the name of each lies in the file.

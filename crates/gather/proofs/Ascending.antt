@@ -9,7 +9,7 @@ use Rattle.std.proofs.lemmas.List.Concat.{flat_map-cons}
 use Rattle.std.proofs.lemmas.List.Elements.{All-head, All-tail}
 use Rattle.elfobj.specs.Sections.{LinkedSection, section_of}
 use Rattle.elfobj.specs.Symbols.{NamedSymbol}
-use Rattle.elffile.specs.declared.section.Section.{Section}
+use Rattle.elfobj.specs.file.declared.section.Section.{Section}
 use Rattle.ldmodel.specs.InputSections.{block_at, block_of, common_block, common_blocks, input_sections, is_same_entry}
 use Rattle.ldmodel.specs.InputSections.{linked_section, sections_of}
 use Rattle.ldmodel.specs.Names.{Decision, Entry, Strong, Script, Common, Weak, Provided, Undefined, Duplicate, decision}

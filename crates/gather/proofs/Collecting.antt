@@ -12,7 +12,7 @@ use Rattle.gather.specs.declared.member.CommonBlock.{CommonBlock}
 use Rattle.ldmodel.specs.declared.names.Case.{Case}
 use Rattle.ldmodel.specs.declared.names.Case.TheVariants as case
 use Rattle.ldmodel.specs.declared.names.Entry.{Entry}
-use Rattle.ldnaming.specs.Decided.{case_at}
+use Rattle.symres.specs.Decided.{case_at}
 use Rattle.gather.specs.ProjectMembers.{block_here, blocks_at}
 use Rattle.gather.proofs.Lists.{filter_map_one}
 

@@ -9,12 +9,12 @@ use Rattle.std.proofs.lemmas.Bool.{false≢true, and_parts}
 use Rattle.std.proofs.lemmas.Bool.Decides.{nat_tests}
 use Rattle.std.proofs.lemmas.Slice.Eq.{bytes_eq-Decides}
 use Rattle.std.proofs.lemmas.Iterator.Adapters.{position_from-zero}
-use Rattle.ldterms.specs.Parts.{Part, AnyRun, AnyByte, Byte, OneOf}
-use Rattle.ldterms.specs.Matching.{is_match, exact_name}
-use Rattle.ldtree.specs.Numbering.{InputStatementAt, input_statements}
-use Rattle.ldtree.specs.declared.input.Input.{Input}
-use Rattle.ldtree.specs.declared.input.SectionWord.{SectionWord}
-use Rattle.ldtree.specs.declared.statement.Statement.{Statement}
+use Rattle.ldscript.specs.terms.Parts.{Part, AnyRun, AnyByte, Byte, OneOf}
+use Rattle.ldscript.specs.terms.Matching.{is_match, exact_name}
+use Rattle.ldscript.specs.statements.Numbering.{InputStatementAt, input_statements}
+use Rattle.ldscript.specs.statements.declared.input.Input.{Input}
+use Rattle.ldscript.specs.statements.declared.input.SectionWord.{SectionWord}
+use Rattle.ldscript.specs.statements.declared.statement.Statement.{Statement}
 use Rattle.ldmodel.specs.FirstMatch.{first_match, word_takes, takes}
 use Rattle.elfobj.specs.Sections.{LinkedSection}
 use Rattle.gather.specs.FileSearches.{matches_by}

@@ -6,7 +6,7 @@ use Rattle.std.specs.Prelude.{slice_get, IsTrue, option_to_list}
 use Rattle.std.specs.List.{Contains}
 use Rattle.std.proofs.lemmas.List.Elements.{Contains-push, Contains-push_cases, Contains-append_left}
 use Rattle.std.proofs.lemmas.List.{drop_more}
-use Rattle.ldtree.specs.Numbering.{InputStatementAt, input_statements}
+use Rattle.ldscript.specs.statements.Numbering.{InputStatementAt, input_statements}
 use Rattle.ldmodel.specs.FirstMatch.{first_match}
 use Rattle.ldmodel.specs.Gathering.{taken_by}
 use Rattle.ldmodel.specs.InputSections.{input_sections}

@@ -16,8 +16,8 @@ use Rattle.ldmodel.specs.Sections.{InputSection, SectionId, is_same, is_same_par
 use Rattle.ldmodel.specs.declared.sections.SectionKey.{SectionKey}
 use Rattle.gather.specs.ProjectMembers.{by_place}
 use Rattle.gather.specs.SectionPlaces.{ArePlaces, AreProjectPlaces, IsPlaceOf}
-use Rattle.ldsections.specs.SectionTable.{IsTableOf, number_of}
-use Rattle.ldsections.specs.declared.section_table.SectionTable.{SectionTable}
+use Rattle.gather_sections.specs.SectionTable.{IsTableOf, number_of}
+use Rattle.gather_sections.specs.declared.section_table.SectionTable.{SectionTable}
 use Rattle.gather.proofs.PlacesUnder.{part_itself, same_part}
 
 abbrev pub id_in : SectionKey → SectionId

@@ -3,7 +3,7 @@ use Rattle.std.proofs.Common.{◌≡◌, List, [], ◌∷◌, map, ap, refl, Vec
 use Rattle.gather.specs.RowPieces.{shown_row}
 use Rattle.ldmodel.specs.Project.{Project}
 use Rattle.ldmodel.specs.declared.rows.Piece.{Piece}
-use Rattle.ldproject.specs.ByPlace.{rows_in}
+use Rattle.ldmodel_project.specs.ByPlace.{rows_in}
 use Rattle.gather.specs.ProjectMembers.{by_place}
 
 pub same_rows : (p : Project) (rows : List (Vec Piece Global)) → rows_in p rows

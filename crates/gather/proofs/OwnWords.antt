@@ -7,9 +7,9 @@ use Rattle.std.specs.Ordering.{nat_cmp}
 use Rattle.std.specs.Prelude.{bytes_eq}
 use Rattle.std.specs.Option.{is_none, option_map_or}
 use Rattle.std.proofs.lemmas.List.{append-nil}
-use Rattle.ldterms.specs.Matching.{exact_name}
-use Rattle.ldtree.specs.declared.input.Input.{Input}
-use Rattle.ldtree.specs.declared.input.SectionWord.{SectionWord}
+use Rattle.ldscript.specs.terms.Matching.{exact_name}
+use Rattle.ldscript.specs.statements.declared.input.Input.{Input}
+use Rattle.ldscript.specs.statements.declared.input.SectionWord.{SectionWord}
 use Rattle.gather.specs.FileTables.{AddsOf, AddsOwn, own_listed, own_wild}
 use Rattle.gather.specs.WordTables.{AddsWords, shown_listed}
 use Rattle.gather.specs.Words.{WordAt, is_for, is_for_more, is_named, is_wild, shown_words, words_of}

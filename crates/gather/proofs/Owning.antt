@@ -22,10 +22,10 @@ use Rattle.ldmodel.specs.Sections.{InputSection}
 use Rattle.ldmodel.specs.declared.names.Case.{Case}
 use Rattle.ldmodel.specs.declared.names.Case.TheVariants as case
 use Rattle.ldmodel.specs.declared.names.Entry as code
-use Rattle.ldnaming.specs.Decided.{case_at}
-use Rattle.ldnaming.specs.Keyed.{AreKeyed}
-use Rattle.ldnaming.specs.Naming.{IsNaming, NamingState}
-use Rattle.symres.specs.State.{IsNamed}
+use Rattle.symres.specs.Decided.{case_at}
+use Rattle.symres.specs.Keyed.{AreKeyed}
+use Rattle.symres.specs.Naming.{IsNaming, NamingState}
+use Rattle.symres.specs.table.State.{IsNamed}
 use Rattle.gather.specs.ProjectMembers.{AreBlocksOf, block_here}
 use Rattle.gather.proofs.Merging.{AreOnce, Stands, at, has_number, merged, number, rise}
 use Rattle.gather.proofs.Owners.{IsDeclared, owner_is, symbol_in}

@@ -14,9 +14,9 @@ use Rattle.ldmodel.specs.declared.sections.Part.{Part}
 use Rattle.ldmodel.specs.declared.sections.Part.TheVariants.{InTable, InCommon}
 use Rattle.ldmodel.specs.declared.sections.SectionKey.{SectionKey}
 use Rattle.gather.specs.SectionPlaces.{ArePlaces, is_same_key, place_at, place_under, with_place}
-use Rattle.ldsections.specs.SectionTable.{IsTableOf, len_of, number_of}
-use Rattle.ldsections.specs.declared.section_table.SectionId.{SectionId}
-use Rattle.ldsections.specs.declared.section_table.SectionTable.{SectionTable}
+use Rattle.gather_sections.specs.SectionTable.{IsTableOf, len_of, number_of}
+use Rattle.gather_sections.specs.declared.section_table.SectionId.{SectionId}
+use Rattle.gather_sections.specs.declared.section_table.SectionTable.{SectionTable}
 
 pub same_part : (a b : Part) → is_same_part a b ≡ true → a ≡ b
 same_part (InTable k) (InTable n) h = ap (λ x. InTable (record { 0 = x })) (eqb-true k.0 n.0 h)

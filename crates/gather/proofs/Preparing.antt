@@ -18,8 +18,8 @@ use Rattle.gather.specs.declared.member.CommonBlock.{CommonBlock}
 use Rattle.gather.specs.declared.member.Member.{Member}
 use Rattle.ldmodel.specs.NameFaults.{object_name}
 use Rattle.ldmodel.specs.Project.{NamedObject, Project}
-use Rattle.ldproject.specs.Inputs.{shown_input, shown_inputs}
-use Rattle.ldproject.specs.declared.input.InputObject.{InputObject}
+use Rattle.ldmodel_project.specs.Inputs.{shown_input, shown_inputs}
+use Rattle.ldmodel_project.specs.declared.input.InputObject.{InputObject}
 use Rattle.gather.specs.ProjectMatches.{AreMatched, IsMatched}
 use Rattle.gather.specs.ProjectMembers.{AreBlocks, AreBlocksOf, IsAscending, blocks_at, by_place}
 use Rattle.gather.specs.declared.matches.Matches.{Matches}

@@ -10,10 +10,10 @@ use Rattle.std.proofs.lemmas.Bool.{cases_eq, eq-eqb, ne_eqb, eqb-true}
 use Rattle.std.proofs.lemmas.List.{map-append, get_or_default}
 use Rattle.std.proofs.lemmas.List.Concat.{flat_map-cons}
 use Rattle.std.proofs.lemmas.List.Elements.{All-filter}
-use Rattle.ldtree.specs.Numbering.{InputStatementAt, input_statements, output_sections}
-use Rattle.ldtree.specs.declared.input.Sort.{Sort}
-use Rattle.ldtree.specs.declared.place.InputPlace.TheVariants.{InSection}
-use Rattle.ldtree.specs.declared.statement.Statement.{Statement}
+use Rattle.ldscript.specs.statements.Numbering.{InputStatementAt, input_statements, output_sections}
+use Rattle.ldscript.specs.statements.declared.input.Sort.{Sort}
+use Rattle.ldscript.specs.statements.declared.place.InputPlace.TheVariants.{InSection}
+use Rattle.ldscript.specs.statements.declared.statement.Statement.{Statement}
 use Rattle.ldmodel.specs.FirstMatch.{first_match}
 use Rattle.ldmodel.specs.Live.{live}
 use Rattle.ldmodel.specs.Project.{Project}

@@ -11,9 +11,9 @@ use Rattle.elfobj.specs.declared.symbol.Symbol.{Symbol}
 use Rattle.ldmodel.specs.Names.{is_local, symbol_tables}
 use Rattle.ldmodel.specs.Project.{NamedObject, Project}
 use Rattle.ldmodel.specs.declared.names.Case.{Case}
-use Rattle.ldnaming.specs.Decided.{HasCase, case_at}
-use Rattle.ldnaming.specs.Naming.{IsNameAt, IsNaming, IsSeenAt, NamingState}
-use Rattle.symres.specs.State.{IsNamed}
+use Rattle.symres.specs.Decided.{HasCase, case_at}
+use Rattle.symres.specs.Naming.{IsNameAt, IsNaming, IsSeenAt, NamingState}
+use Rattle.symres.specs.table.State.{IsNamed}
 use Rattle.gather.specs.Symbols.{IsCaseOf, IsObjectAt}
 
 abbrev Table : Type 0

@@ -13,8 +13,8 @@ use denote.Param.Members.{Mut}
 use Rattle.std.proofs.lemmas.List.{get_or-map, length-map}
 use Rattle.std.proofs.lemmas.List.Elements.{All-head, All-tail, filter_agree}
 use Rattle.std.proofs.lemmas.List.Sorted.{All-permutation}
-use Rattle.ldtree.specs.declared.input.Sort.{Sort}
-use Rattle.ldtree.specs.declared.input.Sort.TheVariants.{ByName, ByAlignment}
+use Rattle.ldscript.specs.statements.declared.input.Sort.{Sort}
+use Rattle.ldscript.specs.statements.declared.input.Sort.TheVariants.{ByName, ByAlignment}
 use Rattle.ldmodel.specs.Rows.{Piece, below}
 use Rattle.ldmodel.specs.Sorting.{IsOrdered, sort_by}
 use Rattle.gather.specs.RowPieces.{IsNamed, Naming, Orders, shown_named}

@@ -2,7 +2,7 @@
 use Rattle.std.specs.Prelude.{◌<◌, map, All}
 use Rattle.std.specs.List.{AllPairs}
 use Rattle.elfobj.specs.Sections.{section_of}
-use Rattle.elffile.specs.declared.section.Section.{Section}
+use Rattle.elfobj.specs.file.declared.section.Section.{Section}
 use Rattle.ldmodel.specs.Project.{NamedObject, Project}
 
 -- the header numbers of the linked sections of each object ascend, as `Object::sections` says of an object

@@ -9,7 +9,7 @@ use Rattle.std.specs.Ordering.{nat_cmp}
 use Rattle.gather.specs.Words.{WordAt, first_taker, is_for, is_for_more, is_named, is_wild, lesser, shown_words}
 use Rattle.gather.specs.Words.{words_from}
 use Rattle.gather.specs.WordTables.{AddsWords, shown_listed}
-use Rattle.ldtree.specs.Numbering.{InputStatementAt}
+use Rattle.ldscript.specs.statements.Numbering.{InputStatementAt}
 use Rattle.gather.specs.declared.file_tables.FileTables.{FileTables}
 use Rattle.gather.specs.declared.word_table.WordTable.{WordTable}
 

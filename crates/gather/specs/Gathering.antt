@@ -5,8 +5,8 @@ use Rattle.ldmodel.specs.Link.{gathering_faults}
 use Rattle.ldmodel.specs.Project.{Project}
 use Rattle.ldmodel.specs.Rows.{rows}
 use Rattle.ldmodel.specs.declared.fault.Fault.TheVariants.{Orphan}
-use Rattle.ldproject.specs.ByPlace.{rows_in}
-use Rattle.ldsections.specs.SectionTable.{IsTableOf}
+use Rattle.ldmodel_project.specs.ByPlace.{rows_in}
+use Rattle.gather_sections.specs.SectionTable.{IsTableOf}
 use Rattle.gather.specs.declared.gathering.Gathering.{Gathering}
 
 -- its table numbers the input sections of the project, its rows are those of the project, and its orphans are the faults

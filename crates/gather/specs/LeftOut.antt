@@ -1,6 +1,6 @@
 -- Which sections are left out before references are followed, by the number of the statement that takes them.
 use Rattle.std.specs.Prelude.{ℕ, List, Option, Some, None, Bool, ◌||◌, ◌==◌, slice_get, option_and_then}
-use Rattle.ldtree.specs.Numbering.{InputStatementAt}
+use Rattle.ldscript.specs.statements.Numbering.{InputStatementAt}
 use Rattle.ldmodel.specs.Gathering.{is_discard, are_discarded}
 use Rattle.ldmodel.specs.declared.options.Orphans.{Orphans}
 

@@ -1,3 +1,4 @@
+pub use Rattle.gather_sections.specs as sections
 pub mod Words
 pub mod WordTables
 pub mod Known

@@ -3,7 +3,7 @@ use Rattle.std.specs.Prelude.{ℕ, ◌≡◌, List, [], ◌∷◌, ◌++◌, map
 use Rattle.std.specs.Prelude.{codes, bit_or}
 use Rattle.std.specs.List.{AllZip, enumerate_from}
 use Rattle.elfobj.specs.Sections.{LinkedSection}
-use Rattle.elffile.specs.declared.constants.TheConstants.{SHF_ALLOC, SHF_WRITE}
+use Rattle.elfobj.specs.file.declared.constants.TheConstants.{SHF_ALLOC, SHF_WRITE}
 use Rattle.elfobj.specs.declared.section.SectionKind.TheVariants.{Nobits}
 use Rattle.ldmodel.specs.FirstMatch.{first_match}
 use Rattle.ldmodel.specs.HandedOver.{section_id}

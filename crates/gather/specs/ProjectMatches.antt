@@ -2,7 +2,7 @@
 use Rattle.std.specs.Prelude.{◌≡◌, List, map, codes}
 use Rattle.std.specs.List.{AllZip}
 use Rattle.gather.specs.Matches.{matches_of, number_of}
-use Rattle.ldtree.specs.declared.statement.Statement.{Statement}
+use Rattle.ldscript.specs.statements.declared.statement.Statement.{Statement}
 use Rattle.ldmodel.specs.FirstMatch.{first_match}
 use Rattle.ldmodel.specs.Project.{NamedObject, Project}
 use Rattle.gather.specs.declared.matches.Matches.{Matches}

@@ -5,7 +5,7 @@ use Rattle.std.specs.Global.{Global}
 use Rattle.std.specs.List.{AllPairs, AllZip, enumerate_from}
 use Rattle.std.specs.List.Sorted.{IsNonDecreasingBy, IsPermutation}
 use Rattle.elfobj.specs.Sections.{section_of}
-use Rattle.elffile.specs.declared.section.Section.{Section}
+use Rattle.elfobj.specs.file.declared.section.Section.{Section}
 use Rattle.gather.specs.Gathered.{Keys}
 use Rattle.gather.specs.Members.{block_of}
 use Rattle.gather.specs.declared.member.CommonBlock.{CommonBlock}
@@ -14,7 +14,7 @@ use Rattle.ldmodel.specs.NameFaults.{object_name}
 use Rattle.ldmodel.specs.Project.{NamedObject, Project}
 use Rattle.ldmodel.specs.declared.names.Case.{Case}
 use Rattle.ldmodel.specs.declared.names.Case.TheVariants as case
-use Rattle.ldproject.specs.ByPlace.{name_of_section}
+use Rattle.ldmodel_project.specs.ByPlace.{name_of_section}
 
 -- the key of an object is its place
 abbrev pub by_place : Project → Keys

@@ -1,6 +1,6 @@
 -- Which sections statements under KEEP take, by the numbers of these.
 use Rattle.std.specs.Prelude.{ℕ, ◌+◌, List, [], ◌∷◌, Option, Bool, if◌then◌else◌, option_and_then, slice_get}
-use Rattle.ldtree.specs.Numbering.{InputStatementAt}
+use Rattle.ldscript.specs.statements.Numbering.{InputStatementAt}
 use Rattle.ldmodel.specs.Live.{is_kept}
 use Rattle.gather.specs.Matches.{number_of}
 use Rattle.gather.specs.declared.gathered.Gathered.{Gathered}

@@ -4,9 +4,9 @@ use Rattle.std.specs.Prelude.{slice_index_or, All}
 use Rattle.std.proofs.Common.{Vec, Global}
 use Rattle.std.specs.List.{filter_map}
 use Rattle.std.specs.Option.{option_map}
-use Rattle.ldtree.specs.Numbering.{InputStatementAt}
-use Rattle.ldtree.specs.declared.input.Sort.{Sort}
-use Rattle.ldtree.specs.declared.place.InputPlace.{InputPlace}
+use Rattle.ldscript.specs.statements.Numbering.{InputStatementAt}
+use Rattle.ldscript.specs.statements.declared.input.Sort.{Sort}
+use Rattle.ldscript.specs.statements.declared.place.InputPlace.{InputPlace}
 use Rattle.ldmodel.specs.FirstMatch.{first_match}
 use Rattle.ldmodel.specs.HandedOver as handed
 use Rattle.ldmodel.specs.Live.{live}

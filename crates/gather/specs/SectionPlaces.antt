@@ -13,12 +13,12 @@ use Rattle.ldmodel.specs.Live.{is_section, refers_to, target_section}
 use Rattle.ldmodel.specs.Project.{Project}
 use Rattle.ldmodel.specs.Sections.{InputSection, SectionId, is_same_part}
 use Rattle.ldmodel.specs.declared.sections.SectionKey.{SectionKey}
-use Rattle.ldnaming.specs.Naming.{IsNaming, NamingState}
+use Rattle.symres.specs.Naming.{IsNaming, NamingState}
 use Rattle.gather.specs.ProjectMembers.{by_place}
 use Rattle.gather.specs.declared.places.Places.{Places}
-use Rattle.ldsections.specs.SectionTable.{number_of}
-use Rattle.ldsections.specs.declared.section_table.SectionId as code
-use Rattle.ldsections.specs.declared.section_table.SectionTable.{SectionTable}
+use Rattle.gather_sections.specs.SectionTable.{number_of}
+use Rattle.gather_sections.specs.declared.section_table.SectionId as code
+use Rattle.gather_sections.specs.declared.section_table.SectionTable.{SectionTable}
 
 abbrev pub place_at : List (Option ℕ) → ℕ → Option ℕ
 place_at places at = slice_index_or places at None

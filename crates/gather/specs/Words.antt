@@ -2,10 +2,10 @@
 use Rattle.std.specs.Prelude.{ℕ, ◌+◌, List, [], ◌∷◌, ◌++◌, map, Option, Some, None, Bool, false, not, ◌&&◌}
 use Rattle.std.specs.Prelude.{bytes_eq, if◌then◌else◌, is_none, min}
 use Rattle.std.specs.Option.{option_map_or}
-use Rattle.ldterms.specs.Matching.{is_match, exact_name}
-use Rattle.ldtree.specs.Numbering.{InputStatementAt}
-use Rattle.ldtree.specs.declared.input.Input.{Input}
-use Rattle.ldtree.specs.declared.input.SectionWord.{SectionWord}
+use Rattle.ldscript.specs.terms.Matching.{is_match, exact_name}
+use Rattle.ldscript.specs.statements.Numbering.{InputStatementAt}
+use Rattle.ldscript.specs.statements.declared.input.Input.{Input}
+use Rattle.ldscript.specs.statements.declared.input.SectionWord.{SectionWord}
 use Rattle.ldmodel.specs.FirstMatch.{is_any_match, word_takes}
 use Rattle.gather.specs.declared.word.WordAt as code
 

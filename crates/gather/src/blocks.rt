@@ -4,16 +4,16 @@ ghost use Rattle.std.specs.Prelude.{◌≡◌, ◌<◌, ◌++◌, ℕ, [], IfOk,
 ghost use Rattle.std.specs.List.{filter_map};
 ghost use Rattle.gather.specs.ProjectMembers.{AreBlocks, IsInOrder, block_here, block_rank, blocks_at};
 ghost use Rattle.ldmodel.specs.Project.{Project};
-ghost use Rattle.ldnaming.specs.Naming.{IsNaming};
-ghost use Rattle.ldsections.specs.SectionTable.{AreBlockRanks};
+ghost use Rattle.symres.specs.Naming.{IsNaming};
+ghost use Rattle.gather_sections.specs.SectionTable.{AreBlockRanks};
 
 use crate::member::CommonBlock;
 use elfobj::relocation::SymbolIndex;
 use ldmodel::memory::NoMemory;
 use ldmodel::names::{Case, NameKey};
-use ldnaming::naming::Naming;
-use ldproject::view::ProjectView;
-use ldsections::rank::Rank;
+use symres::naming::Naming;
+use ldmodel_project::view::ProjectView;
+use gather_sections::rank::Rank;
 use std::alloc::Global;
 
 /// No common blocks, of this many objects.

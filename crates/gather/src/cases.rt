@@ -4,14 +4,14 @@ ghost use Rattle.std.specs.Prelude.{◌≡◌, ◌<◌, length, not, slice_index
 ghost use Rattle.elfobj.specs.Symbols.{NamedSymbol};
 ghost use Rattle.gather.specs.Symbols.{IsCaseOf, IsObjectAt};
 ghost use Rattle.ldmodel.specs.Names.{is_local};
-ghost use Rattle.ldnaming.specs.Naming.{IsNaming};
+ghost use Rattle.symres.specs.Naming.{IsNaming};
 
 use elfobj::object::Object;
 use elfobj::relocation::SymbolIndex;
 use elfobj::symbol::Binding;
 use ldmodel::names::Case;
-use ldnaming::naming::Naming;
-use ldproject::view::ProjectView;
+use symres::naming::Naming;
+use ldmodel_project::view::ProjectView;
 
 /// Whether a symbol declares its name to other objects.
 fn declares(binding: Binding) -> bool

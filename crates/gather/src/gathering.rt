@@ -9,8 +9,8 @@ ghost use Rattle.gather.specs.ProjectMatches.{AreMatched};
 ghost use Rattle.gather.specs.ProjectMembers.{by_place};
 ghost use Rattle.ldmodel.specs.InputSections.{input_sections};
 ghost use Rattle.ldmodel.specs.Live.{live};
-ghost use Rattle.ldnaming.specs.Naming.{IsNaming};
-ghost use Rattle.ldsections.specs.SectionTable.{IsTableOf};
+ghost use Rattle.symres.specs.Naming.{IsNaming};
+ghost use Rattle.gather_sections.specs.SectionTable.{IsTableOf};
 
 use crate::blocks::{block_ranks, common_blocks};
 use crate::gathered::Gathered;
@@ -21,13 +21,13 @@ use crate::matches::Matches;
 use crate::member::input_sections;
 use crate::members::members;
 use crate::rows::rows;
-use ldlaws::gathering::live_by_path;
+use ldmodel_laws::gathering::live_by_path;
 use ldmodel::memory::NoMemory;
 use ldmodel::rows::Piece;
 use ldmodel::sections::SectionKey;
-use ldnaming::naming::Naming;
-use ldproject::view::ProjectView;
-use ldsections::section_table::SectionTable;
+use symres::naming::Naming;
+use ldmodel_project::view::ProjectView;
+use gather_sections::section_table::SectionTable;
 use std::alloc::Global;
 
 /// What gathering finds: the numbers of the input sections, the row of each output section, and the orphans.

@@ -1,7 +1,7 @@
 //! Which sections are left out before references are followed.
 
 ghost use Rattle.std.specs.Prelude.{◌≡◌, IfOk, map};
-ghost use Rattle.ldtree.specs.Numbered.{shown_inputs};
+ghost use Rattle.ldscript.specs.statements.Numbered.{shown_inputs};
 ghost use Rattle.ldmodel.specs.Gathering.{is_out};
 ghost use Rattle.ldmodel.specs.InputSections.{input_sections};
 ghost use Rattle.ldmodel.specs.Project.{Project};

@@ -35,3 +35,4 @@ mod sorting;
 mod targets;
 mod word;
 mod word_table;
+pub use gather_sections as sections;

@@ -8,8 +8,8 @@ ghost use Rattle.gather.specs.ProjectMembers.{by_place};
 ghost use Rattle.ldmodel.specs.Gathering.{is_out};
 ghost use Rattle.ldmodel.specs.InputSections.{input_sections};
 ghost use Rattle.ldmodel.specs.Live.{live};
-ghost use Rattle.ldnaming.specs.Naming.{IsNaming};
-ghost use Rattle.ldsections.specs.SectionTable.{IsTableOf};
+ghost use Rattle.symres.specs.Naming.{IsNaming};
+ghost use Rattle.gather_sections.specs.SectionTable.{IsTableOf};
 
 use crate::gathered::Gathered;
 use crate::live_sections::not_out;
@@ -19,9 +19,9 @@ use crate::referring::ProjectReferences;
 use crate::roots::roots;
 use crate::targets::entry_section;
 use ldmodel::memory::NoMemory;
-use ldnaming::naming::Naming;
-use ldproject::view::ProjectView;
-use ldsections::section_table::SectionTable;
+use symres::naming::Naming;
+use ldmodel_project::view::ProjectView;
+use gather_sections::section_table::SectionTable;
 use std::alloc::Global;
 
 /// Marks the sections that the program needs. `out` says of each whether it is left out. The relocations of the other

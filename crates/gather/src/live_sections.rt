@@ -14,7 +14,7 @@ ghost use Rattle.gather.specs.RowPieces.{AreTaken};
 
 use crate::gathered::Gathered;
 use crate::rows::NamedPiece;
-use ldlaws::gathering::live_by_path;
+use ldmodel_laws::gathering::live_by_path;
 use ldmodel::memory::NoMemory;
 use ldmodel::sections::SectionKey;
 use std::alloc::Global;

@@ -8,7 +8,7 @@ ghost use Rattle.gather.specs.LiveMarks.{IsGraphOf, marked};
 ghost use Rattle.gather.specs.Graphs.{IsLive, IsMarked, IsVisit, graph_of};
 
 use crate::references::References;
-use ldlaws::gathering::live_by_path;
+use ldmodel_laws::gathering::live_by_path;
 use ldmodel::memory::NoMemory;
 use std::alloc::Global;
 

@@ -2,7 +2,7 @@
 
 ghost use Rattle.std.specs.Prelude.{◌≡◌, IfOk, map};
 ghost use Rattle.ldmodel.specs.FirstMatch.{first_match};
-ghost use Rattle.ldtree.specs.Numbered.{shown_inputs};
+ghost use Rattle.ldscript.specs.statements.Numbered.{shown_inputs};
 ghost use Rattle.gather.specs.FileTables.{AreTablesOf};
 ghost use Rattle.gather.specs.Matches.{matches_of, number_of};
 
@@ -29,9 +29,9 @@ pub struct Matcher<'a> {
 impl<'a> Model for Matcher<'a> {
     ghost use Rattle.std.specs.Prelude.{List};
     ghost use Rattle.std.specs.Coded.{codes};
-    ghost use Rattle.ldtree.specs.Numbering.{input_statements};
-    ghost use Rattle.ldtree.specs.contracts.formula.Formula as formula;
-    ghost use Rattle.ldtree.specs.declared.statement.Statement.{Statement};
+    ghost use Rattle.ldscript.specs.statements.Numbering.{input_statements};
+    ghost use Rattle.ldscript.specs.statements.contracts.formula.Formula as formula;
+    ghost use Rattle.ldscript.specs.statements.declared.statement.Statement.{Statement};
     ghost use Rattle.gather.specs.FileTables.{AreTablesOf};
 
     ghost Value = { List Statement };

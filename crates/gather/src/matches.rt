@@ -7,7 +7,7 @@ use crate::matcher::Matcher;
 use elfobj::object::Object;
 use ldmodel::memory::NoMemory;
 use ldmodel::rows::InputIndex;
-use ldproject::view::ProjectView;
+use ldmodel_project::view::ProjectView;
 use std::alloc::Global;
 
 /// Which statements of a script take the input sections of an object. It speaks of the object, its name and the script

@@ -5,14 +5,14 @@ ghost use Rattle.gather.specs.Apart.{AscendingSections};
 ghost use Rattle.gather.specs.Members.{AreMembers};
 ghost use Rattle.gather.specs.ProjectMatches.{AreMatched};
 ghost use Rattle.gather.specs.ProjectMembers.{AreBlocks, IsAscending, by_place};
-ghost use Rattle.ldproject.specs.Inputs.{shown_input};
+ghost use Rattle.ldmodel_project.specs.Inputs.{shown_input};
 
 use crate::matches::Matches;
 use crate::member::{CommonBlock, Member};
 use ldmodel::memory::NoMemory;
 use ldmodel::names::ObjectPlace;
-use ldproject::input::InputObject;
-use ldproject::view::ProjectView;
+use ldmodel_project::input::InputObject;
+use ldmodel_project::view::ProjectView;
 use std::alloc::Global;
 
 /// An object under its place, with the statements that take its sections and its common blocks.

@@ -5,14 +5,14 @@ ghost use Rattle.gather.specs.Apart.{AscendingSections};
 ghost use Rattle.gather.specs.Gathered.{AreGathered};
 ghost use Rattle.gather.specs.ProjectMembers.{by_place};
 ghost use Rattle.gather.specs.SectionPlaces.{AreProjectPlaces, place_in, place_under, with_place};
-ghost use Rattle.ldsections.specs.SectionTable.{IsTableOf};
+ghost use Rattle.gather_sections.specs.SectionTable.{IsTableOf};
 
 use crate::gathered::Gathered;
 use crate::law::sections_apart;
 use ldmodel::memory::NoMemory;
 use ldmodel::sections::SectionKey;
-use ldproject::view::ProjectView;
-use ldsections::section_table::{SectionId, SectionTable};
+use ldmodel_project::view::ProjectView;
+use gather_sections::section_table::{SectionId, SectionTable};
 use std::alloc::Global;
 
 /// The places of the input sections of a project, from 0 in their order: a column of their table.

@@ -8,7 +8,7 @@ ghost use Rattle.gather.specs.Found.{relocations_of};
 ghost use Rattle.gather.specs.SectionPlaces.{AddsTargets, AreProjectPlaces, AreProjectReferences, Refers, place_in};
 ghost use Rattle.gather.specs.Symbols.{IsObjectAt};
 ghost use Rattle.ldmodel.specs.InputSections.{input_sections};
-ghost use Rattle.ldnaming.specs.Naming.{IsNaming};
+ghost use Rattle.symres.specs.Naming.{IsNaming};
 
 use crate::gathered::Gathered;
 use crate::places::Places;
@@ -19,8 +19,8 @@ use elfobj::relocation::Relocation;
 use elfobj::section::SectionIndex;
 use ldmodel::memory::NoMemory;
 use ldmodel::sections::Part;
-use ldnaming::naming::Naming;
-use ldproject::view::ProjectView;
+use symres::naming::Naming;
+use ldmodel_project::view::ProjectView;
 
 /// Adds the number of a section, if there is one.
 fn add_number(targets: &mut Vec<usize>, number: Option<usize>) -> Result<(), NoMemory>

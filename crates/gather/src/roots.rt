@@ -2,7 +2,7 @@
 
 ghost use Rattle.std.specs.Prelude.{◌≡◌, ◌++◌, ◌∷◌, ◌↔◌, ◌⊎◌, [], ℕ, Contains, IfOk, IsTrue, OnOk, Some, if◌then◌else◌};
 ghost use Rattle.std.specs.Prelude.{option_to_list};
-ghost use Rattle.ldtree.specs.Numbered.{shown_inputs};
+ghost use Rattle.ldscript.specs.statements.Numbered.{shown_inputs};
 ghost use Rattle.ldmodel.specs.Gathering.{taken_by};
 ghost use Rattle.ldmodel.specs.Live.{is_kept};
 ghost use Rattle.ldmodel.specs.Project.{Project};

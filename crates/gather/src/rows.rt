@@ -1,7 +1,7 @@
 //! The rows of the output sections.
 
 ghost use Rattle.std.specs.Prelude.{◌≡◌, ◌++◌, IfOk, OnOk, length, map};
-ghost use Rattle.ldtree.specs.Numbered.{shown_inputs};
+ghost use Rattle.ldscript.specs.statements.Numbered.{shown_inputs};
 ghost use Rattle.ldmodel.specs.Project.{Project};
 ghost use Rattle.ldmodel.specs.Rows.{rows};
 ghost use Rattle.gather.specs.RowPieces.{AddsTo, AreBuckets, AreEmpty, AreTaken, Naming, shown_row};

@@ -3,7 +3,7 @@
 ghost use Rattle.std.specs.Prelude.{◌≡◌, OnOk, Some, max};
 ghost use Rattle.gather.specs.RowPieces.{Orders};
 
-use ldlaws::gathering::row_by_order;
+use ldmodel_laws::gathering::row_by_order;
 use ldmodel::memory::NoMemory;
 use ldmodel::rows::Piece;
 use ldscript::tree::Sort;

@@ -7,7 +7,7 @@ ghost use Rattle.gather.specs.Symbols.{IsObjectAt};
 ghost use Rattle.ldmodel.specs.HandedOver.{decision_of, entry_of, section_id};
 ghost use Rattle.ldmodel.specs.Live.{entry_section, section_at, section_of_decision, section_of_entry};
 ghost use Rattle.ldmodel.specs.Live.{section_of_symbol, symbol_at};
-ghost use Rattle.ldnaming.specs.Naming.{IsNaming};
+ghost use Rattle.symres.specs.Naming.{IsNaming};
 
 use crate::cases::case_of_symbol;
 use elfobj::object::Object;
@@ -15,8 +15,8 @@ use elfobj::relocation::{Relocation, SymbolIndex};
 use elfobj::symbol::SymbolPlace;
 use ldmodel::names::{Case, Entry, ObjectPlace};
 use ldmodel::sections::{Part, SectionKey};
-use ldnaming::naming::Naming;
-use ldproject::view::ProjectView;
+use symres::naming::Naming;
+use ldmodel_project::view::ProjectView;
 
 /// The section that a symbol of the object at a place is defined in, if it is in one.
 fn section_at(place: usize, at: SymbolPlace) -> Option<SectionKey>

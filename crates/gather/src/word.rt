@@ -2,14 +2,14 @@
 
 ghost use Rattle.std.specs.Prelude.{◌≡◌, ◌<◌, length};
 ghost use Rattle.ldmodel.specs.FirstMatch.{is_any_match};
-ghost use Rattle.ldterms.specs.Matching.{is_match};
+ghost use Rattle.ldscript.specs.terms.Matching.{is_match};
 ghost use Rattle.gather.specs.Known.{AreKnown, SaysFrom, SaysTaken};
 ghost use Rattle.gather.specs.Matches.{number_of};
 ghost use Rattle.gather.specs.Words.{first_taker, shown_word, shown_words, takes_from};
 
 use ldmodel::rows::InputIndex;
 use ldscript::tree::{Input, Pattern, SectionWord, matches};
-use ldterms::pattern_law::match_by_splitting;
+use ldscript::terms::pattern_law::match_by_splitting;
 
 /// A word of an input statement, with the statement.
 #[derive(Clone, Copy)]

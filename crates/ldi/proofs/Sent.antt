@@ -5,9 +5,9 @@ use Rattle.std.specs.Io.KnownBytes.{Appends, append_known}
 use Rattle.ldmodel.specs.Answers.{Answers}
 use Rattle.ldmodel.specs.Options.{LinkOptions}
 use Rattle.ldmodel.specs.Project.{Project, empty_project}
-use Rattle.ldstream.specs.Ran.{Ran, Flushed, status_of, world}
-use Rattle.ldstream.specs.declared.Status.{Status}
-use Rattle.ldstream.specs.declared.fault.RunFault.{RunFault}
+use Rattle.ldi_stream.specs.Ran.{Ran, Flushed, status_of, world}
+use Rattle.ldi_stream.specs.declared.Status.{Status}
+use Rattle.ldi_stream.specs.declared.fault.RunFault.{RunFault}
 use Rattle.ldi.specs.Session.{Leaves}
 
 nothing_held : (known : Option (List ℕ)) → append_known known [] ≡ known

@@ -1,8 +1,8 @@
 -- The status that the program ends with.
 use Rattle.std.specs.Prelude.{ℕ, Result, Ok, Err}
-use Rattle.ldstream.specs.declared.Status.{Status}
-use Rattle.ldstream.specs.declared.Status.TheVariants.{Done, Malformed}
-use Rattle.ldstream.specs.declared.fault.RunFault.{RunFault}
+use Rattle.ldi_stream.specs.declared.Status.{Status}
+use Rattle.ldi_stream.specs.declared.Status.TheVariants.{Done, Malformed}
+use Rattle.ldi_stream.specs.declared.fault.RunFault.{RunFault}
 
 -- that of the link at the end of the stream, 2 after bytes that no command begins, 3 after a fault
 abbrev pub exit_status : Result Status RunFault → ℕ

@@ -2,9 +2,9 @@
 
 use crate::tests::OBJECT_A;
 use ldmodel::options::Options;
-use relink::ending::{exit_status, message};
-use relink::file::ObjectFile;
-use relink::files_link::link;
+use relink::link::ending::{exit_status, message};
+use relink::link::file::ObjectFile;
+use relink::link::files_link::link;
 use std::alloc::{AllocError, Global};
 use std::hash::RandomState;
 use std::process::Abort;

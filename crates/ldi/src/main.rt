@@ -15,10 +15,10 @@ ghost use Rattle.ldi.specs.Exit.{exit_status};
 
 use crate::linking::{FileNames, link_files};
 use ldmodel::options::Options;
-use ldstream::Status;
-use ldstream::fault::RunFault;
-use ldwords::call::Call;
-use ldwords::{USAGE, words};
+use ldi_stream::Status;
+use ldi_stream::fault::RunFault;
+use ldi_words::call::Call;
+use ldi_words::{USAGE, words};
 use std::hash::RandomState;
 use std::process::ExitCode;
 use std::{env, io};

@@ -4,8 +4,8 @@
 use crate::session;
 use crate::testing::{Recorder, Scripted};
 use ldmodel::options::Options;
-use ldstream::Status;
-use ldstream::fault::RunFault;
+use ldi_stream::Status;
+use ldi_stream::fault::RunFault;
 use std::alloc::{AllocError, Global};
 use std::hash::RandomState;
 use std::process::Abort;

@@ -3,8 +3,8 @@
 -- does not hold: where it names a symbol that is undefined or not in the output, or a section that the script does not
 -- have, divides by 0, or aligns to no power of two.
 use Rattle.std.specs.Prelude.{ℕ, List, filter, map, Option, Some, None, Result, Ok, Err, Bool, false, not}
-use Rattle.ldterms.specs.Expressions.{Expr}
-use Rattle.ldtree.specs.Numbering.{AssertionAt, asserts}
+use Rattle.ldscript.specs.terms.Expressions.{Expr}
+use Rattle.ldscript.specs.statements.Numbering.{AssertionAt, asserts}
 use Rattle.ldmodel.specs.Fault.{Fault, AssertionFailed}
 use Rattle.ldmodel.specs.Layout.{Layout, section_numbers, region_numbers}
 use Rattle.ldmodel.specs.Project.{Project}

@@ -1,9 +1,9 @@
 -- Assignments of symbols in a script (GNU ld manual, "Simple Assignments" and "The PROVIDE Command").
 use Rattle.std.specs.Prelude.{ℕ, List, Result, Ok, bytes_eq, if◌then◌else◌}
 use Rattle.std.specs.List.{list_any}
-use Rattle.ldtree.specs.declared.common.Assignment.{Assignment}
-use Rattle.ldtree.specs.declared.common.Common.{Common}
-use Rattle.ldtree.specs.declared.common.Common.TheVariants as common
+use Rattle.ldscript.specs.statements.declared.common.Assignment.{Assignment}
+use Rattle.ldscript.specs.statements.declared.common.Common.{Common}
+use Rattle.ldscript.specs.statements.declared.common.Common.TheVariants as common
 use Rattle.ldmodel.specs.Chain.{and_then}
 use Rattle.ldmodel.specs.Fault.{Fault}
 use Rattle.ldmodel.specs.Layout.{Layout, number, with_symbol}

@@ -7,16 +7,16 @@ use Rattle.std.specs.Prelude.{ℕ, ◌+◌, List, [], ◌∷◌, ◌++◌, Optio
 use Rattle.std.specs.Prelude.{if◌then◌else◌}
 use Rattle.std.specs.Int.{next_multiple_of}
 use Rattle.byteorder.specs.Endian.{little_bytes}
-use Rattle.ldterms.specs.Expressions as expression
-use Rattle.ldterms.specs.Expressions.{Expr}
-use Rattle.ldterms.specs.DotForms.{DotForm, Advance, Align, Offset, dot_form}
-use Rattle.ldtree.specs.Widths.{byte_count}
-use Rattle.ldtree.specs.declared.common.DotCommand.{DotCommand}
-use Rattle.ldtree.specs.declared.common.DotCommand.TheVariants.{Set, Add}
-use Rattle.ldtree.specs.declared.section.BodyCommand.{BodyCommand}
-use Rattle.ldtree.specs.declared.section.BodyCommand.TheVariants as body
-use Rattle.ldtree.specs.declared.section.BodyStatement.{BodyStatement}
-use Rattle.ldtree.specs.declared.section.Width.{Width}
+use Rattle.ldscript.specs.terms.Expressions as expression
+use Rattle.ldscript.specs.terms.Expressions.{Expr}
+use Rattle.ldscript.specs.terms.DotForms.{DotForm, Advance, Align, Offset, dot_form}
+use Rattle.ldscript.specs.statements.Widths.{byte_count}
+use Rattle.ldscript.specs.statements.declared.common.DotCommand.{DotCommand}
+use Rattle.ldscript.specs.statements.declared.common.DotCommand.TheVariants.{Set, Add}
+use Rattle.ldscript.specs.statements.declared.section.BodyCommand.{BodyCommand}
+use Rattle.ldscript.specs.statements.declared.section.BodyCommand.TheVariants as body
+use Rattle.ldscript.specs.statements.declared.section.BodyStatement.{BodyStatement}
+use Rattle.ldscript.specs.statements.declared.section.Width.{Width}
 use Rattle.ldmodel.specs.Assigning.{common_step}
 use Rattle.ldmodel.specs.Chain.{and_then}
 use Rattle.ldmodel.specs.Fault.{Fault, MovedBack}

@@ -14,7 +14,7 @@ use Rattle.ldscript.specs.RefusalNumber as script
 use Rattle.ldscript.specs.Script.{IsScript, IsRefusal}
 use Rattle.ldscript.specs.declared.refusal.ScriptRefusal.{ScriptRefusal}
 use Rattle.ldscript.specs.declared.refusal.ScriptRefusal.TheVariants as reader
-use Rattle.ldtree.specs.declared.statement.Statement.{Statement}
+use Rattle.ldscript.specs.statements.declared.statement.Statement.{Statement}
 use Rattle.ldmodel.specs.Project.{Project, NamedObject}
 
 -- an edit, apart from where its bytes lie: an object is added before a place, from 0 to the number of objects; the

@@ -8,8 +8,8 @@ use Rattle.elfobj.specs.declared.relocation.Relocation.{Relocation}
 use Rattle.elfobj.specs.declared.relocation.RelocationKind.{RelocationKind}
 use Rattle.elfobj.specs.declared.relocation.RelocationKind.TheVariants as kind
 use Rattle.elfobj.specs.declared.section.SectionIndex.{SectionIndex}
-use Rattle.ldtree.specs.Numbering.{OutputSectionAt, AssertionAt, output_sections, asserts, regions}
-use Rattle.ldtree.specs.declared.statement.Region.{Region}
+use Rattle.ldscript.specs.statements.Numbering.{OutputSectionAt, AssertionAt, output_sections, asserts, regions}
+use Rattle.ldscript.specs.statements.declared.statement.Region.{Region}
 use Rattle.ldmodel.specs.Fault.{Fault}
 use Rattle.ldmodel.specs.Fault as fault
 use Rattle.ldmodel.specs.Image.{section_numbered}

@@ -1,9 +1,9 @@
 -- The lines of faults (this project's own format): a code, and the words that say where and what. Lines of the script
 -- and counts are decimal; offsets and values are 16 hex digits.
 use Rattle.std.specs.Prelude.{ℕ, List, [], ◌∷◌, flat_map, codes, decimal}
-use Rattle.elffile.specs.declared.constants.TheConstants.{R_X86_64_NONE, R_X86_64_64, R_X86_64_PC32, R_X86_64_PLT32}
-use Rattle.elffile.specs.declared.constants.TheConstants.{R_X86_64_32, R_X86_64_32S, R_X86_64_16, R_X86_64_PC16}
-use Rattle.elffile.specs.declared.constants.TheConstants.{R_X86_64_8, R_X86_64_PC8, R_X86_64_PC64}
+use Rattle.elfobj.specs.file.declared.constants.TheConstants.{R_X86_64_NONE, R_X86_64_64, R_X86_64_PC32, R_X86_64_PLT32}
+use Rattle.elfobj.specs.file.declared.constants.TheConstants.{R_X86_64_32, R_X86_64_32S, R_X86_64_16, R_X86_64_PC16}
+use Rattle.elfobj.specs.file.declared.constants.TheConstants.{R_X86_64_8, R_X86_64_PC8, R_X86_64_PC64}
 use Rattle.elfobj.specs.declared.relocation.RelocationKind.{RelocationKind}
 use Rattle.elfobj.specs.declared.relocation.RelocationKind.TheVariants as kind
 use Rattle.ldmodel.specs.Fault.{Fault}

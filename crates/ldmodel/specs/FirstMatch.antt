@@ -3,12 +3,12 @@
 -- EXCLUDE_FILE before a word leaves files out for that word alone.
 use Rattle.std.specs.Prelude.{ℕ, List, Option, Bool, not, ◌&&◌, position}
 use Rattle.std.specs.List.{list_any}
-use Rattle.ldterms.specs.Matching.{is_match}
-use Rattle.ldterms.specs.Parts as pattern
-use Rattle.ldtree.specs.Numbering.{InputStatementAt, input_statements}
-use Rattle.ldtree.specs.declared.input.Input.{Input}
-use Rattle.ldtree.specs.declared.input.SectionWord.{SectionWord}
-use Rattle.ldtree.specs.declared.statement.Statement.{Statement}
+use Rattle.ldscript.specs.terms.Matching.{is_match}
+use Rattle.ldscript.specs.terms.Parts as pattern
+use Rattle.ldscript.specs.statements.Numbering.{InputStatementAt, input_statements}
+use Rattle.ldscript.specs.statements.declared.input.Input.{Input}
+use Rattle.ldscript.specs.statements.declared.input.SectionWord.{SectionWord}
+use Rattle.ldscript.specs.statements.declared.statement.Statement.{Statement}
 
 -- some pattern of these matches the name
 abbrev pub is_any_match : List (List pattern.Part) → List ℕ → Bool

@@ -4,9 +4,9 @@
 -- placed; it is left out or a fault.
 use Rattle.std.specs.Prelude.{List, filter, Option, Some, None, Bool, true, false, not, ◌||◌, ◌==◌, slice_get}
 use Rattle.std.specs.Prelude.{option_and_then}
-use Rattle.ldtree.specs.Numbering.{InputStatementAt, input_statements}
-use Rattle.ldtree.specs.declared.place.InputPlace.{InputPlace}
-use Rattle.ldtree.specs.declared.place.InputPlace.TheVariants.{InSection, InDiscard}
+use Rattle.ldscript.specs.statements.Numbering.{InputStatementAt, input_statements}
+use Rattle.ldscript.specs.statements.declared.place.InputPlace.{InputPlace}
+use Rattle.ldscript.specs.statements.declared.place.InputPlace.TheVariants.{InSection, InDiscard}
 use Rattle.ldmodel.specs.FirstMatch.{first_match}
 use Rattle.ldmodel.specs.InputSections.{input_sections}
 use Rattle.ldmodel.specs.Project.{Project}

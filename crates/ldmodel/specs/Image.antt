@@ -7,7 +7,7 @@ use Rattle.std.specs.List.{range_with_len}
 use Rattle.std.specs.Option.{option_map_or}
 use Rattle.elfobj.specs.Sections.{LinkedSection}
 use Rattle.elfobj.specs.declared.section.SectionIndex.{SectionIndex}
-use Rattle.ldfields.specs.Patches.{patched_byte}
+use Rattle.emit_fields.specs.Patches.{patched_byte}
 use Rattle.ldmodel.specs.Headers.{elf_header, program_headers}
 use Rattle.ldmodel.specs.Layout.{Layout, PlacedPiece, PlacedData, PlacedSection}
 use Rattle.ldmodel.specs.Project.{NamedObject, Project}

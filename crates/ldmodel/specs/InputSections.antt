@@ -7,7 +7,7 @@ use Rattle.std.specs.Prelude.{codes, bit_or}
 use Rattle.std.specs.List.{enumerate_from, filter_map}
 use Rattle.elfobj.specs.Sections.{LinkedSection}
 use Rattle.elfobj.specs.Symbols.{NamedSymbol}
-use Rattle.elffile.specs.declared.constants.TheConstants.{SHF_ALLOC, SHF_WRITE}
+use Rattle.elfobj.specs.file.declared.constants.TheConstants.{SHF_ALLOC, SHF_WRITE}
 use Rattle.elfobj.specs.declared.section.SectionKind.TheVariants.{Nobits}
 use Rattle.ldmodel.specs.Names.{Entry, Decision, Common, decision}
 use Rattle.ldmodel.specs.Project.{NamedObject, Project}

@@ -3,7 +3,7 @@
 -- own.
 use Rattle.std.specs.Prelude.{ℕ, ◌+◌, List, [], ◌∷◌, ◌++◌, find, Option, Result, Ok, Err, Bool, bytes_eq, if◌then◌else◌}
 use Rattle.std.specs.Option.{option_map}
-use Rattle.ldterms.specs.Expressions.{Expr}
+use Rattle.ldscript.specs.terms.Expressions.{Expr}
 use Rattle.ldmodel.specs.Arithmetic.{is_address}
 use Rattle.ldmodel.specs.Fault.{Fault}
 use Rattle.ldmodel.specs.Fault as fault

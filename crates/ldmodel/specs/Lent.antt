@@ -4,11 +4,11 @@ use Rattle.std.specs.Prelude.{◌≡◌, ℕ, List, [], map, flat_map, Some, sli
 use Rattle.std.specs.List.{enumerate_from, last_or, AllZip}
 use Rattle.std.specs.Option.{option_map_or}
 use Rattle.byteorder.specs.Endian.{little_bytes}
-use Rattle.ldtree.specs.Numbering.{CommonAt, common_commands}
-use Rattle.ldtree.specs.Widths.{byte_count}
-use Rattle.ldtree.specs.declared.common.Common.{Common}
-use Rattle.ldtree.specs.declared.common.Common.TheVariants as common
-use Rattle.ldtree.specs.declared.statement.Statement.{Statement}
+use Rattle.ldscript.specs.statements.Numbering.{CommonAt, common_commands}
+use Rattle.ldscript.specs.statements.Widths.{byte_count}
+use Rattle.ldscript.specs.statements.declared.common.Common.{Common}
+use Rattle.ldscript.specs.statements.declared.common.Common.TheVariants as common
+use Rattle.ldscript.specs.statements.declared.statement.Statement.{Statement}
 use Rattle.ldmodel.specs.Layout.{Layout, MemoryRegion, PlacedPiece, PlacedSection, PlacedData, ScriptSymbol}
 use Rattle.ldmodel.specs.Segments.{Segment, start_of, load_of, file_size, memory_size}
 use Rattle.ldmodel.specs.declared.laid.Laid.{Laid}

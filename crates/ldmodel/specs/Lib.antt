@@ -52,5 +52,5 @@ pub mod Gaps
 pub mod Commands
 pub mod Answers
 pub mod LinkCommand
-pub use Rattle.ldbase.specs.Counts
-pub use Rattle.ldbase.specs.Raised
+pub use Rattle.elfobj.specs.Counts
+pub use Rattle.elfobj.specs.Raised

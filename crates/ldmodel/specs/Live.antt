@@ -10,7 +10,7 @@ use Rattle.elfobj.specs.Symbols.{NamedSymbol}
 use Rattle.elfobj.specs.declared.relocation.Relocation.{Relocation}
 use Rattle.elfobj.specs.declared.symbol.SymbolPlace.{SymbolPlace}
 use Rattle.elfobj.specs.declared.symbol.SymbolPlace.TheVariants as place
-use Rattle.ldtree.specs.Numbering.{InputStatementAt}
+use Rattle.ldscript.specs.statements.Numbering.{InputStatementAt}
 use Rattle.ldmodel.specs.Gathering.{taken_by, candidates}
 use Rattle.ldmodel.specs.Names.{Entry, Decision, Strong, Common, Weak, decision, entry_symbol, is_local}
 use Rattle.ldmodel.specs.Project.{NamedObject, Project}

@@ -1,23 +1,23 @@
 -- The names that the expressions of a script mention (GNU ld manual, "Expressions in Linker Scripts"), in the order of
 -- the text: symbols, output sections and regions.
 use Rattle.std.specs.Prelude.{ℕ, List, [], ◌∷◌, ◌++◌, flat_map, Option, Some, None}
-use Rattle.ldterms.specs.Expressions.{Expr, Number, Dot, Name, Unary, Binary, Choice, OfRegion, OfSection, AlignDot}
-use Rattle.ldterms.specs.Expressions.{Align}
-use Rattle.ldtree.specs.declared.common.Common.{Common}
-use Rattle.ldtree.specs.declared.common.Common.TheVariants as common
-use Rattle.ldtree.specs.declared.common.DotCommand.{DotCommand}
-use Rattle.ldtree.specs.declared.common.DotCommand.TheVariants.{Set, Add}
-use Rattle.ldtree.specs.declared.section.BodyCommand.{BodyCommand}
-use Rattle.ldtree.specs.declared.section.BodyCommand.TheVariants as body
-use Rattle.ldtree.specs.declared.section.BodyStatement.{BodyStatement}
-use Rattle.ldtree.specs.declared.section.OutputSection.{OutputSection}
-use Rattle.ldtree.specs.declared.statement.Command.{Command}
-use Rattle.ldtree.specs.declared.statement.Command.TheVariants as top
-use Rattle.ldtree.specs.declared.statement.Item.{Item}
-use Rattle.ldtree.specs.declared.statement.ItemCommand.{ItemCommand}
-use Rattle.ldtree.specs.declared.statement.ItemCommand.TheVariants as item
-use Rattle.ldtree.specs.declared.statement.Region.{Region}
-use Rattle.ldtree.specs.declared.statement.Statement.{Statement}
+use Rattle.ldscript.specs.terms.Expressions.{Expr, Number, Dot, Name, Unary, Binary, Choice, OfRegion, OfSection, AlignDot}
+use Rattle.ldscript.specs.terms.Expressions.{Align}
+use Rattle.ldscript.specs.statements.declared.common.Common.{Common}
+use Rattle.ldscript.specs.statements.declared.common.Common.TheVariants as common
+use Rattle.ldscript.specs.statements.declared.common.DotCommand.{DotCommand}
+use Rattle.ldscript.specs.statements.declared.common.DotCommand.TheVariants.{Set, Add}
+use Rattle.ldscript.specs.statements.declared.section.BodyCommand.{BodyCommand}
+use Rattle.ldscript.specs.statements.declared.section.BodyCommand.TheVariants as body
+use Rattle.ldscript.specs.statements.declared.section.BodyStatement.{BodyStatement}
+use Rattle.ldscript.specs.statements.declared.section.OutputSection.{OutputSection}
+use Rattle.ldscript.specs.statements.declared.statement.Command.{Command}
+use Rattle.ldscript.specs.statements.declared.statement.Command.TheVariants as top
+use Rattle.ldscript.specs.statements.declared.statement.Item.{Item}
+use Rattle.ldscript.specs.statements.declared.statement.ItemCommand.{ItemCommand}
+use Rattle.ldscript.specs.statements.declared.statement.ItemCommand.TheVariants as item
+use Rattle.ldscript.specs.statements.declared.statement.Region.{Region}
+use Rattle.ldscript.specs.statements.declared.statement.Statement.{Statement}
 use Rattle.ldmodel.specs.SectionHead.{given_load}
 
 abbrev pub in_expression : Expr → List (List ℕ)

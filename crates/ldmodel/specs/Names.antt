@@ -14,7 +14,7 @@ use Rattle.elfobj.specs.declared.symbol.Symbol.{Symbol}
 use Rattle.elfobj.specs.declared.symbol.SymbolPlace.{SymbolPlace}
 use Rattle.elfobj.specs.declared.symbol.SymbolPlace.TheVariants as place
 use Rattle.ldmodel.specs.Project.{NamedObject, Project}
-use Rattle.ldtree.specs.Numbering.{entry_of}
+use Rattle.ldscript.specs.statements.Numbering.{entry_of}
 use Rattle.ldmodel.specs.ScriptNames.{assigned_names, provided_names, is_assigned, is_provided}
 
 -- an entry of an object's symbol table: the place of the object in the project, from 0, and the number of the symbol

@@ -3,16 +3,16 @@
 -- of them is this project's own where the manual leaves it open. `.` is 0 at the start of SECTIONS: nothing before it
 -- sets `.`, and a script has one SECTIONS.
 use Rattle.std.specs.Prelude.{ℕ, ◌+◌, List, [], ◌∷◌, ◌++◌, length, slice_index_or, Result, Ok}
-use Rattle.ldtree.specs.declared.common.DotCommand.{DotCommand}
-use Rattle.ldtree.specs.declared.common.DotCommand.TheVariants.{Set, Add}
-use Rattle.ldtree.specs.declared.section.OutputSection.{OutputSection}
-use Rattle.ldtree.specs.declared.statement.Command.{Command}
-use Rattle.ldtree.specs.declared.statement.Command.TheVariants as top
-use Rattle.ldtree.specs.declared.statement.Item.{Item}
-use Rattle.ldtree.specs.declared.statement.ItemCommand.{ItemCommand}
-use Rattle.ldtree.specs.declared.statement.ItemCommand.TheVariants as item
-use Rattle.ldtree.specs.declared.statement.Region.{Region}
-use Rattle.ldtree.specs.declared.statement.Statement.{Statement}
+use Rattle.ldscript.specs.statements.declared.common.DotCommand.{DotCommand}
+use Rattle.ldscript.specs.statements.declared.common.DotCommand.TheVariants.{Set, Add}
+use Rattle.ldscript.specs.statements.declared.section.OutputSection.{OutputSection}
+use Rattle.ldscript.specs.statements.declared.statement.Command.{Command}
+use Rattle.ldscript.specs.statements.declared.statement.Command.TheVariants as top
+use Rattle.ldscript.specs.statements.declared.statement.Item.{Item}
+use Rattle.ldscript.specs.statements.declared.statement.ItemCommand.{ItemCommand}
+use Rattle.ldscript.specs.statements.declared.statement.ItemCommand.TheVariants as item
+use Rattle.ldscript.specs.statements.declared.statement.Region.{Region}
+use Rattle.ldscript.specs.statements.declared.statement.Statement.{Statement}
 use Rattle.ldmodel.specs.Arithmetic.{plus_modulo}
 use Rattle.ldmodel.specs.Assigning.{common_step}
 use Rattle.ldmodel.specs.Body.{Body, body_step}

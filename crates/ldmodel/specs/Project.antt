@@ -2,7 +2,7 @@
 -- the link (GNU ld manual, "Invocation": the files of the command line, `-T`, and the options).
 use Rattle.std.specs.Prelude.{ℕ, List, []}
 use Rattle.elfobj.specs.Object.{ObjectData}
-use Rattle.ldtree.specs.declared.statement.Statement.{Statement}
+use Rattle.ldscript.specs.statements.declared.statement.Statement.{Statement}
 use Rattle.ldmodel.specs.Options.{LinkOptions}
 
 -- an object under its name, that of its file

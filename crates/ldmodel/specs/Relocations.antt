@@ -9,9 +9,9 @@ use Rattle.elfobj.specs.Symbols.{NamedSymbol}
 use Rattle.elfobj.specs.declared.relocation.Relocation.{Relocation}
 use Rattle.elfobj.specs.declared.relocation.RelocationKind.{RelocationKind}
 use Rattle.elfobj.specs.declared.relocation.RelocationKind.TheVariants as kind
-use Rattle.ldfields.specs.Fields.{field_of}
-use Rattle.ldfields.specs.declared.field.Overflow.{Overflow}
-use Rattle.ldfields.specs.declared.patch.Patch.{Patch}
+use Rattle.emit_fields.specs.Fields.{field_of}
+use Rattle.emit_fields.specs.declared.field.Overflow.{Overflow}
+use Rattle.emit_fields.specs.declared.patch.Patch.{Patch}
 use Rattle.ldmodel.specs.Fault.{Fault, UndefinedSymbol, TargetNotInOutput, EntryNotInOutput, FieldOverflow}
 use Rattle.ldmodel.specs.Layout.{Layout, PlacedPiece}
 use Rattle.ldmodel.specs.Project.{NamedObject, Project}

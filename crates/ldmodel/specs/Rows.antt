@@ -10,11 +10,11 @@ use Rattle.std.specs.List.{enumerate_from, range_with_len}
 use Rattle.std.specs.Option.{option_map_or}
 use Rattle.std.specs.Ordering.{is_lt, nat_cmp}
 use Rattle.elfobj.specs.declared.section.SectionKind.{SectionKind}
-use Rattle.ldtree.specs.Numbering.{InputStatementAt, input_statements, output_sections}
-use Rattle.ldtree.specs.declared.input.Sort.{Sort}
-use Rattle.ldtree.specs.declared.input.Sort.TheVariants.{ByName, ByAlignment}
-use Rattle.ldtree.specs.declared.place.InputPlace.{InputPlace}
-use Rattle.ldtree.specs.declared.place.InputPlace.TheVariants.{InSection, InDiscard}
+use Rattle.ldscript.specs.statements.Numbering.{InputStatementAt, input_statements, output_sections}
+use Rattle.ldscript.specs.statements.declared.input.Sort.{Sort}
+use Rattle.ldscript.specs.statements.declared.input.Sort.TheVariants.{ByName, ByAlignment}
+use Rattle.ldscript.specs.statements.declared.place.InputPlace.{InputPlace}
+use Rattle.ldscript.specs.statements.declared.place.InputPlace.TheVariants.{InSection, InDiscard}
 use Rattle.ldmodel.specs.FirstMatch.{first_match}
 use Rattle.ldmodel.specs.Live.{live}
 use Rattle.ldmodel.specs.Project.{Project}

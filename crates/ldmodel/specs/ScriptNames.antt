@@ -2,11 +2,11 @@
 -- value twice in one script that the script reader takes; on another tree the lists of names and the tests of a name
 -- need not agree.
 use Rattle.std.specs.Prelude.{ℕ, List, map, Option, Some, None, Bool, true, false}
-use Rattle.ldtree.specs.Given.{given_by}
-use Rattle.ldtree.specs.Numbering.{AssignmentAt, assignments, provides}
-use Rattle.ldtree.specs.declared.given.Given.{Given}
-use Rattle.ldtree.specs.declared.given.Given.TheVariants.{Assigned, Provided}
-use Rattle.ldtree.specs.declared.statement.Statement.{Statement}
+use Rattle.ldscript.specs.statements.Given.{given_by}
+use Rattle.ldscript.specs.statements.Numbering.{AssignmentAt, assignments, provides}
+use Rattle.ldscript.specs.statements.declared.given.Given.{Given}
+use Rattle.ldscript.specs.statements.declared.given.Given.TheVariants.{Assigned, Provided}
+use Rattle.ldscript.specs.statements.declared.statement.Statement.{Statement}
 
 abbrev pub is_assignment : Option Given → Bool
 is_assignment (Some (Assigned n)) = true

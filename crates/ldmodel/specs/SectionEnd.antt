@@ -6,12 +6,12 @@ use Rattle.std.specs.Prelude.{ℕ, ◌+◌, ◌-◌, List, [], ◌∷◌, ◌++�
 use Rattle.std.specs.Prelude.{true, false, not, ◌&&◌, ◌||◌, ◌==◌, nat_le, bit_and, bytes_eq, if◌then◌else◌}
 use Rattle.std.specs.List.{list_any}
 use Rattle.std.specs.Option.{option_and_then}
-use Rattle.elffile.specs.declared.constants.TheConstants.{SHF_WRITE, SHF_EXECINSTR}
+use Rattle.elfobj.specs.file.declared.constants.TheConstants.{SHF_WRITE, SHF_EXECINSTR}
 use Rattle.elfobj.specs.declared.section.SectionKind.{SectionKind}
 use Rattle.elfobj.specs.declared.section.SectionKind.TheVariants.{Nobits}
-use Rattle.ldtree.specs.declared.section.Load.{Load}
-use Rattle.ldtree.specs.declared.section.Load.TheVariants.{Unstated, At, InRegion}
-use Rattle.ldtree.specs.declared.section.OutputSection.{OutputSection}
+use Rattle.ldscript.specs.statements.declared.section.Load.{Load}
+use Rattle.ldscript.specs.statements.declared.section.Load.TheVariants.{Unstated, At, InRegion}
+use Rattle.ldscript.specs.statements.declared.section.OutputSection.{OutputSection}
 use Rattle.ldmodel.specs.Body.{Body}
 use Rattle.ldmodel.specs.Chain.{and_then}
 use Rattle.ldmodel.specs.Fault.{Fault, RegionFull}

@@ -7,10 +7,10 @@ use Rattle.std.specs.Prelude.{if◌then◌else◌, bytes_eq}
 use Rattle.std.specs.Int.{is_power_of_two, next_multiple_of}
 use Rattle.std.specs.List.{last_or}
 use Rattle.std.specs.Option.{option_map_or}
-use Rattle.ldterms.specs.Expressions.{Expr}
-use Rattle.ldtree.specs.declared.section.Load.{Load}
-use Rattle.ldtree.specs.declared.section.Load.TheVariants.{Unstated, At, InRegion}
-use Rattle.ldtree.specs.declared.section.OutputSection.{OutputSection}
+use Rattle.ldscript.specs.terms.Expressions.{Expr}
+use Rattle.ldscript.specs.statements.declared.section.Load.{Load}
+use Rattle.ldscript.specs.statements.declared.section.Load.TheVariants.{Unstated, At, InRegion}
+use Rattle.ldscript.specs.statements.declared.section.OutputSection.{OutputSection}
 use Rattle.ldmodel.specs.Arithmetic.{minus_modulo}
 use Rattle.ldmodel.specs.Chain.{and_then}
 use Rattle.ldmodel.specs.Fault.{Fault, NoValue}

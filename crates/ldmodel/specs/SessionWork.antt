@@ -6,11 +6,11 @@ use Rattle.std.specs.Option.{option_map_or}
 use Rattle.elfobj.specs.declared.section.SectionKind.{SectionKind}
 use Rattle.elfobj.specs.declared.section.SectionKind.TheVariants.{Progbits, Nobits, Note, InitArray, FiniArray}
 use Rattle.elfobj.specs.declared.section.SectionKind.TheVariants.{PreinitArray, Unwind}
-use Rattle.ldbase.specs.Counts.{Counts}
-use Rattle.ldterms.specs.Expressions.{Expr, Number, Dot, Name, Unary, Binary, Choice, OfRegion, OfSection, AlignDot}
-use Rattle.ldterms.specs.Expressions.{Align}
-use Rattle.ldtree.specs.Numbering.{AssertionAt, asserts}
-use Rattle.ldtree.specs.declared.statement.Statement.{Statement}
+use Rattle.elfobj.specs.Counts.{Counts}
+use Rattle.ldscript.specs.terms.Expressions.{Expr, Number, Dot, Name, Unary, Binary, Choice, OfRegion, OfSection, AlignDot}
+use Rattle.ldscript.specs.terms.Expressions.{Align}
+use Rattle.ldscript.specs.statements.Numbering.{AssertionAt, asserts}
+use Rattle.ldscript.specs.statements.declared.statement.Statement.{Statement}
 use Rattle.ldmodel.specs.Edits.{Change, Add, Replace, Move, Remove, SetScript}
 use Rattle.ldmodel.specs.Image.{object_named}
 use Rattle.ldmodel.specs.Layout.{Layout}

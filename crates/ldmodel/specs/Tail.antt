@@ -6,8 +6,8 @@ use Rattle.std.specs.Prelude.{filter_map, flat_map, position, take}
 use Rattle.std.specs.List.{list_any, enumerate_from}
 use Rattle.std.specs.Option.{option_map_or}
 use Rattle.std.specs.Int.{to_le_bytes, w16, w32, w64}
-use Rattle.elffile.specs.declared.constants.TheConstants.{SHN_ABS, STB_GLOBAL, STB_WEAK, STT_NOTYPE, STT_OBJECT}
-use Rattle.elffile.specs.declared.constants.TheConstants.{STT_FUNC, STT_SECTION, STT_FILE}
+use Rattle.elfobj.specs.file.declared.constants.TheConstants.{SHN_ABS, STB_GLOBAL, STB_WEAK, STT_NOTYPE, STT_OBJECT}
+use Rattle.elfobj.specs.file.declared.constants.TheConstants.{STT_FUNC, STT_SECTION, STT_FILE}
 use Rattle.elfobj.specs.declared.symbol.Symbol.{Symbol}
 use Rattle.elfobj.specs.declared.symbol.SymbolKind.{SymbolKind}
 use Rattle.elfobj.specs.declared.symbol.SymbolKind.TheVariants as kind

@@ -5,16 +5,16 @@ use Rattle.std.specs.Prelude.{ℕ, ◌-◌, ◌*◌, ◌/◌, ◌%◌, ◌^◌, 
 use Rattle.std.specs.Prelude.{nat_lt, nat_le, ◌==◌, bit_and, bit_or, if◌then◌else◌}
 use Rattle.std.specs.Option.{option_map}
 use Rattle.std.specs.Int.{is_power_of_two, next_multiple_of}
-use Rattle.ldterms.specs.Expressions as expression
-use Rattle.ldterms.specs.Expressions.{Expr}
-use Rattle.ldterms.specs.declared.operator.UnaryOperator.{UnaryOperator}
-use Rattle.ldterms.specs.declared.operator.UnaryOperator.TheVariants as unary
-use Rattle.ldterms.specs.declared.operator.BinaryOperator.{BinaryOperator}
-use Rattle.ldterms.specs.declared.operator.BinaryOperator.TheVariants as binary
-use Rattle.ldterms.specs.declared.expression.RegionQuery.{RegionQuery}
-use Rattle.ldterms.specs.declared.expression.RegionQuery.TheVariants as region
-use Rattle.ldterms.specs.declared.expression.SectionQuery.{SectionQuery}
-use Rattle.ldterms.specs.declared.expression.SectionQuery.TheVariants as section
+use Rattle.ldscript.specs.terms.Expressions as expression
+use Rattle.ldscript.specs.terms.Expressions.{Expr}
+use Rattle.ldscript.specs.terms.declared.operator.UnaryOperator.{UnaryOperator}
+use Rattle.ldscript.specs.terms.declared.operator.UnaryOperator.TheVariants as unary
+use Rattle.ldscript.specs.terms.declared.operator.BinaryOperator.{BinaryOperator}
+use Rattle.ldscript.specs.terms.declared.operator.BinaryOperator.TheVariants as binary
+use Rattle.ldscript.specs.terms.declared.expression.RegionQuery.{RegionQuery}
+use Rattle.ldscript.specs.terms.declared.expression.RegionQuery.TheVariants as region
+use Rattle.ldscript.specs.terms.declared.expression.SectionQuery.{SectionQuery}
+use Rattle.ldscript.specs.terms.declared.expression.SectionQuery.TheVariants as section
 use Rattle.ldmodel.specs.Chain.{and_then}
 use Rattle.ldmodel.specs.Arithmetic.{plus_modulo, minus_modulo}
 

@@ -1,7 +1,7 @@
 //! What a placement lends to the layers above it.
 
 use crate::script_symbol::ScriptSymbol;
-use ldtree::section::Width;
+use ldscript::statements::section::Width;
 
 /// The number of an output section: its place among those of the script, from 0; `/DISCARD/` is none.
 #[derive(Clone, Copy, Debug, PartialEq, Eq)]

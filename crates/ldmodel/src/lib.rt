@@ -17,4 +17,4 @@ pub mod sections;
 pub mod segment;
 pub mod target;
 
-pub use ldbase::{memory, meter};
+pub use elfobj::{memory, meter};

@@ -1,14 +1,14 @@
 //! Linkers: what holds a project and its link.
 
 ghost use Rattle.std.specs.Prelude.{◌≡◌, IfOk, IfErr, OnOk, OnErr, Ok};
-ghost use Rattle.ldbase.specs.Counts.{Counts};
+ghost use Rattle.elfobj.specs.Counts.{Counts};
 ghost use Rattle.ldmodel.specs.EditMeaning.{change_of, linked_of, refusal_of};
 ghost use Rattle.ldmodel.specs.Edits.{Change, After, RefusedAs};
 ghost use Rattle.ldmodel.specs.Link.{link};
 ghost use Rattle.ldmodel.specs.Project.{Project};
 
 use crate::edit::{Edit, EditRefusal, Linked};
-use ldbase::meter::Meter;
+use elfobj::meter::Meter;
 
 /// What holds a project, changes it by edits and knows its link.
 pub trait Linker {

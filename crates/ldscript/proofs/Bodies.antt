@@ -1,25 +1,25 @@
 -- Statements of an output section: no tokens are two of them.
 use Rattle.std.proofs.Common.{◌≡◌, ◌∙◌, refl, sym, ap, subst, ℕ, List, true, false, inl, inr}
 use Rattle.std.specs.Prelude.{codes, bytes_eq, if◌then◌else◌}
-use Rattle.ldtokens.specs.Tokens.{Lexeme, Word}
-use Rattle.ldtokens.specs.Words.{is_free_name, is_free_word, is_reserved}
-use Rattle.ldtokens.specs.declared.token.Mark.{Mark}
-use Rattle.ldtokens.specs.declared.token.Mark.TheVariants.{OpenParenthesis, CloseBrace, Semicolon, Assign, AddAssign}
-use Rattle.ldtokens.specs.declared.token.Mode.TheVariants.{Pattern}
-use Rattle.ldterms.specs.Expressions.{Expr}
+use Rattle.ldscript_tokens.specs.Tokens.{Lexeme, Word}
+use Rattle.ldscript_tokens.specs.Words.{is_free_name, is_free_word, is_reserved}
+use Rattle.ldscript_tokens.specs.declared.token.Mark.{Mark}
+use Rattle.ldscript_tokens.specs.declared.token.Mark.TheVariants.{OpenParenthesis, CloseBrace, Semicolon, Assign, AddAssign}
+use Rattle.ldscript_tokens.specs.declared.token.Mode.TheVariants.{Pattern}
+use Rattle.ldscript_terms.specs.Expressions.{Expr}
 use Rattle.ldscript.specs.Steps.{◌▸◌, mark, token, key, statements}
 use Rattle.ldscript.specs.Grammar.{dot_command, common, in_parentheses, width_word, input, body_command, body_statement}
 use Rattle.ldscript.specs.Readings.{NoneAt, data_part, width_part}
-use Rattle.ldtree.specs.declared.common.Common.{Common}
-use Rattle.ldtree.specs.declared.common.Common.TheVariants as commons
-use Rattle.ldtree.specs.declared.common.DotCommand.{DotCommand}
-use Rattle.ldtree.specs.declared.common.DotCommand.TheVariants.{Set, Add}
-use Rattle.ldtree.specs.declared.input.Input.{Input}
-use Rattle.ldtree.specs.declared.section.Width.{Width}
-use Rattle.ldtree.specs.declared.section.Width.TheVariants.{Byte, Short, Long, Quad}
-use Rattle.ldtree.specs.declared.section.BodyCommand.{BodyCommand}
-use Rattle.ldtree.specs.declared.section.BodyCommand.TheVariants as body
-use Rattle.ldtree.specs.declared.section.BodyStatement.{BodyStatement}
+use Rattle.ldscript_statements.specs.declared.common.Common.{Common}
+use Rattle.ldscript_statements.specs.declared.common.Common.TheVariants as commons
+use Rattle.ldscript_statements.specs.declared.common.DotCommand.{DotCommand}
+use Rattle.ldscript_statements.specs.declared.common.DotCommand.TheVariants.{Set, Add}
+use Rattle.ldscript_statements.specs.declared.input.Input.{Input}
+use Rattle.ldscript_statements.specs.declared.section.Width.{Width}
+use Rattle.ldscript_statements.specs.declared.section.Width.TheVariants.{Byte, Short, Long, Quad}
+use Rattle.ldscript_statements.specs.declared.section.BodyCommand.{BodyCommand}
+use Rattle.ldscript_statements.specs.declared.section.BodyCommand.TheVariants as body
+use Rattle.ldscript_statements.specs.declared.section.BodyStatement.{BodyStatement}
 use Rattle.ldscript.proofs.Singles.{Single, tokens_same, words_same, mark_fixed, pair_single, behind_tree, keys_differ}
 use Rattle.ldscript.proofs.Singles.{name_no_key, common_single, dot_command_single, in_parentheses_single}
 use Rattle.ldscript.proofs.Inputs.{pattern_no_key, word_no_mark, input_single, input_no_mark, marks_apart, kept_cases}

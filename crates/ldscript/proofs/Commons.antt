@@ -1,16 +1,16 @@
 -- Why no command of those that stand in several lists stands at some tokens.
 use Rattle.std.proofs.Common.{List, ℕ}
-use Rattle.ldtokens.specs.Tokens.{Lexeme}
-use Rattle.ldtokens.specs.declared.token.Mark.TheVariants.{OpenParenthesis, CloseParenthesis, Semicolon, Comma, Assign}
-use Rattle.ldtokens.specs.declared.token.Mark.TheVariants.{AddAssign}
-use Rattle.ldtokens.specs.declared.token.Mode.{Mode}
-use Rattle.ldterms.specs.Expressions.{Expr}
+use Rattle.ldscript_tokens.specs.Tokens.{Lexeme}
+use Rattle.ldscript_tokens.specs.declared.token.Mark.TheVariants.{OpenParenthesis, CloseParenthesis, Semicolon, Comma, Assign}
+use Rattle.ldscript_tokens.specs.declared.token.Mark.TheVariants.{AddAssign}
+use Rattle.ldscript_tokens.specs.declared.token.Mode.{Mode}
+use Rattle.ldscript_terms.specs.Expressions.{Expr}
 use Rattle.ldscript.specs.Steps.{◌▸◌, mark, name_in, string}
 use Rattle.ldscript.specs.Grammar.{ended, set_to, dot_change, assign, provided_name, provided, provide, asserted}
 use Rattle.ldscript.specs.Grammar.{assertion, common}
 use Rattle.ldscript.specs.Readings.{NoneAt}
-use Rattle.ldtree.specs.declared.common.Common.TheVariants as commons
-use Rattle.ldtree.specs.declared.common.DotCommand.TheVariants.{Set, Add}
+use Rattle.ldscript_statements.specs.declared.common.Common.TheVariants as commons
+use Rattle.ldscript_statements.specs.declared.common.DotCommand.TheVariants.{Set, Add}
 use Rattle.ldscript.proofs.Singles.{mark_fixed, marks_differ, behind, behind_tree, ended_single, name_single}
 use Rattle.ldscript.proofs.Singles.{provided_name_single}
 

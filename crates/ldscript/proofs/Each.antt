@@ -1,7 +1,7 @@
 -- Lists without `;`, up to what closes them.
 use Rattle.std.proofs.Common.{◌≡◌, ◌∙◌, refl, sym, ap, subst, List, [], ◌∷◌, ◌++◌, length, ◌<◌, ◌≤◌, arith}
 use Rattle.std.proofs.Common.{append_assoc}
-use Rattle.ldtokens.specs.Tokens.{Lexeme}
+use Rattle.ldscript_tokens.specs.Tokens.{Lexeme}
 use Rattle.ldscript.specs.Steps.{Part, ◌▸◌, each, some}
 use Rattle.ldscript.specs.Readings.{Takes, NoneAt}
 use Rattle.ldscript.proofs.Singles.{Fixed, Single, SingleUntil}

@@ -1,8 +1,8 @@
 -- What the law of expressions gives: no tokens have two readings that stop.
 use Rattle.std.proofs.Common.{List}
-use Rattle.ldtokens.specs.Tokens.{Lexeme}
-use Rattle.ldterms.specs.Grammar.{OneTree}
-use Rattle.ldterms.proofs.Uniqueness.{one_tree_of}
+use Rattle.ldscript_tokens.specs.Tokens.{Lexeme}
+use Rattle.ldscript_terms.specs.Grammar.{OneTree}
+use Rattle.ldscript_terms.proofs.Uniqueness.{one_tree_of}
 
 pub one_expression : (ts : List Lexeme) → OneTree ts
 one_expression = one_tree_of

@@ -3,22 +3,22 @@ use Rattle.std.proofs.Common.{◌≡◌, ◌∙◌, refl, sym, ap, subst, ℕ, L
 use Rattle.std.proofs.Common.{Result, Ok, Err, ◌⊎◌, inl, inr}
 use Rattle.std.specs.Prelude.{IfOk, IfSome, codes}
 use Rattle.std.proofs.lemmas.Bool.{false≢true}
-use Rattle.ldtokens.specs.Tokens.{Lexeme, Word, Punctuation}
-use Rattle.ldtokens.specs.Words.{is_free_word, is_reserved}
-use Rattle.ldtokens.specs.declared.token.Mark.{Mark}
-use Rattle.ldtokens.specs.declared.token.Mark.TheVariants.{OpenParenthesis, CloseParenthesis, CloseBrace, Semicolon}
-use Rattle.ldtokens.specs.declared.token.Mode.TheVariants.{Pattern}
-use Rattle.ldterms.specs.Parts as patterns
-use Rattle.ldterms.specs.Spelling.{Spells}
-use Rattle.ldterms.proofs.Reading.{one_pattern}
+use Rattle.ldscript_tokens.specs.Tokens.{Lexeme, Word, Punctuation}
+use Rattle.ldscript_tokens.specs.Words.{is_free_word, is_reserved}
+use Rattle.ldscript_tokens.specs.declared.token.Mark.{Mark}
+use Rattle.ldscript_tokens.specs.declared.token.Mark.TheVariants.{OpenParenthesis, CloseParenthesis, CloseBrace, Semicolon}
+use Rattle.ldscript_tokens.specs.declared.token.Mode.TheVariants.{Pattern}
+use Rattle.ldscript_terms.specs.Parts as patterns
+use Rattle.ldscript_terms.specs.Spelling.{Spells}
+use Rattle.ldscript_terms.proofs.Reading.{one_pattern}
 use Rattle.ldscript.specs.Steps.{Part, ◌▸◌, mark, token, key, pattern, some, statements}
 use Rattle.ldscript.specs.Grammar.{sort, excluded, exclusion, one, bare, selection, plain, kept, input, input_statement}
 use Rattle.ldscript.specs.Readings.{NoneAt, Reads, excluded_files, word_part, selected}
-use Rattle.ldtree.specs.declared.input.Sort.{Sort}
-use Rattle.ldtree.specs.declared.input.Sort.TheVariants.{ByName, ByAlignment}
-use Rattle.ldtree.specs.declared.input.SectionWord.{SectionWord}
-use Rattle.ldtree.specs.declared.input.Input.{Input}
-use Rattle.ldtree.specs.declared.input.InputStatement.{InputStatement}
+use Rattle.ldscript_statements.specs.declared.input.Sort.{Sort}
+use Rattle.ldscript_statements.specs.declared.input.Sort.TheVariants.{ByName, ByAlignment}
+use Rattle.ldscript_statements.specs.declared.input.SectionWord.{SectionWord}
+use Rattle.ldscript_statements.specs.declared.input.Input.{Input}
+use Rattle.ldscript_statements.specs.declared.input.InputStatement.{InputStatement}
 use Rattle.ldscript.proofs.Singles.{Single, tokens_same, mark_fixed, key_fixed, skip_single, pair_single, keys_differ}
 use Rattle.ldscript.proofs.Singles.{behind, behind_tree}
 use Rattle.ldscript.proofs.Each.{EachListed, some_single}

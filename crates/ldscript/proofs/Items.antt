@@ -3,32 +3,32 @@ use Rattle.std.proofs.Common.{◌≡◌, ◌∙◌, refl, sym, ap, subst, ℕ, L
 use Rattle.std.proofs.Common.{Result, Ok, Err, length, ◌<◌, arith}
 use Rattle.std.specs.Prelude.{codes, bytes_eq}
 use Rattle.std.proofs.lemmas.Bool.{false≢true}
-use Rattle.ldtokens.specs.Tokens.{Lexeme, first_line, Name, Discard, Punctuation}
-use Rattle.ldtokens.specs.Words.{is_free_name, is_reserved}
-use Rattle.ldtokens.specs.declared.token.Mark.{Mark}
-use Rattle.ldtokens.specs.declared.token.Mark.TheVariants.{OpenBrace, CloseBrace, Semicolon, Colon, Assign, Greater}
-use Rattle.ldtokens.specs.declared.token.Mode.TheVariants.{Expression}
-use Rattle.ldterms.specs.Expressions.{Expr}
-use Rattle.ldterms.specs.Grammar.{Whole}
+use Rattle.ldscript_tokens.specs.Tokens.{Lexeme, first_line, Name, Discard, Punctuation}
+use Rattle.ldscript_tokens.specs.Words.{is_free_name, is_reserved}
+use Rattle.ldscript_tokens.specs.declared.token.Mark.{Mark}
+use Rattle.ldscript_tokens.specs.declared.token.Mark.TheVariants.{OpenBrace, CloseBrace, Semicolon, Colon, Assign, Greater}
+use Rattle.ldscript_tokens.specs.declared.token.Mode.TheVariants.{Expression}
+use Rattle.ldscript_terms.specs.Expressions.{Expr}
+use Rattle.ldscript_terms.specs.Grammar.{Whole}
 use Rattle.ldscript.specs.Steps.{◌▸◌, mark, token, key, name, optional, expression, statements}
 use Rattle.ldscript.specs.Grammar.{ended, in_parentheses, dot_command, common, address, at_address, load_in_head}
 use Rattle.ldscript.specs.Grammar.{load_in_tail, alignment, section, body_statement, input_statement, discarded}
 use Rattle.ldscript.specs.Grammar.{discard, item_command, item_statement}
 use Rattle.ldscript.specs.Readings.{Takes, TakesOnly, NoneAt, NoneUntil, Reads, EndsSection, TakesTail, tail_part}
 use Rattle.ldscript.specs.Readings.{opened_part, head_part, discard_head}
-use Rattle.ldtree.specs.declared.common.Common.{Common}
-use Rattle.ldtree.specs.declared.common.Common.TheVariants as commons
-use Rattle.ldtree.specs.declared.common.DotCommand.{DotCommand}
-use Rattle.ldtree.specs.declared.input.InputStatement.{InputStatement}
+use Rattle.ldscript_statements.specs.declared.common.Common.{Common}
+use Rattle.ldscript_statements.specs.declared.common.Common.TheVariants as commons
+use Rattle.ldscript_statements.specs.declared.common.DotCommand.{DotCommand}
+use Rattle.ldscript_statements.specs.declared.input.InputStatement.{InputStatement}
 use Rattle.ldscript.specs.declared.read_section.SectionHead.{SectionHead}
 use Rattle.ldscript.specs.declared.read_section.SectionTail.{SectionTail}
-use Rattle.ldtree.specs.declared.section.BodyStatement.{BodyStatement}
-use Rattle.ldtree.specs.declared.section.Load.{Load}
-use Rattle.ldtree.specs.declared.section.Load.TheVariants.{Unstated, At, InRegion}
-use Rattle.ldtree.specs.declared.section.OutputSection.{OutputSection}
-use Rattle.ldtree.specs.declared.statement.ItemCommand.{ItemCommand}
-use Rattle.ldtree.specs.declared.statement.ItemCommand.TheVariants as item
-use Rattle.ldtree.specs.declared.statement.Item.{Item}
+use Rattle.ldscript_statements.specs.declared.section.BodyStatement.{BodyStatement}
+use Rattle.ldscript_statements.specs.declared.section.Load.{Load}
+use Rattle.ldscript_statements.specs.declared.section.Load.TheVariants.{Unstated, At, InRegion}
+use Rattle.ldscript_statements.specs.declared.section.OutputSection.{OutputSection}
+use Rattle.ldscript_statements.specs.declared.statement.ItemCommand.{ItemCommand}
+use Rattle.ldscript_statements.specs.declared.statement.ItemCommand.TheVariants as item
+use Rattle.ldscript_statements.specs.declared.statement.Item.{Item}
 use Rattle.ldscript.proofs.Singles.{Fixed, Single, SingleUntil, tokens_same, words_same, mark_fixed, key_fixed}
 use Rattle.ldscript.proofs.Singles.{token_fixed, then_fixed, skip_single, behind, behind_tree, keys_differ, name_no_key}
 use Rattle.ldscript.proofs.Singles.{name_single, ended_single, in_parentheses_single, common_single, dot_command_single}

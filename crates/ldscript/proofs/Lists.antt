@@ -1,8 +1,8 @@
 -- Lists of statements up to what closes them.
 use Rattle.std.proofs.Common.{◌≡◌, ◌∙◌, refl, sym, ap, subst, List, [], ◌∷◌, ◌++◌, length, ◌<◌, ◌≤◌, ◌⊎◌, inl, inr}
 use Rattle.std.proofs.Common.{arith, append_assoc}
-use Rattle.ldtokens.specs.Tokens.{Lexeme}
-use Rattle.ldtokens.specs.declared.token.Mark.TheVariants.{Semicolon}
+use Rattle.ldscript_tokens.specs.Tokens.{Lexeme}
+use Rattle.ldscript_tokens.specs.declared.token.Mark.TheVariants.{Semicolon}
 use Rattle.ldscript.specs.Steps.{Part, ◌▸◌, mark, Semicolons, none, one, statements}
 use Rattle.ldscript.specs.Readings.{Takes, NoneAt}
 use Rattle.ldscript.proofs.Singles.{Fixed, SingleUntil, mark_fixed}

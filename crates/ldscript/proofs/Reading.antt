@@ -1,6 +1,6 @@
 -- How readers of parts are put together.
 use Rattle.std.proofs.Common.{List, length, ◌<◌, Option, Some, None, Result, Ok, Err, arith}
-use Rattle.ldtokens.specs.Tokens.{Lexeme}
+use Rattle.ldscript_tokens.specs.Tokens.{Lexeme}
 use Rattle.ldscript.specs.Steps.{Part, ◌▸◌}
 use Rattle.ldscript.specs.Readings.{NoneAt, Reads, Follows}
 use Rattle.ldscript.proofs.Singles.{Fixed, behind}

@@ -1,15 +1,15 @@
 -- Memory regions: no tokens are two of them.
 use Rattle.std.proofs.Common.{◌≡◌, ◌∙◌, sym, ap, subst, ℕ, List}
 use Rattle.std.specs.Prelude.{codes}
-use Rattle.ldtokens.specs.Tokens.{Lexeme, Name, Punctuation}
-use Rattle.ldtokens.specs.declared.token.Mark.{Mark}
-use Rattle.ldtokens.specs.declared.token.Mark.TheVariants.{CloseBrace, Colon, Comma, Assign}
-use Rattle.ldtokens.specs.declared.token.Mode.TheVariants.{Expression}
-use Rattle.ldterms.specs.Expressions.{Expr}
-use Rattle.ldterms.specs.Grammar.{Stops, Whole}
+use Rattle.ldscript_tokens.specs.Tokens.{Lexeme, Name, Punctuation}
+use Rattle.ldscript_tokens.specs.declared.token.Mark.{Mark}
+use Rattle.ldscript_tokens.specs.declared.token.Mark.TheVariants.{CloseBrace, Colon, Comma, Assign}
+use Rattle.ldscript_tokens.specs.declared.token.Mode.TheVariants.{Expression}
+use Rattle.ldscript_terms.specs.Expressions.{Expr}
+use Rattle.ldscript_terms.specs.Grammar.{Stops, Whole}
 use Rattle.ldscript.specs.Steps.{◌▸◌, mark, token, key, name, each, expression}
 use Rattle.ldscript.specs.Grammar.{ended, region_head, region_middle, region}
-use Rattle.ldtree.specs.declared.statement.Region.{Region}
+use Rattle.ldscript_statements.specs.declared.statement.Region.{Region}
 use Rattle.ldscript.proofs.Singles.{Fixed, Single, SingleUntil, tokens_same, mark_fixed, key_fixed, then_fixed}
 use Rattle.ldscript.proofs.Singles.{end_single, behind, behind_tree, name_single, expression_single, ended_single}
 use Rattle.ldscript.proofs.Singles.{stops_at}

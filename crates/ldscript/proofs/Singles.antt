@@ -2,23 +2,23 @@
 use Rattle.std.proofs.Common.{◌≡◌, ◌∙◌, refl, sym, ap, subst, ℕ, List, ◌∷◌, Bool, true, false, ◌&&◌}
 use Rattle.std.specs.Prelude.{IsTrue, codes, bytes_eq}
 use Rattle.std.proofs.lemmas.Bool.{false≢true}
-use Rattle.ldtokens.specs.Tokens.{Token, Lexeme, lexeme, Text, Punctuation}
-use Rattle.ldtokens.specs.Words.{is_free_name, is_reserved}
-use Rattle.ldtokens.specs.declared.token.Mark.{Mark}
-use Rattle.ldtokens.specs.declared.token.Mark.TheVariants.{OpenParenthesis, CloseParenthesis, Semicolon, Comma, Assign}
-use Rattle.ldtokens.specs.declared.token.Mark.TheVariants.{AddAssign}
-use Rattle.ldtokens.specs.declared.token.Mode.{Mode}
-use Rattle.ldtokens.specs.declared.token.Mode.TheVariants.{Expression, Pattern}
-use Rattle.ldterms.specs.Expressions.{Expr}
-use Rattle.ldterms.specs.Grammar.{Whole, Stops, StopsAt, Sign}
+use Rattle.ldscript_tokens.specs.Tokens.{Token, Lexeme, lexeme, Text, Punctuation}
+use Rattle.ldscript_tokens.specs.Words.{is_free_name, is_reserved}
+use Rattle.ldscript_tokens.specs.declared.token.Mark.{Mark}
+use Rattle.ldscript_tokens.specs.declared.token.Mark.TheVariants.{OpenParenthesis, CloseParenthesis, Semicolon, Comma, Assign}
+use Rattle.ldscript_tokens.specs.declared.token.Mark.TheVariants.{AddAssign}
+use Rattle.ldscript_tokens.specs.declared.token.Mode.{Mode}
+use Rattle.ldscript_tokens.specs.declared.token.Mode.TheVariants.{Expression, Pattern}
+use Rattle.ldscript_terms.specs.Expressions.{Expr}
+use Rattle.ldscript_terms.specs.Grammar.{Whole, Stops, StopsAt, Sign}
 use Rattle.ldscript.specs.Steps.{Part, ◌▸◌, token, mark, word_in, key, is_name_spelling, is_name_in, name_in, name}
 use Rattle.ldscript.specs.Steps.{string, expression}
 use Rattle.ldscript.specs.Grammar.{ended, set_to, add_to, dot_change, dot_command, assign, provided_name, provided}
 use Rattle.ldscript.specs.Grammar.{provide, asserted, assertion, common, in_parentheses}
-use Rattle.ldtree.specs.declared.common.Assignment.{Assignment}
-use Rattle.ldtree.specs.declared.common.Assertion.{Assertion}
-use Rattle.ldtree.specs.declared.common.Common.TheVariants as commons
-use Rattle.ldtree.specs.declared.common.DotCommand.TheVariants.{Set, Add}
+use Rattle.ldscript_statements.specs.declared.common.Assignment.{Assignment}
+use Rattle.ldscript_statements.specs.declared.common.Assertion.{Assertion}
+use Rattle.ldscript_statements.specs.declared.common.Common.TheVariants as commons
+use Rattle.ldscript_statements.specs.declared.common.DotCommand.TheVariants.{Set, Add}
 use Rattle.ldscript.proofs.Expressions.{one_expression}
 
 -- a part without a tree leads to one place

@@ -1,14 +1,14 @@
 -- No expression begins with `:` or `=`.
 use Rattle.std.proofs.Common.{◌≡◌, ◌∙◌, sym, ap, ℕ, List, ◌∷◌, Some, None}
-use Rattle.ldtokens.specs.Tokens.{Lexeme, lexeme, Punctuation}
-use Rattle.ldtokens.specs.declared.token.Mark.{Mark}
-use Rattle.ldtokens.specs.declared.token.Mark.TheVariants.{OpenParenthesis}
-use Rattle.ldterms.specs.Operators.{unary_of}
-use Rattle.ldterms.specs.declared.operator.UnaryOperator.{UnaryOperator}
-use Rattle.ldterms.specs.Expressions.{Expr}
-use Rattle.ldterms.specs.Grammar.{Word, Terminal, Numeral, Worded, Sign, terminal_of, Begins, Level, Spells, number}
-use Rattle.ldterms.specs.Grammar.{dot, name, group, of_region, of_section, align, one_argument, two_arguments, primary}
-use Rattle.ldterms.specs.Grammar.{unary, operand, binary, operators, choice}
+use Rattle.ldscript_tokens.specs.Tokens.{Lexeme, lexeme, Punctuation}
+use Rattle.ldscript_tokens.specs.declared.token.Mark.{Mark}
+use Rattle.ldscript_tokens.specs.declared.token.Mark.TheVariants.{OpenParenthesis}
+use Rattle.ldscript_terms.specs.Operators.{unary_of}
+use Rattle.ldscript_terms.specs.declared.operator.UnaryOperator.{UnaryOperator}
+use Rattle.ldscript_terms.specs.Expressions.{Expr}
+use Rattle.ldscript_terms.specs.Grammar.{Word, Terminal, Numeral, Worded, Sign, terminal_of, Begins, Level, Spells, number}
+use Rattle.ldscript_terms.specs.Grammar.{dot, name, group, of_region, of_section, align, one_argument, two_arguments, primary}
+use Rattle.ldscript_terms.specs.Grammar.{unary, operand, binary, operators, choice}
 use Rattle.ldscript.specs.Steps.{mark}
 
 same_first : (x y : Lexeme) (r s : List Lexeme) → x ∷ r ≡ y ∷ s → x ≡ y

@@ -1,12 +1,12 @@
 -- What follows the `}` of an output section: parts that may stand there or not.
 use Rattle.std.proofs.Common.{◌≡◌, ◌∙◌, refl, sym, ap, subst, ℕ, List, Option, Some, None, length, ◌≤◌, arith}
 use Rattle.std.specs.Prelude.{codes}
-use Rattle.ldtokens.specs.Tokens.{Lexeme, Name, Number, Punctuation}
-use Rattle.ldtokens.specs.declared.token.Mark.{Mark}
-use Rattle.ldtokens.specs.declared.token.Mark.TheVariants.{Greater, Assign}
-use Rattle.ldtokens.specs.declared.token.Mode.TheVariants.{Expression}
+use Rattle.ldscript_tokens.specs.Tokens.{Lexeme, Name, Number, Punctuation}
+use Rattle.ldscript_tokens.specs.declared.token.Mark.{Mark}
+use Rattle.ldscript_tokens.specs.declared.token.Mark.TheVariants.{Greater, Assign}
+use Rattle.ldscript_tokens.specs.declared.token.Mode.TheVariants.{Expression}
 use Rattle.ldscript.specs.Steps.{Part, ◌▸◌, mark, key, name, optional}
-use Rattle.ldtree.specs.Fill.{fill_of}
+use Rattle.ldscript_statements.specs.Fill.{fill_of}
 use Rattle.ldscript.specs.Grammar.{fill, in_region, at_region, filled}
 use Rattle.ldscript.specs.Readings.{NoneAt, NoneUntil, EndsSection, Maybe, TakesTail, tail_part}
 use Rattle.ldscript.specs.declared.read_section.SectionTail.{SectionTail}

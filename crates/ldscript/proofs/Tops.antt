@@ -1,22 +1,22 @@
 -- The statements of a script, and the law that no text has two trees.
 use Rattle.std.proofs.Common.{◌≡◌, ◌∙◌, refl, sym, ap, subst, ℕ, List, [], ◌∷◌, true, false}
 use Rattle.std.specs.Prelude.{codes, bytes_eq}
-use Rattle.ldtokens.specs.Tokens.{Lexeme, lexeme, first_line, Name, Punctuation}
-use Rattle.ldtokens.specs.Words.{is_free_name, is_reserved}
-use Rattle.ldtokens.specs.Modes.{IsCut}
-use Rattle.ldtokens.specs.declared.token.Mark.TheVariants.{OpenParenthesis, CloseParenthesis, OpenBrace, CloseBrace}
-use Rattle.ldtokens.specs.declared.token.Mark.TheVariants.{Semicolon}
-use Rattle.ldtokens.specs.declared.token.Mode.TheVariants.{Expression}
+use Rattle.ldscript_tokens.specs.Tokens.{Lexeme, lexeme, first_line, Name, Punctuation}
+use Rattle.ldscript_tokens.specs.Words.{is_free_name, is_reserved}
+use Rattle.ldscript_tokens.specs.Modes.{IsCut}
+use Rattle.ldscript_tokens.specs.declared.token.Mark.TheVariants.{OpenParenthesis, CloseParenthesis, OpenBrace, CloseBrace}
+use Rattle.ldscript_tokens.specs.declared.token.Mark.TheVariants.{Semicolon}
+use Rattle.ldscript_tokens.specs.declared.token.Mode.TheVariants.{Expression}
 use Rattle.ldscript.specs.Steps.{Part, ◌▸◌, mark, token, key, name, each, statements, Semicolons, none}
 use Rattle.ldscript.specs.Grammar.{common, region, item_statement, entry, memory, sections, top_command, top_statement}
 use Rattle.ldscript.specs.Grammar.{script}
 use Rattle.ldscript.specs.Readings.{NoneAt}
 use Rattle.ldscript.specs.Script.{IsTree}
-use Rattle.ldtree.specs.declared.common.Common.{Common}
-use Rattle.ldtree.specs.declared.common.Common.TheVariants as commons
-use Rattle.ldtree.specs.declared.statement.Command.{Command}
-use Rattle.ldtree.specs.declared.statement.Command.TheVariants as top
-use Rattle.ldtree.specs.declared.statement.Statement.{Statement}
+use Rattle.ldscript_statements.specs.declared.common.Common.{Common}
+use Rattle.ldscript_statements.specs.declared.common.Common.TheVariants as commons
+use Rattle.ldscript_statements.specs.declared.statement.Command.{Command}
+use Rattle.ldscript_statements.specs.declared.statement.Command.TheVariants as top
+use Rattle.ldscript_statements.specs.declared.statement.Statement.{Statement}
 use Rattle.ldscript.proofs.Singles.{Single, tokens_same, mark_fixed, key_fixed, skip_single, end_single, keys_differ}
 use Rattle.ldscript.proofs.Singles.{name_no_key, name_single, common_single}
 use Rattle.ldscript.proofs.Regions.{closed_regions_single}

@@ -20,43 +20,43 @@
 -- A `;` stands before, between and after the statements of a list, by `statements`. The tokens of a body are read in
 -- another mode, in which a name, `.` or a word of the language at the front of a statement is a word token.
 use Rattle.std.specs.Prelude.{◌≡◌, ℕ, List, [], ◌∷◌, Option, Some, None, Bool, true, false, codes}
-use Rattle.ldtokens.specs.Tokens.{Lexeme, Number, Discard}
-use Rattle.ldtokens.specs.declared.token.Mark.{Mark}
-use Rattle.ldtokens.specs.declared.token.Mark.TheVariants.{OpenParenthesis, CloseParenthesis, OpenBrace, CloseBrace}
-use Rattle.ldtokens.specs.declared.token.Mark.TheVariants.{Semicolon, Colon, Comma, Assign, AddAssign, Greater}
-use Rattle.ldtokens.specs.declared.token.Mode.{Mode}
-use Rattle.ldtokens.specs.declared.token.Mode.TheVariants.{Expression, Pattern}
-use Rattle.ldterms.specs.Expressions.{Expr}
-use Rattle.ldterms.specs.Parts as patterns
-use Rattle.ldtree.specs.Fill.{fill_of}
+use Rattle.ldscript_tokens.specs.Tokens.{Lexeme, Number, Discard}
+use Rattle.ldscript_tokens.specs.declared.token.Mark.{Mark}
+use Rattle.ldscript_tokens.specs.declared.token.Mark.TheVariants.{OpenParenthesis, CloseParenthesis, OpenBrace, CloseBrace}
+use Rattle.ldscript_tokens.specs.declared.token.Mark.TheVariants.{Semicolon, Colon, Comma, Assign, AddAssign, Greater}
+use Rattle.ldscript_tokens.specs.declared.token.Mode.{Mode}
+use Rattle.ldscript_tokens.specs.declared.token.Mode.TheVariants.{Expression, Pattern}
+use Rattle.ldscript_terms.specs.Expressions.{Expr}
+use Rattle.ldscript_terms.specs.Parts as patterns
+use Rattle.ldscript_statements.specs.Fill.{fill_of}
 use Rattle.ldscript.specs.Steps.{Part, ◌▸◌, ◌or◌, nothing, optional, each, some, token, mark, statements, on_line, key}
 use Rattle.ldscript.specs.Steps.{name_in, name, string, expression, pattern}
-use Rattle.ldtree.specs.declared.input.Sort.{Sort}
-use Rattle.ldtree.specs.declared.input.Sort.TheVariants.{ByName, ByAlignment}
-use Rattle.ldtree.specs.declared.input.SectionWord.{SectionWord}
-use Rattle.ldtree.specs.declared.input.Input.{Input}
-use Rattle.ldtree.specs.declared.input.InputStatement.{InputStatement}
-use Rattle.ldtree.specs.declared.section.Width.{Width}
-use Rattle.ldtree.specs.declared.section.Width.TheVariants.{Byte, Short, Long, Quad}
-use Rattle.ldtree.specs.declared.section.BodyCommand.{BodyCommand}
-use Rattle.ldtree.specs.declared.section.BodyCommand.TheVariants as body
-use Rattle.ldtree.specs.declared.section.BodyStatement.{BodyStatement}
-use Rattle.ldtree.specs.declared.section.Load.{Load}
-use Rattle.ldtree.specs.declared.section.Load.TheVariants.{Unstated, At, InRegion}
-use Rattle.ldtree.specs.declared.section.OutputSection.{OutputSection}
-use Rattle.ldtree.specs.declared.common.Assignment.{Assignment}
-use Rattle.ldtree.specs.declared.common.Assertion.{Assertion}
-use Rattle.ldtree.specs.declared.common.Common.{Common}
-use Rattle.ldtree.specs.declared.common.Common.TheVariants as commons
-use Rattle.ldtree.specs.declared.common.DotCommand.{DotCommand}
-use Rattle.ldtree.specs.declared.common.DotCommand.TheVariants.{Set, Add}
-use Rattle.ldtree.specs.declared.statement.Region.{Region}
-use Rattle.ldtree.specs.declared.statement.ItemCommand.{ItemCommand}
-use Rattle.ldtree.specs.declared.statement.ItemCommand.TheVariants as item
-use Rattle.ldtree.specs.declared.statement.Item.{Item}
-use Rattle.ldtree.specs.declared.statement.Command.{Command}
-use Rattle.ldtree.specs.declared.statement.Command.TheVariants as top
-use Rattle.ldtree.specs.declared.statement.Statement.{Statement}
+use Rattle.ldscript_statements.specs.declared.input.Sort.{Sort}
+use Rattle.ldscript_statements.specs.declared.input.Sort.TheVariants.{ByName, ByAlignment}
+use Rattle.ldscript_statements.specs.declared.input.SectionWord.{SectionWord}
+use Rattle.ldscript_statements.specs.declared.input.Input.{Input}
+use Rattle.ldscript_statements.specs.declared.input.InputStatement.{InputStatement}
+use Rattle.ldscript_statements.specs.declared.section.Width.{Width}
+use Rattle.ldscript_statements.specs.declared.section.Width.TheVariants.{Byte, Short, Long, Quad}
+use Rattle.ldscript_statements.specs.declared.section.BodyCommand.{BodyCommand}
+use Rattle.ldscript_statements.specs.declared.section.BodyCommand.TheVariants as body
+use Rattle.ldscript_statements.specs.declared.section.BodyStatement.{BodyStatement}
+use Rattle.ldscript_statements.specs.declared.section.Load.{Load}
+use Rattle.ldscript_statements.specs.declared.section.Load.TheVariants.{Unstated, At, InRegion}
+use Rattle.ldscript_statements.specs.declared.section.OutputSection.{OutputSection}
+use Rattle.ldscript_statements.specs.declared.common.Assignment.{Assignment}
+use Rattle.ldscript_statements.specs.declared.common.Assertion.{Assertion}
+use Rattle.ldscript_statements.specs.declared.common.Common.{Common}
+use Rattle.ldscript_statements.specs.declared.common.Common.TheVariants as commons
+use Rattle.ldscript_statements.specs.declared.common.DotCommand.{DotCommand}
+use Rattle.ldscript_statements.specs.declared.common.DotCommand.TheVariants.{Set, Add}
+use Rattle.ldscript_statements.specs.declared.statement.Region.{Region}
+use Rattle.ldscript_statements.specs.declared.statement.ItemCommand.{ItemCommand}
+use Rattle.ldscript_statements.specs.declared.statement.ItemCommand.TheVariants as item
+use Rattle.ldscript_statements.specs.declared.statement.Item.{Item}
+use Rattle.ldscript_statements.specs.declared.statement.Command.{Command}
+use Rattle.ldscript_statements.specs.declared.statement.Command.TheVariants as top
+use Rattle.ldscript_statements.specs.declared.statement.Statement.{Statement}
 
 -- sort = SORT | SORT_BY_NAME | SORT_BY_ALIGNMENT
 abbrev pub sort : Sort → Part

@@ -1,19 +1,19 @@
 -- What the readers of the parts of a script answer, and the parts that one reader reads at once.
 use Rattle.std.specs.Prelude.{◌≡◌, ◌<◌, ◌≤◌, List, codes, length, Bool, true, false, Option, Some, None, IfOk, Result}
-use Rattle.ldtokens.specs.Tokens.{Lexeme, Discard}
-use Rattle.ldtokens.specs.declared.token.Mark.TheVariants.{OpenParenthesis, CloseParenthesis, OpenBrace, Colon, Greater}
-use Rattle.ldtokens.specs.declared.token.Mark.TheVariants.{Assign}
-use Rattle.ldtokens.specs.declared.token.Mode.TheVariants.{Expression, Pattern}
-use Rattle.ldterms.specs.Expressions.{Expr}
-use Rattle.ldterms.specs.Parts as patterns
+use Rattle.ldscript_tokens.specs.Tokens.{Lexeme, Discard}
+use Rattle.ldscript_tokens.specs.declared.token.Mark.TheVariants.{OpenParenthesis, CloseParenthesis, OpenBrace, Colon, Greater}
+use Rattle.ldscript_tokens.specs.declared.token.Mark.TheVariants.{Assign}
+use Rattle.ldscript_tokens.specs.declared.token.Mode.TheVariants.{Expression, Pattern}
+use Rattle.ldscript_terms.specs.Expressions.{Expr}
+use Rattle.ldscript_terms.specs.Parts as patterns
 use Rattle.ldscript.specs.Steps.{Part, ◌▸◌, key, mark, optional, pattern, some, token}
 use Rattle.ldscript.specs.Grammar.{bare, one, selection, width_word, in_parentheses, alignment, at_address, in_region}
 use Rattle.ldscript.specs.Grammar.{at_region, filled}
-use Rattle.ldtree.specs.declared.input.SectionWord.{SectionWord}
-use Rattle.ldtree.specs.declared.input.Sort.{Sort}
+use Rattle.ldscript_statements.specs.declared.input.SectionWord.{SectionWord}
+use Rattle.ldscript_statements.specs.declared.input.Sort.{Sort}
 use Rattle.ldscript.specs.declared.read_section.SectionHead.{SectionHead}
 use Rattle.ldscript.specs.declared.read_section.SectionTail.{SectionTail}
-use Rattle.ldtree.specs.declared.section.Width.{Width}
+use Rattle.ldscript_statements.specs.declared.section.Width.{Width}
 
 -- this tree stands here, and takes a token or more
 pub record Takes {A : Type 0} (p : A → Part) (ts : List Lexeme) (x : A) (rest : List Lexeme) : Type 0 where

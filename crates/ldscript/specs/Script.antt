@@ -1,12 +1,12 @@
 -- The script of a text, and why a text is none.
 use Rattle.std.specs.Prelude.{◌≡◌, ℕ, List, true, false}
-use Rattle.ldtokens.specs.Tokens.{Lexeme}
-use Rattle.ldtokens.specs.Limits.{IsTokens, IsTokenRefusal}
-use Rattle.ldtokens.specs.declared.refusal.TokenRefusal.TheVariants as tokens
+use Rattle.ldscript_tokens.specs.Tokens.{Lexeme}
+use Rattle.ldscript_tokens.specs.Limits.{IsTokens, IsTokenRefusal}
+use Rattle.ldscript_tokens.specs.declared.refusal.TokenRefusal.TheVariants as tokens
 use Rattle.ldscript.specs.Grammar.{script}
-use Rattle.ldtree.specs.Mentions.{HasClash}
-use Rattle.ldtree.specs.Dots.{has_misplaced_dot}
-use Rattle.ldtree.specs.declared.statement.Statement.{Statement}
+use Rattle.ldscript_statements.specs.Mentions.{HasClash}
+use Rattle.ldscript_statements.specs.Dots.{has_misplaced_dot}
+use Rattle.ldscript_statements.specs.declared.statement.Statement.{Statement}
 use Rattle.ldscript.specs.declared.refusal.ScriptRefusal.{ScriptRefusal}
 use Rattle.ldscript.specs.declared.refusal.ScriptRefusal.TheVariants.{NotTokens, NotAScript, Repeated, MisplacedDot}
 use Rattle.ldscript.specs.declared.refusal.ScriptRefusal.TheVariants.{Limit, NoMemory}

@@ -3,17 +3,17 @@
 use Rattle.std.specs.Prelude.{◌≡◌, ◌⊎◌, ℕ, List, [], ◌∷◌, Option, Some, None, Bool, false, if◌then◌else◌, ◌&&◌, ◌==◌}
 use Rattle.std.specs.Prelude.{IsTrue, slice_index}
 use Rattle.std.specs.List.{list_all}
-use Rattle.ldtokens.specs.Bytes.{is_name_start, is_name_byte}
-use Rattle.ldtokens.specs.Tokens.{Token, Lexeme, lexeme, first_line, Name, Text, Word, Punctuation}
-use Rattle.ldtokens.specs.Words.{is_free_name, is_free_word}
-use Rattle.ldtokens.specs.declared.token.Mark.{Mark}
-use Rattle.ldtokens.specs.declared.token.Mark.TheVariants.{Semicolon}
-use Rattle.ldtokens.specs.declared.token.Mode.{Mode}
-use Rattle.ldtokens.specs.declared.token.Mode.TheVariants.{Expression, Pattern}
-use Rattle.ldterms.specs.Expressions.{Expr}
-use Rattle.ldterms.specs.Grammar.{Spells, Whole}
-use Rattle.ldterms.specs.Parts as patterns
-use Rattle.ldterms.specs.Spelling as spelling
+use Rattle.ldscript_tokens.specs.Bytes.{is_name_start, is_name_byte}
+use Rattle.ldscript_tokens.specs.Tokens.{Token, Lexeme, lexeme, first_line, Name, Text, Word, Punctuation}
+use Rattle.ldscript_tokens.specs.Words.{is_free_name, is_free_word}
+use Rattle.ldscript_tokens.specs.declared.token.Mark.{Mark}
+use Rattle.ldscript_tokens.specs.declared.token.Mark.TheVariants.{Semicolon}
+use Rattle.ldscript_tokens.specs.declared.token.Mode.{Mode}
+use Rattle.ldscript_tokens.specs.declared.token.Mode.TheVariants.{Expression, Pattern}
+use Rattle.ldscript_terms.specs.Expressions.{Expr}
+use Rattle.ldscript_terms.specs.Grammar.{Spells, Whole}
+use Rattle.ldscript_terms.specs.Parts as patterns
+use Rattle.ldscript_terms.specs.Spelling as spelling
 
 abbrev pub Part : Type 1
 Part = List Lexeme → List Lexeme → Type 0

@@ -2,9 +2,9 @@
 
 ghost use Rattle.std.specs.Prelude.{◌≡◌, ℕ, List};
 ghost use Rattle.ldscript.specs.Script.{IsTree};
-ghost use Rattle.ldtree.specs.declared.statement.Statement.{Statement};
+ghost use Rattle.ldscript_statements.specs.declared.statement.Statement.{Statement};
 
-use ldtokens::laws::one_cut;
+use ldscript_tokens::laws::one_cut;
 
 /// No text has two trees.
 pub fn one_tree()

@@ -18,3 +18,6 @@ pub mod refusal;
 pub mod script;
 mod steps;
 pub mod tree;
+pub use ldscript_statements as statements;
+pub use ldscript_terms as terms;
+pub use ldscript_tokens as tokens;

@@ -1,7 +1,7 @@
 //! Readers of the commands that stand in more than one list.
 
 ghost use Rattle.std.specs.Prelude.{◌≡◌, ◌<◌, ℕ, List, IsTrue, length};
-ghost use Rattle.ldtokens.specs.Tokens.{Lexeme};
+ghost use Rattle.ldscript_tokens.specs.Tokens.{Lexeme};
 ghost use Rattle.ldscript.specs.Steps.{◌▸◌, mark, string};
 ghost use Rattle.ldscript.specs.Grammar.{assign as assign_part, asserted as asserted_part, assertion as assertion_part};
 ghost use Rattle.ldscript.specs.Grammar.{common as common_part, dot_change as dot_change_part};
@@ -11,12 +11,12 @@ ghost use Rattle.ldscript.specs.Grammar.{set_to as set_to_part};
 ghost use Rattle.ldscript.specs.Readings.{Reads, Finds};
 
 use crate::steps::{after, after_key, ended, front_name, plain_name};
-use ldterms::reader::Parsed;
-use ldtokens::cursor::Cursor;
-use ldtokens::name::ScriptName;
-use ldtokens::token::{Mark, Mode};
-use ldtree::common::{Assertion, Assignment, Common, DotCommand};
-use ldtree::formula::Formula;
+use ldscript_terms::reader::Parsed;
+use ldscript_tokens::cursor::Cursor;
+use ldscript_tokens::name::ScriptName;
+use ldscript_tokens::token::{Mark, Mode};
+use ldscript_statements::common::{Assertion, Assignment, Common, DotCommand};
+use ldscript_statements::formula::Formula;
 use std::alloc::Global;
 
 /// `= e ;`

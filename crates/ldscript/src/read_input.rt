@@ -1,20 +1,20 @@
 //! Readers of input statements.
 
 ghost use Rattle.std.specs.Prelude.{◌≡◌, ◌<◌, ℕ, List, IfOk, IfSome, IsTrue, length};
-ghost use Rattle.ldtokens.specs.Tokens.{Lexeme};
+ghost use Rattle.ldscript_tokens.specs.Tokens.{Lexeme};
 ghost use Rattle.ldscript.specs.Steps.{◌▸◌, each, some, mark, statements, pattern as pattern_part};
 ghost use Rattle.ldscript.specs.Grammar.{bare, one, sort as sort_part, plain as plain_part, input as input_part};
 ghost use Rattle.ldscript.specs.Grammar.{input_statement};
 ghost use Rattle.ldscript.specs.Readings.{Reads, Finds, excluded_files as excluded_files_part, selected, word_part};
 
 use crate::steps::{after, after_key};
-use ldterms::pattern::Pattern;
-use ldterms::reader::Parsed;
-use ldtokens::cursor::Cursor;
-use ldtokens::token::{Mark, Mode};
-use ldtokens::words::is_free_word;
-use ldtree::input::{Input, InputStatement, SectionWord, Sort};
-use ldtree::sequence::Sequence;
+use ldscript_terms::pattern::Pattern;
+use ldscript_terms::reader::Parsed;
+use ldscript_tokens::cursor::Cursor;
+use ldscript_tokens::token::{Mark, Mode};
+use ldscript_tokens::words::is_free_word;
+use ldscript_statements::input::{Input, InputStatement, SectionWord, Sort};
+use ldscript_statements::sequence::Sequence;
 use std::alloc::Global;
 
 /// A word that spells a pattern.

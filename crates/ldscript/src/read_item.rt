@@ -2,7 +2,7 @@
 
 ghost use Rattle.std.specs.Prelude.{◌≡◌, ◌<◌, ℕ, List, IsTrue, length};
 ghost use Rattle.ldscript.specs.Steps.{◌▸◌, mark, statements, token};
-ghost use Rattle.ldtokens.specs.Tokens.{Discard};
+ghost use Rattle.ldscript_tokens.specs.Tokens.{Discard};
 ghost use Rattle.ldscript.specs.Grammar.{discard as discard_part, item_command as item_command_part, item_statement};
 ghost use Rattle.ldscript.specs.Readings.{EndsSection, Follows, Reads, ReadsOnly, discard_head as discard_head_part};
 
@@ -10,13 +10,13 @@ use crate::read_common::{common, dot_command};
 use crate::read_input::inputs;
 use crate::read_section::section;
 use crate::steps::after;
-use ldterms::reader::Parsed;
-use ldtokens::cursor::Cursor;
-use ldtokens::token::{Mark, Mode, TokenKind};
-use ldtree::held::Held;
-use ldtree::input::InputStatement;
-use ldtree::sequence::Sequence;
-use ldtree::statement::{Item, ItemCommand};
+use ldscript_terms::reader::Parsed;
+use ldscript_tokens::cursor::Cursor;
+use ldscript_tokens::token::{Mark, Mode, TokenKind};
+use ldscript_statements::held::Held;
+use ldscript_statements::input::InputStatement;
+use ldscript_statements::sequence::Sequence;
+use ldscript_statements::statement::{Item, ItemCommand};
 use std::alloc::Global;
 
 /// What follows `/DISCARD/`

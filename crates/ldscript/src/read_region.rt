@@ -5,16 +5,16 @@ ghost use Rattle.ldscript.specs.Steps.{◌▸◌, each, expression, mark};
 ghost use Rattle.ldscript.specs.Grammar.{region as region_part, region_head as region_head_part};
 ghost use Rattle.ldscript.specs.Grammar.{region_middle as region_middle_part};
 ghost use Rattle.ldscript.specs.Readings.{Reads, ReadsOnly, Finds, Follows};
-ghost use Rattle.ldterms.specs.Grammar.{Stops, Whole};
+ghost use Rattle.ldscript_terms.specs.Grammar.{Stops, Whole};
 
 use crate::steps::{after, after_key, ended, plain_name};
-use ldterms::reader::{Parsed, expr};
-use ldtokens::cursor::Cursor;
-use ldtokens::name::ScriptName;
-use ldtokens::token::{Mark, Mode};
-use ldtree::formula::Formula;
-use ldtree::sequence::Sequence;
-use ldtree::statement::Region;
+use ldscript_terms::reader::{Parsed, expr};
+use ldscript_tokens::cursor::Cursor;
+use ldscript_tokens::name::ScriptName;
+use ldscript_tokens::token::{Mark, Mode};
+use ldscript_statements::formula::Formula;
+use ldscript_statements::sequence::Sequence;
+use ldscript_statements::statement::Region;
 use std::alloc::Global;
 
 /// NAME `: ORIGIN =`

@@ -5,18 +5,18 @@ ghost use Rattle.ldscript.specs.Steps.{◌▸◌, mark};
 ghost use Rattle.ldscript.specs.Grammar.{entry as entry_part, memory as memory_part, sections as sections_part};
 ghost use Rattle.ldscript.specs.Grammar.{top_command as top_command_part, script};
 ghost use Rattle.ldscript.specs.Readings.{Reads, Finds};
-ghost use Rattle.ldtree.specs.declared.statement.Statement.{Statement};
+ghost use Rattle.ldscript_statements.specs.declared.statement.Statement.{Statement};
 
 use crate::read_common::common;
 use crate::read_item::items;
 use crate::read_region::regions;
 use crate::steps::{after, after_key, name_in_parentheses};
-use ldterms::reader::Parsed;
-use ldtokens::cursor::Cursor;
-use ldtokens::name::ScriptName;
-use ldtokens::token::{Mark, Mode};
-use ldtree::sequence::Sequence;
-use ldtree::statement::{Command, Item, Region, Statement};
+use ldscript_terms::reader::Parsed;
+use ldscript_tokens::cursor::Cursor;
+use ldscript_tokens::name::ScriptName;
+use ldscript_tokens::token::{Mark, Mode};
+use ldscript_statements::sequence::Sequence;
+use ldscript_statements::statement::{Command, Item, Region, Statement};
 use std::alloc::{AllocError, Global};
 
 /// `ENTRY ( NAME )`

@@ -5,17 +5,17 @@ ghost use Rattle.ldscript.specs.Steps.{◌▸◌, key, mark, statements};
 ghost use Rattle.ldscript.specs.Grammar.{address as address_part, at_region, filled as filled_part, in_region};
 ghost use Rattle.ldscript.specs.Grammar.{load_in_head, load_in_tail, section as section_part};
 ghost use Rattle.ldscript.specs.Readings.{EndsSection, Reads, ReadsMaybe, ReadsOnly, ReadsTail, opened_part, head_part};
-ghost use Rattle.ldtree.specs.declared.section.Load.{Load};
+ghost use Rattle.ldscript_statements.specs.declared.section.Load.{Load};
 
 use crate::read_body::body;
 use crate::steps::{after, after_key, ended, in_parentheses, plain_name};
-use ldterms::reader::Parsed;
-use ldtokens::cursor::Cursor;
-use ldtokens::name::ScriptName;
-use ldtokens::token::{Mark, Mode};
-use ldtree::fill::Fill;
-use ldtree::formula::Formula;
-use ldtree::section::{Load, OutputSection};
+use ldscript_terms::reader::Parsed;
+use ldscript_tokens::cursor::Cursor;
+use ldscript_tokens::name::ScriptName;
+use ldscript_tokens::token::{Mark, Mode};
+use ldscript_statements::fill::Fill;
+use ldscript_statements::formula::Formula;
+use ldscript_statements::section::{Load, OutputSection};
 use std::alloc::Global;
 
 /// [e] `:`

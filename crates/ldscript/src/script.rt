@@ -3,23 +3,23 @@
 ghost use Rattle.std.specs.Prelude.{◌≡◌, [], IfErr, IfOk};
 ghost use Rattle.std.specs.Option.{option_copied};
 ghost use Rattle.ldscript.specs.Script.{IsScript, IsTree, IsRefusal, IsSound};
-ghost use Rattle.ldtree.specs.Given.{given_by, region_number, section_number};
-ghost use Rattle.ldtree.specs.Numbering.{common_commands, entry_of, input_statements, output_sections, regions};
-ghost use Rattle.ldtree.specs.Numbered.{shown_commons, shown_inputs, shown_regions, shown_sections};
+ghost use Rattle.ldscript_statements.specs.Given.{given_by, region_number, section_number};
+ghost use Rattle.ldscript_statements.specs.Numbering.{common_commands, entry_of, input_statements, output_sections, regions};
+ghost use Rattle.ldscript_statements.specs.Numbered.{shown_commons, shown_inputs, shown_regions, shown_sections};
 
 use crate::read_script::statements_of;
 use crate::refusal::ScriptRefusal;
-use ldtokens::cursor::Cursor;
-use ldtokens::lexer::tokens;
-use ldtokens::refusal::TokenRefusal;
-use ldtree::dots::has_misplaced_dot;
-use ldtree::given::Given;
-use ldtree::mentions::has_clash;
-use ldtree::numbering;
-use ldtree::numbering::{CommonAt, InputStatementAt, OutputSectionAt};
-use ldtree::sequence::Sequence;
-use ldtree::statement::{Region, Statement};
-use ldtree::tables::Tables;
+use ldscript_tokens::cursor::Cursor;
+use ldscript_tokens::lexer::tokens;
+use ldscript_tokens::refusal::TokenRefusal;
+use ldscript_statements::dots::has_misplaced_dot;
+use ldscript_statements::given::Given;
+use ldscript_statements::mentions::has_clash;
+use ldscript_statements::numbering;
+use ldscript_statements::numbering::{CommonAt, InputStatementAt, OutputSectionAt};
+use ldscript_statements::sequence::Sequence;
+use ldscript_statements::statement::{Region, Statement};
+use ldscript_statements::tables::Tables;
 use std::alloc::{AllocError, Global};
 use std::marker::Model;
 
@@ -33,16 +33,16 @@ pub struct Script {
 
 impl Model for Script {
     ghost use Rattle.std.specs.Prelude.{List};
-    ghost use Rattle.ldtree.specs.declared.statement.Statement.{Statement};
+    ghost use Rattle.ldscript_statements.specs.declared.statement.Statement.{Statement};
     ghost use Rattle.std.specs.Coded.{codes};
-    ghost use Rattle.ldtree.specs.contracts.formula.Formula as formula;
+    ghost use Rattle.ldscript_statements.specs.contracts.formula.Formula as formula;
 
     ghost Value = { List Statement };
 
     ghost coded = { Prim.hlevel (codes, formula.the_row.coded) };
 
     ghost use Rattle.ldscript.specs.Script.{IsSound};
-    ghost use Rattle.ldtree.specs.Tables.{IsTablesOf};
+    ghost use Rattle.ldscript_statements.specs.Tables.{IsTablesOf};
 
     ghost view = { λ s. s.statements };
 

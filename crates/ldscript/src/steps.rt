@@ -2,20 +2,20 @@
 
 ghost use Rattle.std.specs.Prelude.{◌≡◌, ◌<◌, ◌∷◌, ◌==◌, ◌&&◌, ℕ, List, IsTrue, MatchOption, length, slice_index};
 ghost use Rattle.std.specs.List.{list_all};
-ghost use Rattle.ldtokens.specs.Bytes.{is_name_byte};
-ghost use Rattle.ldtokens.specs.Tokens.{Lexeme};
-ghost use Rattle.ldterms.specs.Grammar.{StopsAt, Whole, Sign};
+ghost use Rattle.ldscript_tokens.specs.Bytes.{is_name_byte};
+ghost use Rattle.ldscript_tokens.specs.Tokens.{Lexeme};
+ghost use Rattle.ldscript_terms.specs.Grammar.{StopsAt, Whole, Sign};
 ghost use Rattle.ldscript.specs.Steps.{◌▸◌, key, mark as mark_part, token, word_in, is_name_in, is_name_spelling};
 ghost use Rattle.ldscript.specs.Steps.{name_in, name as name_part, string, expression};
 ghost use Rattle.ldscript.specs.Grammar.{ended as ended_part, in_parentheses as parenthesized};
 ghost use Rattle.ldscript.specs.Readings.{Reads, Finds, Follows};
 
-use ldterms::reader::{Parsed, expr};
-use ldtokens::bytes::{byte_at, is_name_byte, is_name_start};
-use ldtokens::cursor::Cursor;
-use ldtokens::token::{Mark, Mode};
-use ldtokens::words::is_free_name;
-use ldtree::formula::Formula;
+use ldscript_terms::reader::{Parsed, expr};
+use ldscript_tokens::bytes::{byte_at, is_name_byte, is_name_start};
+use ldscript_tokens::cursor::Cursor;
+use ldscript_tokens::token::{Mark, Mode};
+use ldscript_tokens::words::is_free_name;
+use ldscript_statements::formula::Formula;
 use std::alloc::Global;
 
 /// Whether a word has bytes of names alone.

@@ -1,34 +1,18 @@
-pub mod Covering
-pub mod Apart
-pub mod Finding
-pub mod Named
-pub mod MeetingOutputs
-pub mod Hulls
-pub mod FirstMet
-pub mod Ranking
-pub mod Naming
-pub mod Valued
-pub mod Differences
-pub mod Ending
-pub mod Rows
-pub mod Wholes
-pub mod Grows
-pub mod Outputs
-pub mod Following
-pub mod Reporting
-pub mod Good
-pub mod Counting
-pub mod Adding
-pub mod Taking
-pub mod Onward
-pub mod Beginning
-pub mod Runs
-pub mod Still
-pub mod InParts
-pub mod Resuming
-pub mod Noting
-pub mod Joining
-pub mod Keeping
-pub mod Options
-pub mod Alongside
-pub mod AlongsideItems
+pub use Rattle.place_terms.proofs as terms
+pub mod Grouped
+pub mod Steps
+pub mod FileOffsets
+pub mod Tail
+mod Layouts
+pub mod Lists
+mod Named
+mod Ascending
+pub mod Members
+mod Owned
+pub mod Walking
+mod Numbers
+mod AllNumbered
+mod Collecting
+mod Column
+mod Cutting
+mod Placing

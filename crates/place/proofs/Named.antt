@@ -1,153 +1,138 @@
--- The faults by numbers are those of the definition by names.
-use Rattle.std.proofs.Common.{◌≡◌, ◌∙◌, sym, refl, ap, subst, ℕ, ◌+◌, List, [], ◌∷◌, ◌++◌, length, map, append_assoc}
-use Rattle.std.proofs.Common.{Bool, Option, Some, None, find, position, slice_get, unwrap_or, suc, zero, cond, nat_lt}
-use Rattle.std.proofs.Common.{get_or, not, inl, inr}
-use Rattle.std.specs.List.{position_or_len}
-use Rattle.std.specs.Option.{option_map, option_map_or}
-use Rattle.std.proofs.lemmas.Bool.{cases_lt, le-ltb, lt-ltb}
-use Rattle.std.proofs.lemmas.List.{length-map, map-append}
-use Rattle.std.proofs.lemmas.List.Folds.{find_at}
-use Rattle.std.proofs.lemmas.Simd.{map-map}
-use Rattle.std.proofs.lemmas.Option.{slice_get-get_or, slice_get-map, slice_get_past}
-use Rattle.ldtree.specs.Numbering.{OutputSectionAt, output_sections}
-use Rattle.ldmodel.specs.Fault.{Fault}
-use Rattle.ldmodel.specs.Fault as fault
-use Rattle.ldmodel.specs.FaultCode.{fault_of, name_of_output}
+-- No two output sections of a script without a clash have one name.
+use Rattle.std.proofs.Common.{◌≡◌, ◌∙◌, sym, refl, ap, subst, ℕ, List, [], ◌∷◌, ◌++◌, map, append_assoc}
+use Rattle.std.proofs.Common.{append-nil, Bool, true, false, bytes_eq, arith, suc}
+use Rattle.std.specs.List.{Contains}
+use Rattle.std.proofs.lemmas.List.{map-append, get_or_append_left, length-append}
+use Rattle.std.proofs.lemmas.Slice.Eq.{bytes_eq-Decides}
+use Rattle.ldmodel_laws.specs.ImageBytes.{AreNamed}
+use Rattle.ldmodel_laws.specs.Spread.{EachLater}
+use Rattle.ldmodel.specs.FileLayout.{Each}
 use Rattle.ldmodel.specs.Layout.{PlacedSection}
-use Rattle.ldmodel.specs.Lent.{placed_of}
-use Rattle.ldmodel.specs.Overlaps.{addresses_meet, load_addresses_meet, meetings, met, overlaps}
+use Rattle.place_sections.specs.Meetings.{AreOutputs}
+use Rattle.ldscript.specs.Script.{IsSound}
+use Rattle.ldscript.specs.statements.Mentions.{Clashes, Mention, SectionNamed, in_item_command, in_items}
+use Rattle.ldscript.specs.statements.Mentions.{in_top_command, mentions}
+use Rattle.ldscript.specs.statements.Numbering.{OutputSectionAt, items, items_of, output_sections, sections_in, sections_of}
+use Rattle.ldscript.specs.statements.declared.statement.Command.{Command}
+use Rattle.ldscript.specs.statements.declared.statement.Command.TheVariants as top
+use Rattle.ldscript.specs.statements.declared.statement.Item.{Item}
+use Rattle.ldscript.specs.statements.declared.statement.ItemCommand.{ItemCommand}
+use Rattle.ldscript.specs.statements.declared.statement.ItemCommand.TheVariants as item
+use Rattle.ldscript.specs.statements.declared.statement.Statement.{Statement}
 use Rattle.ldmodel.specs.Project.{Project}
-use Rattle.ldmodel.specs.declared.fault.Fault as code
-use Rattle.ldmodel.specs.declared.laid.Placed.{Placed}
-use Rattle.place.specs.Extents.{meet}
-use Rattle.place.specs.Found.{extent_in, extents_in, fault_in, fault_with, first_met, met_after, met_before}
-use Rattle.place.specs.Meetings.{AreOutputs, AreOverlaps}
-use Rattle.place.specs.declared.extent.Extent.{Extent}
-use Rattle.place.specs.declared.overlaps.Space.{Space}
-use Rattle.place.specs.declared.overlaps.Space.TheVariants.{Memory, Load}
+use Rattle.place.proofs.Lists.{later_of_map}
 
-abbrev extent_of : Space → PlacedSection → Extent
-extent_of space q = extent_in space (placed_of q)
+-- names of output sections, in the order in which a script mentions them among others
+data Among : List (List ℕ) → List Mention → Type 0 where
+  no_more : {ms : List Mention} → Among [] ms
+  passed : {ns : List (List ℕ)} {m : Mention} {ms : List Mention} → Among ns ms → Among ns (m ∷ ms)
+  mentioned : {ns : List (List ℕ)} {n : List ℕ} {ms : List Mention} → Among ns ms → Among (n ∷ ns) (SectionNamed n ∷ ms)
 
-abbrev meets_in : Space → PlacedSection → PlacedSection → Bool
-meets_in Memory = addresses_meet
-meets_in Load = load_addresses_meet
+past : {ns : List (List ℕ)} (ms : List Mention) {ls : List Mention} → Among ns ls → Among ns (ms ++ ls)
+past [] h = h
+past (m ∷ ms) h = passed (past ms h)
 
-abbrev fault_named : Space → List ℕ → List ℕ → Fault
-fault_named Memory = fault.AddressesMeet
-fault_named Load = fault.LoadAddressesMeet
+both : {ns ks : List (List ℕ)} {ms ls : List Mention} → Among ns ms → Among ks ls → Among (ns ++ ks) (ms ++ ls)
+both {ms = ms} no_more k = past ms k
+both (passed h) k = passed (both h k)
+both (mentioned h) k = mentioned (both h k)
 
--- the test on ranges is that on sections
-meets_are : (space : Space) (q : PlacedSection) → (λ x. meet (extent_of space q) (extent_of space x)) ≡ meets_in space q
-meets_are Memory q = refl
-meets_are Load q = refl
+abbrev names_of : List OutputSectionAt → List (List ℕ)
+names_of os = map (λ (o : OutputSectionAt). o.section.name) os
 
-fault_is : (p : Project) (number : ℕ → ℕ) (space : Space) (k i : ℕ)
-    → fault_of p number (fault_in space (record { 0 = k }) (record { 0 = i }))
-    ≡ fault_named space (name_of_output p k) (name_of_output p i)
-unfolding fault_of
-fault_is p number Memory k i = refl
-fault_is p number Load k i = refl
+in_command : (line : ℕ) (c : ItemCommand) → Among (names_of (sections_of line c)) (in_item_command c)
+in_command line (item.Section o) = mentioned no_more
+in_command line (item.Dot c) = no_more
+in_command line (item.Common c) = no_more
+in_command line (item.Discard is) = no_more
 
--- the first place at which a test passes, through a map
-place_is : {A B : Type 0} (f : A → B) (p : B → Bool) (xs : List A)
-    → position_or_len p (map f xs) ≡ position_or_len (λ x. p (f x)) xs
-place_is f p [] = refl
-place_is f p (x ∷ xs) = ap (λ n. cond (not (p (f x))) (1 + n) 0) (place_is f p xs)
+in_all : (is : List Item) → Among (names_of (sections_in is)) (in_items is)
+in_all [] = no_more
+in_all (i ∷ is) =
+    subst (λ ns. Among ns (in_item_command i.command ++ in_items is))
+    (sym (map-append (λ (o : OutputSectionAt). o.section.name) (sections_of i.line i.command) (sections_in is)))
+    (both (in_command i.line i.command) (in_all is))
 
-position_is : {A B : Type 0} (f : A → B) (p : B → Bool) (xs : List A)
-    → position p (map f xs) ≡ position (λ x. p (f x)) xs
-position_is f p xs =
-    ap (λ n. cond (nat_lt n (length (map f xs))) (Some n) None) (place_is f p xs)
-    ∙ ap (λ n. cond (nat_lt (position_or_len (λ x. p (f x)) xs) n) (Some (position_or_len (λ x. p (f x)) xs)) None)
-    (length-map xs f)
+in_top : (c : Command) → Among (names_of (sections_in (items_of c))) (in_top_command c)
+in_top (top.Entry n) = no_more
+in_top (top.Memory rs) = no_more
+in_top (top.Common c) = no_more
+in_top (top.Sections is) = passed (in_all is)
 
-mapped_or : {A B : Type 0} (f : A → B) (o : Option A) (d : B) → option_map_or f o d ≡ unwrap_or (option_map f o) d
-mapped_or f None d = refl
-mapped_or f (Some x) d = refl
+sections_append : (xs ys : List Item) → sections_in (xs ++ ys) ≡ sections_in xs ++ sections_in ys
+sections_append [] ys = refl
+sections_append (x ∷ xs) ys =
+    ap (λ l. sections_of x.line x.command ++ l) (sections_append xs ys)
+    ∙ sym (append_assoc (sections_of x.line x.command) (sections_in xs) (sections_in ys))
 
-abbrev NamesStand : Project → List PlacedSection → Type 0
-NamesStand p s = (k : ℕ) (q : PlacedSection) → slice_get s k ≡ Some q → name_of_output p k ≡ q.name
+in_script : (ss : List Statement) → Among (names_of (output_sections ss)) (mentions ss)
+in_script [] = no_more
+in_script (s ∷ ss) =
+    subst (λ ns. Among ns (in_top_command s.command ++ mentions ss))
+    (sym (ap names_of (sections_append (items_of s.command) (items ss))
+    ∙ map-append (λ (o : OutputSectionAt). o.section.name) (sections_in (items_of s.command)) (sections_in (items ss))))
+    (both (in_top s.command) (in_script ss))
 
-names_stand : (p : Project) (s : List PlacedSection) → AreOutputs p s → NamesStand p s
-names_stand p s outputs k q at =
-    mapped_or (λ (o : OutputSectionAt). o.section.name) (slice_get (output_sections p.script) k) []
-    ∙ ap (λ o. unwrap_or o [])
-    (sym (slice_get-map (λ (o : OutputSectionAt). o.section.name) (output_sections p.script) k)
-    ∙ ap (λ l. slice_get l k) (sym outputs)
-    ∙ slice_get-map (λ (x : PlacedSection). x.name) s k
-    ∙ ap (λ o. option_map (λ (x : PlacedSection). x.name) o) at)
+-- nothing of some mentions clashes with what stands before it
+abbrev NoClash : List Mention → List Mention → Type 0
+NoClash before ms =
+    (more : List Mention) (m : Mention) (after : List Mention) → ms ≡ more ++ m ∷ after → Clashes (before ++ more) m → ⊥
 
-get_left : {A : Type 0} (xs ys : List A) (i : ℕ) (x : A) → slice_get xs i ≡ Some x → slice_get (xs ++ ys) i ≡ Some x
-get_left [] ys i x at = absurd (cc at)
-get_left (z ∷ zs) ys zero x at = at
-get_left (z ∷ zs) ys (suc i) x at = get_left zs ys i x at
+shift : (before : List Mention) (m : Mention) (ms : List Mention) → NoClash before (m ∷ ms)
+    → NoClash (before ++ m ∷ []) ms
+shift before m ms h more x after e clash =
+    h (m ∷ more) x after (ap (λ l. m ∷ l) e) (subst (λ l. Clashes l x) (append_assoc before (m ∷ []) more) clash)
 
-get_middle : {A : Type 0} (xs ys : List A) (x : A) → slice_get (xs ++ x ∷ ys) (length xs) ≡ Some x
-get_middle [] ys x = refl
-get_middle (z ∷ zs) ys x = get_middle zs ys x
+stays_in : {X : Type 0} (xs ys : List X) (x : X) → Contains xs x → Contains (xs ++ ys) x
+stays_in xs ys x c = (
+  c.0,
+  omega (arith, c.1, length-append xs ys),
+  get_or_append_left xs ys x c.0 c.1 ∙ c.2,
+)
 
--- the fault of one section
-met_is : (p : Project) (number : ℕ → ℕ) (space : Space) (earlier rest : List PlacedSection) (q : PlacedSection)
-    → NamesStand p (earlier ++ q ∷ rest)
-    → map (fault_of p number) (fault_with space (length earlier) (position (meets_in space q) earlier))
-    ≡ met (fault_named space) q (find (meets_in space q) earlier)
-met_is p number space earlier rest q names = elim (cases_lt i (length earlier)) [
-  | inl within ↦
-      let x : PlacedSection = get_or earlier i q in
-      let at : slice_get earlier i ≡ Some x = slice_get-get_or earlier i q within in
-      ap (λ o. map (fault_of p number) (fault_with space (length earlier) o))
-      (ap (λ b. cond b (Some i) None) (lt-ltb i (length earlier) within))
-      ∙ ap (λ f. f ∷ []) (fault_is p number space (length earlier) i)
-      ∙ ap (λ n. fault_named space n (name_of_output p i) ∷ []) (names (length earlier) q (get_middle earlier rest q))
-      ∙ ap (λ n. fault_named space q.name n ∷ []) (names i x (get_left earlier (q ∷ rest) i x at))
-      ∙ ap (met (fault_named space) q) (sym (find_at (meets_in space q) earlier ∙ at))
-  | inr past ↦
-      ap (λ o. map (fault_of p number) (fault_with space (length earlier) o))
-      (ap (λ b. cond b (Some i) None) (le-ltb i (length earlier) past))
-      ∙ ap (met (fault_named space) q) (sym (find_at (meets_in space q) earlier ∙ slice_get_past earlier i past))
-] where
-  i : ℕ
-  i = position_or_len (meets_in space q) earlier
+last_in : {X : Type 0} (xs : List X) (x : X) → Contains (xs ++ x ∷ []) x
+last_in [] x = (0, omega arith, refl)
+last_in (y ∷ ys) x = let c = last_in ys x in (suc c.0, omega (arith, c.1), c.2)
 
-pub all_met : (p : Project) (number : ℕ → ℕ) (space : Space) (earlier rest : List PlacedSection)
-    → NamesStand p (earlier ++ rest)
-    → map (fault_of p number) (met_after space (map (extent_of space) earlier) (map (extent_of space) rest))
-    ≡ meetings (meets_in space) (fault_named space) earlier rest
-unfolding met_after
-all_met p number space earlier [] names = refl
-all_met p number space earlier (q ∷ qs) names =
-    let before : List Extent = map (extent_of space) earlier in
-    let later : List code.Fault = met_after space (before ++ extent_of space q ∷ []) (map (extent_of space) qs) in
-    map-append (fault_of p number) (fault_with space (length before) (first_met before (extent_of space q))) later
-    ∙ ap (λ l. l ++ map (fault_of p number) later)
-    (ap (λ n. map (fault_of p number) (fault_with space n (first_met before (extent_of space q))))
-    (length-map earlier (extent_of space))
-    ∙ ap (λ o. map (fault_of p number) (fault_with space (length earlier) o))
-    (position_is (extent_of space) (meet (extent_of space q)) earlier
-    ∙ ap (λ t. position t earlier) (meets_are space q))
-    ∙ met_is p number space earlier qs q names)
-    ∙ ap (λ l. met (fault_named space) q (find (meets_in space q) earlier) ++ l)
-    (ap (λ l. map (fault_of p number) (met_after space l (map (extent_of space) qs)))
-    (sym (map-append (extent_of space) earlier (q ∷ [])))
-    ∙ all_met p number space (earlier ++ q ∷ []) qs
-    (subst (NamesStand p) (sym (append_assoc earlier (q ∷ []) qs)) names))
+differ : (before : List Mention) (n : List ℕ) → Contains before (SectionNamed n) → {ns : List (List ℕ)}
+    {ms : List Mention} → Among ns ms → NoClash before ms → Each (λ k. bytes_eq n k ≡ false) ns
+differ before n c no_more h = tt
+differ before n c (passed {m = m} {ms = ms} r) h =
+    differ (before ++ m ∷ []) n (stays_in before (m ∷ []) (SectionNamed n) c) r (shift before m ms h)
+differ before n c (mentioned {n = k} {ms = ms} r) h = (
+  go (bytes_eq n k) refl,
+  differ (before ++ SectionNamed k ∷ []) n (stays_in before (SectionNamed k ∷ []) (SectionNamed n) c) r
+      (shift before (SectionNamed k) ms h),
+)
+  where
+    go : (b : Bool) → bytes_eq n k ≡ b → b ≡ false
+    go false e = refl
+    go true e =
+        let same : n ≡ k = (bytes_eq-Decides n k).0 e in
+        absurd (h [] (SectionNamed k) ms refl
+        (subst (λ l. Contains l (SectionNamed k)) (sym (append-nil before))
+        (subst (λ z. Contains before (SectionNamed z)) same c)))
 
--- what is found in both spaces
-pub both_met : (placed : List Placed) (faults : List code.Fault)
-    → faults ≡ met_before Memory (extents_in Memory placed) ++ met_before Load (extents_in Load placed)
-    → AreOverlaps placed faults
-unfolding overlaps
-both_met placed faults found p number s same outputs =
-    let names : NamesStand p s = names_stand p s outputs in
-    let stands : (space : Space) → map (fault_of p number) (met_before space (extents_in space placed))
-    ≡ meetings (meets_in space) (fault_named space) [] s =
-    λ space.
-    ap (λ l. map (fault_of p number) (met_before space l))
-    (ap (extents_in space) (sym same) ∙ map-map (extent_in space) placed_of s)
-    ∙ all_met p number space [] s names in
-    ap (map (fault_of p number)) found
-    ∙ map-append (fault_of p number) (met_before Memory (extents_in Memory placed))
-    (met_before Load (extents_in Load placed))
-    ∙ ap (λ l. l ++ map (fault_of p number) (met_before Load (extents_in Load placed))) (stands Memory)
-    ∙ ap (λ l. meetings addresses_meet fault.AddressesMeet [] s ++ l) (stands Load)
+all_differ : (before : List Mention) {ns : List (List ℕ)} {ms : List Mention} → Among ns ms → NoClash before ms
+    → EachLater (λ n k. bytes_eq n k ≡ false) ns
+all_differ before no_more h = tt
+all_differ before (passed {m = m} {ms = ms} r) h = all_differ (before ++ m ∷ []) r (shift before m ms h)
+all_differ before (mentioned {n = n} {ms = ms} r) h =
+    let later : NoClash (before ++ SectionNamed n ∷ []) ms = shift before (SectionNamed n) ms h in (
+      differ (before ++ SectionNamed n ∷ []) n (last_in before (SectionNamed n)) r later,
+      all_differ (before ++ SectionNamed n ∷ []) r later,
+    )
+
+-- the output sections of a script have different names
+pub are_named : (p : Project) (qs : List PlacedSection) → IsSound p.script → AreOutputs p qs → AreNamed qs
+are_named p qs sound same =
+    let none : NoClash [] (mentions p.script) =
+    λ more m after e clash. sound.no_clash (record {
+      before = more;
+      mention = m;
+      after = after;
+      place = e;
+      clash = clash;
+    }) in
+    later_of_map (λ n k. bytes_eq n k ≡ false) (λ (q : PlacedSection). q.name) qs
+    (subst (EachLater (λ n k. bytes_eq n k ≡ false)) (sym same) (all_differ [] (in_script p.script) none))

@@ -1,21 +1,12 @@
-pub mod Firsts
-pub mod Hulls
-pub mod Extents
-pub mod Found
-pub mod Meetings
--- What the layout of a script is, as the code holds it.
-pub mod State
-pub mod Inputs
-pub mod Parts
-pub mod Next
-pub mod Boundaries
-pub mod Places
-pub mod Outcomes
-pub mod Taken
-pub mod Heads
-pub mod Ends
-pub mod Counted
-pub mod Kept
-pub mod Leads
-pub mod Earlier
-pub mod Alongside
+pub use Rattle.place_sections.specs as sections
+pub use Rattle.place_terms.specs as terms
+pub mod Grouping
+pub mod Placing
+pub mod Length
+pub mod Laying
+pub mod Offsets
+pub mod Entries
+pub mod InPlace
+pub mod Columns
+pub mod Starts
+pub mod Cut

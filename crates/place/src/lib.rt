@@ -1,34 +1,23 @@
-//! Layout: where the output sections of a script, their input sections and its symbols stand. Takes the script, the
-//! rows, the PROVIDEs in force and perhaps an earlier placement; gives a `Placement`, or its first fault, or all that
-//! meet.
+//! Layout, a phase of a link: where everything stands in memory and in the file. Takes a project, its rows and names,
+//! the numbers of its input sections, and perhaps an earlier layout; gives the layout or its faults, and where an input
+//! section stands, by its key.
 //!
-//! - `place`, `placement`; `script` over `parts`: the statements before SECTIONS, in it and after it;
-//! - `items`, `assign`, `memory`, `section`, `head` (address, load address), `body` (`.`), `end` (size, regions);
-//! - `boundary`, `kept`, `taken`: what an earlier placement gives; `ready`, `state`, `stop`, `fault`, `whole`;
-//! - `overlaps` over `firsts`, `hull`, `extent`: output sections that meet, in memory or where they are loaded; `law`.
+//! - `laying`: the phase, over `place`;
+//! - `segments` over `group`: what is loaded as one, and its offset in the file; `offsets`: where output sections begin
+//!   in the file; `length`: how long the image is;
+//! - `starts` over `collected` and `entry`: where each input section stands; `numbered`: the sections of an object have
+//!   different numbers; `rows`: rows as one list.
 #![tactic(auto)]
 
-mod assign;
-mod body;
-mod boundary;
-mod end;
-mod extent;
-pub mod fault;
-mod firsts;
-mod head;
-mod hull;
-mod items;
-mod kept;
-pub mod law;
-mod memory;
-pub mod overlaps;
-mod parts;
-pub mod place;
-pub mod placement;
-mod ready;
-mod script;
-mod section;
-mod state;
-mod stop;
-mod taken;
-mod whole;
+mod collected;
+mod entry;
+mod group;
+pub mod laying;
+pub mod length;
+pub mod numbered;
+mod offsets;
+pub mod rows;
+pub mod segments;
+pub mod starts;
+pub use place_sections as sections;
+pub use place_terms as terms;

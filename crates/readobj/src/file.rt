@@ -6,7 +6,7 @@ use elfobj::object::Object;
 use elfobj::refusal::ObjectRefusal;
 use elfobj::section::LinkedIndex;
 use filearg::file::{NamedFile, print_too_long};
-use ldbase::meter::Meter;
+use elfobj::meter::Meter;
 use std::alloc::Global;
 use std::io;
 use std::io::{ErrorKind, Write};

@@ -1,7 +1,7 @@
 //! The lines of an object.
 
 use crate::names;
-use elffile::constants::{SHF_ALLOC, SHF_EXECINSTR, SHF_MERGE, SHF_STRINGS, SHF_WRITE};
+use elfobj::file::constants::{SHF_ALLOC, SHF_EXECINSTR, SHF_MERGE, SHF_STRINGS, SHF_WRITE};
 use elfobj::object::Object;
 use elfobj::relocation::{Relocation, SymbolIndex};
 use elfobj::section::{LinkedIndex, Section};

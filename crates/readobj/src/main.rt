@@ -56,7 +56,7 @@ use elfobj::object::Object;
 use elfobj::refusal::ObjectRefusal;
 use filearg::fault::FileFault;
 use filearg::file::{NamedFile, named_file};
-use ldbase::meter::Meter;
+use elfobj::meter::Meter;
 use std::alloc::Global;
 use std::io;
 use std::io::{BufWriter, Read, Write};

@@ -2,7 +2,7 @@
 
 use elfobj::object::Object;
 use elfobj::refusal::ObjectRefusal;
-use ldbase::meter::Meter;
+use elfobj::meter::Meter;
 use std::alloc::{AllocError, Global};
 use std::io;
 use std::io::Write;

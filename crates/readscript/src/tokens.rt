@@ -1,9 +1,9 @@
 //! Tokens of a text.
 
 use crate::text::{is_shown, push_bytes, push_text};
-use ldtokens::cursor::Cursor;
-use ldtokens::lexer::tokens;
-use ldtokens::token::TokenKind;
+use ldscript::tokens::cursor::Cursor;
+use ldscript::tokens::lexer::tokens;
+use ldscript::tokens::token::TokenKind;
 use std::alloc::{AllocError, Global};
 use std::fmt::Write;
 

@@ -18,9 +18,9 @@
 #![tactic(auto)]
 
 use ldmodel::options::{Options, Orphans};
-use ldwords::call::Call;
-use ldwords::fault::WordsFault;
-use ldwords::words;
+use ldi_words::call::Call;
+use ldi_words::fault::WordsFault;
+use ldi_words::words;
 use std::alloc::Global;
 use std::io;
 

@@ -1,7 +1,12 @@
-pub mod Beside
-pub mod Placing
-pub mod Reading
-pub mod Stopping
-pub mod Working
-mod Courses
-mod Words
+mod Lists
+mod Exchanged
+mod Changing
+mod Following
+mod Finding
+mod Since
+mod Putting
+mod Succession
+mod Lending
+mod FirstChanged
+mod Working
+mod Bounding

@@ -1,12 +1,9 @@
-pub mod Applied
-pub mod Counted
-pub mod Ended
-pub mod Lent
-pub mod Phases
-pub mod Reads
-pub mod Worked
-pub mod Stops
-pub mod Unbounded
-pub mod Adding
+pub use Rattle.ldmodel_project.specs as project
+pub use Rattle.relink_kept.specs as kept
+pub use Rattle.relink_link.specs as link
+pub mod Matches
+pub mod Change
+pub mod Kept
+pub mod Work
+pub mod Last
 pub mod Answer
-pub mod Message

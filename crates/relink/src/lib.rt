@@ -1,20 +1,20 @@
-//! Links, from scratch or over an earlier one. Takes a project; gives image, map, fault lines and status, or out of
-//! memory.
+//! A linker that keeps, from one link to the next, what names stand for, which statements take input sections, and the
+//! last link without faults, whose layout the next one resumes, and over whose image it is drawn.
 //!
-//! - `again` over `passes`, `lent`, `stop`: the engine: a link over names and matches that are given, and an earlier link;
-//! - `link`, `output`: a link from scratch; `plain`: `Plain`, the linker that links from scratch after every edit;
-//! - `files_link` over `file`, `fault`, `ending`: a link of files: a script and objects become a project, which is
-//!   linked once; its exit status, and its text on standard error.
+//! - `session`: `Session`; `keeping`: what it keeps, and how that follows an edit; `unchanged`: edits that change
+//!   nothing;
+//! - `change`, `match_table`: what an edit changes under a key; the matches of all objects;
+//! - `last`, `linking`: the last link without faults, and a link over it; `answer`: what the queries get.
 #![tactic(auto)]
 
-pub mod again;
-pub mod ending;
-pub mod fault;
-pub mod file;
-pub mod files_link;
-mod lent;
-mod link;
-pub mod output;
-mod passes;
-pub mod plain;
-mod stop;
+mod answer;
+mod change;
+mod keeping;
+mod last;
+mod linking;
+mod match_table;
+pub mod session;
+mod unchanged;
+pub use ldmodel_project as project;
+pub use relink_kept as kept;
+pub use relink_link as link;

@@ -1,12 +1,11 @@
--- What a table of names holds, and what its parts keep.
-pub mod State
-pub mod Hashing
-pub mod Known
-pub mod Places
-pub mod Numbers
-pub mod Steps
-pub mod Objects
-pub mod Lists
-pub mod Spelled
-pub mod Tally
-pub mod Changes
+pub use Rattle.symres_decisions.specs as decisions
+pub use Rattle.symres_table.specs as table
+pub mod Entered
+pub mod Decided
+pub mod Placed
+pub mod Naming
+pub mod Keyed
+pub mod Provided
+pub mod Sorted
+pub mod Duplicates
+pub mod Undefined

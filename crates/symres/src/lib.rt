@@ -1,22 +1,20 @@
-//! Names: which definition each name stands for, over all entered objects and the script. Takes objects under keys;
-//! gives decisions, each counted.
+//! The names of a link: what each stands for over all objects and the script, and the faults of names. Takes what is
+//! kept under keys; gives cases by place, PROVIDEs in force, names in byte order, and faults.
 //!
-//! - `names`: the table, and what it is asked; `tally`: a decision, in one pass over the entries of a name;
-//! - `known` with `hashing`: names and their numbers; `objects`, `rows`, `places`: entries by object, by name and by
-//!   place;
-//! - `lists` with `hints`, `repeats`, `symbol`: the symbols of an object that is entered, and where their names are
-//!   likely to stand; `law`: what can be entered again.
+//! - `naming` with `changing`: what is kept, and how it follows a change; `entered`: all objects, for a link from
+//!   scratch;
+//! - `placed`, `keyed`, `sorted`, `provided`: cases by place, symbols' keys, names in order, PROVIDEs;
+//! - `faults` over `duplicates`: names defined twice, and the entry symbol.
 #![tactic(auto)]
 
-mod hashing;
-mod hints;
-mod known;
-pub mod law;
-mod lists;
-pub mod names;
-mod objects;
-mod places;
-mod repeats;
-mod rows;
-pub mod symbol;
-mod tally;
+mod changing;
+mod duplicates;
+mod entered;
+mod faults;
+mod keyed;
+pub mod naming;
+mod placed;
+mod provided;
+pub mod sorted;
+pub use symres_decisions as decisions;
+pub use symres_table as table;

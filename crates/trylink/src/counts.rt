@@ -7,7 +7,7 @@ use ldmodel::edit::Edit;
 use ldmodel::linker::Linker;
 use ldmodel::meter::Meter;
 use ldmodel::options::Options;
-use ldsession::session::Session;
+use relink::session::Session;
 use std::alloc::Global;
 use std::hash::RandomState;
 use std::io;

@@ -4,11 +4,11 @@
 use crate::answered::{Answered, MALFORMED};
 use ldmodel::linker::Linker;
 use ldmodel::options::Options;
-use ldsession::session::Session;
-use ldstream::devices::{AnswerWriter, CommandReader};
-use ldstream::fault::RunFault;
-use ldstream::{Status, run};
-use relink::plain::Plain;
+use relink::session::Session;
+use ldi_stream::devices::{AnswerWriter, CommandReader};
+use ldi_stream::fault::RunFault;
+use ldi_stream::{Status, run};
+use relink::link::plain::Plain;
 use std::alloc::{AllocError, Global};
 use std::hash::RandomState;
 

@@ -3,17 +3,17 @@
 
 use crate::why::look::{entry, header, header_count, is_name_at, symbol, symbol_table};
 use crate::why::told::{Told, tell};
-use elffile::constants::{
+use elfobj::file::constants::{
     EHDR_SIZE, ELFCLASS64, ELFDATA2LSB, EM_X86_64, ET_REL, EV_CURRENT, MAX_SECTION_HEADERS,
     MAX_SECTION_SIZE, PROFILE_FLAGS, RELA_SIZE, SHDR_SIZE, SHN_ABS, SHN_COMMON, SHN_UNDEF,
     SHT_NOBITS, SHT_NULL, SHT_REL, SHT_STRTAB, STB_GLOBAL, STB_WEAK, STT_COMMON, STT_FILE,
     STT_SECTION, SYM_SIZE,
 };
-use elffile::elf_header::name_table_number;
-use elffile::numbers::{read_u16, read_u32};
-use elffile::relocation_entry::RelocationEntry;
-use elffile::section_header::SectionHeader;
-use elffile::symbol_entry::SymbolEntry;
+use elfobj::file::elf_header::name_table_number;
+use elfobj::file::numbers::{read_u16, read_u32};
+use elfobj::file::relocation_entry::RelocationEntry;
+use elfobj::file::section_header::SectionHeader;
+use elfobj::file::symbol_entry::SymbolEntry;
 use elfobj::field::{is_outside, put_in_order};
 use elfobj::refusal::ObjectRefusal;
 use elfobj::relocation::Relocation;

@@ -2,12 +2,12 @@
 
 ghost use Rattle.std.specs.Prelude.{◌≡◌, IfSome, length};
 
-use elffile::constants::{EHDR_SIZE, MAX_NAME_LENGTH, RELA_SIZE, SHDR_SIZE, STT_SECTION, SYM_SIZE};
-use elffile::elf_header::{name_table_number, section_count, section_table_offset};
-use elffile::names::is_graphic;
-use elffile::relocation_entry::{RelocationEntry, read_relocation_entry};
-use elffile::section_header::{NULL_HEADER, SectionHeader, read_header};
-use elffile::symbol_entry::{SymbolEntry, read_symbol_entry};
+use elfobj::file::constants::{EHDR_SIZE, MAX_NAME_LENGTH, RELA_SIZE, SHDR_SIZE, STT_SECTION, SYM_SIZE};
+use elfobj::file::elf_header::{name_table_number, section_count, section_table_offset};
+use elfobj::file::names::is_graphic;
+use elfobj::file::relocation_entry::{RelocationEntry, read_relocation_entry};
+use elfobj::file::section_header::{NULL_HEADER, SectionHeader, read_header};
+use elfobj::file::symbol_entry::{SymbolEntry, read_symbol_entry};
 use std::str::from_utf8;
 
 /// The greatest length of a name that is shown, in bytes.

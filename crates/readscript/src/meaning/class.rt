@@ -1,8 +1,8 @@
 //! Which values GNU ld 2.40 takes for addresses, and which for numbers. In an output section it counts numbers from the
 //! section's start, so that what is assigned there is an address to it.
 
-use ldterms::expression::{Expr, SectionQuery};
-use ldterms::operator::BinaryOperator;
+use ldscript::terms::expression::{Expr, SectionQuery};
+use ldscript::terms::operator::BinaryOperator;
 use std::collections::BTreeMap;
 
 /// What GNU ld takes a value for.

@@ -2,7 +2,7 @@
 
 use crate::meaning::sections::Reading;
 use crate::meaning::warning::Caution;
-use ldterms::expression::Expr;
+use ldscript::terms::expression::Expr;
 use std::alloc::AllocError;
 use std::str::from_utf8;
 

@@ -7,7 +7,7 @@ use ldscript::tree::{
     Assignment, BodyCommand, Command, Common, DotCommand, Formula, Item, ItemCommand, Load,
     OutputSection, Region, Statement,
 };
-use ldterms::expression::Expr;
+use ldscript::terms::expression::Expr;
 use std::alloc::{AllocError, Global};
 use std::collections::BTreeMap;
 

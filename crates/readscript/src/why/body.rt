@@ -2,7 +2,7 @@
 
 use crate::why::reason::Stop;
 use crate::why::walk::Walk;
-use ldtokens::token::{Mark, Mode};
+use ldscript::tokens::token::{Mark, Mode};
 
 /// The words before data.
 const WIDTHS: [&[u8]; 4] = [b"BYTE", b"SHORT", b"LONG", b"QUAD"];

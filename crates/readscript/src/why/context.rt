@@ -1,8 +1,8 @@
 //! Where in a script a piece stands, as far as the pieces before it say.
 
 use crate::why::pieces::{Piece, PieceKind};
-use ldtokens::token::{Mark, TokenKind};
-use ldtokens::words::is_reserved;
+use ldscript::tokens::token::{Mark, TokenKind};
+use ldscript::tokens::words::is_reserved;
 
 /// What a block outside of all others is.
 #[derive(Clone, Copy, Debug, PartialEq, Eq)]

@@ -1,7 +1,7 @@
 //! What is counted of the tokens of a text, and the limits of it.
 
-use ldtokens::number::number_value;
-use ldtokens::token::{ExpressionStretch, LexState, Mark, Mode, TokenKind};
+use ldscript::tokens::number::number_value;
+use ldscript::tokens::token::{ExpressionStretch, LexState, Mark, Mode, TokenKind};
 
 /// The greatest length of a name or word, in bytes.
 const MAX_WORD: usize = 255;

@@ -7,9 +7,9 @@ use crate::why::pieces::without_strange;
 use crate::why::reason::{Explanation, Stop};
 use crate::why::scan::scan;
 use crate::why::walk::{Stopped, Walk};
-use ldtokens::cursor::Cursor;
-use ldtokens::lexer::{MAX_TEXT, tokens};
-use ldtokens::refusal::TokenRefusal;
+use ldscript::tokens::cursor::Cursor;
+use ldscript::tokens::lexer::{MAX_TEXT, tokens};
+use ldscript::tokens::refusal::TokenRefusal;
 use std::alloc::{AllocError, Global};
 
 /// What is found in a text that is refused.

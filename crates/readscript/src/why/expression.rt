@@ -3,10 +3,10 @@
 
 use crate::why::reason::Stop;
 use crate::why::walk::Walk;
-use ldterms::operator::{binary_operator, unary_operator};
-use ldtokens::cursor::Cursor;
-use ldtokens::token::{Mark, Mode, TokenKind};
-use ldtokens::words::is_reserved;
+use ldscript::terms::operator::{binary_operator, unary_operator};
+use ldscript::tokens::cursor::Cursor;
+use ldscript::tokens::token::{Mark, Mode, TokenKind};
+use ldscript::tokens::words::is_reserved;
 use std::alloc::Global;
 
 /// The words that ask something of a memory region or an output section.

@@ -1,11 +1,11 @@
 //! What stands at the front of a text, by the lexer's rules, or why no token does. The lexer itself says only that none
 //! does, and nothing of the limits.
 
-use ldtokens::bytes::{
+use ldscript::tokens::bytes::{
     is_decimal_digit, is_hex_digit, is_name_byte, is_name_start, is_octal_digit, is_space,
     is_text_byte, is_word_byte,
 };
-use ldtokens::token::{Mark, Mode, TokenKind};
+use ldscript::tokens::token::{Mark, Mode, TokenKind};
 
 /// The marks outside of patterns, the longer ones first.
 const MARKS: [(&[u8], Mark); 29] = [

@@ -4,8 +4,8 @@
 use crate::why::counts::Counts;
 use crate::why::front::{Ahead, front};
 use crate::why::reason::Explanation;
-use ldtokens::refusal::TokenRefusal;
-use ldtokens::token::{ExpressionStretch, LexState, TokenKind};
+use ldscript::tokens::refusal::TokenRefusal;
+use ldscript::tokens::token::{ExpressionStretch, LexState, TokenKind};
 
 /// More braces and parentheses than a text can open. Nothing is ever cut to it: it shows that their numbers can grow.
 const MOST_OPEN: usize = 1 << 30;

@@ -4,8 +4,8 @@
 use crate::why::counts::Counts;
 use crate::why::front::{Ahead, front};
 use crate::why::lines::{after, line_after};
-use ldtokens::bytes::is_name_byte;
-use ldtokens::token::{ExpressionStretch, LexState, Mode, TokenKind};
+use ldscript::tokens::bytes::is_name_byte;
+use ldscript::tokens::token::{ExpressionStretch, LexState, Mode, TokenKind};
 use std::alloc::{AllocError, Global};
 
 /// The words whose parentheses GNU ld reads as an expression, beside those of the profile.

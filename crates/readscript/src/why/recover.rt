@@ -2,8 +2,8 @@
 
 use crate::why::reason::Stop;
 use crate::why::walk::{Stopped, Walk};
-use ldtokens::cursor::Cursor;
-use ldtokens::token::{Mark, TokenKind};
+use ldscript::tokens::cursor::Cursor;
+use ldscript::tokens::token::{Mark, TokenKind};
 
 /// How many tokens the head of an output section has at most, where its `{` is looked for.
 const MOST_OF_HEAD: usize = 256;

@@ -8,8 +8,8 @@ use crate::why::foreign::{
 };
 use crate::why::pieces::{Piece, PieceKind, Pieces};
 use crate::why::reason::Explanation;
-use ldtokens::token::{Mark, TokenKind};
-use ldtokens::words::is_free_name;
+use ldscript::tokens::token::{Mark, TokenKind};
+use ldscript::tokens::words::is_free_name;
 use std::alloc::{AllocError, Global};
 use std::str::from_utf8;
 

@@ -2,7 +2,7 @@
 
 use crate::why::reason::Stop;
 use crate::why::walk::{Use, Walk};
-use ldtokens::token::{Mark, Mode, TokenKind};
+use ldscript::tokens::token::{Mark, Mode, TokenKind};
 
 /// Whether a number is spelled as a fill: `0x` and an even number of 2 to 16 hexadecimal digits.
 fn is_fill(spelled: &[u8]) -> bool {

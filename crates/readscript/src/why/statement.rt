@@ -3,7 +3,7 @@
 use crate::why::reason::Stop;
 use crate::why::walk::{Use, Walk};
 use ldscript::tree::Expr;
-use ldtokens::token::{Mark, Mode};
+use ldscript::tokens::token::{Mark, Mode};
 
 /// What is noted under `ENTRY`, `MEMORY` and `SECTIONS`, which a script has once at most.
 const COMMANDS: [&[u8]; 3] = [b"ENTRY", b"MEMORY", b"SECTIONS"];

@@ -1,6 +1,6 @@
 use Rattle.std.proofs.Common.{◌≡◌, ◌-◌, ℕ, ◌≤◌, ◌<◌, ◌+◌, ◌*◌, false, length}
 use Rattle.elfobj.specs.EntryTests.{HavePassed}
-use Rattle.elffile.specs.RelocationEntries.{relocation_entry_at}
+use Rattle.elfobj_file.specs.RelocationEntries.{relocation_entry_at}
 use Rattle.elfobj.specs.Runs.{is_refused_for}
 use Rattle.elfobj.proofs.entry_test.is_table_refused.Given as goal
 

@@ -2,8 +2,8 @@ use Rattle.std.proofs.Common.{◌≡◌, ℕ, ◌≤◌, ◌<◌, false, get_or,
 use Rattle.std.specs.List.{list_any}
 use Rattle.elfobj.specs.FieldMarks.{IsWindow}
 use Rattle.elfobj.specs.Places.{relocations_in}
-use Rattle.elffile.specs.Relocations.{share_bytes}
-use Rattle.elffile.specs.declared.span.Span.{Span}
+use Rattle.elfobj_file.specs.Relocations.{share_bytes}
+use Rattle.elfobj_file.specs.declared.span.Span.{Span}
 use Rattle.elfobj.proofs.field_marks.is_any_met.Given as goal
 
 abbrev pub invariant-loop-span : goal.invariant-loop-span

@@ -1,5 +1,5 @@
 use Rattle.elfobj.specs.Places.{AreRead}
-use Rattle.elffile.specs.Sections.{sections_below}
+use Rattle.elfobj_file.specs.Sections.{sections_below}
 use Rattle.elfobj.proofs.linked.linked_sections.Given as goal
 
 abbrev pub invariant-loop-number : goal.invariant-loop-number

@@ -1,7 +1,7 @@
 use Rattle.std.proofs.Common.{◌≡◌, false, arith, map}
 use Rattle.std.specs.List.{list_any}
 use Rattle.std.proofs.lemmas.List.Elements.{All-more}
-use Rattle.elffile.specs.Relocations.{relocation_of, share_bytes}
+use Rattle.elfobj_file.specs.Relocations.{relocation_of, share_bytes}
 use Rattle.elfobj.specs.Runs.{is_refused_for, table_entries}
 use Rattle.elfobj.specs.declared.relocation_fault.EntryFault.TheVariants.{Any}
 use Rattle.elfobj.specs.declared.relocation_run.SectionTable.{SectionTable}

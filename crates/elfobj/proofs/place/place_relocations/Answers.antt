@@ -1,6 +1,6 @@
 use Rattle.std.proofs.Common.{◌≡◌, ◌<◌, ap, arith, length, refl, sym, ◌∙◌}
 use Rattle.std.proofs.lemmas.List.{length-map}
-use Rattle.elffile.specs.declared.span.Span.{Span}
+use Rattle.elfobj_file.specs.declared.span.Span.{Span}
 use Rattle.elfobj.specs.declared.place.Place.{Place}
 use Rattle.elfobj.proofs.Placed.{part_kept, part_more}
 use Rattle.elfobj.proofs.place.place_relocations.Goals as goal

@@ -1,6 +1,6 @@
 use Rattle.std.proofs.Common.{map, subst}
 use Rattle.elfobj.specs.Places.{AreRelocated}
-use Rattle.elffile.specs.Relocations.{relocation_of}
+use Rattle.elfobj_file.specs.Relocations.{relocation_of}
 use Rattle.elfobj.specs.Runs.{table_entries}
 use Rattle.elfobj.specs.declared.relocation_run.SectionTable.{SectionTable}
 use Rattle.elfobj.proofs.Runs.{relocated_by}

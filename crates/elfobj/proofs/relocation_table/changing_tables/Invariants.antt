@@ -1,6 +1,6 @@
 use Rattle.std.proofs.Common.{◌≡◌, false}
 use Rattle.elfobj.specs.Reading.{AreTablesBelow}
-use Rattle.elffile.specs.Tables.{is_wrong_below}
+use Rattle.elfobj_file.specs.Tables.{is_wrong_below}
 use Rattle.elfobj.proofs.relocation_table.changing_tables.Given as goal
 
 abbrev pub invariant-loop-number : goal.invariant-loop-number

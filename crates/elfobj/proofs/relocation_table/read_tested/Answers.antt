@@ -1,6 +1,6 @@
 use Rattle.std.proofs.Common.{◌∙◌, refl, sym, inr}
 use Rattle.elfobj.proofs.FieldsBelow.{fields_below}
-use Rattle.elffile.specs.Tables.{linked_sections}
+use Rattle.elfobj_file.specs.Tables.{linked_sections}
 use Rattle.elfobj.proofs.RelocationReads.{none_refused, overlap_holds, overlap_refused, relocated_all, sections_same}
 use Rattle.elfobj.proofs.relocation_table.read_tested.Goals as goal
 

@@ -1,6 +1,6 @@
 use Rattle.std.proofs.Common.{arith, get_or}
-use Rattle.elffile.specs.declared.section.Section.{Section}
-use Rattle.elffile.specs.declared.section.SectionKind.TheVariants.{Progbits}
+use Rattle.elfobj_file.specs.declared.section.Section.{Section}
+use Rattle.elfobj_file.specs.declared.section.SectionKind.TheVariants.{Progbits}
 use Rattle.elfobj.proofs.RelocationReads.{number_below, table_told, tables_of_more}
 use Rattle.elfobj.proofs.relocation_table.section_tables.Goals as goal
 

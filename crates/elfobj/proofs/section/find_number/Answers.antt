@@ -1,6 +1,6 @@
 use Rattle.std.proofs.Common.{rules}
 use Rattle.std.proofs.lemmas.List.Sorted.{answers_always}
-use Rattle.elffile.specs.declared.section.Section.{Section}
+use Rattle.elfobj_file.specs.declared.section.Section.{Section}
 use Rattle.elfobj.proofs.Ascending.{found_at, found_none}
 use Rattle.elfobj.proofs.section.find_number.Goals as goal
 

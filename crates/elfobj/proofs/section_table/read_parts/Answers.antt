@@ -1,7 +1,7 @@
 use Rattle.std.proofs.Common.{◌≡◌, ◌⊎◌, ◌++◌, ◌∙◌, sym, inr, find, Some, None, true}
 use Rattle.std.proofs.lemmas.Result.{IfErr-weaker, IfOk-weaker}
-use Rattle.elffile.specs.Refusal.{header_refusals, holds, object_refusal, relocation_refusals, symbol_refusals}
-use Rattle.elffile.specs.declared.refusal.ObjectRefusal.TheVariants.{NoMemory}
+use Rattle.elfobj_file.specs.Refusal.{header_refusals, holds, object_refusal, relocation_refusals, symbol_refusals}
+use Rattle.elfobj_file.specs.declared.refusal.ObjectRefusal.TheVariants.{NoMemory}
 use Rattle.elfobj.proofs.Refusals.{no_memory_found, bounds_refused, passes_told, profile_refused, profile_told}
 use Rattle.elfobj.proofs.Refusals.{refused_by_header, refused_by_sections, refused_by_tables, tables_told}
 use Rattle.elfobj.proofs.section_table.read_parts.Goals as goal

@@ -1,8 +1,8 @@
 use Rattle.std.proofs.Common.{◌≡◌, ℕ, ◌+◌, ◌*◌, ◌<◌, ◌≤◌, false, nat_lt}
-use Rattle.elffile.specs.SectionHeaders.{file_bytes}
-use Rattle.elffile.specs.SymbolEntries.{symbol_entries_below, symbol_entry_at}
-use Rattle.elffile.specs.Symbols.{symbols_from}
-use Rattle.elffile.specs.Tables.{is_local, is_wrong_symbol}
+use Rattle.elfobj_file.specs.SectionHeaders.{file_bytes}
+use Rattle.elfobj_file.specs.SymbolEntries.{symbol_entries_below, symbol_entry_at}
+use Rattle.elfobj_file.specs.Symbols.{symbols_from}
+use Rattle.elfobj_file.specs.Tables.{is_local, is_wrong_symbol}
 use Rattle.elfobj.specs.Places.{AreNamed}
 use Rattle.elfobj.proofs.symbols.read_passing.Given as goal
 

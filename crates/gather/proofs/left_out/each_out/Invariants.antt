@@ -1,6 +1,6 @@
 -- Of the sections so far.
 use Rattle.std.proofs.Common.{◌≡◌, map, take}
-use Rattle.ldtree.specs.Numbered.{shown_inputs}
+use Rattle.ldscript.specs.statements.Numbered.{shown_inputs}
 use Rattle.gather.specs.LeftOut.{is_out_of}
 use Rattle.gather.specs.Matches.{number_of}
 use Rattle.gather.specs.declared.gathered.Gathered.{Gathered}

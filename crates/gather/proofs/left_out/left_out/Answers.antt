@@ -1,7 +1,7 @@
 use Rattle.std.proofs.Common.{◌≡◌, List, map, ap, sym, ◌∙◌, Bool, Vec, Global}
 use Rattle.std.proofs.lemmas.Result.{IfOk-weaker}
-use Rattle.ldtree.specs.Numbering.{InputStatementAt, input_statements}
-use Rattle.ldtree.specs.Numbered.{shown_inputs}
+use Rattle.ldscript.specs.statements.Numbering.{InputStatementAt, input_statements}
+use Rattle.ldscript.specs.statements.Numbered.{shown_inputs}
 use Rattle.ldmodel.specs.Project.{Project}
 use Rattle.ldmodel.specs.declared.options.Orphans.{Orphans}
 use Rattle.gather.specs.Gathered.{Keys}

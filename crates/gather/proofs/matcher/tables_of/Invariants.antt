@@ -1,6 +1,6 @@
 -- What is added, with what is still to be added, is all.
 use Rattle.std.proofs.Common.{◌≡◌, ◌++◌, ℕ, List, drop, filter}
-use Rattle.ldtree.specs.Numbered.{shown_inputs}
+use Rattle.ldscript.specs.statements.Numbered.{shown_inputs}
 use Rattle.gather.specs.FileTables.{own_listed, own_wild}
 use Rattle.gather.specs.Words.{is_for, is_for_more, is_named, is_wild, shown_words, words_from}
 use Rattle.gather.specs.WordTables.{shown_listed}

@@ -1,7 +1,7 @@
 use Rattle.std.proofs.Common.{◌≡◌, ◌∙◌, List, arith, sym, subst, Some}
 use Rattle.std.specs.Prelude.{slice_get}
-use Rattle.ldproject.specs.Inputs.{shown_input}
-use Rattle.ldtree.specs.declared.statement.Statement.{Statement}
+use Rattle.ldmodel_project.specs.Inputs.{shown_input}
+use Rattle.ldscript.specs.statements.declared.statement.Statement.{Statement}
 use Rattle.gather.specs.ProjectMatches.{IsMatched}
 use Rattle.gather.proofs.Preparing.{more_matched, object_here}
 use Rattle.gather.proofs.matches.match_all.Goals as goal

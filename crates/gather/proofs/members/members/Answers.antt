@@ -1,6 +1,6 @@
 use Rattle.std.proofs.Common.{◌≡◌, ◌∙◌, ◌≤◌, arith, sym, Some}
 use Rattle.std.specs.Prelude.{slice_get, length}
-use Rattle.ldproject.specs.Inputs.{shown_input}
+use Rattle.ldmodel_project.specs.Inputs.{shown_input}
 use Rattle.gather.proofs.Preparing.{all_ascending, all_members, as_many, as_many_blocks, as_many_matched}
 use Rattle.gather.proofs.Preparing.{blocks_given, matched_at, more_members, object_here}
 use Rattle.gather.proofs.members.members.Goals as goal

@@ -1,6 +1,6 @@
 -- What was found, with what is still to be found, is all.
 use Rattle.std.proofs.Common.{◌≡◌, ◌++◌, drop}
-use Rattle.ldtree.specs.Numbered.{shown_inputs}
+use Rattle.ldscript.specs.statements.Numbered.{shown_inputs}
 use Rattle.gather.specs.Roots.{kept_numbers}
 use Rattle.gather.proofs.roots.kept.Given as goal
 

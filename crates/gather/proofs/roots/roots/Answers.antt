@@ -1,7 +1,7 @@
 use Rattle.std.proofs.Common.{◌≡◌, ap, sym, ◌∙◌}
 use Rattle.std.specs.Prelude.{IsTrue}
-use Rattle.ldtree.specs.Numbering.{input_statements}
-use Rattle.ldtree.specs.Numbered.{shown_inputs}
+use Rattle.ldscript.specs.statements.Numbering.{input_statements}
+use Rattle.ldscript.specs.statements.Numbered.{shown_inputs}
 use Rattle.ldmodel.specs.Gathering.{taken_by}
 use Rattle.ldmodel.specs.Live.{is_kept}
 use Rattle.gather.specs.Roots.{kept_numbers}

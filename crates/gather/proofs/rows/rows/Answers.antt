@@ -2,8 +2,8 @@ use Rattle.std.proofs.Common.{◌≡◌, ◌≢◌, ◌<◌, ◌+◌, ◌∷◌,
 use Rattle.std.specs.List.{enumerate_from}
 use Rattle.std.proofs.Math.ListN.{length-set}
 use Rattle.std.proofs.lemmas.List.{drop_more, drop_all}
-use Rattle.ldtree.specs.Numbering.{InputStatementAt, input_statements}
-use Rattle.ldtree.specs.Numbered.{shown_inputs}
+use Rattle.ldscript.specs.statements.Numbering.{InputStatementAt, input_statements}
+use Rattle.ldscript.specs.statements.Numbered.{shown_inputs}
 use Rattle.std.specs.Prelude.{flat_map}
 use Rattle.gather.specs.RowPieces.{pieces_at, shown_row}
 use Rattle.gather.proofs.RowSteps.{rows_step, rows_end, rows_are}

@@ -2,8 +2,8 @@
 use Rattle.std.proofs.Common.{◌≡◌, ◌<◌, ◌≤◌, ◌++◌, ℕ, length, drop, get_or, Vec, Global}
 use Rattle.std.specs.Prelude.{flat_map}
 use Rattle.std.specs.List.{All, enumerate_from}
-use Rattle.ldtree.specs.Numbered.{shown_inputs}
-use Rattle.ldtree.specs.Numbering.{output_sections}
+use Rattle.ldscript.specs.statements.Numbered.{shown_inputs}
+use Rattle.ldscript.specs.statements.Numbering.{output_sections}
 use Rattle.ldmodel.specs.declared.rows.Piece as code
 use Rattle.gather.specs.RowPieces.{IsNamed, Naming, of_statement, pieces_at, shown_row}
 use Rattle.gather.specs.declared.sorting.NamedPiece.{NamedPiece}

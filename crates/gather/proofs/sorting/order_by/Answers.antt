@@ -2,7 +2,7 @@ use Rattle.std.proofs.Common.{rules, Some, max}
 use Rattle.std.specs.Cmp.Lexicographic.{nat_list_cmp_total}
 use Rattle.std.proofs.lemmas.List.Sorted.{answers_always}
 use Rattle.std.proofs.lemmas.List.MinMax.{ranks_by, IsStrictWeakOrder-flip, IsStrictWeakOrder-by_number}
-use Rattle.ldtree.specs.declared.input.Sort.TheVariants.{ByName, ByAlignment}
+use Rattle.ldscript.specs.statements.declared.input.Sort.TheVariants.{ByName, ByAlignment}
 use Rattle.gather.specs.declared.sorting.NamedPiece.{NamedPiece}
 use Rattle.gather.proofs.Sorts.{ordered_by}
 use Rattle.gather.proofs.sorting.order_by.Goals as goal

@@ -1,4 +1,4 @@
-use Rattle.ldtokens.specs.declared.token.Mark.TheVariants.{CloseParenthesis}
+use Rattle.ldscript_tokens.specs.declared.token.Mark.TheVariants.{CloseParenthesis}
 use Rattle.std.proofs.Common.{subst, arith, true}
 use Rattle.ldscript.specs.Steps.{mark}
 use Rattle.ldscript.proofs.Inputs.{input_plain, kept_as, kept_open_none, kept_plain_none, plain_same}

@@ -1,4 +1,4 @@
-use Rattle.ldtokens.specs.declared.token.Mark.TheVariants.{CloseParenthesis}
+use Rattle.ldscript_tokens.specs.declared.token.Mark.TheVariants.{CloseParenthesis}
 use Rattle.ldscript.specs.Steps.{mark, pattern}
 use Rattle.ldscript.proofs.Each.{each_so_far_closed, each_so_far_member, each_so_far_stuck}
 use Rattle.ldscript.proofs.Inputs.{pattern_single, patterns_listed}

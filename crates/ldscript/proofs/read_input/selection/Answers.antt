@@ -1,4 +1,4 @@
-use Rattle.ldtokens.specs.declared.token.Mark.TheVariants.{CloseParenthesis}
+use Rattle.ldscript_tokens.specs.declared.token.Mark.TheVariants.{CloseParenthesis}
 use Rattle.std.proofs.Common.{false, subst, arith}
 use Rattle.ldscript.specs.Steps.{mark}
 use Rattle.ldscript.proofs.Inputs.{selected_unsorted, selected_sorted, closed_words_single}

@@ -1,5 +1,5 @@
-use Rattle.ldtokens.specs.declared.token.Mark.TheVariants.{Colon, OpenBrace}
-use Rattle.ldtokens.specs.Tokens.{Discard}
+use Rattle.ldscript_tokens.specs.declared.token.Mark.TheVariants.{Colon, OpenBrace}
+use Rattle.ldscript_tokens.specs.Tokens.{Discard}
 use Rattle.ldscript.specs.Steps.{◌▸◌, mark, token}
 use Rattle.ldscript.proofs.Singles.{token_fixed, mark_fixed, behind}
 use Rattle.ldscript.proofs.Reading.{follows_behind}

@@ -1,4 +1,4 @@
-use Rattle.ldtokens.specs.declared.token.Mark.TheVariants.{CloseBrace}
+use Rattle.ldscript_tokens.specs.declared.token.Mark.TheVariants.{CloseBrace}
 use Rattle.std.proofs.Common.{rules}
 use Rattle.ldscript.specs.Steps.{mark}
 use Rattle.ldscript.specs.Grammar.{item_statement}

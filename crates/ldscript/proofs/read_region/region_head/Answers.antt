@@ -1,6 +1,6 @@
 use Rattle.std.specs.Prelude.{codes}
-use Rattle.ldtokens.specs.declared.token.Mark.TheVariants.{Colon, Assign}
-use Rattle.ldtokens.specs.declared.token.Mode.TheVariants.{Expression}
+use Rattle.ldscript_tokens.specs.declared.token.Mark.TheVariants.{Colon, Assign}
+use Rattle.ldscript_tokens.specs.declared.token.Mode.TheVariants.{Expression}
 use Rattle.ldscript.specs.Steps.{◌▸◌, key, mark, name}
 use Rattle.ldscript.proofs.Singles.{key_fixed, mark_fixed, name_single, behind, behind_tree}
 use Rattle.ldscript.proofs.read_region.region_head.Goals as goal

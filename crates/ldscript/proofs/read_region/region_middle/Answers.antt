@@ -1,6 +1,6 @@
 use Rattle.std.specs.Prelude.{codes}
-use Rattle.ldtokens.specs.declared.token.Mark.TheVariants.{Assign}
-use Rattle.ldtokens.specs.declared.token.Mode.TheVariants.{Expression}
+use Rattle.ldscript_tokens.specs.declared.token.Mark.TheVariants.{Assign}
+use Rattle.ldscript_tokens.specs.declared.token.Mode.TheVariants.{Expression}
 use Rattle.ldscript.specs.Steps.{key, mark}
 use Rattle.ldscript.proofs.Singles.{key_fixed}
 use Rattle.ldscript.proofs.Reading.{follows_behind}

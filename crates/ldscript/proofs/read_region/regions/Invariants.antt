@@ -1,5 +1,5 @@
 use Rattle.std.proofs.Common.{length}
-use Rattle.ldtokens.specs.declared.token.Mark.TheVariants.{CloseBrace}
+use Rattle.ldscript_tokens.specs.declared.token.Mark.TheVariants.{CloseBrace}
 use Rattle.ldscript.specs.Steps.{mark}
 use Rattle.ldscript.specs.Grammar.{region}
 use Rattle.ldscript.proofs.Each.{EachSoFar}

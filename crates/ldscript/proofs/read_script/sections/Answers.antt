@@ -1,6 +1,6 @@
-use Rattle.ldtokens.specs.declared.token.Mark.TheVariants.{OpenBrace, CloseBrace}
+use Rattle.ldscript_tokens.specs.declared.token.Mark.TheVariants.{OpenBrace, CloseBrace}
 use Rattle.std.specs.Prelude.{codes}
-use Rattle.ldtokens.specs.declared.token.Mode.TheVariants.{Expression}
+use Rattle.ldscript_tokens.specs.declared.token.Mode.TheVariants.{Expression}
 use Rattle.ldscript.specs.Steps.{◌▸◌, key, mark, statements}
 use Rattle.ldscript.specs.Grammar.{item_statement}
 use Rattle.ldscript.proofs.Singles.{key_fixed, mark_fixed, behind}

@@ -1,7 +1,7 @@
 use Rattle.std.proofs.Common.{refl}
 use Rattle.std.specs.Prelude.{codes}
-use Rattle.ldtokens.specs.declared.token.Mark.TheVariants.{Greater}
-use Rattle.ldtokens.specs.declared.token.Mode.TheVariants.{Expression}
+use Rattle.ldscript_tokens.specs.declared.token.Mark.TheVariants.{Greater}
+use Rattle.ldscript_tokens.specs.declared.token.Mode.TheVariants.{Expression}
 use Rattle.ldscript.specs.Steps.{◌▸◌, key, mark, name}
 use Rattle.ldscript.proofs.Singles.{key_fixed, mark_fixed}
 use Rattle.ldscript.proofs.Reading.{none_behind}

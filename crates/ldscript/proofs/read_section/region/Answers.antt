@@ -1,5 +1,5 @@
 use Rattle.std.proofs.Common.{refl}
-use Rattle.ldtokens.specs.declared.token.Mark.TheVariants.{Greater}
+use Rattle.ldscript_tokens.specs.declared.token.Mark.TheVariants.{Greater}
 use Rattle.ldscript.specs.Steps.{mark, name}
 use Rattle.ldscript.proofs.Singles.{mark_fixed}
 use Rattle.ldscript.proofs.Reading.{none_behind}

@@ -1,4 +1,4 @@
-use Rattle.ldtokens.specs.declared.token.Mark.TheVariants.{OpenParenthesis, CloseParenthesis}
+use Rattle.ldscript_tokens.specs.declared.token.Mark.TheVariants.{OpenParenthesis, CloseParenthesis}
 use Rattle.ldscript.specs.Steps.{mark}
 use Rattle.ldscript.specs.Grammar.{ended}
 use Rattle.ldscript.proofs.Singles.{mark_fixed}

@@ -1,8 +1,8 @@
 use Rattle.std.proofs.Common.{◌<◌, length, subst}
 use Rattle.std.specs.List.{All}
-use Rattle.elffile.specs.ElfHeader.{e_shnum}
+use Rattle.elfobj_file.specs.ElfHeader.{e_shnum}
 use Rattle.elfobj.specs.Object.{ObjectData}
-use Rattle.elffile.specs.Symbols.{NamedSymbol}
+use Rattle.elfobj_file.specs.Symbols.{NamedSymbol}
 use Rattle.elfobj.specs.Profile.{IsSectionBelow, IsSymbolOfProfile}
 use Rattle.elfobj.proofs.SymbolLimits.{few_symbols, symbol_limits_of, symbol_sections_of}
 use Rattle.elfobj.proofs.object.Object.symbols.Goals as goal

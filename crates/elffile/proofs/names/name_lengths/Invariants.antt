@@ -1,5 +1,0 @@
-use Rattle.elffile.proofs.StringTables.{AreLengthsFrom}
-use Rattle.elffile.proofs.names.name_lengths.Given as goal
-
-abbrev pub invariant-loop-at : goal.invariant-loop-at
-invariant-loop-at l = AreLengthsFrom l.table l.lengths.items l.at l.next l.is_end

@@ -1,0 +1,13 @@
+-- Which sections are linked: those with SHF_ALLOC and one of the types of `SectionKinds` (gABI, "Sections"; psABI,
+-- "Section types").
+use Rattle.std.specs.Prelude.{Option, None, Bool, not, ◌==◌, if◌then◌else◌, bit_and}
+use Rattle.elfobj_file.specs.SectionKinds.{kind_of}
+use Rattle.elfobj_file.specs.declared.section_header.SectionHeader.{SectionHeader}
+use Rattle.elfobj_file.specs.declared.section.SectionKind.{SectionKind}
+use Rattle.elfobj_file.specs.declared.constants.TheConstants.{SHF_ALLOC}
+
+abbrev pub is_alloc : SectionHeader → Bool
+is_alloc h = not (bit_and h.sh_flags SHF_ALLOC == 0)
+
+abbrev pub linked_kind : SectionHeader → Option SectionKind
+linked_kind h = if is_alloc h then kind_of h.sh_type else None

@@ -1,0 +1,32 @@
+//! How many of the bytes of one load, from the first on, may stand in a name.
+
+ghost use Rattle.std.specs.Prelude.{◌≡◌, ◌+◌, ◌≤◌, length};
+ghost use Rattle.elfobj_file.specs.GraphicRuns.{IsGraphicFrom, first_set};
+
+use std::simd::prelude::*;
+
+/// How many bytes are loaded at once.
+pub(crate) const LANES: usize = 16;
+
+/// The place of the lowest bit that is set, or the number of lanes.
+#[inline(always)]
+fn first_set(mask: u64) -> usize
+    ensures { result ≡ first_set mask LANES }
+{
+    if mask == 0 {
+        LANES
+    } else {
+        mask.trailing_zeros() as usize
+    }
+}
+
+/// How many of the bytes from `at` on may stand in a name, one after another, up to as many as are loaded at once.
+#[inline(always)]
+pub(crate) fn graphic_run(bytes: &[u8], at: usize) -> usize
+    requires { at + LANES ≤ length bytes.now }
+    ensures { IsGraphicFrom bytes.now at LANES result }
+{
+    let loaded = u8x16::from_slice(&bytes[at..]);
+    let stops = loaded.simd_lt(u8x16::splat(b'!')) | loaded.simd_ge(u8x16::splat(0x7f));
+    first_set(stops.to_bitmask())
+}

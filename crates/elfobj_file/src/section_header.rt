@@ -1,0 +1,167 @@
+//! Section headers as they stand in the file (gABI, `Elf64_Shdr`: 64 bytes each), and the tests of
+//! one of them.
+
+ghost use Rattle.std.specs.Prelude.{◌≡◌, ◌≤◌, ◌+◌, IfOk, length};
+ghost use Rattle.elfobj_file.specs.SectionHeaders.{header_at, headers};
+ghost use Rattle.elfobj_file.specs.SectionTable.{HasSectionTable};
+
+use crate::constants::{
+    MAX_SECTION_SIZE, PROFILE_FLAGS, SHDR_SIZE, SHF_ALLOC, SHT_NOBITS, SHT_NULL, SHT_REL, SHT_RELA,
+    SHT_SYMTAB,
+};
+use crate::elf_header::{section_count, section_table_offset};
+use crate::names::StringTable;
+use crate::numbers::{read_u32, read_u64};
+use crate::section::SectionKind;
+use std::alloc::{AllocError, Global};
+
+/// The fields of a section header that the reader looks at.
+#[derive(Clone, Copy)]
+pub struct SectionHeader {
+    /// Where its name begins in the name table.
+    pub sh_name: u32,
+    /// What it holds, one of the `SHT_` numbers.
+    pub sh_type: u32,
+    /// `SHF_` flags.
+    pub sh_flags: u64,
+    /// Where its bytes begin in the file.
+    pub sh_offset: u64,
+    /// How many bytes it has.
+    pub sh_size: u64,
+    /// The number of another header: for a symbol table its string table, for relocations their symbol table.
+    pub sh_link: u32,
+    /// For a symbol table the number of the first entry that isn't local; for relocations the number of the section
+    /// that they change.
+    pub sh_info: u32,
+    /// The alignment of the section in memory.
+    pub sh_addralign: u64,
+    /// The size of an entry of a table.
+    pub sh_entsize: u64,
+}
+
+/// Header number 0, which counts as unused whatever it says.
+pub const NULL_HEADER: SectionHeader = SectionHeader {
+    sh_name: 0,
+    sh_type: SHT_NULL,
+    sh_flags: 0,
+    sh_offset: 0,
+    sh_size: 0,
+    sh_link: 0,
+    sh_info: 0,
+    sh_addralign: 0,
+    sh_entsize: 0,
+};
+
+impl SectionHeader {
+    ghost use Rattle.elfobj_file.specs.LinkedKinds.{is_alloc, linked_kind};
+    ghost use Rattle.elfobj_file.specs.Refusal.{is_looked_at, is_out_of_bounds, is_outside_profile_by};
+    ghost use Rattle.elfobj_file.specs.Relocations.{is_relocation_section};
+    ghost use Rattle.elfobj_file.specs.SectionHeaders.{file_bytes};
+    ghost use Rattle.elfobj_file.specs.Symbols.{is_symbol_table};
+    ghost use Rattle.elfobj_file.specs.TableOf.{table_of};
+
+    fn is_looked_at(&self) -> bool
+        ensures { result ≡ is_looked_at self.now }
+    {
+        self.sh_type != SHT_NULL
+    }
+
+    /// Whether its section takes memory when the program runs.
+    pub fn is_alloc(&self) -> bool
+        ensures { result ≡ is_alloc self.now }
+    {
+        self.sh_flags & SHF_ALLOC != 0
+    }
+
+    /// Whether it names bytes past the end of a file of `len` bytes, is too large, or has an alignment
+    /// that is neither 0 nor a power of two.
+    pub fn is_out_of_bounds(&self, len: u64) -> bool
+        ensures { result ≡ is_out_of_bounds len self.now }
+    {
+        let is_past_end = len < self.sh_offset || len - self.sh_offset < self.sh_size;
+        let is_aligned = self.sh_addralign == 0 || self.sh_addralign.is_power_of_two();
+        self.is_looked_at()
+            && (self.sh_type != SHT_NOBITS && is_past_end
+                || self.sh_size > MAX_SECTION_SIZE
+                || !is_aligned)
+    }
+
+    /// Whether it is allocated, and has a type that isn't linked, a flag outside the profile, or no name
+    /// within the limits in the name table.
+    pub fn is_outside_profile(&self, names: &StringTable) -> bool
+        ensures { result ≡ is_outside_profile_by (table_of names.now) self.now }
+    {
+        self.is_looked_at()
+            && self.is_alloc()
+            && (SectionKind::of_type(self.sh_type).is_none()
+                || self.sh_flags | PROFILE_FLAGS != PROFILE_FLAGS
+                || names.name_length(self.sh_name).is_none())
+    }
+
+    /// Whether this is the header of a symbol table.
+    pub fn is_symbol_table(&self) -> bool
+        ensures { result ≡ is_symbol_table self.now }
+    {
+        self.sh_type == SHT_SYMTAB
+    }
+
+    /// Whether this is the header of a relocation section, with addends or without.
+    pub fn is_relocation_section(&self) -> bool
+        ensures { result ≡ is_relocation_section self.now }
+    {
+        self.sh_type == SHT_RELA || self.sh_type == SHT_REL
+    }
+
+    /// What it holds, if its section is linked.
+    pub fn linked_kind(&self) -> Option<SectionKind>
+        ensures { result ≡ linked_kind self.now }
+    {
+        if self.is_alloc() {
+            SectionKind::of_type(self.sh_type)
+        } else {
+            None
+        }
+    }
+
+    /// The bytes that it names.
+    pub fn file_bytes<'a>(&self, bytes: &'a [u8]) -> &'a [u8]
+        requires { self.now.sh_offset + self.now.sh_size ≤ length bytes.now }
+        ensures { result.now ≡ file_bytes bytes.now self.now }
+    {
+        &bytes[self.sh_offset as usize..(self.sh_offset + self.sh_size) as usize]
+    }
+}
+
+/// The header in the 64 bytes from `at` on.
+pub fn read_header(bytes: &[u8], at: usize) -> SectionHeader
+    requires { at + 64 ≤ length bytes.now }
+    ensures { result ≡ header_at bytes.now at }
+{
+    SectionHeader {
+        sh_name: read_u32(bytes, at),
+        sh_type: read_u32(bytes, at + 4),
+        sh_flags: read_u64(bytes, at + 8),
+        sh_offset: read_u64(bytes, at + 24),
+        sh_size: read_u64(bytes, at + 32),
+        sh_link: read_u32(bytes, at + 40),
+        sh_info: read_u32(bytes, at + 44),
+        sh_addralign: read_u64(bytes, at + 48),
+        sh_entsize: read_u64(bytes, at + 56),
+    }
+}
+
+/// The section headers in table order, with header number 0 as an unused one.
+#[tactic(auto, using(crate::proofs::Headers::header_read), unfolding(crate::specs::SectionHeaders::header, crate::specs::SectionHeaders::headers))]
+pub fn read_headers(alloc: Global, bytes: &[u8]) -> Result<Vec<SectionHeader>, AllocError>
+    requires { HasSectionTable bytes.now }
+    ensures { IfOk result (λ v. v.items ≡ headers bytes.now) }
+{
+    let start = section_table_offset(bytes) as usize;
+    let count = usize::from(section_count(bytes));
+    let mut headers = Vec::with_capacity(alloc, count)?;
+    headers.push(NULL_HEADER)?;
+    for k in 1..count {
+        headers.push(read_header(bytes, start + usize::from(SHDR_SIZE) * k))?;
+    }
+    Ok(headers)
+}

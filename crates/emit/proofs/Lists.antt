@@ -1,0 +1,162 @@
+-- Lists: what is known of each member, pair by pair and place by place.
+use Rattle.std.proofs.Common.{◌≡◌, ◌∙◌, sym, refl, ap, subst, ℕ, ◌<◌, zero, suc, List, [], ◌∷◌, ◌++◌, length, map}
+use Rattle.std.proofs.Common.{◌+◌, ◌≤◌, take, Some, arith, get_or, slice_get}
+use Rattle.std.proofs.Common.{◌⊎◌, inl, inr}
+use Rattle.std.specs.Prelude.{Result, Ok, Err, IfOk, OnOk}
+use Rattle.std.specs.List.{All, AllPairs, AllZip, Contains}
+use Rattle.std.specs.Option.{option_map}
+use Rattle.std.proofs.lemmas.List.{take_all}
+use Rattle.std.proofs.lemmas.Option.{same_Some, slice_get-map, slice_get_read}
+use Rattle.std.proofs.lemmas.Slice.Zip.{AllZip-long}
+use Rattle.ldmodel_laws.specs.Spread.{EachLater}
+use Rattle.ldmodel.specs.FileLayout.{Each}
+
+pub zip_more : {A B : Type 0} (R : A → B → Type 0) (xs : List A) (ys : List B) (x : A) (y : B) → AllZip R xs ys → R x y
+    → AllZip R (xs ++ x ∷ []) (ys ++ y ∷ [])
+zip_more R [] [] x y all one = (one, tt)
+zip_more R [] (z ∷ zs) x y all one = absurd all
+zip_more R (w ∷ ws) [] x y all one = absurd all
+zip_more R (w ∷ ws) (z ∷ zs) x y all one = (all.0, zip_more R ws zs x y all.1 one)
+
+-- what follows for each pair, of whose first members all are in the list
+pub zip_each : {A B : Type 0} (R S : A → B → Type 0) (xs : List A) (ys : List B)
+    → ((x : A) (y : B) → Contains xs x → R x y → S x y) → AllZip R xs ys → AllZip S xs ys
+zip_each R S [] [] f all = tt
+zip_each R S [] (y ∷ ys) f all = absurd all
+zip_each R S (x ∷ xs) [] f all = absurd all
+zip_each R S (x ∷ xs) (y ∷ ys) f all = (
+  f x y (0, omega arith, refl) all.0,
+  zip_each R S xs ys (λ z w c r. f z w (suc c.0, omega (arith, c.1), c.2) r) all.1,
+)
+
+-- what follows of the second member of each pair
+pub zip_right : {A B : Type 0} (R : A → B → Type 0) (P : B → Type 0) (xs : List A) (ys : List B)
+    → ((x : A) (y : B) → R x y → P y) → AllZip R xs ys → All P ys
+zip_right R P xs [] f all k d l = absurd (omega (arith, l))
+zip_right R P [] (y ∷ ys) f all k d l = absurd all
+zip_right R P (x ∷ xs) (y ∷ ys) f all zero d l = f x y all.0
+zip_right R P (x ∷ xs) (y ∷ ys) f all (suc k) d l = zip_right R P xs ys f all.1 k d (omega (arith, l))
+
+-- lists of one length whose members go together, place by place
+pub zip_at : {A B : Type 0} (R : A → B → Type 0) (xs : List A) (ys : List B) → length xs ≡ length ys
+    → ((k : ℕ) (x : A) (y : B) → slice_get xs k ≡ Some x → slice_get ys k ≡ Some y → R x y) → AllZip R xs ys
+zip_at R [] [] long h = tt
+zip_at R [] (y ∷ ys) long h = absurd (omega (arith, long))
+zip_at R (x ∷ xs) [] long h = absurd (omega (arith, long))
+zip_at R (x ∷ xs) (y ∷ ys) long h =
+    (h 0 x y refl refl, zip_at R xs ys (omega (arith, long)) (λ k v w e f. h (suc k) v w e f))
+
+pub at_zip : {A B : Type 0} (R : A → B → Type 0) (xs : List A) (ys : List B) (k : ℕ) (x : A) (y : B) → AllZip R xs ys
+    → slice_get xs k ≡ Some x → slice_get ys k ≡ Some y → R x y
+at_zip R [] ys k x y h e f = absurd (let none : ⊥ = cc in none)
+at_zip R (v ∷ vs) [] k x y h e f = absurd h
+at_zip R (v ∷ vs) (w ∷ ws) zero x y h e f =
+    subst (λ z. R z y) (same_Some _ _ e) (subst (λ z. R v z) (same_Some _ _ f) h.0)
+at_zip R (v ∷ vs) (w ∷ ws) (suc k) x y h e f = at_zip R vs ws k x y h.1 e f
+
+-- the member of a list that goes together with one of another
+pub record Next {A B : Type 0} (R : A → B → Type 0) (xs : List A) (k : ℕ) (y : B) : Type 0 where
+  pub member : A
+  pub at : slice_get xs k ≡ Some member
+  pub taken : take (k + 1) xs ≡ take k xs ++ member ∷ []
+  pub is : R member y
+
+pub next_zip : {A B : Type 0} (R : A → B → Type 0) (xs : List A) (ys : List B) (k : ℕ) (y : B) → AllZip R xs ys
+    → k < length ys → get_or ys k y ≡ y → Next R xs k y
+next_zip R [] [] k y h l e = absurd (omega (arith, l))
+next_zip R [] (w ∷ ws) k y h l e = absurd h
+next_zip R (v ∷ vs) [] k y h l e = absurd h
+next_zip R (v ∷ vs) (w ∷ ws) zero y h l e =
+    record { member = v; at = refl; taken = refl; is = subst (λ z. R v z) e h.0 }
+next_zip R (v ∷ vs) (w ∷ ws) (suc k) y h l e =
+    let rest = next_zip R vs ws k y h.1 (omega (arith, l)) e in
+    let more : suc k + 1 ≡ suc (k + 1) = omega arith in
+    record {
+      member = rest.member;
+      at = rest.at;
+      taken = ap (λ n. take n (v ∷ vs)) more ∙ ap (λ l. v ∷ l) rest.taken;
+      is = rest.is;
+    }
+
+-- one pair more
+pub zip_next : {A B C : Type 0} (R : A → B → Type 0) (S : A → C → Type 0) (xs : List A) (ys : List B) (zs ws : List C)
+    (k : ℕ) (y : B) (z : C) → AllZip R xs ys → k < length ys → get_or ys k y ≡ y → ((x : A) → R x y → S x z)
+    → ws ≡ zs ++ z ∷ [] → AllZip S (take k xs) zs → AllZip S (take (k + 1) xs) ws
+zip_next R S xs ys zs ws k y z h l e f pushed so_far =
+    let next = next_zip R xs ys k y h l e in
+    subst (λ vs. AllZip S vs ws) (sym next.taken)
+    (subst (λ vs. AllZip S (take k xs ++ next.member ∷ []) vs) (sym pushed)
+    (zip_more S (take k xs) zs next.member z so_far (f next.member next.is)))
+
+-- all pairs
+pub zip_done : {A B C : Type 0} (R : A → B → Type 0) (S : A → C → Type 0) (xs : List A) (ys : List B) (zs : List C)
+    (k : ℕ) → AllZip R xs ys → length ys ≤ k → AllZip S (take k xs) zs → AllZip S xs zs
+zip_done R S xs ys zs k h past done =
+    subst (λ vs. AllZip S vs zs) (take_all k xs (omega (arith, past, AllZip-long R xs ys h))) done
+
+pub if_ok : {X E : Type 0} (r : Result X E) {P Q : X → Type 0} → ((x : X) → P x → Q x) → IfOk r P → IfOk r Q
+if_ok (Ok x) f h = f x h
+if_ok (Err e) f h = h
+
+pub on_ok : {X E : Type 0} (P Q : Type 0) (r : Result X E) → (P → Q) → OnOk r P → OnOk r Q
+on_ok P Q (Ok x) f h = f h
+on_ok P Q (Err e) f h = h
+
+pub if_ok_both : {X E : Type 0} (r : Result X E) {P Q R : X → Type 0} → ((x : X) → P x → Q x → R x) → IfOk r P
+    → IfOk r Q → IfOk r R
+if_ok_both (Ok x) f h k = f x h k
+if_ok_both (Err e) f h k = h
+
+-- the member of a mapped list
+pub mapped_at : {X Y : Type 0} (f : X → Y) (xs : List X) (k : ℕ) (x : X) → k < length xs → x ≡ get_or xs k x
+    → slice_get (map f xs) k ≡ Some (f x)
+mapped_at f xs k x l e =
+    slice_get-map f xs k ∙ ap (option_map f) (slice_get_read xs (length xs) k x refl l e)
+
+pub each_by_get : {X : Type 0} (P : X → Type 0) (xs : List X) → ((k : ℕ) (d : X) → k < length xs → P (get_or xs k d))
+    → Each P xs
+each_by_get P [] h = tt
+each_by_get P (x ∷ xs) h = (h 0 x (omega arith), each_by_get P xs (λ k d l. h (suc k) d (omega (arith, l))))
+
+pub pairs_later : {X : Type 0} (R : X → X → Type 0) (xs : List X) → AllPairs R xs → EachLater R xs
+pairs_later R [] h = tt
+pairs_later R (x ∷ xs) h = (
+  each_by_get (R x) xs (λ k d l. h 0 (suc k) d (omega arith) (omega (arith, l))),
+  pairs_later R xs (λ i j d l m. h (suc i) (suc j) d (omega (arith, l)) (omega (arith, m))),
+)
+
+pub own_member : {X : Type 0} (xs : List X) (k : ℕ) (d : X) → get_or xs k (get_or xs k d) ≡ get_or xs k d
+own_member [] k d = refl
+own_member (x ∷ xs) zero d = refl
+own_member (x ∷ xs) (suc k) d = own_member xs k d
+
+pub take_next : {X : Type 0} (xs : List X) (k : ℕ) (x : X) → slice_get xs k ≡ Some x → take (k + 1) xs
+    ≡ take k xs ++ x ∷ []
+take_next [] k x e = absurd (let none : ⊥ = cc in none)
+take_next (y ∷ ys) zero x e = ap (λ z. z ∷ []) (same_Some _ _ e)
+take_next (y ∷ ys) (suc k) x e =
+    let more : suc k + 1 ≡ suc (k + 1) = omega arith in
+    ap (λ n. take n (y ∷ ys)) more ∙ ap (λ l. y ∷ l) (take_next ys k x e)
+
+pub each_join : {X : Type 0} (P : X → Type 0) (xs ys : List X) → Each P xs → Each P ys → Each P (xs ++ ys)
+each_join P [] ys h k = k
+each_join P (x ∷ xs) ys h k = (h.0, each_join P xs ys h.1 k)
+
+-- a member of a list with one more
+pub get_push : {X : Type 0} (xs : List X) (y : X) (k : ℕ) (x : X) → slice_get (xs ++ y ∷ []) k ≡ Some x
+    → (slice_get xs k ≡ Some x) ⊎ ((k ≡ length xs) × (x ≡ y))
+get_push [] y zero x e = inr (refl, sym (same_Some _ _ e))
+get_push [] y (suc k) x e = absurd (let none : ⊥ = cc in none)
+get_push (w ∷ ws) y zero x e = inl e
+get_push (w ∷ ws) y (suc k) x e = elim (get_push ws y k x e) [ inl h ↦ inl h | inr h ↦ inr (ap suc h.0, h.1) ]
+
+pub get_left : {X : Type 0} (xs ys : List X) (k : ℕ) (x : X) → slice_get xs k ≡ Some x → slice_get (xs ++ ys) k ≡ Some x
+get_left [] ys k x e = absurd (let none : ⊥ = cc in none)
+get_left (w ∷ ws) ys zero x e = e
+get_left (w ∷ ws) ys (suc k) x e = get_left ws ys k x e
+
+pub get_right : {X : Type 0} (xs ys : List X) (k : ℕ) → slice_get (xs ++ ys) (length xs + k) ≡ slice_get ys k
+get_right [] ys k = let e : 0 + k ≡ k = omega arith in ap (slice_get ys) e
+get_right (w ∷ ws) ys k =
+    let e : suc (length ws) + k ≡ suc (length ws + k) = omega arith in
+    ap (slice_get (w ∷ (ws ++ ys))) e ∙ get_right ws ys k

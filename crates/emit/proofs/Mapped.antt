@@ -1,0 +1,212 @@
+-- The map that is made of the values of a link.
+use Rattle.std.proofs.Common.{◌≡◌, ◌∙◌, ℕ, ◌<◌, zero, suc, Bool, true, false, cond, List, [], ◌∷◌, ◌++◌, length, map}
+use Rattle.std.proofs.Common.{inl, inr, filter, get_or, ap, sym, subst, refl, arith, append-nil, Vec, Global}
+use Rattle.std.specs.Prelude.{Contains, Result, Ok, Err, IfOk}
+use Rattle.std.specs.List.{All, AllPairs}
+use Rattle.std.specs.Ordering.{is_lt}
+use Rattle.ldscript.specs.Numbered.{shown_sections}
+use Rattle.ldscript.specs.Numbering.{output_sections}
+use Rattle.ldmodel.specs.Layout.{Layout}
+use Rattle.ldmodel.specs.Lent.{IsLaid}
+use Rattle.ldmodel.specs.MapText.{map_text}
+use Rattle.ldmodel.specs.Names.{declared_names, decision}
+use Rattle.ldmodel.specs.OutputSymbols as model
+use Rattle.ldmodel.specs.OutputSymbols.{in_byte_order, is_before, is_defined, output_symbol, output_symbols}
+use Rattle.ldmodel.specs.Project.{Project}
+use Rattle.ldmodel.specs.Rows.{rows}
+use Rattle.ldmodel.specs.SymbolValues.{SymbolValue, number_or_0}
+use Rattle.ldmodel_laws.specs.Spread.{entries_in}
+use Rattle.place.specs.Laying.{IsLaying}
+use Rattle.place.specs.declared.laying.Laying.{Laying}
+use Rattle.symres.specs.Naming.{NamingState}
+use Rattle.place.specs.sections.Meetings.{AreOutputs}
+use Rattle.ldmodel_project.specs.ByPlace.{rows_in}
+use Rattle.emit_relocate.specs.Values.{value_of}
+use Rattle.emit_relocate.specs.declared.value.SymbolValue as code
+use Rattle.emit_relocate.specs.declared.value.SymbolValue.TheVariants as value
+use Rattle.emit_text.specs.MapOf.{AreSymbolsOf, IsMapOf, IsSymbolOf, IsValue, symbol_names}
+use Rattle.emit_text.specs.declared.maps.MapParts.{MapParts}
+use Rattle.emit_text.specs.declared.symbols.MapSymbol.{MapSymbol}
+use Rattle.emit_values.specs.Values.{AreValues, shown_symbol}
+use Rattle.emit_values.specs.declared.values.OutputSymbol.{OutputSymbol}
+use Rattle.emit_values.specs.declared.values.Values.{Values}
+use Rattle.emit.specs.Listed.{map_symbol, number_of}
+use Rattle.emit_text.proofs.ByteOrder.{Asc, Below, In, Lt, Name, contained_in, distinct_once, filtered_asc, filtered_in}
+use Rattle.emit_text.proofs.ByteOrder.{in_contained, in_sorted, sorted_asc, sorted_in}
+
+abbrev stands : Project → Name → Bool
+stands p z = is_defined (decision p z)
+
+abbrev defined : model.OutputSymbol → Bool
+defined x = is_defined x.decision
+
+abbrev name_of : model.OutputSymbol → Name
+name_of x = x.name
+
+-- the names of the symbols of the output
+names_listed : (p : Project) (s : Layout) (xs : List Name)
+    → map name_of (filter defined (map (output_symbol p s) xs)) ≡ filter (stands p) xs
+names_listed p s [] = refl
+names_listed p s (x ∷ xs) = go (stands p x) (names_listed p s xs)
+  where
+    rest : List model.OutputSymbol
+    rest = filter defined (map (output_symbol p s) xs)
+
+    go : (b : Bool) → map name_of rest ≡ filter (stands p) xs
+        → map name_of (cond b (output_symbol p s x ∷ rest) rest) ≡ cond b (x ∷ filter (stands p) xs)
+        (filter (stands p) xs)
+    go true e = ap (λ (ys : List Name). x ∷ ys) e
+    go false e = e
+
+abbrev Each : {X : Type 0} → (X → Type 0) → List X → Type 0
+Each P [] = Unit {0}
+Each P (x ∷ xs) = P x × Each P xs
+
+-- a symbol of the output is that of its name, which is declared
+record IsListed (p : Project) (s : Layout) (y : model.OutputSymbol) : Type 0 where
+  is : y ≡ output_symbol p s y.name
+  declared : In y.name (declared_names p)
+
+each_listed : (p : Project) (s : Layout) (xs : List Name) → ((z : Name) → In z xs → In z (declared_names p))
+    → Each (IsListed p s) (filter defined (map (output_symbol p s) xs))
+each_listed p s [] h = tt
+each_listed p s (x ∷ xs) h = go (stands p x) (each_listed p s xs (λ z i. h z (inr i)))
+  where
+    rest : List model.OutputSymbol
+    rest = filter defined (map (output_symbol p s) xs)
+
+    go : (b : Bool) → Each (IsListed p s) rest → Each (IsListed p s) (cond b (output_symbol p s x ∷ rest) rest)
+    go true e = (record { is = refl; declared = h x (inl refl) }, e)
+    go false e = e
+
+all_listed : (p : Project) (s : Layout) → Each (IsListed p s) (output_symbols p s)
+unfolding output_symbols
+all_listed p s = each_listed p s (in_byte_order (declared_names p)) (λ z i. in_sorted z (declared_names p) i)
+
+all_names : (p : Project) (s : Layout) → map name_of (output_symbols p s)
+    ≡ filter (stands p) (in_byte_order (declared_names p))
+unfolding output_symbols
+all_names p s = names_listed p s (in_byte_order (declared_names p))
+
+names_once : (p : Project) → Asc (in_byte_order (declared_names p))
+unfolding declared_names
+names_once p = sorted_asc (declared_names p) (distinct_once _)
+
+names_asc : (p : Project) (s : Layout) → Asc (map name_of (output_symbols p s))
+names_asc p s =
+    subst Asc (sym (all_names p s)) (filtered_asc (stands p) (in_byte_order (declared_names p)) (names_once p))
+
+-- ---- those of the code
+
+value_is : (v : code.SymbolValue) → IsValue (value_of v) (number_of v)
+value_is (value.Number x) = refl
+value_is value.NotDefined = refl
+value_is value.NotInOutput = refl
+
+symbol_is : (p : Project) (s : Layout) (x : OutputSymbol) → IsListed p s (shown_symbol x)
+    → IsSymbolOf p (λ key. key) s (map_symbol x)
+symbol_is p s x h = record {
+  case = ap (λ (y : model.OutputSymbol). y.decision) h.is;
+  value = λ d.
+      subst (λ (v : SymbolValue). IsValue v (number_of x.value)) (ap (λ (y : model.OutputSymbol). y.value) h.is)
+      (value_is x.value);
+  declared = λ d. contained_in x.name.now (declared_names p) h.declared;
+}
+
+symbols_are : (p : Project) (s : Layout) (xs : List OutputSymbol) → Each (IsListed p s) (map shown_symbol xs)
+    → Each (IsSymbolOf p (λ key. key) s) (map map_symbol xs)
+symbols_are p s [] h = tt
+symbols_are p s (x ∷ xs) h = (symbol_is p s x h.0, symbols_are p s xs h.1)
+
+all_from_each : {X : Type 0} (P : X → Type 0) (xs : List X) → Each P xs → All P xs
+all_from_each {X = X} P xs e k d h = go xs e k h
+  where
+    go : (ys : List X) → Each P ys → (i : ℕ) → i < length ys → P (get_or ys i d)
+    go [] e i h = absurd (omega (arith, h))
+    go (y ∷ ys) e zero h = e.0
+    go (y ∷ ys) e (suc i) h = go ys e.1 i (omega (arith, h))
+
+before_from : (a b : Name) → Lt a b → is_before a b ≡ true
+before_from a b h = ap is_lt h
+
+below_at : (x : Name) (xs : List MapSymbol) (j : ℕ) (d : MapSymbol) → Below x (symbol_names xs) → j < length xs
+    → is_before x (get_or xs j d).name.now ≡ true
+below_at x [] j d b h = absurd (omega (arith, h))
+below_at x (y ∷ ys) zero d b h = before_from x y.name.now b.0
+below_at x (y ∷ ys) (suc j) d b h = below_at x ys j d b.1 (omega (arith, h))
+
+pairs_from : (xs : List MapSymbol) → Asc (symbol_names xs)
+    → AllPairs (λ (x y : MapSymbol). is_before x.name.now y.name.now ≡ true) xs
+pairs_from xs a i j d l h = go xs a i j l h
+  where
+    go : (ys : List MapSymbol) → Asc (symbol_names ys) → (i j : ℕ) → i < j → j < length ys
+        → is_before (get_or ys i d).name.now (get_or ys j d).name.now ≡ true
+    go [] a i j l h = absurd (omega (arith, h))
+    go (y ∷ ys) a i zero l h = absurd (omega (arith, l))
+    go (y ∷ ys) a zero (suc j) l h = below_at y.name.now ys j d a.0 (omega (arith, h))
+    go (y ∷ ys) a (suc i) (suc j) l h = go ys a.1 i j (omega (arith, l)) (omega (arith, h))
+
+same_names : (xs : List OutputSymbol) → symbol_names (map map_symbol xs) ≡ map name_of (map shown_symbol xs)
+same_names [] = refl
+same_names (x ∷ xs) = ap (λ (ys : List Name). x.name.now ∷ ys) (same_names xs)
+
+code_names : (p : Project) (s : Layout) (xs : List OutputSymbol) → map shown_symbol xs ≡ output_symbols p s
+    → symbol_names (map map_symbol xs) ≡ map name_of (output_symbols p s)
+code_names p s xs same = same_names xs ∙ ap (map name_of) same
+
+are_symbols : (p : Project) (s : Layout) (xs : List OutputSymbol) → map shown_symbol xs ≡ output_symbols p s
+    → AreSymbolsOf p (λ key. key) s (map map_symbol xs)
+are_symbols p s xs same = record {
+  each = all_from_each (IsSymbolOf p (λ key. key) s) (map map_symbol xs)
+      (symbols_are p s xs (subst (Each (IsListed p s)) (sym same) (all_listed p s)));
+  order = pairs_from (map map_symbol xs) (subst Asc (sym (code_names p s xs same)) (names_asc p s));
+}
+
+no_symbols : (p : Project) (s : Layout) → AreSymbolsOf p (λ key. key) s []
+no_symbols p s = record {
+  each = λ k d h. absurd (omega (arith, h));
+  order = λ i j d l h. absurd (omega (arith, h));
+}
+
+all_there : (p : Project) (s : Layout) (xs : List OutputSymbol) (name : Name)
+    → map shown_symbol xs ≡ output_symbols p s → Contains (declared_names p) name → stands p name ≡ true
+    → Contains (symbol_names (map map_symbol xs)) name
+all_there p s xs name same declared is =
+    subst (λ (ys : List Name). Contains ys name) (sym (code_names p s xs same ∙ all_names p s))
+    (contained_in name (filter (stands p) (in_byte_order (declared_names p)))
+    (filtered_in (stands p) name (in_byte_order (declared_names p))
+    (sorted_in name (declared_names p) (in_contained name (declared_names p) declared)) is))
+
+-- what the map is made of
+pub record Makes (p : Project) (l : Laying) (v : Values) (m : MapParts) : Type 0 where
+  pub entry : m.entry ≡ number_or_0 (value_of v.entry)
+  pub sections : shown_sections m.sections.now ≡ output_sections p.script
+  pub outputs : (s : Layout) → IsLaying p s l → AreOutputs p s.sections
+  pub laid : (s : Layout) → IsLaying p s l → IsLaid p.script s m.laid
+  pub lent : rows_in p m.rows.now ≡ rows p
+  pub placed : (s : Layout) → IsLaying p s l → map entries_in s.sections ≡ rows p
+  pub named : m.named.now ≡ map map_symbol v.symbols.items
+  pub given : m.given.now ≡ []
+
+is_map : (p : Project) (s : Layout) (a : NamingState) (l : Laying) (v : Values) (m : MapParts) → Makes p l v m
+    → IsLaying p s l → AreValues p s a v → IsMapOf p (λ key. key) s m
+is_map p s a l v m h laying values = record {
+  entry = h.entry ∙ ap number_or_0 values.entry;
+  sections = h.sections;
+  names = h.outputs s laying;
+  laid = h.laid s laying;
+  rows = h.lent ∙ sym (h.placed s laying);
+  named = subst (AreSymbolsOf p (λ key. key) s) (sym h.named) (are_symbols p s v.symbols.items values.symbols);
+  given = subst (AreSymbolsOf p (λ key. key) s) (sym h.given) (no_symbols p s);
+  complete = λ name declared is.
+      subst (λ (xs : List MapSymbol). Contains (symbol_names xs) name)
+      (sym (ap (λ (xs : List MapSymbol). m.named.now ++ xs) h.given ∙ (append-nil m.named.now ∙ h.named)))
+      (all_there p s v.symbols.items name values.symbols declared is);
+}
+
+pub text_is : {E : Type 0} (p : Project) (l : Laying) (v : Values) (m : MapParts) (r : Result (Vec ℕ Global) E)
+    → Makes p l v m → ((s : Layout) → IsMapOf p (λ key. key) s m → IfOk r (λ text. text.items ≡ map_text p s))
+    → IfOk r (λ text. (s : Layout) (a : NamingState) → IsLaying p s l → AreValues p s a v
+    → text.items ≡ map_text p s)
+text_is p l v m (Ok text) h is = λ s a laying values. is s (is_map p s a l v m h laying values)
+text_is p l v m (Err e) h is = tt

@@ -1,0 +1,214 @@
+-- Numbers of the sections of objects.
+use Rattle.std.proofs.Common.{◌≡◌, ◌∙◌, sym, refl, ap, subst, ℕ, ◌+◌, ◌-◌, ◌<◌, ◌≤◌, zero, suc, List, [], ◌∷◌, ◌++◌}
+use Rattle.std.proofs.Common.{length}
+use Rattle.std.proofs.Common.{map, flat_map, take, drop, Bool, Some, false, ◌==◌, arith, get_or, slice_get}
+use Rattle.std.specs.List.{AllPairs, AllZip}
+use Rattle.std.proofs.lemmas.Bool.{eqb-true, false_from_ne_true}
+use Rattle.std.proofs.Common.{append-nil, inl, inr}
+use Rattle.std.specs.Option.{option_map}
+use Rattle.std.proofs.lemmas.Grind.{flat_map-append}
+use Rattle.std.proofs.lemmas.List.{length-append, length-map, take_all}
+use Rattle.std.proofs.lemmas.Option.{same_Some, slice_get-map}
+use Rattle.elfobj.specs.Object.{ObjectData}
+use Rattle.elfobj.specs.Sections.{LinkedSection, section_of}
+use Rattle.elfobj.specs.declared.section.Section.{Section}
+use Rattle.emit_fields.specs.declared.patch.Patch.{Patch}
+use Rattle.ldmodel_laws.specs.PlacedOnce.{AreNumbered}
+use Rattle.ldmodel_laws.specs.Spread.{EachLater}
+use Rattle.ldmodel.specs.FileLayout.{Each}
+use Rattle.ldmodel.specs.Project.{NamedObject, Project}
+use Rattle.ldmodel.specs.declared.sections.SectionKey.{SectionKey}
+use Rattle.ldmodel_project.specs.Inputs.{shown_input, shown_inputs}
+use Rattle.ldmodel_project.specs.declared.input.InputObject.{InputObject}
+use Rattle.emit_relocate.specs.Filled.{ObjectSection, ends_of, sections_in, sections_of}
+use Rattle.emit_relocate.specs.KnownLink.{KnownLink}
+use Rattle.emit.specs.Numbers.{AreFirsts, HaveNumbers}
+use Rattle.emit.specs.Runs.{AreRunsUnless, IsRunUnless}
+use Rattle.place.proofs.Lists.{later_of_map}
+use Rattle.emit.proofs.Lists.{each_join, get_left, get_push, get_right, mapped_at, pairs_later, take_next}
+
+-- the objects before a place have their first numbers, which differ in each, and `next` comes after them
+pub record FirstsSoFar (inputs : List InputObject) (place next : ℕ) (firsts : List ℕ) : Type 0 where
+  pub firsts_are : AreFirsts (shown_inputs inputs) place firsts
+  pub next_is : next ≡ length (sections_in (take place (shown_inputs inputs)))
+  pub numbered : Each (λ (o : NamedObject). HaveNumbers o.object) (take place (shown_inputs inputs))
+  pub within : place ≤ length inputs
+
+-- sections whose numbers ascend have different ones
+pub numbers_differ : (o : ObjectData) (xs : List Section) → xs ≡ map section_of o.sections
+    → AllPairs (λ s t. s.number.0 < t.number.0) xs → HaveNumbers o
+numbers_differ o xs e h =
+    later_of_map (λ (s t : Section). (s.number.0 == t.number.0) ≡ false) section_of o.sections
+    (subst (EachLater (λ (s t : Section). (s.number.0 == t.number.0) ≡ false)) e
+    (pairs_later (λ (s t : Section). (s.number.0 == t.number.0) ≡ false) xs
+    (λ i j d l m. apart (get_or xs i d).number.0 (get_or xs j d).number.0 (h i j d l m))))
+  where
+    apart : (m n : ℕ) → m < n → (m == n) ≡ false
+    apart m n l = false_from_ne_true (m == n) (λ t. absurd (omega (arith, l, eqb-true m n t)))
+
+pub no_firsts : (inputs : List InputObject) → FirstsSoFar inputs 0 0 []
+no_firsts inputs = record {
+  firsts_are = record { long = refl; at = λ k first e. absurd (let none : ⊥ = cc in none) };
+  next_is = refl;
+  numbered = tt;
+  within = omega arith;
+}
+
+-- one object more
+pub one_first : (inputs : List InputObject) (k next sum : ℕ) (firsts new : List ℕ) (x : InputObject) → k < length inputs
+    → x ≡ get_or inputs k x → HaveNumbers x.object.now → sum ≡ next + length x.object.now.sections
+    → new ≡ firsts ++ next ∷ [] → FirstsSoFar inputs k next firsts → FirstsSoFar inputs (k + 1) sum new
+one_first inputs k next sum firsts new x l e numbers total pushed h =
+    let o : NamedObject = shown_input x in
+    let objects : List NamedObject = shown_inputs inputs in
+    let here : slice_get objects k ≡ Some o = mapped_at shown_input inputs k x l e in
+    let more : take (k + 1) objects ≡ take k objects ++ o ∷ [] = take_next objects k o here in
+    let own : length (sections_of o o.object.sections) ≡ length o.object.sections =
+    length-map o.object.sections (λ y. let z : ObjectSection = record { object = o; section = y } in z) in
+    let parts : sections_in (take k objects ++ o ∷ [])
+    ≡ sections_in (take k objects) ++ sections_in (o ∷ []) =
+    flat_map-append (λ (y : NamedObject). sections_of y y.object.sections) (take k objects) (o ∷ []) in
+    let long : length (sections_in (take k objects) ++ sections_in (o ∷ []))
+    ≡ length (sections_in (take k objects)) + length (sections_in (o ∷ [])) =
+    length-append (sections_in (take k objects)) (sections_in (o ∷ [])) in
+    let last : length (sections_in (o ∷ [])) ≡ length (sections_of o o.object.sections) =
+    ap length (append-nil (sections_of o o.object.sections)) in
+    let all : length (sections_in (take (k + 1) objects)) ≡ length (sections_in (take k objects ++ o ∷ [])) =
+    ap (λ os. length (sections_in os)) more in
+    let joined : length (sections_in (take k objects ++ o ∷ []))
+    ≡ length (sections_in (take k objects) ++ sections_in (o ∷ [])) = ap length parts in
+    subst (FirstsSoFar inputs (k + 1) sum) (sym pushed) (record {
+      firsts_are = record {
+        long = length-append firsts (next ∷ []) ∙ ap (λ n. n + 1) h.firsts_are.long;
+        at = λ j first f. elim (get_push firsts next j first f) [
+          | inl before ↦ h.firsts_are.at j first before
+          | inr here ↦ here.1 ∙ h.next_is
+              ∙ ap (λ n. length (sections_in (take n objects))) (sym (here.0 ∙ h.firsts_are.long))
+        ];
+      };
+      next_is = omega (arith, total, h.next_is, own, long, last, all, joined);
+      numbered = subst (Each (λ (y : NamedObject). HaveNumbers y.object)) (sym more)
+          (each_join (λ (y : NamedObject). HaveNumbers y.object) (take k objects) (o ∷ []) h.numbered (numbers, tt));
+      within = omega (arith, l);
+    })
+
+pub all_firsts : (inputs : List InputObject) (k next : ℕ) (firsts : List ℕ) → length inputs ≤ k
+    → FirstsSoFar inputs k next firsts → AreFirsts (shown_inputs inputs) (length inputs) firsts
+all_firsts inputs k next firsts past h =
+    let end : k ≡ length inputs = omega (arith, past, h.within) in
+    subst (λ n. AreFirsts (shown_inputs inputs) n firsts) end h.firsts_are
+
+pub all_numbered : (inputs : List InputObject) (k next : ℕ) (firsts : List ℕ) → length inputs ≤ k
+    → FirstsSoFar inputs k next firsts → (p : Project) → p.objects ≡ shown_inputs inputs → AreNumbered p
+all_numbered inputs k next firsts past h p same =
+    let many : length (shown_inputs inputs) ≡ length inputs = length-map inputs shown_input in
+    subst (Each (λ (y : NamedObject). HaveNumbers y.object))
+    (take_all k (shown_inputs inputs) (omega (arith, past, many)) ∙ sym same) h.numbered
+
+-- ---- the fields of a section
+
+-- a section of an object among all sections
+pub section_at : (objects : List NamedObject) (place : ℕ) (o : NamedObject) (i : ℕ) (x : LinkedSection)
+    → slice_get objects place ≡ Some o → slice_get o.object.sections i ≡ Some x
+    → slice_get (sections_in objects) (length (sections_in (take place objects)) + i)
+    ≡ Some (record { object = o; section = x })
+section_at [] place o i x e f = absurd (let none : ⊥ = cc in none)
+section_at (y ∷ ys) zero o i x e f =
+    let zero_is : 0 + i ≡ i = omega arith in
+    let same : y ≡ o = same_Some _ _ e in
+    ap (slice_get (sections_in (y ∷ ys))) zero_is
+    ∙ get_left (sections_of y y.object.sections) (sections_in ys) i (record { object = o; section = x })
+    (ap (λ (z : NamedObject). slice_get (sections_of z z.object.sections) i) same
+    ∙ slice_get-map (λ z. record { object = o; section = z }) o.object.sections i
+    ∙ ap (option_map (λ z. record { object = o; section = z })) f)
+section_at (y ∷ ys) (suc place) o i x e f =
+    let own : List ObjectSection = sections_of y y.object.sections in
+    let before : ℕ = length (sections_in (take place ys)) in
+    let sum : length (own ++ sections_in (take place ys)) + i ≡ length own + (before + i) =
+    omega (arith, length-append own (sections_in (take place ys))) in
+    ap (slice_get (own ++ sections_in ys)) sum ∙ get_right own (sections_in ys) (before + i)
+    ∙ section_at ys place o i x e f
+
+abbrev flat : List (List Patch) → List Patch
+flat runs = flat_map (λ run. run) runs
+
+take_own : (xs ys : List Patch) → take (length xs) (xs ++ ys) ≡ xs
+take_own [] ys = refl
+take_own (x ∷ xs) ys = ap (λ l. x ∷ l) (take_own xs ys)
+
+drop_own : (xs ys : List Patch) (n : ℕ) → drop (length xs + n) (xs ++ ys) ≡ drop n ys
+drop_own [] ys n = let e : 0 + n ≡ n = omega arith in ap (λ k. drop k ys) e
+drop_own (x ∷ xs) ys n =
+    let e : suc (length xs) + n ≡ suc (length xs + n) = omega arith in
+    ap (λ k. drop k (x ∷ (xs ++ ys))) e ∙ drop_own xs ys n
+
+record Cut (m begin end : ℕ) (runs : List (List Patch)) (run : List Patch) : Type 0 where
+  pub from : m ≤ begin
+  pub is : take (end - begin) (drop (begin - m) (flat runs)) ≡ run
+
+-- a run, from where those before it end
+run_cut : (m : ℕ) (runs : List (List Patch)) (n : ℕ) (run : List Patch) (begin end : ℕ) → slice_get runs n ≡ Some run
+    → slice_get (m ∷ ends_of m runs) n ≡ Some begin → slice_get (ends_of m runs) n ≡ Some end → Cut m begin end runs run
+run_cut m [] n run begin end e f g = absurd (let none : ⊥ = cc in none)
+run_cut m (r ∷ rs) zero run begin end e f g =
+    let same : r ≡ run = same_Some _ _ e in
+    let from : m ≡ begin = same_Some _ _ f in
+    let to : m + length r ≡ end = same_Some _ _ g in
+    let none : begin - m ≡ 0 = omega (arith, from) in
+    let long : end - begin ≡ length r = omega (arith, from, to) in
+    record {
+      from = omega (arith, from);
+      is = ap (λ k. take (end - begin) (drop k (r ++ flat rs))) none
+          ∙ ap (λ k. take k (r ++ flat rs)) long ∙ take_own r (flat rs) ∙ same;
+    }
+run_cut m (r ∷ rs) (suc n) run begin end e f g =
+    let rest = run_cut (m + length r) rs n run begin end e f g in
+    let split : begin - m ≡ length r + (begin - (m + length r)) = omega (arith, rest.from) in
+    record {
+      from = omega (arith, rest.from);
+      is = ap (λ k. take (end - begin) (drop k (r ++ flat rs))) split
+          ∙ ap (take (end - begin)) (drop_own r (flat rs) (begin - (m + length r))) ∙ rest.is;
+    }
+
+record Run (R : ObjectSection → List Patch → Type 0) (s : ObjectSection) (runs : List (List Patch)) (n : ℕ)
+    : Type 0 where
+  pub run : List Patch
+  pub at : slice_get runs n ≡ Some run
+  pub is : R s run
+
+run_of : (R : ObjectSection → List Patch → Type 0) (ss : List ObjectSection) (runs : List (List Patch)) (n : ℕ)
+    (s : ObjectSection) → AllZip R ss runs → slice_get ss n ≡ Some s → Run R s runs n
+run_of R [] runs n s h e = absurd (let none : ⊥ = cc in none)
+run_of R (x ∷ xs) [] n s h e = absurd h
+run_of R (x ∷ xs) (r ∷ rs) zero s h e =
+    record { run = r; at = refl; is = subst (λ z. R z r) (same_Some _ _ e) h.0 }
+run_of R (x ∷ xs) (r ∷ rs) (suc n) s h e =
+    let rest = run_of R xs rs n s h.1 e in record { run = rest.run; at = rest.at; is = rest.is }
+
+pub run_found : (l : KnownLink) (stays : SectionKey → Bool) (o : NamedObject) (x : LinkedSection)
+    (firsts ends : List ℕ) (patches run : List Patch) (place section first number begin end : ℕ)
+    → AreFirsts l.project.objects (length l.project.objects) firsts
+    → AreRunsUnless l stays patches ends → slice_get l.project.objects place ≡ Some o
+    → slice_get o.object.sections section ≡ Some x
+    → slice_get firsts place ≡ Some first → number ≡ first + section → slice_get (0 ∷ ends) number ≡ Some begin
+    → slice_get (0 ∷ ends) (number + 1) ≡ Some end → run ≡ take (end - begin) (drop begin patches)
+    → IsRunUnless l stays (record { object = o; section = x }) run
+run_found l stays o x firsts ends patches run place section first number begin end are runs there own at
+    sum from to is =
+    let ss : List ObjectSection = sections_in l.project.objects in
+    let number_is : number ≡ length (sections_in (take place l.project.objects)) + section =
+    sum ∙ ap (λ n. n + section) (are.at place first at) in
+    let found : slice_get ss number ≡ Some (record { object = o; section = x }) =
+    ap (slice_get ss) number_is ∙ section_at l.project.objects place o section x there own in
+    let one = run_of (IsRunUnless l stays) ss runs.runs number (record { object = o; section = x }) runs.each found in
+    let begins : slice_get (0 ∷ ends_of 0 runs.runs) number ≡ Some begin =
+    ap (λ es. slice_get (0 ∷ es) number) (sym runs.ends) ∙ from in
+    let suc_is : number + 1 ≡ suc number = omega arith in
+    let ended : slice_get (ends_of 0 runs.runs) number ≡ Some end =
+    ap (λ es. slice_get es number) (sym runs.ends) ∙ ap (slice_get (0 ∷ ends)) (sym suc_is) ∙ to in
+    let cut = run_cut 0 runs.runs number one.run begin end one.at begins ended in
+    let none : begin - 0 ≡ begin = omega arith in
+    let same : run ≡ one.run =
+    is ∙ ap (λ ps. take (end - begin) (drop begin ps)) runs.patches
+    ∙ ap (λ k. take (end - begin) (drop k (flat runs.runs))) (sym none) ∙ cut.is in
+    subst (IsRunUnless l stays (record { object = o; section = x })) (sym same) one.is

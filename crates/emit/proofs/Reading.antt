@@ -1,0 +1,72 @@
+-- What was found of all objects as they were read.
+use Rattle.std.proofs.Common.{◌≡◌, ◌<◌, ℕ, zero, suc, false, List, [], ◌∷◌, length, map, Ok, arith, ◌==◌}
+use Rattle.std.specs.List.{All}
+use Rattle.std.proofs.lemmas.Bool.{ne_eqb}
+use Rattle.std.proofs.lemmas.List.Elements.{All-contains, All-head, All-tail, All-weaker}
+use Rattle.elfobj.specs.Object.{object_of}
+use Rattle.elfobj.specs.Profile.{HasRelocationsOfProfile}
+use Rattle.elfobj.specs.Sections.{LinkedSection, section_of}
+use Rattle.elfobj.specs.declared.section.Section.{Section}
+use Rattle.ldmodel.specs.Edits.{AreNamesDistinct}
+use Rattle.ldmodel.specs.FileLayout.{Each}
+use Rattle.ldmodel.specs.Layout.{Layout}
+use Rattle.ldmodel.specs.Names.{provided}
+use Rattle.ldmodel.specs.Placement.{placement}
+use Rattle.ldmodel.specs.Project.{NamedObject, Project}
+use Rattle.ldmodel.specs.Rows.{rows}
+use Rattle.ldmodel_laws.specs.PlacedOnce.{AreNumbered, IsPlacedOnce}
+use Rattle.ldmodel_laws.specs.Spread.{EachLater}
+use Rattle.ldmodel_laws.specs.Untouched.{AreRead}
+use Rattle.emit_relocate.specs.Patched.{AreOfProfile}
+use Rattle.emit.specs.Numbered.{AreAscending, IsRead}
+
+abbrev Differ : LinkedSection → LinkedSection → Type 0
+Differ x y = (x.number.0 == y.number.0) ≡ false
+
+each_of : {X : Type 0} (P : X → Type 0) (xs : List X) → All P xs → Each P xs
+each_of P [] h = tt
+each_of P (x ∷ xs) h = (All-head P x xs h, each_of P xs (All-tail P x xs h))
+
+-- the first of ascending numbers is below the others
+above : (n : ℕ) (xs : List LinkedSection) → All (λ (s : Section). n < s.number.0) (map section_of xs)
+    → Each (λ (y : LinkedSection). (n == y.number.0) ≡ false) xs
+above n [] h = tt
+above n (x ∷ xs) h =
+    let low : n < x.number.0 = All-head (λ (s : Section). n < s.number.0) (section_of x) (map section_of xs) h in (
+      ne_eqb n x.number.0 (λ e. absurd (omega (arith, low, e))),
+      above n xs (All-tail (λ (s : Section). n < s.number.0) (section_of x) (map section_of xs) h),
+    )
+
+all_differ : (xs : List LinkedSection) → AreAscending xs → EachLater Differ xs
+all_differ [] up = tt
+all_differ (x ∷ xs) up = (
+  above x.number.0 xs (λ k d low. up zero (suc k) d (omega arith) (omega (arith, low))),
+  all_differ xs (λ i j d before short. up (suc i) (suc j) d (omega (arith, before)) (omega (arith, short))),
+)
+
+module _ (p : Project) (read : All (λ (o : NamedObject). IsRead o.object) p.objects) where
+  pub ascending : All (λ (o : NamedObject). AreAscending o.object.sections) p.objects
+  ascending =
+      All-weaker (λ (o : NamedObject). IsRead o.object) (λ (o : NamedObject). AreAscending o.object.sections)
+      (λ o h. h.ascending) p.objects read
+
+  pub spelt : AreRead p
+  spelt =
+      each_of (λ (o : NamedObject). o.object ≡ object_of o.object.text) p.objects
+      (All-weaker (λ (o : NamedObject). IsRead o.object) (λ (o : NamedObject). o.object ≡ object_of o.object.text)
+      (λ o h. h.spelt) p.objects read)
+
+  numbered : AreNumbered p
+  numbered =
+      each_of (λ (o : NamedObject). EachLater Differ o.object.sections) p.objects
+      (All-weaker (λ (o : NamedObject). IsRead o.object) (λ (o : NamedObject). EachLater Differ o.object.sections)
+      (λ o h. all_differ o.object.sections h.ascending) p.objects read)
+
+  pub placed_once : (s : Layout) → AreNamesDistinct p.objects
+      → placement p.script (rows p) (provided p) ≡ Ok s → IsPlacedOnce p s
+  placed_once s names e = record { placed = e; names = names; numbers = numbered }
+
+  pub of_profile : AreOfProfile p
+  of_profile = λ o x c d.
+      All-contains (HasRelocationsOfProfile (length o.object.symbols)) o.object.sections x
+      ((All-contains (λ (z : NamedObject). IsRead z.object) p.objects o read c).relocations) d

@@ -1,0 +1,76 @@
+-- The output sections are those of the layout.
+use Rattle.std.proofs.Common.{Bool, ap, sym, subst, map}
+use Rattle.std.specs.List.{AllZip}
+use Rattle.std.specs.Prelude.{Option, is_some}
+use Rattle.std.specs.Vec.{vec_items}
+use Rattle.ldmodel.specs.Layout.{Layout}
+use Rattle.ldmodel.specs.declared.sections.SectionKey.{SectionKey}
+use Rattle.symres.specs.Naming.{NamingState}
+use Rattle.emit_relocate.specs.declared.earlier.FileRange.{FileRange}
+use Rattle.emit.proofs.Lists.{on_ok}
+use Rattle.emit.proofs.Staying.{all_said, only_said}
+use Rattle.emit.proofs.drawing.draw_image.Goals as goal
+use Rattle.emit.specs.Drawable.{AreOutputs, IsDrawableAt}
+use Rattle.emit.specs.Output.{IsOutput, IsJoinedRow}
+
+pub draw_outputs-requires-clause-outputs : goal.draw_outputs-requires-clause-outputs
+draw_outputs-requires-clause-outputs g c =
+    let p = c.args.project.now in
+    let stays : SectionKey → Bool = λ k. is_some (g.E.Earlier.range c.args.earlier.now k) in
+    let r = c.requires.drawable in
+    let s = r.layout in
+    record {
+      layout = s;
+      stays = stays;
+      are = record {
+        names = r.names;
+        laying = r.is.laying;
+        starts = r.is.starts;
+        values = r.is.values;
+        short = r.is.short;
+        outputs = subst (λ l. AllZip (IsOutput p s stays) s.sections l) (sym c.deref-2.ensures.value)
+            (c.in_ok-outputs.ensures s stays r.is.laying
+            (subst (λ l. AllZip (IsJoinedRow p s stays) s.sections (map vec_items l)) (sym c.deref.ensures.value)
+            (c.in_ok-pieces.ensures s r.names r.is.laying r.is.fields)));
+      };
+    }
+
+pub returns : goal.returns
+returns g c =
+    let p = c.args.project.now in
+    let range : SectionKey → Option FileRange = g.E.Earlier.range c.args.earlier.now in
+    let stays : SectionKey → Bool = λ k. is_some (range k) in
+    let outputs : (s : Layout) (a : NamingState)
+    → IsDrawableAt p s a c.args.laying.now c.args.starts.now c.args.values.now c.args.relocated.now stays
+    → AreOutputs p c.args.laying.now c.args.starts.now c.args.values.now s stays c.deref-2.result.now =
+    λ s a is. record {
+      names = a;
+      laying = is.laying;
+      starts = is.starts;
+      values = is.values;
+      short = is.short;
+      outputs = subst (λ l. AllZip (IsOutput p s stays) s.sections l) (sym c.deref-2.ensures.value)
+          (c.in_ok-outputs.ensures s stays is.laying
+          (subst (λ l. AllZip (IsJoinedRow p s stays) s.sections (map vec_items l)) (sym c.deref.ensures.value)
+          (c.in_ok-pieces.ensures s a is.laying is.fields)));
+    } in
+    record {
+      image = on_ok _ _ c.draw_outputs.result
+          (λ h s a is none. h s stays (outputs s a is) (λ k. ap is_some (none k))) c.draw_outputs.ensures.image;
+      redrawn = on_ok _ _ c.draw_outputs.result
+          (λ h old new a same is good_old good_new sound patches image.
+          h old new stays same (outputs new.layout a is) good_old good_new
+          (only_said old new a range sound) patches image)
+          c.draw_outputs.ensures.redrawn;
+      work = on_ok _ _ c.draw_outputs.result
+          (λ h old new a same is good complete few.
+          h old new stays same (outputs new.layout a is) good (all_said old new a range complete) few)
+          c.draw_outputs.ensures.work;
+      spent = on_ok _ _ c.draw_outputs.result
+          (λ h old new a same is good complete sound.
+          h old new stays same (outputs new.layout a is) good (all_said old new a range complete)
+          (only_said old new a range sound))
+          c.draw_outputs.ensures.spent;
+      counted = c.draw_outputs.ensures.counted;
+      unchanged = c.draw_outputs.ensures.unchanged;
+    }

@@ -1,0 +1,11 @@
+-- The sizes are those of the link.
+use Rattle.std.proofs.Common.{sym, subst}
+use Rattle.ldmodel.specs.Lent.{AreSegments}
+use Rattle.ldmodel.specs.Segments.{segments}
+use Rattle.emit.proofs.length.image_length.Goals as goal
+
+pub returns : goal.returns
+returns c s a laying values =
+    c.image_length.ensures c.args.project.now s
+    (subst (λ xs. AreSegments s.sections (segments s.sections) xs) (sym c.deref.ensures.value) laying.segments)
+    (c.in_ok-sizes.ensures s a c.args.laying.now laying values)

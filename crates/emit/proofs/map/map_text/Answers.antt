@@ -1,0 +1,26 @@
+use Rattle.std.proofs.Common.{◌∙◌, ap, map, refl}
+use Rattle.ldscript.specs.Numbered.{shown_sections}
+use Rattle.ldscript.specs.Numbering.{output_sections}
+use Rattle.ldmodel.specs.Names.{provided}
+use Rattle.ldmodel.specs.Rows.{rows}
+use Rattle.emit.specs.Listed.{map_symbol}
+use Rattle.emit.proofs.Mapped.{text_is}
+use Rattle.emit.proofs.map.map_text.Goals as goal
+
+pub returns : goal.returns
+returns c =
+    text_is c.args.project.now c.args.laying.now c.args.values.now _ c.map_text.result
+    (record {
+      entry = c.number_or_0.ensures;
+      sections = ap shown_sections c.deref-2.ensures.value
+          ∙ (c.in_ok-sections.ensures ∙ ap output_sections c.script-script.ensures);
+      outputs = λ s l.
+          c.outputs_are_of_script.ensures c.args.project.now (rows c.args.project.now) (provided c.args.project.now) s
+          l.placed;
+      laid = λ s l. c.laid.ensures.laid c.args.project.now.script s l.places;
+      lent = c.requires;
+      placed = λ s l. c.placed_are_rows.ensures c.args.project.now (provided c.args.project.now) s l.placed;
+      named = c.deref-3.ensures.value ∙ (c.in_ok-named.ensures ∙ ap (map map_symbol) c.deref.ensures.value);
+      given = refl;
+    })
+    c.map_text.ensures

@@ -1,0 +1,42 @@
+-- The parts are those of the layout.
+use Rattle.std.proofs.Common.{◌∙◌, sym, ap, subst, length, arith}
+use Rattle.std.specs.List.{AllZip}
+use Rattle.std.proofs.lemmas.Slice.Zip.{AllZip-long}
+use Rattle.ldmodel.specs.Lent.{AreSegments}
+use Rattle.ldmodel.specs.SectionHeaders.{FilePart}
+use Rattle.ldmodel.specs.Segments.{segments}
+use Rattle.ldmodel.specs.SymbolValues.{number_or_0}
+use Rattle.ldmodel.specs.Tail.{table_symbols}
+use Rattle.emit_image.specs.Tables.{IsTableSection, IsTableSymbol}
+use Rattle.emit.proofs.Whole.{last_part}
+use Rattle.emit.proofs.parts.drawing_parts.Goals as goal
+
+pub returns : goal.returns
+returns c s stays are =
+    let p = c.args.project.now in
+    let x = c.in_ok-tail.tail in
+    let gs = subst (λ xs. AreSegments s.sections (segments s.sections) xs) (sym c.as_slice-segments.ensures.value)
+    are.laying.segments in
+    let headings = subst (λ ys. AllZip (IsTableSection s) s.sections ys) (sym c.deref-2.ensures.value)
+    (c.in_ok-headings.ensures p s stays are.outputs) in
+    let tail = c.in_ok-tail.ensures.of_link p s (record {
+      begins = c.in_ok-end.ensures s.sections (segments s.sections) gs;
+      symbols = subst (λ xs. AllZip (IsTableSymbol p s) (table_symbols p s) xs) (sym c.deref.ensures.value)
+          (c.in_ok-symbols.ensures s are.names are.starts are.values);
+      sections = headings;
+    }) in
+    record {
+      headers = c.in_ok-headers.ensures p s gs (c.number_or_0-entry.ensures ∙ ap number_or_0 are.values.entry)
+          (c.offset-table.ensures
+          ∙ ap (λ (y : FilePart). y.offset) (last_part p s x.symbols x.symbol_names x.header_names x.headers tail))
+          (omega (
+            arith,
+            c.len.ensures,
+            c.in_ok-headings.headings.ok.0,
+            c.in_ok-headings.headings.ok.1,
+            ap length c.deref-2.ensures.value,
+            AllZip-long (IsTableSection s) s.sections c.deref-2.result.now headings,
+          ));
+      drawn = c.in_ok-sections.ensures p s stays are.laying.named are.outputs;
+      tail = tail;
+    }

@@ -1,0 +1,40 @@
+-- By what the earlier link says.
+use Rattle.std.proofs.Common.{Bool, ap, subst, sym}
+use Rattle.std.specs.Prelude.{is_some}
+use Rattle.ldmodel.specs.declared.sections.SectionKey.{SectionKey}
+use Rattle.emit.proofs.Lists.{on_ok}
+use Rattle.emit.proofs.OfRows.{row_drawn, row_kept}
+use Rattle.emit.proofs.pieces.add_entry.Goals as goal
+use Rattle.emit.specs.Pieces.{IsDrawnPiece, IsRowPiece}
+
+pub returns-in-Some : goal.returns-in-Some
+returns-in-Some g c =
+    let p = c.args.project.now in
+    let stays : SectionKey → Bool = λ k. is_some (g.E.Earlier.range c.args.earlier.now k) in
+    on_ok _ _ c.add_kept.result
+    (λ h l w whole same sources at stand.
+    let kept = h whole stand in (
+      kept.0,
+      subst (λ pr. IsRowPiece pr l.layout stays w kept.0) (sym same)
+          (row_kept p l.layout stays c.args.piece.now c.args.start w kept.0 at
+          (ap is_some (sym c.in-Some.ensures.range)) kept.1),
+      kept.2,
+    ))
+    c.add_kept.ensures
+
+pub returns-in_ok-drawn-in-None : goal.returns-in_ok-drawn-in-None
+returns-in_ok-drawn-in-None g c =
+    let p = c.args.project.now in
+    let stays : SectionKey → Bool = λ k. is_some (g.E.Earlier.range c.args.earlier.now k) in
+    let new = ap is_some (sym c.in-None.ensures.range) in
+    let y = c.in_ok-drawn-in-None.drawn in
+    on_ok _ _ c.add_drawn.result
+    (λ h l w whole same sources at stand.
+    let drawn = c.in_ok-drawn-in-None.ensures l stays w same sources new at in (
+      y,
+      subst (λ pr. IsRowPiece pr l.layout stays w y) (sym same)
+          (row_drawn p l.layout stays c.args.piece.now c.args.start w y at new
+          (subst (λ pr. IsDrawnPiece pr l.layout w y) same drawn)),
+      h whole stand drawn.unstayed,
+    ))
+    c.add_drawn.ensures

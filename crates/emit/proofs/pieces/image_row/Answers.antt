@@ -1,0 +1,40 @@
+-- One entry a step.
+use Rattle.std.proofs.Common.{Bool, sym, subst, refl, map, length, arith, []}
+use Rattle.std.specs.Prelude.{is_some}
+use Rattle.std.proofs.lemmas.List.{length-map}
+use Rattle.std.proofs.lemmas.Option.{slice_get_read}
+use Rattle.ldmodel.specs.declared.sections.SectionKey.{SectionKey}
+use Rattle.ldmodel_project.specs.ByPlace.{piece_in}
+use Rattle.emit.proofs.Lists.{mapped_at, own_member}
+use Rattle.emit.proofs.OfRows.{AreDrawnAs, all_entries, no_entries, one_entry}
+use Rattle.emit.proofs.pieces.image_row.Goals as goal
+
+pub loop-k-init : goal.loop-k-init
+loop-k-init g c link q same sources row =
+    let stays : SectionKey → Bool = λ key. is_some (g.E.Earlier.range c.args.earlier.now key) in
+    subst (AreDrawnAs link.project link.layout stays []) (sym c.in_ok-pieces.ensures.items)
+    (no_entries link.project link.layout stays)
+
+pub loop-k-preserved : goal.loop-k-preserved
+loop-k-preserved g c link q same sources row =
+    let p = c.args.project.now in
+    let stays : SectionKey → Bool = λ key. is_some (g.E.Earlier.range c.args.earlier.now key) in
+    let rs = c.args.row.now in
+    let starts = c.args.starts.now in
+    let k = c.loop-k.k in
+    one_entry p link.project link.layout stays q (map (piece_in p) rs) starts k _ c.in-Some.start.now
+    c.loop-k.pieces.items _ row
+    (omega (arith, c.loop-k-test.true, length-map rs (piece_in p)))
+    (mapped_at (piece_in p) rs k _ (omega (arith, c.loop-k-test.true)) (sym (own_member rs k _)))
+    (slice_get_read starts (length starts) k c.in-Some.start.now refl c.in-Some.ensures.lookup.3.0
+    c.in-Some.ensures.lookup.1)
+    (λ w whole at stand. c.in_ok-add_entry-in-Some.ensures link w whole same sources at stand)
+    (c.loop-k.invariant link q same sources row)
+
+pub returns : goal.returns
+returns g c link q same sources row =
+    let p = c.args.project.now in
+    let stays : SectionKey → Bool = λ key. is_some (g.E.Earlier.range c.args.earlier.now key) in
+    all_entries p link.project link.layout stays q (map (piece_in p) c.args.row.now) c.args.starts.now
+    c.loop-k.k c.loop-k.pieces.items row (omega (arith, c.loop-k-test.false, length-map c.args.row.now (piece_in p)))
+    (c.loop-k.invariant link q same sources row)

@@ -1,0 +1,70 @@
+use Rattle.std.proofs.Common.{refl, subst, sym}
+use Rattle.std.proofs.lemmas.Slice.Eq.{bytes_eq-Decides}
+use Rattle.ldmodel.specs.Edits.{has_name}
+use Rattle.ldmodel.specs.Stayed.{GoodLink}
+use Rattle.ldmodel_project.specs.ByPlace.{faults_in}
+use Rattle.emit_relocate.specs.Filled.{EndBelow, IsOrder}
+use Rattle.emit_relocate.specs.KnownLink.{KnownLink}
+use Rattle.emit_relocate.specs.SymbolTable.{HasSymbolValues}
+use Rattle.emit_relocate.specs.Values.{value_of}
+use Rattle.emit_values.specs.LinkView.{known_link}
+use Rattle.emit.proofs.Beside.{are_runs}
+use Rattle.emit.proofs.Faulting.{all_faults}
+use Rattle.emit.proofs.RelocatedLists.{one_place}
+use Rattle.emit.proofs.Patching.{each_ends, each_is}
+use Rattle.emit.proofs.Reading.{ascending, of_profile, placed_once, spelt}
+use Rattle.emit.proofs.relocated.Relocated.of.Goals as goal
+
+pub returns : goal.returns
+returns g c =
+    λ s a old e v w worth k.
+    let p = c.args.project.now in
+    let l : KnownLink = known_link p s a in
+    let new : GoodLink = record { project = p; layout = s } in
+    let read = c.in_ok-keys.ensures.read in
+    let distinct = c.in_ok-keys.ensures.distinct in
+    let below : EndBelow l = c.sections_end_below.ensures p s a distinct (ascending p read) e in
+    let symbols : HasSymbolValues l c.args.symbols.now = λ key j o x. worth key.0 j o x in
+    let order : IsOrder l c.deref.result.now =
+    subst (IsOrder l) (sym c.deref.ensures.value) c.in_ok-keys.ensures.keys in
+    let changed = c.in_ok-fields.ensures old l v k symbols below order in
+    let range = g.E.Earlier.range c.args.earlier.now in
+    let once = placed_once p read s distinct e in
+    let profile = of_profile p read in
+    let own = c.patches_are_fields.ensures old l range _ _ changed refl profile once in
+    let all_of = all_faults p s (value_of c.args.values.now.entry) (faults_in p c.in_ok-faults.faults.items)
+    (faults_in p c.in_ok-fields.fields.faults.items) w.entry (c.in_ok-faults.ensures p) in
+    record {
+      fields = are_runs old l range
+          (λ o i j at there. one_place (has_name o.name) p.objects o (distinct o.name)
+          ((bytes_eq-Decides o.name o.name).1 refl) i j at there) (λ n. refl) _ _ refl refl changed;
+      faults = λ good. all_of (c.no_fault_is_missed.ensures old l range _ _ changed good (spelt p read) once);
+      each = each_is old new _ own;
+      ends = λ good. each_ends old new _ (c.pieces_in_image.ensures.own new good)
+          (λ x t within. c.fields_in_image.ensures.some new x t within)
+          (λ x t field within is. c.fields_in_image.ensures.wide new x t field within is)
+          (λ x stays. ((c.stayed_in_both.ensures.stayed old new x).0 stays).0) _ own;
+      patches = λ complete. record {
+        each = each_is old new _ own;
+        all = c.patches_are_those_retargeted.ensures.all old l range _ _ changed refl complete profile
+            (c.pieces_are_sized.ensures p s distinct (ascending p read) e) once;
+      };
+      few = λ complete good after.
+          let few = c.patches_are_those_retargeted.ensures.few old l range _ _ changed refl complete good after once in
+          c.patches_are_few.ensures old new few.sites few.others _ few.parts few.widths;
+      counts = (_, changed.counts.counted);
+      counted = λ complete good after.
+          c.due_sites_count.ensures old l range _ _ changed complete good after once;
+      anew = λ nothing.
+          let filled = c.all_is_evaluated.ensures old l range _ _ changed nothing in
+          record {
+            fields = record {
+              runs = filled.runs;
+              patches = filled.fields;
+              ends = filled.ends;
+              each = filled.each;
+            };
+            faults = all_of filled.counts.faults;
+          };
+      all_counted = λ nothing. (c.all_is_evaluated.ensures old l range _ _ changed nothing).counts.counted;
+    }

@@ -1,0 +1,22 @@
+-- The run of the section.
+use Rattle.std.proofs.Common.{◌+◌, ◌-◌, ◌∷◌, ◌∙◌, sym, refl, ap, take, drop, length, slice_get, arith}
+use Rattle.std.proofs.lemmas.Option.{slice_get_read}
+use Rattle.emit.proofs.Numbering.{run_found}
+use Rattle.emit.proofs.section_numbers.fields_of.Goals as goal
+
+pub returns : goal.returns
+returns c l stays o x are runs there own =
+    let ends = c.args.relocated.now.ends.items in
+    let number = c.in_ok-number.number in
+    let lent = sym c.as_slice-ends.ensures.value in
+    run_found l stays o x c.args.firsts.now ends c.args.relocated.now.patches.items _ c.args.place c.args.section.0
+    c.in_ok-first.field-0.now number c.in_ok-begin.begin c.in_ok-end.end are runs there own
+    (slice_get_read c.args.firsts.now (length c.args.firsts.now) c.args.place c.in_ok-first.field-0.now refl
+    c.in_ok-first.ensures.lookup.3.0 c.in_ok-first.ensures.lookup.1)
+    (omega (arith, c.in_ok-number.ensures.1))
+    (ap (λ es. slice_get (0 ∷ es) number) lent ∙ c.in_ok-begin.ensures)
+    (ap (λ es. slice_get (0 ∷ es) (number + 1)) lent
+    ∙ ap (slice_get (0 ∷ c.as_slice-ends.result.now)) (omega (arith, c.in_ok-checked_add.ensures.1))
+    ∙ c.in_ok-end.ensures)
+    (ap (λ ps. take (c.in_ok-end.end - c.in_ok-begin.begin) (drop c.in_ok-begin.begin ps))
+    c.as_slice-patches.ensures.value)

@@ -1,0 +1,53 @@
+-- What is evaluated of a link beside an earlier one, of which input sections stayed.
+use Rattle.std.specs.Prelude.{◌≡◌, ◌≤◌, ◌+◌, ℕ, Option, None, is_some, length}
+use Rattle.std.specs.List.{All}
+use Rattle.elfobj.specs.Raised.{raised}
+use Rattle.elfobj.specs.declared.meter.Count.TheVariants.{Fields}
+use Rattle.emit_image.specs.Kept.{ArePatchesOf, IsSitePatch}
+use Rattle.emit_image.specs.Stretches.{EndsBy, patch_bytes}
+use Rattle.ldmodel_laws.specs.Untouched.{IsGood}
+use Rattle.ldmodel.specs.Counts.{Counts}
+use Rattle.ldmodel.specs.Layout.{Layout}
+use Rattle.ldmodel.specs.Project.{Project}
+use Rattle.ldmodel.specs.Relocations.{relocation_faults, sites}
+use Rattle.ldmodel.specs.SectionHeaders.{image_length}
+use Rattle.ldmodel.specs.Stayed.{GoodLink, retargeted}
+use Rattle.ldmodel.specs.WorkBound.{retargeted_bytes, sites_outside}
+use Rattle.ldmodel.specs.declared.sections.SectionKey.{SectionKey}
+use Rattle.symres.specs.Naming.{NamingState}
+use Rattle.ldmodel_project.specs.ByPlace.{faults_in}
+use Rattle.emit_relocate.specs.Earlier.{IsComplete}
+use Rattle.emit_relocate.specs.Fields.{evaluations}
+use Rattle.emit_relocate.specs.declared.earlier.FileRange.{FileRange}
+use Rattle.emit_values.specs.LinkView.{known_link}
+use Rattle.emit.specs.Relocated.{IsRelocated}
+use Rattle.emit.specs.Runs.{AreRunsUnless}
+use Rattle.emit.specs.declared.relocated.Relocated.{Relocated}
+
+abbrev pub new_link : Project → Layout → GoodLink
+new_link p s = record { project = p; layout = s }
+
+-- the fields of input sections that are not known to have stayed; the faults of all relocations, where the earlier link
+-- is good; and patches of what stayed. Where each section that stayed is known to have stayed, these are the fields of
+-- its sites whose symbol has another value, and what is counted are these sites and those outside of what stayed. Where
+-- nothing is known to have stayed, all is evaluated, and each site counted whose symbol has a value. Nothing else is
+-- counted in any case
+pub record IsRelocatedBeside (old : GoodLink) (range : SectionKey → Option FileRange) (p : Project) (s : Layout)
+    (a : NamingState) (r : Relocated) (before after : Counts) : Type 0 where
+  pub fields : AreRunsUnless (known_link p s a) (λ k. is_some (range k)) r.patches.items r.ends.items
+  pub faults : IsGood old → faults_in p r.faults.items ≡ relocation_faults p s
+  pub each : All (IsSitePatch old (new_link p s)) r.retargeted.items
+  pub ends : IsGood (new_link p s) → All (EndsBy (image_length p s)) r.retargeted.items
+  pub patches : IsComplete range old (known_link p s a) → ArePatchesOf old (new_link p s) r.retargeted.items
+  pub few :
+      IsComplete range old (known_link p s a) → IsGood old → IsGood (new_link p s)
+      → patch_bytes r.retargeted.items ≤ retargeted_bytes old (new_link p s)
+  pub counts : (n : ℕ) × (after ≡ raised before Fields n)
+  pub counted :
+      IsComplete range old (known_link p s a) → IsGood old → IsGood (new_link p s)
+      → after
+      ≡ raised before Fields (length (sites_outside old (new_link p s)) + length (retargeted old (new_link p s)))
+  pub anew : ((key : SectionKey) → range key ≡ None) → IsRelocated p s a r
+  pub all_counted :
+      ((key : SectionKey) → range key ≡ None)
+      → after ≡ raised before Fields (evaluations (known_link p s a) (sites p s))

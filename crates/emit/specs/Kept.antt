@@ -1,0 +1,38 @@
+-- Which input sections of an image stay where an earlier link has them.
+use Rattle.std.specs.Prelude.{◌≡◌, Bool, Contains, IfSome, Option, true}
+use Rattle.emit_image.specs.declared.section.ImagePiece.{ImagePiece}
+use Rattle.ldmodel.specs.Layout.{PlacedPiece}
+use Rattle.ldmodel.specs.NameFaults.{object_name}
+use Rattle.ldmodel.specs.Project.{Project}
+use Rattle.ldmodel.specs.Stayed.{GoodLink, LinkedPiece, has_stayed, pieces_in}
+use Rattle.ldmodel.specs.declared.sections.SectionKey.{SectionKey}
+use Rattle.emit_relocate.specs.Earlier.{HasStayedAt}
+use Rattle.emit_relocate.specs.KnownLink.{KnownLink}
+use Rattle.emit_relocate.specs.declared.earlier.FileRange.{FileRange}
+
+-- an input section stays if its key does
+pub record IsKeptBy (p : Project) (stays : SectionKey → Bool) (w : PlacedPiece) (y : ImagePiece) : Type 0 where
+  pub section : SectionKey
+  pub object : object_name p section.object.0 ≡ w.piece.object
+  pub part : section.part ≡ w.piece.part
+  pub is : y.stays ≡ stays section
+
+-- an input section of a link by its key
+pub record IsKeyed (l : GoodLink) (k : SectionKey) (x : LinkedPiece) : Type 0 where
+  pub among : Contains (pieces_in l) x
+  pub object : object_name l.project k.object.0 ≡ x.object
+  pub part : k.part ≡ x.part
+
+-- what stays has stayed
+abbrev pub HaveStayed : GoodLink → GoodLink → (SectionKey → Bool) → Type 0
+HaveStayed old new stays =
+    (k : SectionKey) (x : LinkedPiece) → stays k ≡ true → IsKeyed new k x → has_stayed old x ≡ true
+
+-- what has stayed stays
+abbrev pub AreKept : GoodLink → GoodLink → (SectionKey → Bool) → Type 0
+AreKept old new stays =
+    (k : SectionKey) (x : LinkedPiece) → IsKeyed new k x → has_stayed old x ≡ true → stays k ≡ true
+
+-- each section that is known to have stayed has
+abbrev pub IsSound : (SectionKey → Option FileRange) → GoodLink → KnownLink → Type 0
+IsSound range old l = (key : SectionKey) → IfSome (range key) (HasStayedAt old l key)

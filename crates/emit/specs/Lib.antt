@@ -1,0 +1,20 @@
+pub use Rattle.emit_fields.specs as fields
+pub use Rattle.emit_image.specs as image
+pub use Rattle.emit_relocate.specs as relocate
+pub use Rattle.emit_text.specs as text
+pub use Rattle.emit_values.specs as values
+pub mod Relocated
+pub mod Numbered
+pub mod Runs
+pub mod Beside
+pub mod DataRuns
+pub mod Drawable
+pub mod Joined
+pub mod Kept
+pub mod Numbers
+pub mod Output
+pub mod Parts
+pub mod Pieces
+pub mod Sizes
+pub mod Symbols
+pub mod Listed

@@ -1,0 +1,47 @@
+//! Data commands by the output sections that they stand in.
+
+ghost use Rattle.std.specs.Prelude.{◌≡◌, ◌≤◌, IfOk, List, length, map};
+ghost use Rattle.std.specs.List.{AllZip};
+ghost use Rattle.ldmodel.specs.Layout.{PlacedSection};
+ghost use Rattle.emit.specs.DataRuns.{AreDataFrom, AreDataOf, run_length};
+
+use ldmodel::laid::PlacedData;
+use ldmodel::memory::NoMemory;
+use std::alloc::Global;
+
+/// How many of these data commands, from the first on, stand in the output section of a number.
+fn run_length(commands: &[PlacedData], section: usize) -> usize
+    ensures exact { result ≡ run_length section commands.now }
+    ensures within { result ≤ length commands.now }
+{
+    for (k, d) in commands.iter().enumerate() {
+        if d.section.0 as usize != section {
+            return k;
+        }
+    }
+    commands.len()
+}
+
+/// The data commands of each of this number of output sections, which come in the order of these.
+///
+/// # Errors
+///
+/// Where memory runs out.
+pub(crate) fn data_runs<'a>(
+    alloc: Global,
+    commands: &'a [PlacedData],
+    sections: usize,
+) -> Result<Vec<&'a [PlacedData]>, NoMemory>
+    ensures { IfOk result (λ v. (qs : List PlacedSection) → AreDataFrom 0 qs commands.now → sections ≡ length qs
+        → AllZip AreDataOf qs (map (λ run. run.now) v.items)) }
+{
+    let mut runs = Vec::with_capacity(alloc, sections)?;
+    let mut at = 0;
+    for section in 0..sections {
+        let rest = &commands[at..];
+        let run = &rest[..run_length(rest, section)];
+        runs.push(run)?;
+        at += run.len();
+    }
+    Ok(runs)
+}

@@ -1,0 +1,188 @@
+//! The image of a link.
+
+ghost use Rattle.std.specs.Prelude.{◌≡◌, ◌≤◌, ◌+◌, ◌-◌, ◌∷◌, [], All, Bool, IfOk, List, None, OnErr, OnOk, false};
+ghost use Rattle.std.specs.Prelude.{ℕ, is_some};
+ghost use Rattle.elfobj.specs.Raised.{raised};
+ghost use Rattle.elfobj.specs.declared.meter.Count.TheVariants as counts;
+ghost use Rattle.std.specs.List.{AllZip};
+ghost use Rattle.emit_image.specs.Kept.{ArePatchesOf};
+ghost use Rattle.emit_image.specs.OfLink.{IsImagePart};
+ghost use Rattle.emit_image.specs.Stretches.{EndsBy, patch_bytes};
+ghost use Rattle.ldmodel_laws.specs.Untouched.{IsGood};
+ghost use Rattle.place.specs.Laying.{IsLaying};
+ghost use Rattle.ldmodel.specs.Image as definition;
+ghost use Rattle.ldmodel.specs.Layout.{Layout};
+ghost use Rattle.ldmodel.specs.Rows as model;
+ghost use Rattle.ldmodel.specs.SectionHeaders.{image_length};
+ghost use Rattle.ldmodel.specs.Stayed.{GoodLink};
+ghost use Rattle.ldmodel.specs.WorkBound.{bytes_stayed, retargeted_bytes};
+ghost use Rattle.ldmodel.specs.declared.sections.SectionKey.{SectionKey};
+ghost use Rattle.symres.specs.Naming.{NamingState};
+ghost use Rattle.ldmodel_project.specs.ByPlace.{rows_in};
+ghost use Rattle.emit_relocate.specs.Earlier.{IsComplete};
+ghost use Rattle.emit_values.specs.LinkView.{known_link};
+ghost use Rattle.emit.specs.Drawable.{AreOutputs, HasOutputs, IsDrawable, IsDrawableAt};
+ghost use Rattle.emit.specs.Kept.{AreKept, HaveStayed, IsSound};
+
+use crate::output::{Output, outputs};
+use crate::parts::drawing_parts;
+use crate::pieces::image_pieces;
+use crate::relocated::Relocated;
+use elfobj::meter::Meter;
+use emit_fields::canvas::Canvas;
+use emit_fields::patch::Patch;
+use emit_image::law::{drawing_is_image, drawing_stands, joined_is_whole, placement_is_in_memory};
+use emit_image::redraw::redraw;
+use emit_image::section::{Drawing, ImagePart, ImagePiece};
+use emit_image::tail::{TailPart, TailParts};
+use ldmodel_laws::segments::sections_in_file;
+use ldmodel_laws::stayed::stayed_in_both;
+use place::laying::Laying;
+use place::starts::Starts;
+use ldmodel::memory::NoMemory;
+use ldmodel::rows::Piece;
+use ldmodel_project::view::ProjectView;
+use emit_relocate::earlier::Earlier;
+use emit_values::values::Values;
+use std::alloc::Global;
+
+/// A part of the tail, lent.
+fn image_part(part: &TailPart) -> ImagePart<'_>
+    ensures { IsImagePart part.now result }
+{
+    ImagePart {
+        offset: part.offset(),
+        bytes: part.bytes(),
+    }
+}
+
+/// The parts of the tail, lent in their order.
+fn image_parts(tail: &TailParts) -> [ImagePart<'_>; 4]
+    ensures { AllZip IsImagePart (tail.now.symbols ∷ tail.now.symbol_names ∷ tail.now.header_names ∷ tail.now.headers
+        ∷ []) result }
+{
+    [
+        image_part(&tail.symbols),
+        image_part(&tail.symbol_names),
+        image_part(&tail.header_names),
+        image_part(&tail.headers),
+    ]
+}
+
+/// Draws these output sections, and what else the image of a link has, onto a canvas: all but what stays, in which the
+/// patches are written. Fails where memory runs out; then the canvas is as it was.
+fn draw_outputs(
+    alloc: Global,
+    canvas: &mut Canvas,
+    project: &ProjectView<'_>,
+    laying: &Laying,
+    starts: &Starts,
+    values: &Values<'_>,
+    outputs: &[Output<'_>],
+    patches: &[Patch],
+    meter: &mut Meter,
+) -> Result<(), NoMemory>
+    requires outputs { HasOutputs project.now laying.now starts.now values.now outputs.now }
+    requires patches { (s : Layout) → IsLaying project.now s laying.now
+        → All (EndsBy (image_length project.now s)) patches.now }
+    ensures image { OnOk result ((s : Layout) (stays : SectionKey → Bool)
+        → AreOutputs project.now laying.now starts.now values.now s stays outputs.now
+        → ((k : SectionKey) → stays k ≡ false) → canvas.new.bytes ≡ definition.image project.now s) }
+    ensures redrawn { OnOk result ((old new : GoodLink) (stays : SectionKey → Bool) → new.project ≡ project.now
+        → AreOutputs project.now laying.now starts.now values.now new.layout stays outputs.now → IsGood old
+        → IsGood new → HaveStayed old new stays → ArePatchesOf old new patches.now
+        → canvas.old.bytes ≡ definition.image old.project old.layout
+        → canvas.new.bytes ≡ definition.image new.project new.layout) }
+    ensures work { OnOk result ((old new : GoodLink) (stays : SectionKey → Bool) → new.project ≡ project.now
+        → AreOutputs project.now laying.now starts.now values.now new.layout stays outputs.now → IsGood new
+        → AreKept old new stays → patch_bytes patches.now ≤ retargeted_bytes old new
+        → meter.new.bytes + bytes_stayed old new
+        ≤ meter.old.bytes + (image_length new.project new.layout + retargeted_bytes old new)) }
+    ensures spent { OnOk result ((old new : GoodLink) (stays : SectionKey → Bool) → new.project ≡ project.now
+        → AreOutputs project.now laying.now starts.now values.now new.layout stays outputs.now → IsGood new
+        → AreKept old new stays → HaveStayed old new stays → meter.new ≡ raised meter.old counts.Bytes
+        (patch_bytes patches.now + (image_length new.project new.layout - bytes_stayed old new))) }
+    ensures counted { OnOk result ((n : ℕ) × (meter.new ≡ raised meter.old counts.Bytes n)) }
+    ensures unchanged { OnErr result (canvas.new.bytes ≡ canvas.old.bytes) }
+{
+    drawing_stands();
+    drawing_is_image();
+    joined_is_whole();
+    placement_is_in_memory();
+    stayed_in_both();
+    sections_in_file();
+    let parts = drawing_parts(alloc, project, laying, starts, values, outputs)?;
+    let tail = image_parts(&parts.tail);
+    let drawing = Drawing {
+        headers: &parts.headers,
+        sections: &parts.sections,
+        tail: &tail,
+    };
+    redraw(alloc, canvas, &drawing, patches, meter)
+}
+
+/// Draws the image of a link without faults onto a canvas, and counts the bytes that it writes: all but those of the
+/// input sections of which an earlier link says that they stayed. In these only the patches are written, whose offsets
+/// are places in the file.
+///
+/// Where nothing stays, the canvas may hold anything before. Where the canvas holds the image of the earlier link, each
+/// input section that is said to have stayed has, and the patches are the fields of the sites in these whose symbol has
+/// another value, the canvas holds the image of the new link after the call. Where, besides, each input section that
+/// stayed is said to have, as many bytes are written as the image has outside of these and the patched fields have.
+///
+/// # Errors
+///
+/// Where memory runs out. Then the canvas is as it was.
+pub fn draw_image<'a, E: Earlier>(
+    alloc: Global,
+    canvas: &mut Canvas,
+    project: &'a ProjectView<'_>,
+    rows: &[Vec<Piece>],
+    laying: &'a Laying,
+    starts: &Starts,
+    values: &Values<'_>,
+    relocated: &'a Relocated,
+    earlier: &E,
+    patches: &[Patch],
+    meter: &mut Meter,
+) -> Result<(), NoMemory>
+    requires rows { rows_in project.now rows.now ≡ model.rows project.now }
+    requires drawable { IsDrawable project.now laying.now starts.now values.now relocated.now
+        (λ k. is_some (E.range earlier.now k)) }
+    requires patches { (s : Layout) → IsLaying project.now s laying.now
+        → All (EndsBy (image_length project.now s)) patches.now }
+    ensures image { OnOk result ((s : Layout) (a : NamingState)
+        → IsDrawableAt project.now s a laying.now starts.now values.now relocated.now
+        (λ k. is_some (E.range earlier.now k)) → ((k : SectionKey) → E.range earlier.now k ≡ None)
+        → canvas.new.bytes ≡ definition.image project.now s) }
+    ensures redrawn { OnOk result ((old new : GoodLink) (a : NamingState) → new.project ≡ project.now
+        → IsDrawableAt project.now new.layout a laying.now starts.now values.now relocated.now
+        (λ k. is_some (E.range earlier.now k)) → IsGood old → IsGood new
+        → IsSound (E.range earlier.now) old (known_link new.project new.layout a)
+        → ArePatchesOf old new patches.now → canvas.old.bytes ≡ definition.image old.project old.layout
+        → canvas.new.bytes ≡ definition.image new.project new.layout) }
+    ensures work { OnOk result ((old new : GoodLink) (a : NamingState) → new.project ≡ project.now
+        → IsDrawableAt project.now new.layout a laying.now starts.now values.now relocated.now
+        (λ k. is_some (E.range earlier.now k)) → IsGood new
+        → IsComplete (E.range earlier.now) old (known_link new.project new.layout a)
+        → patch_bytes patches.now ≤ retargeted_bytes old new → meter.new.bytes + bytes_stayed old new
+        ≤ meter.old.bytes + (image_length new.project new.layout + retargeted_bytes old new)) }
+    ensures spent { OnOk result ((old new : GoodLink) (a : NamingState) → new.project ≡ project.now
+        → IsDrawableAt project.now new.layout a laying.now starts.now values.now relocated.now
+        (λ k. is_some (E.range earlier.now k)) → IsGood new
+        → IsComplete (E.range earlier.now) old (known_link new.project new.layout a)
+        → IsSound (E.range earlier.now) old (known_link new.project new.layout a)
+        → meter.new ≡ raised meter.old counts.Bytes
+        (patch_bytes patches.now + (image_length new.project new.layout - bytes_stayed old new))) }
+    ensures counted { OnOk result ((n : ℕ) × (meter.new ≡ raised meter.old counts.Bytes n)) }
+    ensures unchanged { OnErr result (canvas.new.bytes ≡ canvas.old.bytes) }
+{
+    // the borrow checker wants its lifetime named
+    let pieces: Vec<Vec<ImagePiece<'a>>> = image_pieces(
+        alloc, project, rows, laying, relocated, earlier,
+    )?;
+    let outputs = outputs(alloc, project, laying, &pieces)?;
+    draw_outputs(
+        alloc, canvas, project, laying, starts, values, &outputs, patches, meter,
+    )
+}

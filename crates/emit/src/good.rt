@@ -1,0 +1,26 @@
+//! Links without faults, as laws on two links ask for them.
+
+ghost use Rattle.std.specs.Prelude.{◌≡◌, ◌≤◌, []};
+ghost use Rattle.ldmodel_laws.specs.Untouched.{IsGood};
+ghost use Rattle.place.specs.Laying.{IsLaying};
+ghost use Rattle.ldmodel.specs.Layout.{Layout};
+ghost use Rattle.ldmodel.specs.Link.{max_image_length};
+ghost use Rattle.ldmodel.specs.Relocations.{relocation_faults};
+ghost use Rattle.ldmodel.specs.SectionHeaders.{image_length};
+
+use ldmodel_laws::stayed::faultless_is_good;
+use place::laying::Laying;
+use place::numbered::are_numbered;
+use ldmodel_project::view::ProjectView;
+
+/// A link whose image is not too long and whose relocations have no faults is good. The call looks at each object once,
+/// and changes nothing.
+pub fn is_good(project: &ProjectView<'_>, laying: &Laying)
+    ensures { (s : Layout) → IsLaying project.now s laying.now → image_length project.now s ≤ max_image_length
+        → relocation_faults project.now s ≡ [] → IsGood (record { project = project.now; layout = s }) }
+{
+    faultless_is_good();
+    let _inputs = project.inputs();
+    project.objects_are_read();
+    are_numbered(project);
+}

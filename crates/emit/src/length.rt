@@ -1,0 +1,126 @@
+//! The length of an image before it is drawn.
+
+ghost use Rattle.std.specs.Prelude.{◌≡◌, ◌+◌, IfOk, length, map};
+ghost use Rattle.place.specs.Laying.{IsLaying};
+ghost use Rattle.ldmodel.specs.Layout.{Layout};
+ghost use Rattle.ldmodel.specs.SectionHeaders as definition;
+ghost use Rattle.symres.specs.Naming.{NamingState};
+ghost use Rattle.place.specs.Length.{AreTailSizes};
+ghost use Rattle.ldscript.specs.statements.Numbered.{shown_sections};
+ghost use Rattle.ldscript.specs.statements.Numbering.{OutputSectionAt as SectionOfTree};
+ghost use Rattle.emit_values.specs.Values.{AreValues};
+ghost use Rattle.emit.specs.Sizes.{names_size, plus_symbol, plus_symbols};
+
+use place::laying::Laying;
+use place::length::{TailSizes, image_length as length_of};
+use ldmodel::memory::NoMemory;
+use ldmodel_project::view::ProjectView;
+use ldscript::tree::OutputSectionAt;
+use emit_relocate::value::SymbolValue;
+use emit_values::values::{OutputSymbol, Values};
+use place::sections::law::outputs_are_of_script;
+use std::alloc::{AllocError, Global};
+
+/// How many bytes the names of the tables' own headers have, each with a zero byte after it.
+const TABLE_NAMES: u64 = 26;
+
+/// How many symbols have a value, and how many bytes their names have, each with a zero byte after it.
+#[derive(Clone, Copy)]
+struct SymbolSizes {
+    count: u64,
+    names: u64,
+}
+
+/// The sum of two sizes. No memory holds 2^64 bytes.
+fn plus(size: u64, more: u64) -> Result<u64, NoMemory>
+    ensures { IfOk result (λ n. n ≡ size + more) }
+{
+    size.checked_add(more).ok_or(AllocError)
+}
+
+/// A number of bytes, and the bytes of a name with a zero byte after it.
+fn plus_name(bytes: u64, name: &[u8]) -> Result<u64, NoMemory>
+    ensures { IfOk result (λ n. n ≡ bytes + (length name.now + 1)) }
+{
+    plus(bytes, name.len() as u64 + 1)
+}
+
+/// One more symbol.
+fn plus_symbol(sizes: SymbolSizes, symbol: &OutputSymbol<'_>) -> Result<SymbolSizes, NoMemory>
+    ensures { IfOk result (λ t. t ≡ plus_symbol sizes symbol.now) }
+{
+    match symbol.value {
+        SymbolValue::Number(_) => {
+            let names = plus_name(sizes.names, symbol.name)?;
+            let count = plus(sizes.count, 1)?;
+            Ok(SymbolSizes { count, names })
+        }
+        SymbolValue::NotDefined | SymbolValue::NotInOutput => Ok(sizes),
+    }
+}
+
+/// How many of these symbols have a value, and how many bytes their names have.
+fn symbol_sizes(symbols: &[OutputSymbol<'_>]) -> Result<SymbolSizes, NoMemory>
+    ensures { IfOk result (λ t. t ≡ plus_symbols (record { count = 0; names = 0 }) symbols.now) }
+{
+    let mut sizes = SymbolSizes { count: 0, names: 0 };
+    for symbol in symbols {
+        sizes = plus_symbol(sizes, symbol)?;
+    }
+    Ok(sizes)
+}
+
+/// How many bytes the names of output sections have, each with a zero byte after it.
+fn section_names(sections: &[OutputSectionAt<'_>]) -> Result<u64, NoMemory>
+    ensures { IfOk result (λ n. n ≡ names_size (map (λ (o : SectionOfTree). o.section.name)
+        (shown_sections sections.now))) }
+{
+    let mut bytes = 0;
+    for at in sections {
+        let section = at.section;
+        bytes = plus_name(bytes, section.name.as_bytes())?;
+    }
+    Ok(bytes)
+}
+
+/// What stands in the tail of an image. Fails where memory runs out, as it would for 2^64 bytes.
+fn tail_sizes(
+    alloc: Global,
+    project: &ProjectView<'_>,
+    values: &Values<'_>,
+) -> Result<TailSizes, NoMemory>
+    ensures { IfOk result (λ t. (s : Layout) (a : NamingState) (l : Laying) → IsLaying project.now s l
+        → AreValues project.now s a values.now → AreTailSizes project.now s t) }
+{
+    outputs_are_of_script();
+    let symbols = symbol_sizes(&values.symbols)?;
+    let script = project.script();
+    let sections = script.output_sections(alloc)?;
+    let names = section_names(&sections)?;
+    let symbol_names = plus(symbols.names, 1)?;
+    let header_names = plus(names, TABLE_NAMES + 1)?;
+    Ok(TailSizes {
+        symbols: symbols.count,
+        symbol_names,
+        header_names,
+        sections: sections.len() as u64,
+    })
+}
+
+/// How many bytes the image of a link has; padding can carry it past 2^64.
+///
+/// # Errors
+///
+/// Where memory runs out.
+pub fn image_length(
+    alloc: Global,
+    project: &ProjectView<'_>,
+    laying: &Laying,
+    values: &Values<'_>,
+) -> Result<u128, NoMemory>
+    ensures { IfOk result (λ n. (s : Layout) (a : NamingState) → IsLaying project.now s laying.now
+        → AreValues project.now s a values.now → n ≡ definition.image_length project.now s) }
+{
+    let sizes = tail_sizes(alloc, project, values)?;
+    Ok(length_of(&laying.segments, sizes))
+}

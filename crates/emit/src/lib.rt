@@ -1,0 +1,30 @@
+//! What a link puts out: the fields of its relocations, its image, and its texts. Takes the layout and values of a
+//! project, and perhaps an earlier link; gives fields or their faults, the bytes drawn, the map and the fault lines.
+//!
+//! - `relocated` over `keys`: the fields of all relocations, or their faults; `law`;
+//! - `drawing` over `output`, `parts`, `pieces`, `data_runs`, `section_numbers`, `symbols`: the image; `length`;
+//! - `good`: a link without faults is one that the laws on two links speak of;
+//! - `map`, `fault_lines` over `by_place`: the texts.
+#![tactic(auto)]
+
+mod by_place;
+mod data_runs;
+pub mod drawing;
+pub mod fault_lines;
+pub mod good;
+
+mod keys;
+mod law;
+pub mod length;
+pub mod map;
+mod output;
+mod parts;
+mod pieces;
+pub mod relocated;
+mod section_numbers;
+mod symbols;
+pub use emit_fields as fields;
+pub use emit_image as image;
+pub use emit_relocate as relocate;
+pub use emit_text as text;
+pub use emit_values as values;

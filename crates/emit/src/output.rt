@@ -1,0 +1,140 @@
+//! Output sections with all that is drawn of them.
+
+ghost use Rattle.std.specs.Prelude.{◌≡◌, ◌<◌, ◌≤◌, ◌%◌, Bool, ℕ, IfOk, IfSome, List, length, map, slice_index};
+ghost use Rattle.std.specs.List.{AllZip};
+ghost use Rattle.std.specs.Vec.{vec_items};
+ghost use Rattle.place.specs.Laying.{IsLaying};
+ghost use Rattle.ldmodel.specs.Image.{fill_byte};
+ghost use Rattle.ldmodel.specs.Layout.{Layout, PlacedSection};
+ghost use Rattle.ldmodel.specs.Project.{Project};
+ghost use Rattle.ldmodel.specs.declared.sections.SectionKey.{SectionKey};
+ghost use Rattle.ldscript.specs.statements.Numbered.{shown_sections};
+ghost use Rattle.emit.specs.Joined.{AreJoined, IsAt};
+ghost use Rattle.emit.specs.Output.{IsJoinedRow, IsOutput};
+
+use crate::data_runs::data_runs;
+use emit_image::section::ImagePiece;
+use ldmodel_laws::layout::layout_by_effects;
+use place::laying::Laying;
+use ldmodel::laid::{Placed, PlacedData};
+use ldmodel::memory::NoMemory;
+use ldmodel_project::view::ProjectView;
+use ldscript::tree::{OutputSection, OutputSectionAt};
+use place::sections::law::outputs_are_of_script;
+use std::alloc::{AllocError, Global};
+
+/// An output section, with all that is drawn of it.
+#[derive(Clone, Copy)]
+pub(crate) struct Output<'a> {
+    /// The name.
+    pub(crate) name: &'a [u8],
+    /// What its gaps are filled with, over and over: 1 to 8 bytes; one zero byte where the script says nothing.
+    pub(crate) fill: &'a [u8],
+    /// The place in memory.
+    pub(crate) placed: Placed,
+    /// Where it begins in the file; 0 where its size is 0.
+    pub(crate) offset: u128,
+    /// The input sections, in their order, of which those that stay are joined where no gap lies between.
+    pub(crate) pieces: &'a [ImagePiece<'a>],
+    /// The data commands, in their order.
+    pub(crate) data_commands: &'a [PlacedData],
+}
+
+/// What gaps are filled with where the script says nothing.
+const NO_FILL: [u8; 1] = [0];
+
+/// What the gaps of an output section are filled with.
+fn fill_of(section: &OutputSection) -> &[u8]
+    ensures fill { (i : ℕ) → slice_index result.now (i % length result.now) ≡ fill_byte section.now.fill i }
+    ensures some { 0 < length result.now }
+    ensures few { length result.now ≤ 8 }
+{
+    match &section.fill {
+        Some(fill) => fill.as_bytes(),
+        None => &NO_FILL,
+    }
+}
+
+/// The output section of a number, of its place and of the members of these lists that have the number; none where a
+/// list ends before.
+fn output_at<'a>(
+    number: usize,
+    placed: &Placed,
+    sections: &[OutputSectionAt<'a>],
+    offsets: &[u128],
+    pieces: &'a [Vec<ImagePiece<'a>>],
+    runs: &[&'a [PlacedData]],
+) -> Option<Output<'a>>
+    ensures { IfSome result (λ x. (p : Project) (s : Layout) (stays : SectionKey → Bool) (q : PlacedSection)
+        → IsAt p s stays q number placed.now (shown_sections sections.now) offsets.now (map vec_items pieces.now)
+        (map (λ run. run.now) runs.now) → IsOutput p s stays q x) }
+{
+    let at = sections.get(number)?;
+    let offset = *offsets.get(number)?;
+    let row = pieces.get(number)?;
+    let run = *runs.get(number)?;
+    let section = at.section;
+    Some(Output {
+        name: section.name.as_bytes(),
+        fill: fill_of(section),
+        placed: *placed,
+        offset,
+        pieces: row.as_slice(),
+        data_commands: run,
+    })
+}
+
+/// The output sections of these places and of the members of these lists. Fails where memory runs out, or where a list
+/// is short.
+fn join<'a>(
+    alloc: Global,
+    placed: &[Placed],
+    sections: &[OutputSectionAt<'a>],
+    offsets: &[u128],
+    pieces: &'a [Vec<ImagePiece<'a>>],
+    runs: &[&'a [PlacedData]],
+) -> Result<Vec<Output<'a>>, NoMemory>
+    ensures { IfOk result (λ v. (p : Project) (s : Layout) (stays : SectionKey → Bool)
+        → AreJoined p s stays placed.now (shown_sections sections.now) offsets.now (map vec_items pieces.now)
+        (map (λ run. run.now) runs.now) → AllZip (IsOutput p s stays) s.sections v.items) }
+{
+    let mut outputs = Vec::with_capacity(alloc, placed.len())?;
+    for (number, place) in placed.iter().enumerate() {
+        match output_at(number, place, sections, offsets, pieces, runs) {
+            Some(output) => outputs.push(output)?,
+            None => return Err(AllocError),
+        }
+    }
+    Ok(outputs)
+}
+
+/// The output sections of a link, in the order of the script, with these input sections.
+///
+/// # Errors
+///
+/// Where memory runs out.
+pub(crate) fn outputs<'a>(
+    alloc: Global,
+    project: &'a ProjectView<'_>,
+    laying: &'a Laying,
+    pieces: &'a [Vec<ImagePiece<'a>>],
+) -> Result<Vec<Output<'a>>, NoMemory>
+    ensures { IfOk result (λ v. (s : Layout) (stays : SectionKey → Bool) → IsLaying project.now s laying.now
+        → AllZip (IsJoinedRow project.now s stays) s.sections (map vec_items pieces.now)
+        → AllZip (IsOutput project.now s stays) s.sections v.items) }
+{
+    layout_by_effects();
+    outputs_are_of_script();
+    let script = project.script();
+    let sections = script.output_sections(alloc)?;
+    let laid = laying.placement.laid();
+    let runs = data_runs(alloc, laid.data_commands, laid.sections.len())?;
+    join(
+        alloc,
+        laid.sections,
+        &sections,
+        &laying.offsets,
+        pieces,
+        &runs,
+    )
+}

@@ -1,0 +1,151 @@
+//! The parts of a drawing, of the output sections of a link.
+
+ghost use Rattle.std.specs.Prelude.{◌≡◌, ◌++◌, ◌∷◌, [], Bool, IfOk, OnOk, List};
+ghost use Rattle.std.specs.List.{AllZip};
+ghost use Rattle.ldmodel_laws.specs.ImageBytes.{AreNamed};
+ghost use Rattle.ldmodel.specs.Layout.{Layout, PlacedSection};
+ghost use Rattle.ldmodel.specs.Project.{Project};
+ghost use Rattle.ldmodel.specs.declared.sections.SectionKey.{SectionKey};
+ghost use Rattle.emit_image.specs.Tables.{IsTableSection};
+ghost use Rattle.emit.specs.Drawable.{AreOutputs};
+ghost use Rattle.emit.specs.Output.{AreDrawn, AreDrawnOf, IsDrawn, IsOutput};
+ghost use Rattle.emit.specs.Parts.{ArePartsOf};
+
+use crate::output::Output;
+use crate::symbols::table_symbols;
+use emit_image::headers::{headers, loaded_end};
+use emit_image::section::ImageSection;
+use emit_image::sections::TableSection;
+use emit_image::tail::{TailParts, tail};
+use ldmodel_laws::segments::segments_by_neighbours;
+use place::laying::Laying;
+use place::starts::Starts;
+use ldmodel::memory::NoMemory;
+use ldmodel_project::view::ProjectView;
+use emit_values::values::Values;
+use std::alloc::{AllocError, Global};
+
+/// One more than the greatest offset that a section header can state.
+const PAST_OFFSETS: u128 = 1 << 64;
+
+/// An output section, with what its header is made of.
+fn table_section<'a>(output: &Output<'a>) -> TableSection<'a>
+    ensures { (p : Project) (s : Layout) (stays : SectionKey → Bool) (q : PlacedSection)
+        → IsOutput p s stays q output.now → IsTableSection s q result }
+{
+    TableSection {
+        name: output.name,
+        placed: output.placed,
+        offset: (output.offset % PAST_OFFSETS) as u64,
+    }
+}
+
+/// The output sections, with what their headers are made of. Fails where memory runs out.
+fn table_sections<'a>(
+    alloc: Global,
+    outputs: &[Output<'a>],
+) -> Result<Vec<TableSection<'a>>, NoMemory>
+    ensures { IfOk result (λ v. (p : Project) (s : Layout) (stays : SectionKey → Bool)
+        → AllZip (IsOutput p s stays) s.sections outputs.now → AllZip (IsTableSection s) s.sections v.items) }
+{
+    let mut sections = Vec::with_capacity(alloc, outputs.len())?;
+    for output in outputs {
+        sections.push(table_section(output))?;
+    }
+    Ok(sections)
+}
+
+/// An output section as it is drawn. Fails where it begins past any file.
+fn image_section<'a>(output: &Output<'a>) -> Result<ImageSection<'a>, NoMemory>
+    ensures { IfOk result (λ y. (p : Project) (s : Layout) (stays : SectionKey → Bool) (q : PlacedSection)
+        → IsOutput p s stays q output.now → IsDrawn p s stays q y) }
+{
+    match u64::try_from(output.offset) {
+        Err(_too_great) => Err(AllocError),
+        Ok(offset) => Ok(ImageSection {
+            offset,
+            start: output.placed.start,
+            size: output.placed.size,
+            fill: output.fill,
+            pieces: output.pieces,
+            data_commands: output.data_commands,
+        }),
+    }
+}
+
+/// Adds an output section to those that are drawn, if it has bytes in the file.
+fn add_section<'a>(
+    sections: &mut Vec<ImageSection<'a>>,
+    output: &Output<'a>,
+) -> Result<(), NoMemory>
+    ensures { OnOk result ((p : Project) (s : Layout) (stays : SectionKey → Bool) (q : PlacedSection)
+        (qs : List PlacedSection) → IsOutput p s stays q output.now → AreDrawnOf p s stays qs sections.old.items
+        → AreDrawnOf p s stays (qs ++ q ∷ []) sections.new.items) }
+{
+    if output.placed.size == 0 || output.placed.load_size == 0 {
+        return Ok(());
+    }
+    let section = image_section(output)?;
+    sections.push(section)?;
+    Ok(())
+}
+
+/// The output sections with bytes in the file, as they are drawn. Fails where memory runs out.
+fn image_sections<'a>(
+    alloc: Global,
+    outputs: &[Output<'a>],
+) -> Result<Vec<ImageSection<'a>>, NoMemory>
+    ensures { IfOk result (λ v. (p : Project) (s : Layout) (stays : SectionKey → Bool) → AreNamed s.sections
+        → AllZip (IsOutput p s stays) s.sections outputs.now → AreDrawn p s stays v.items) }
+{
+    segments_by_neighbours();
+    let mut sections = Vec::new(alloc);
+    for output in outputs {
+        add_section(&mut sections, output)?;
+    }
+    Ok(sections)
+}
+
+/// All that an image is drawn from.
+#[derive(Drop)]
+pub(crate) struct Parts<'a> {
+    /// The ELF header and the program headers.
+    pub(crate) headers: Vec<u8>,
+    /// The output sections with bytes in the file.
+    pub(crate) sections: Vec<ImageSection<'a>>,
+    /// The tail.
+    pub(crate) tail: TailParts,
+}
+
+/// All that the image of a link with these output sections is drawn from.
+///
+/// # Errors
+///
+/// Where memory runs out.
+pub(crate) fn drawing_parts<'a>(
+    alloc: Global,
+    project: &ProjectView<'_>,
+    laying: &Laying,
+    starts: &Starts,
+    values: &Values<'_>,
+    outputs: &[Output<'a>],
+) -> Result<Parts<'a>, NoMemory>
+    ensures { IfOk result (λ x. (s : Layout) (stays : SectionKey → Bool)
+        → AreOutputs project.now laying.now starts.now values.now s stays outputs.now
+        → ArePartsOf project.now s stays x) }
+{
+    let segments = laying.segments.as_slice();
+    let symbols = table_symbols(alloc, project, starts, values)?;
+    let headings = table_sections(alloc, outputs)?;
+    let end = loaded_end(segments)?;
+    let tail = tail(alloc, end, &symbols, &headings)?;
+    let entry = values.entry.number_or_0();
+    let table = tail.headers.offset();
+    let headers = headers(alloc, entry, segments, table, headings.len())?;
+    let sections = image_sections(alloc, outputs)?;
+    Ok(Parts {
+        headers,
+        sections,
+        tail,
+    })
+}

@@ -1,0 +1,270 @@
+//! Input sections as they are drawn.
+
+ghost use Rattle.std.specs.Prelude.{◌≡◌, ◌<◌, ◌++◌, ◌∷◌, Bool, IfOk, List, OnOk, Some, [], false, is_some, length};
+ghost use Rattle.std.specs.Prelude.{map, slice_get};
+ghost use Rattle.std.specs.List.{AllZip};
+ghost use Rattle.std.specs.Vec.{vec_items};
+ghost use Rattle.emit_image.specs.Joined.{StandFor};
+ghost use Rattle.emit_image.specs.declared.section.ImagePiece.{ImagePiece as Drawn};
+ghost use Rattle.elfobj.specs.Sections.{LinkedSection, section_of};
+ghost use Rattle.place.specs.Laying.{IsLaying};
+ghost use Rattle.ldmodel.specs.Layout.{Layout, PlacedPiece, PlacedSection};
+ghost use Rattle.ldmodel.specs.Project.{NamedObject};
+ghost use Rattle.ldmodel.specs.Rows as model;
+ghost use Rattle.ldmodel.specs.SymbolValues.{placed_part};
+ghost use Rattle.ldmodel.specs.declared.sections.Part.TheVariants as part;
+ghost use Rattle.ldmodel.specs.declared.sections.SectionKey.{SectionKey as KeyOf};
+ghost use Rattle.symres.specs.Naming.{NamingState};
+ghost use Rattle.ldmodel_project.specs.ByPlace.{piece_in, rows_in};
+ghost use Rattle.emit_relocate.specs.KnownLink.{KnownLink};
+ghost use Rattle.emit_values.specs.LinkView.{known_link};
+ghost use Rattle.emit.specs.Output.{IsJoinedRow};
+ghost use Rattle.emit.specs.Pieces.{AreRowsAt, AreSources, IsDrawnPiece, IsPlacedAt, IsRowAt, IsRowPiece};
+ghost use Rattle.emit.specs.Pieces.{IsSectionPiece};
+ghost use Rattle.emit.specs.Runs.{AreRunsUnless};
+
+use crate::relocated::Relocated;
+use crate::section_numbers::{fields_of, first_sections};
+use elfobj::object::Object;
+use elfobj::section::{LinkedIndex, Section, SectionKind};
+use emit_image::row::{add_drawn, add_kept};
+use emit_image::section::ImagePiece;
+use ldmodel_laws::gathering::{live_by_path, once_in_rows};
+use ldmodel_laws::layout::placed_are_rows;
+use place::laying::Laying;
+use ldmodel::memory::NoMemory;
+use ldmodel::names::ObjectPlace;
+use ldmodel::rows::Piece;
+use ldmodel::sections::Part;
+use ldmodel_project::view::ProjectView;
+use emit_relocate::earlier::Earlier;
+use std::alloc::{AllocError, Global};
+
+/// An input section of this number of bytes at an address, all of which are 0.
+fn zeros<'a>(size: u64, start: u64) -> ImagePiece<'a>
+    ensures { (result.start ≡ start) × (result.size ≡ size) × (result.bytes.now ≡ []) × (result.fields.now ≡ [])
+        × (result.stays ≡ false) }
+{
+    ImagePiece {
+        start,
+        size,
+        bytes: &[],
+        fields: &[],
+        stays: false,
+    }
+}
+
+/// The section of an object at a place.
+fn section_at(object: &Object, index: LinkedIndex) -> Section
+    requires { index.0 < length object.now.sections }
+    ensures { (x : LinkedSection) → slice_get object.now.sections index.0 ≡ Some x → result ≡ section_of x }
+{
+    object.sections()[index.0]
+}
+
+/// A section of the object of a key, as an input section of this number of bytes at an address. Fails where it is not
+/// among those whose fields are known.
+fn section_piece<'a>(
+    relocated: &'a Relocated,
+    firsts: &[usize],
+    key: ObjectPlace,
+    object: &'a Object,
+    index: LinkedIndex,
+    size: u64,
+    start: u64,
+) -> Result<ImagePiece<'a>, NoMemory>
+    requires { index.0 < length object.now.sections }
+    ensures { IfOk result (λ y. (l : KnownLink) (stays : KeyOf → Bool) (o : NamedObject) (x : LinkedSection)
+        (w : PlacedPiece)
+        → AreSources l stays firsts.now relocated.now → slice_get l.project.objects key.0 ≡ Some o
+        → o.object ≡ object.now
+        → slice_get o.object.sections index.0 ≡ Some x
+        → stays (record { object = key; part = part.InTable x.number }) ≡ false
+        → placed_part l.layout o.name (part.InTable x.number) ≡ Some w → w.start ≡ start → x.size ≡ size
+        → IsSectionPiece l o x size start y) }
+{
+    let section = section_at(object, index);
+    let _sections = object.sections();
+    let _relocations = object.relocations(index);
+    let bytes = object.section_bytes(index);
+    match section.kind {
+        SectionKind::Nobits => Ok(zeros(size, start)),
+        _ => match fields_of(relocated, firsts, key.0, index) {
+            None => Err(AllocError),
+            Some(fields) => Ok(ImagePiece {
+                start,
+                size,
+                bytes,
+                fields,
+                stays: false,
+            }),
+        },
+    }
+}
+
+/// An entry of a row at an address that is drawn anew. Fails where it is of no object.
+fn drawn_piece<'a>(
+    project: &'a ProjectView<'_>,
+    relocated: &'a Relocated,
+    firsts: &[usize],
+    piece: &Piece,
+    start: u64,
+) -> Result<ImagePiece<'a>, NoMemory>
+    ensures { IfOk result (λ y. (l : KnownLink) (stays : KeyOf → Bool) (w : PlacedPiece)
+        → l.project ≡ project.now → AreSources l stays firsts.now relocated.now → stays piece.now.section ≡ false
+        → IsPlacedAt project.now l.layout (piece_in project.now piece.now) start w
+        → IsDrawnPiece l.project l.layout w y) }
+{
+    let _inputs = project.inputs();
+    let key = piece.section.object;
+    match piece.section.part {
+        Part::InCommon(_) => Ok(zeros(piece.size, start)),
+        Part::InTable(number) => match project.object(key) {
+            None => Err(AllocError),
+            Some(object) => match object.section_at(number) {
+                None => Ok(zeros(piece.size, start)),
+                Some(index) => {
+                    let _sections = object.sections();
+                    section_piece(relocated, firsts, key, object, index, piece.size, start)
+                }
+            },
+        },
+    }
+}
+
+/// Adds an entry of a row at an address: one that stays is joined to the one before it, where that stays too and no gap
+/// lies between. Fails where the entry is of no object.
+fn add_entry<'a, E: Earlier>(
+    pieces: &mut Vec<ImagePiece<'a>>,
+    project: &'a ProjectView<'_>,
+    relocated: &'a Relocated,
+    firsts: &[usize],
+    earlier: &E,
+    piece: &Piece,
+    start: u64,
+) -> Result<(), NoMemory>
+    ensures { OnOk result ((l : KnownLink) (w : PlacedPiece) (whole : List Drawn) → l.project ≡ project.now
+        → AreSources l (λ k. is_some (E.range earlier.now k)) firsts.now relocated.now
+        → IsPlacedAt project.now l.layout (piece_in project.now piece.now) start w → StandFor whole pieces.old.items
+        → (y : Drawn) × IsRowPiece l.project l.layout (λ k. is_some (E.range earlier.now k)) w y
+        × StandFor (whole ++ y ∷ []) pieces.new.items) }
+{
+    match earlier.stayed(piece.section) {
+        Some(_) => add_kept(pieces, piece.size, start),
+        None => {
+            let drawn = drawn_piece(project, relocated, firsts, piece, start)?;
+            add_drawn(pieces, drawn)
+        }
+    }
+}
+
+/// The entries of a row at these addresses, of which those that stay are joined where no gap lies between. Fails where
+/// memory runs out.
+fn image_row<'a, E: Earlier>(
+    alloc: Global,
+    project: &'a ProjectView<'_>,
+    relocated: &'a Relocated,
+    firsts: &[usize],
+    earlier: &E,
+    row: &[Piece],
+    starts: &[u64],
+) -> Result<Vec<ImagePiece<'a>>, NoMemory>
+    ensures { IfOk result (λ v. (l : KnownLink) (q : PlacedSection) → l.project ≡ project.now
+        → AreSources l (λ k. is_some (E.range earlier.now k)) firsts.now relocated.now
+        → IsRowAt project.now l.layout (map (piece_in project.now) row.now) starts.now q
+        → IsJoinedRow l.project l.layout (λ k. is_some (E.range earlier.now k)) q v.items) }
+{
+    let mut pieces = Vec::with_capacity(alloc, row.len())?;
+    for (k, piece) in row.iter().enumerate() {
+        match starts.get(k) {
+            None => return Err(AllocError),
+            Some(start) => {
+                add_entry(
+                    &mut pieces,
+                    project,
+                    relocated,
+                    firsts,
+                    earlier,
+                    piece,
+                    *start,
+                )?;
+            }
+        }
+    }
+    Ok(pieces)
+}
+
+/// The entries of rows at these addresses, row by row. Fails where memory runs out.
+fn image_rows<'a, E: Earlier>(
+    alloc: Global,
+    project: &'a ProjectView<'_>,
+    relocated: &'a Relocated,
+    firsts: &[usize],
+    earlier: &E,
+    rows: &[Vec<Piece>],
+    starts: &[u64],
+) -> Result<Vec<Vec<ImagePiece<'a>>>, NoMemory>
+    ensures { IfOk result (λ v. (l : KnownLink) → l.project ≡ project.now
+        → AreSources l (λ k. is_some (E.range earlier.now k)) firsts.now relocated.now
+        → AreRowsAt project.now l.layout (rows_in project.now rows.now) starts.now
+        → AllZip (IsJoinedRow l.project l.layout (λ k. is_some (E.range earlier.now k))) l.layout.sections
+        (map vec_items v.items)) }
+{
+    let mut pieces = Vec::with_capacity(alloc, rows.len())?;
+    let mut at: usize = 0;
+    for row in rows {
+        let row = row.as_slice();
+        if starts.len() - at < row.len() {
+            return Err(AllocError);
+        }
+        let drawn = image_row(
+            alloc,
+            project,
+            relocated,
+            firsts,
+            earlier,
+            row,
+            &starts[at..],
+        )?;
+        pieces.push(drawn)?;
+        at += row.len();
+    }
+    Ok(pieces)
+}
+
+/// The input sections of each output section, in their order; those that an earlier link says have stayed stay, and are
+/// joined where no gap lies between.
+///
+/// # Errors
+///
+/// Where memory runs out.
+pub(crate) fn image_pieces<'a, E: Earlier>(
+    alloc: Global,
+    project: &'a ProjectView<'_>,
+    rows: &[Vec<Piece>],
+    laying: &Laying,
+    relocated: &'a Relocated,
+    earlier: &E,
+) -> Result<Vec<Vec<ImagePiece<'a>>>, NoMemory>
+    requires { rows_in project.now rows.now ≡ model.rows project.now }
+    ensures { IfOk result (λ v. (s : Layout) (a : NamingState) → IsLaying project.now s laying.now
+        → AreRunsUnless (known_link project.now s a) (λ k. is_some (E.range earlier.now k))
+        relocated.now.patches.items relocated.now.ends.items
+        → AllZip (IsJoinedRow project.now s (λ k. is_some (E.range earlier.now k))) s.sections
+        (map vec_items v.items)) }
+{
+    live_by_path();
+    once_in_rows();
+    placed_are_rows();
+    let firsts = first_sections(alloc, project.inputs())?;
+    let laid = laying.placement.laid();
+    image_rows(
+        alloc,
+        project,
+        relocated,
+        &firsts,
+        earlier,
+        rows,
+        laid.starts,
+    )
+}

@@ -1,0 +1,118 @@
+//! The fields of a link that change, and the faults of its relocations.
+
+ghost use Rattle.std.specs.Prelude.{◌≡◌, ◌++◌, IfOk, Ok};
+ghost use Rattle.ldmodel.specs.Layout.{Layout};
+ghost use Rattle.ldmodel.specs.Names.{provided};
+ghost use Rattle.ldmodel.specs.Placement.{placement};
+ghost use Rattle.ldmodel.specs.Project.{Project};
+ghost use Rattle.ldmodel.specs.Relocations.{entry_fault};
+ghost use Rattle.ldmodel.specs.Rows.{rows};
+ghost use Rattle.ldmodel.specs.Stayed.{GoodLink};
+ghost use Rattle.symres.specs.Naming.{NamingState};
+ghost use Rattle.ldmodel_project.specs.ByPlace.{faults_in};
+ghost use Rattle.emit.specs.Beside.{IsRelocatedBeside};
+ghost use Rattle.emit_relocate.specs.SymbolTable.{AreSymbolValues};
+ghost use Rattle.emit_relocate.specs.Values.{value_of};
+ghost use Rattle.emit_values.specs.LinkView.{IsLinkView, known_link};
+ghost use Rattle.emit_values.specs.Values.{AreValues};
+
+use crate::keys::keys_of;
+use crate::law::{pieces_are_sized, sections_end_below};
+use elfobj::meter::Meter;
+use emit_fields::patch::Patch;
+use emit_image::law::patches_are_few;
+use ldmodel_laws::stayed::{fields_in_image, pieces_in_image, stayed_in_both};
+use ldmodel::fault::Fault;
+use ldmodel::memory::NoMemory;
+use ldmodel_project::view::ProjectView;
+use emit_relocate::changed_fields::{ChangedFields, changed_fields};
+use emit_relocate::earlier::Earlier;
+use emit_relocate::law::{
+    all_is_evaluated, due_sites_count, no_fault_is_missed, patches_are_fields,
+    patches_are_those_retargeted,
+};
+use emit_relocate::symbol::entry_fault;
+use emit_relocate::symbol_table::SymbolTable;
+use emit_relocate::value::SymbolValue;
+use emit_values::link_view::LinkView;
+use emit_values::values::Values;
+use std::alloc::Global;
+
+/// The fields of a link that change, and the faults of its relocations.
+#[derive(Drop)]
+pub struct Relocated {
+    /// The fields of all input sections that did not stay, one after another in the order of objects and headers, those
+    /// of each in the order of their offsets.
+    pub patches: Vec<Patch>,
+    /// Where the fields of each input section end in `patches`; one that stayed, or isn't in the output, has none.
+    pub ends: Vec<usize>,
+    /// The fields of sections that stayed whose symbol has another value, in their places in the file.
+    pub retargeted: Vec<Patch>,
+    /// The fault of the entry symbol, and then the faults of relocations by object, section and entry.
+    pub faults: Vec<Fault>,
+}
+
+/// The fault of an entry symbol of this value, if it has one, and then these faults.
+fn with_entry_fault(value: SymbolValue, mut faults: Vec<Fault>) -> Result<Vec<Fault>, NoMemory>
+    ensures { IfOk result (λ all. (p : Project) → faults_in p all.items
+        ≡ entry_fault (value_of value) ++ faults_in p faults.items) }
+{
+    match entry_fault(value) {
+        None => Ok(faults),
+        Some(fault) => {
+            faults.insert(0, fault)?;
+            Ok(faults)
+        }
+    }
+}
+
+impl Relocated {
+    /// Evaluates the relocations of input sections that did not stay, and those of sections that stayed whose symbol
+    /// has another value than in the earlier link. Each of them is counted. `symbols` has the values of the symbols.
+    ///
+    /// # Errors
+    ///
+    /// Where memory runs out.
+    pub fn of<E: Earlier>(
+        alloc: Global,
+        project: &ProjectView<'_>,
+        link: &LinkView<'_, '_>,
+        earlier: &E,
+        values: &Values<'_>,
+        symbols: &SymbolTable,
+        meter: &mut Meter,
+    ) -> Result<Relocated, NoMemory>
+        ensures { IfOk result (λ r. (s : Layout) (a : NamingState) (old : GoodLink)
+            → placement project.now.script (rows project.now) (provided project.now) ≡ Ok s
+            → IsLinkView (known_link project.now s a) link.now → AreValues project.now s a values.now
+            → AreSymbolValues project.now s symbols.now → E.knows earlier.now old (known_link project.now s a)
+            → IsRelocatedBeside old (E.range earlier.now) project.now s a r meter.old meter.new) }
+    {
+        sections_end_below();
+        all_is_evaluated();
+        no_fault_is_missed();
+        due_sites_count();
+        pieces_are_sized();
+        patches_are_fields();
+        patches_are_those_retargeted();
+        patches_are_few();
+        pieces_in_image();
+        fields_in_image();
+        stayed_in_both();
+        let keys = keys_of(alloc, project)?;
+        let fields = changed_fields(alloc, link, earlier, symbols, &keys, meter)?;
+        let ChangedFields {
+            patches,
+            ends,
+            retargeted,
+            faults,
+        } = fields;
+        let faults = with_entry_fault(values.entry, faults)?;
+        Ok(Relocated {
+            patches,
+            ends,
+            retargeted,
+            faults,
+        })
+    }
+}

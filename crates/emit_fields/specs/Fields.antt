@@ -1,0 +1,67 @@
+-- Relocations (System V ABI, AMD64 supplement, "Relocation", table "Relocation Types"; little-endian fields: "Data
+-- Representation"). S is the value of the symbol, A the addend, P the place: the address of the field.
+use Rattle.std.specs.Prelude.{ℕ, ◌-◌, ◌%◌, ◌^◌, List, Result, Ok, Err, Bool, true, ◌&&◌, nat_lt, ℤ, pos, negsuc, neg_ℤ}
+use Rattle.std.specs.Prelude.{◌+ℤ◌, ◌-ℤ◌, int_le, if◌then◌else◌}
+use Rattle.std.specs.Int.{cast_signed, w64}
+use Rattle.byteorder.specs.Endian.{little_bytes}
+use Rattle.elfobj.specs.declared.relocation.Relocation.{Relocation}
+use Rattle.elfobj.specs.declared.relocation.RelocationKind.{RelocationKind}
+use Rattle.elfobj.specs.declared.relocation.RelocationKind.TheVariants.{None, Abs64, Pc32, Plt32, Abs32, Abs32Signed}
+use Rattle.elfobj.specs.declared.relocation.RelocationKind.TheVariants.{Abs16, Pc16, Abs8, Pc8, Pc64}
+use Rattle.elfobj.specs.RelocationKinds.{width}
+use Rattle.emit_fields.specs.declared.field.Overflow.{Overflow}
+
+-- the number below 2^64 that differs from an integer by a multiple of 2^64
+abbrev pub modulo_64_bits : ℤ → ℕ
+modulo_64_bits (pos n) = n % 2 ^ 64
+modulo_64_bits (negsuc n) = 2 ^ 64 - 1 - n % 2 ^ 64
+
+-- a number below 2^64 read as a signed one, in two's complement
+abbrev pub signed : ℕ → ℤ
+signed v = cast_signed w64 v
+
+-- column "Calculation" of the table, as an integer; in a static link PLT32 counts from the symbol itself, as PC32 does.
+-- NONE has none, and is never asked for
+abbrev pub calculation : RelocationKind → ℤ → ℤ → ℤ → ℤ
+calculation None s a p = pos 0
+calculation Abs64 s a p = s +ℤ a
+calculation Pc32 s a p = s +ℤ a -ℤ p
+calculation Plt32 s a p = s +ℤ a -ℤ p
+calculation Abs32 s a p = s +ℤ a
+calculation Abs32Signed s a p = s +ℤ a
+calculation Abs16 s a p = s +ℤ a
+calculation Pc16 s a p = s +ℤ a -ℤ p
+calculation Abs8 s a p = s +ℤ a
+calculation Pc8 s a p = s +ℤ a -ℤ p
+calculation Pc64 s a p = s +ℤ a -ℤ p
+
+-- the value of a relocation, modulo 2^64
+abbrev pub value : Relocation → ℕ → ℕ → ℕ
+value r s p = modulo_64_bits (calculation r.kind (pos s) r.addend (pos p))
+
+-- read as a signed number, it is not below the first nor above the second
+abbrev pub is_between : ℤ → ℤ → ℕ → Bool
+is_between low high v = int_le low (signed v) && int_le (signed v) high
+
+-- whether a value is in its range. The psABI: 32 must zero-extend to the value, 32S sign-extend. It leaves the others
+-- open; here PC32, PLT32, PC16 and PC8 sign-extend too, and 16 and 8 do one of the two
+abbrev pub fits : RelocationKind → ℕ → Bool
+fits None v = true
+fits Abs64 v = true
+fits Pc32 v = is_between (neg_ℤ (pos (2 ^ 31))) (pos (2 ^ 31 - 1)) v
+fits Plt32 v = is_between (neg_ℤ (pos (2 ^ 31))) (pos (2 ^ 31 - 1)) v
+fits Abs32 v = nat_lt v (2 ^ 32)
+fits Abs32Signed v = is_between (neg_ℤ (pos (2 ^ 31))) (pos (2 ^ 31 - 1)) v
+fits Abs16 v = is_between (neg_ℤ (pos (2 ^ 15))) (pos (2 ^ 16 - 1)) v
+fits Pc16 v = is_between (neg_ℤ (pos (2 ^ 15))) (pos (2 ^ 15 - 1)) v
+fits Abs8 v = is_between (neg_ℤ (pos (2 ^ 7))) (pos (2 ^ 8 - 1)) v
+fits Pc8 v = is_between (neg_ℤ (pos (2 ^ 7))) (pos (2 ^ 7 - 1)) v
+fits Pc64 v = true
+
+-- the lowest bytes of a value, as many as the kind's width, the lowest first; or the value, where it is out of range
+abbrev pub field_with : RelocationKind → ℕ → Result (List ℕ) Overflow
+field_with kind v = if fits kind v then Ok (little_bytes (width kind) v) else Err (record { value = v })
+
+-- the field of a relocation
+unfoldable pub field_of : Relocation → ℕ → ℕ → Result (List ℕ) Overflow
+field_of r s p = field_with r.kind (value r s p)

@@ -1,0 +1,110 @@
+//! The buffer that the image is written into.
+
+ghost use Rattle.std.specs.Prelude.{◌≡◌, ◌↔◌, ◌≤◌, ◌<◌, ◌+◌, ℕ, [], IsTrue, OnErr, OnOk, length, max, slice_index};
+ghost use Rattle.elfobj.specs.Raised.{raised};
+
+use elfobj::meter::{Count, Meter};
+use std::alloc::{AllocError, Global};
+use std::marker::Model;
+
+/// Why a canvas can't have more room: there is no memory.
+pub type NoMemory = AllocError;
+
+/// A list of bytes, and room for a number of them: up to that length it grows without more memory. Its
+/// bytes change by [`Canvas::resize_reserved`] and [`Canvas::write`] alone.
+#[derive(Drop)]
+pub struct Canvas {
+    bytes: Vec<u8>,
+}
+
+impl Model for Canvas {
+    ghost use Rattle.std.specs.Prelude.{vec_capacity};
+    ghost use Rattle.emit_fields.specs.Sheet.{Sheet};
+
+    ghost Value = { Sheet };
+
+    ghost view = { λ c. record { bytes = c.bytes.items; room = vec_capacity c.bytes } };
+}
+
+impl Canvas {
+    /// An empty canvas, which keeps the allocator.
+    pub fn new(alloc: Global) -> Canvas
+        ensures { result ≡ record { bytes = []; room = 0 } }
+    {
+        Canvas {
+            bytes: Vec::new(alloc),
+        }
+    }
+
+    /// How many bytes it has.
+    pub fn len(&self) -> usize
+        ensures len { result ≡ length self.now.bytes }
+        ensures within { result ≤ self.now.room }
+    {
+        self.bytes.len()
+    }
+
+    /// Whether it has no bytes.
+    pub fn is_empty(&self) -> bool
+        ensures { IsTrue result ↔ (self.now.bytes ≡ []) }
+    {
+        self.bytes.is_empty()
+    }
+
+    /// Its bytes.
+    pub fn bytes(&self) -> &[u8]
+        ensures { result.now ≡ self.now.bytes }
+    {
+        &self.bytes
+    }
+
+    /// Makes room for a length of `n`, and no more. A refused call changes nothing, and comes only where the room was
+    /// less.
+    pub fn reserve(&mut self, n: usize) -> Result<(), NoMemory>
+        ensures bytes { self.new.bytes ≡ self.old.bytes }
+        ensures room { OnOk result (n ≤ self.new.room) }
+        ensures exact { OnOk result (self.new.room ≡ max self.old.room n) }
+        ensures kept { self.old.room ≤ self.new.room }
+        ensures refused { OnErr result (self.new ≡ self.old) }
+        ensures only_without_room { OnErr result (self.old.room < n) }
+    {
+        let len = self.bytes.len();
+        if n <= len {
+            return Ok(());
+        }
+        self.bytes.reserve_exact(n - len)
+    }
+
+    /// Sets the length to `n`, which the room must hold: keeps the bytes below it and adds zeros. It takes no
+    /// memory and counts nothing.
+    pub fn resize_reserved(&mut self, n: usize)
+        requires { n ≤ self.old.room }
+        ensures len { length self.new.bytes ≡ n }
+        ensures kept { (o : ℕ) → o < n → o < length self.old.bytes
+            → slice_index self.new.bytes o ≡ slice_index self.old.bytes o }
+        ensures zeros { (o : ℕ) → length self.old.bytes ≤ o → o < n → slice_index self.new.bytes o ≡ 0 }
+        ensures room { self.old.room ≤ self.new.room }
+    {
+        self.bytes.resize(n, 0).unwrap();
+    }
+
+    /// Writes bytes from `at` on, within the length, and changes no others. It takes no memory, and counts
+    /// the bytes that it writes.
+    pub fn write(&mut self, at: usize, bytes: &[u8], meter: &mut Meter)
+        requires { at + length bytes.now ≤ length self.old.bytes }
+        ensures written { (i : ℕ) → i < length bytes.now
+            → slice_index self.new.bytes (at + i) ≡ slice_index bytes.now i }
+        ensures before { (o : ℕ) → o < at → slice_index self.new.bytes o ≡ slice_index self.old.bytes o }
+        ensures after { (o : ℕ) → at + length bytes.now ≤ o
+            → slice_index self.new.bytes o ≡ slice_index self.old.bytes o }
+        ensures len { length self.new.bytes ≡ length self.old.bytes }
+        ensures room { self.new.room ≡ self.old.room }
+        ensures counted { meter.new ≡ raised meter.old Count.Bytes (length bytes.now) }
+    {
+        let len = self.bytes.len();
+        prove!(at <= len);
+        let end = at + bytes.len();
+        self.bytes[at..end].copy_from_slice(bytes);
+        meter.raise(Count::Bytes, bytes.len() as u64);
+    }
+}

@@ -1,0 +1,13 @@
+use Rattle.std.proofs.Common.{◌≡◌, ◌≤◌}
+use Rattle.emit_image.specs.Grown.{Grown}
+use Rattle.emit_image.specs.Reached.{IsReached, place_of, section_image}
+use Rattle.emit_image.proofs.add_section.add_data_before.Given as goal
+
+abbrev pub invariant-loop-k : goal.invariant-loop-k
+invariant-loop-k l = record {
+  reached : IsReached l.x l.now.pieces l.now.data_commands l.now.at;
+  pieces : l.now.pieces ≡ l.fn.cursor.pieces;
+  data_commands : l.now.data_commands ≡ l._k;
+  grown : Grown l.fn.out.items l.out.items (place_of l.x l.fn.cursor.at) (place_of l.x l.now.at) (section_image l.x);
+  up : l.fn.cursor.at ≤ l.now.at;
+}

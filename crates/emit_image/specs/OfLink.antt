@@ -1,0 +1,57 @@
+-- That the parts of a drawing are those of a link.
+use Rattle.std.specs.Prelude.{◌≡◌, ℕ, ◌%◌, ◌<◌, List, length, slice_index, filter, false}
+use Rattle.std.specs.List.{All, AllZip}
+use Rattle.byteorder.specs.Endian.{little_bytes}
+use Rattle.emit_fields.specs.Patches.{patched_byte}
+use Rattle.ldmodel.specs.Image as image
+use Rattle.ldmodel.specs.Image.{fill_byte, part_byte}
+use Rattle.ldmodel.specs.Layout.{Layout, PlacedPiece}
+use Rattle.ldmodel.specs.Layout as layout
+use Rattle.ldmodel.specs.Project.{Project}
+use Rattle.ldmodel.specs.SectionHeaders.{FilePart}
+use Rattle.ldmodel.specs.SectionHeaders as headings
+use Rattle.ldmodel.specs.Segments.{SectionInFile, segments, in_file, has_file_bytes}
+use Rattle.ldmodel.specs.declared.laid.PlacedData.{PlacedData}
+use Rattle.ldscript.specs.statements.Widths.{byte_count}
+use Rattle.emit_image.specs.declared.section.Drawing.{Drawing}
+use Rattle.emit_image.specs.declared.section.ImagePart.{ImagePart}
+use Rattle.emit_image.specs.declared.section.ImagePiece.{ImagePiece}
+use Rattle.emit_image.specs.declared.section.ImageSection.{ImageSection}
+
+-- an input section; of one that stays the bytes are not asked for
+pub record IsImagePiece (p : Project) (s : Layout) (x : PlacedPiece) (y : ImagePiece) : Type 0 where
+  pub start : y.start ≡ x.start
+  pub size : y.size ≡ x.piece.size
+  pub bytes : y.stays ≡ false → (i : ℕ) → i < y.size
+      → patched_byte y.bytes.now y.fields.now i ≡ part_byte p s x.piece.object x.piece.part x.start i
+
+pub record IsImageData (x : layout.PlacedData) (y : PlacedData) : Type 0 where
+  pub start : y.start ≡ x.start
+  pub bytes : little_bytes (byte_count y.width) y.value ≡ x.bytes
+
+-- an output section with file bytes
+pub record IsImageSection (p : Project) (s : Layout) (x : SectionInFile) (y : ImageSection) : Type 0 where
+  pub offset : y.offset ≡ x.offset
+  pub start : y.start ≡ x.section.start
+  pub size : y.size ≡ x.section.size
+  pub fill : (i : ℕ) → slice_index y.fill.now (i % length y.fill.now) ≡ fill_byte x.section.fill i
+  pub pieces : AllZip (IsImagePiece p s) x.section.pieces y.pieces.now
+  pub data_commands : AllZip IsImageData x.section.data_commands y.data_commands.now
+
+pub record IsImagePart (x : FilePart) (y : ImagePart) : Type 0 where
+  pub offset : y.offset ≡ x.offset
+  pub bytes : y.bytes.now ≡ x.bytes
+
+-- the output sections of a layout that have bytes in the file, in their order there
+abbrev pub loaded : Layout → List SectionInFile
+loaded s = filter (λ (x : SectionInFile). has_file_bytes x.section) (in_file (segments s.sections))
+
+pub record IsDrawingOf (p : Project) (s : Layout) (d : Drawing) : Type 0 where
+  pub headers : d.headers.now ≡ image.headers p s
+  pub sections : AllZip (IsImageSection p s) (loaded s) d.sections.now
+  pub tail : AllZip IsImagePart (headings.tail p s) d.tail.now
+
+-- no input section stays
+abbrev pub AreUnstayed : Drawing → Type 0
+AreUnstayed d =
+    All (λ (x : ImageSection). All (λ (y : ImagePiece). y.stays ≡ false) x.pieces.now) d.sections.now

@@ -1,0 +1,80 @@
+//! The image of a link, over what the canvas holds of the image of an earlier one.
+
+ghost use Rattle.std.specs.Prelude.{◌≡◌, ◌≤◌, ◌+◌, ◌-◌, All, OnErr, OnOk};
+ghost use Rattle.elfobj.specs.Raised.{raised};
+ghost use Rattle.elfobj.specs.declared.meter.Count.TheVariants as counts;
+ghost use Rattle.ldmodel_laws.specs.Untouched.{IsGood};
+ghost use Rattle.ldmodel.specs.Image.{image};
+ghost use Rattle.ldmodel.specs.Layout.{Layout};
+ghost use Rattle.ldmodel.specs.Project.{Project};
+ghost use Rattle.ldmodel.specs.SectionHeaders.{image_length};
+ghost use Rattle.ldmodel.specs.Stayed.{GoodLink};
+ghost use Rattle.ldmodel.specs.WorkBound.{bytes_stayed, retargeted_bytes};
+ghost use Rattle.emit_image.specs.Drawing.{IsDrawing, drawing_end, drawing_spot};
+ghost use Rattle.emit_image.specs.Joined.{AreAlike};
+ghost use Rattle.emit_image.specs.Kept.{EachPiece, HasStayed, IsKept, IsRedrawing};
+ghost use Rattle.emit_image.specs.OfLink.{AreUnstayed, IsDrawingOf};
+ghost use Rattle.emit_image.specs.Plan.{count_unstayed};
+ghost use Rattle.emit_image.specs.Stretches.{EndsBy, patch_bytes};
+ghost use Rattle.emit_image.specs.declared.section.Drawing.{Drawing as DrawingOf};
+
+use crate::law::{drawing_is_image, kept_is_image, kept_is_not_drawn, kept_is_what_stayed};
+use crate::plan::plan_image;
+use crate::section::Drawing;
+use elfobj::meter::Meter;
+use emit_fields::canvas::Canvas;
+use emit_fields::patch::Patch;
+use ldmodel::memory::NoMemory;
+use std::alloc::Global;
+
+/// Writes the image that is drawn from these parts onto a canvas: all of it but the bytes that stay. In these only the
+/// patches are written, whose offsets are places in the file. It plans, and then commits: so of the calls of an edit
+/// that may fail it can be the last.
+///
+/// The drawing may have input sections that stay joined: `whole` is a drawing of the same bytes, of which the same stay,
+/// that has each of them. One in which none are joined is its own.
+///
+/// Where nothing stays, the canvas may hold anything before. Where the canvas holds the image of an old link, only
+/// input sections that stayed are kept, and the patches are the fields of their sites whose symbol has another value,
+/// the canvas then holds the image of the new link. Where all input sections that stayed are kept, and no others, as many
+/// bytes are written as the image has outside of them and these fields have.
+///
+/// # Errors
+///
+/// Where memory runs out. Then the canvas is as it was.
+pub fn redraw(
+    alloc: Global,
+    canvas: &mut Canvas,
+    drawing: &Drawing<'_>,
+    patches: &[Patch],
+    meter: &mut Meter,
+) -> Result<(), NoMemory>
+    requires drawing { IsDrawing drawing.now }
+    requires patches { All (EndsBy (drawing_end drawing.now)) patches.now }
+    ensures image { OnOk result ((p : Project) (s : Layout) (whole : DrawingOf) → AreAlike whole drawing.now
+        → AreUnstayed whole → IsDrawingOf p s whole → canvas.new.bytes ≡ image p s) }
+    ensures redrawn { OnOk result ((old new : GoodLink) (whole : DrawingOf) → AreAlike whole drawing.now
+        → IsGood old → IsGood new → IsRedrawing old new whole patches.now
+        → canvas.old.bytes ≡ image old.project old.layout → canvas.new.bytes ≡ image new.project new.layout) }
+    ensures work { OnOk result ((old new : GoodLink) (whole : DrawingOf) → AreAlike whole drawing.now
+        → IsDrawing whole → IsGood new → IsDrawingOf new.project new.layout whole
+        → EachPiece (IsKept old new) new.layout whole → patch_bytes patches.now ≤ retargeted_bytes old new
+        → meter.new.bytes + bytes_stayed old new
+        ≤ meter.old.bytes + (image_length new.project new.layout + retargeted_bytes old new)) }
+    ensures spent { OnOk result ((old new : GoodLink) (whole : DrawingOf) → AreAlike whole drawing.now
+        → IsDrawing whole → IsGood new → IsDrawingOf new.project new.layout whole
+        → EachPiece (IsKept old new) new.layout whole → EachPiece (HasStayed old new) new.layout whole
+        → meter.new ≡ raised meter.old counts.Bytes
+        (patch_bytes patches.now + (image_length new.project new.layout - bytes_stayed old new))) }
+    ensures counted { OnOk result (meter.new ≡ raised meter.old counts.Bytes
+        (patch_bytes patches.now + count_unstayed (drawing_spot drawing.now) (drawing_end drawing.now))) }
+    ensures unchanged { OnErr result (canvas.new.bytes ≡ canvas.old.bytes) }
+{
+    drawing_is_image();
+    kept_is_image();
+    kept_is_not_drawn();
+    kept_is_what_stayed();
+    let plan = plan_image(alloc, canvas, drawing, patches)?;
+    plan.commit(canvas, meter);
+    Ok(())
+}

@@ -1,0 +1,73 @@
+//! The input sections of an output section, as they are drawn. One that stays is joined to the one before it, where that
+//! stays too and no gap lies between: so what stayed together is drawn as one.
+
+ghost use Rattle.std.specs.Prelude.{◌≡◌, ◌+◌, ◌++◌, ◌∷◌, [], IfSome, List, OnOk, false, true};
+ghost use Rattle.emit_image.specs.Joined.{IsKeptAt, StandFor};
+ghost use Rattle.emit_image.specs.declared.section.ImagePiece.{ImagePiece as PieceOf};
+
+use crate::section::ImagePiece;
+use ldmodel::memory::NoMemory;
+
+/// An input section of this number of bytes at an address that stays.
+fn kept<'a>(size: u64, start: u64) -> ImagePiece<'a>
+    ensures { IsKeptAt start size result }
+{
+    ImagePiece {
+        start,
+        size,
+        bytes: &[],
+        fields: &[],
+        stays: true,
+    }
+}
+
+/// How many bytes an input section has together with one of this number of bytes at an address, where it stays and ends
+/// there.
+fn joined_size(last: &ImagePiece<'_>, size: u64, start: u64) -> Option<u64>
+    ensures { IfSome result (λ long. (last.now.stays ≡ true) × (last.now.start + last.now.size ≡ start)
+        × (long ≡ last.now.size + size)) }
+{
+    if !last.stays {
+        return None;
+    }
+    let end = last.start.checked_add(last.size)?;
+    if end != start {
+        return None;
+    }
+    last.size.checked_add(size)
+}
+
+/// Adds an input section of this number of bytes at an address, which stays: to the last one, where it can be joined to
+/// it.
+///
+/// # Errors
+///
+/// Where memory runs out.
+pub fn add_kept<'a>(row: &mut Vec<ImagePiece<'a>>, size: u64, start: u64) -> Result<(), NoMemory>
+    ensures { OnOk result ((whole : List PieceOf) → StandFor whole row.old.items
+        → (x : PieceOf) × IsKeptAt start size x × StandFor (whole ++ x ∷ []) row.new.items) }
+{
+    let count = row.len();
+    if count > 0 {
+        let last = row[count - 1];
+        if let Some(size) = joined_size(&last, size, start) {
+            row[count - 1] = ImagePiece { size, ..last };
+            return Ok(());
+        }
+    }
+    row.push(kept(size, start))?;
+    Ok(())
+}
+
+/// Adds an input section that does not stay.
+///
+/// # Errors
+///
+/// Where memory runs out.
+pub fn add_drawn<'a>(row: &mut Vec<ImagePiece<'a>>, piece: ImagePiece<'a>) -> Result<(), NoMemory>
+    ensures { OnOk result ((whole : List PieceOf) → StandFor whole row.old.items → piece.entry.stays ≡ false
+        → StandFor (whole ++ piece.entry ∷ []) row.new.items) }
+{
+    row.push(piece)?;
+    Ok(())
+}

@@ -1,0 +1,241 @@
+-- What was evaluated of input sections, one after another.
+use Rattle.std.proofs.Common.{◌≡◌, ◌<◌, ◌≤◌, ◌^◌, ℕ, ◌+◌, List, [], ◌∷◌, ◌++◌, length, map, take, Option, Some, None}
+use Rattle.std.proofs.Common.{refl, ap, sym, ◌∙◌, arith, add-one, append-nil, append_assoc, length-append, subst}
+use Rattle.std.proofs.Common.{filter, take-suc}
+use Rattle.std.specs.Prelude.{flat_map, is_some, slice_get}
+use Rattle.std.specs.List.{AllZip, filter_map}
+use Rattle.std.proofs.Math.Seq.{take-length}
+use Rattle.std.proofs.lemmas.Grind.{flat_map-append}
+use Rattle.std.proofs.lemmas.List.{map-append}
+use Rattle.std.proofs.lemmas.Option.{get_or_from_slice_get, slice_get_within}
+use Rattle.elfobj.specs.Object.{ObjectData}
+use Rattle.elfobj.specs.Sections.{LinkedSection}
+use Rattle.elfobj.specs.declared.section.SectionIndex.{SectionIndex}
+use Rattle.emit_fields.specs.declared.patch.Patch.{Patch}
+use Rattle.ldmodel.specs.Counts.{Counts}
+use Rattle.ldmodel.specs.Project.{NamedObject}
+use Rattle.ldmodel.specs.Relocations.{Site}
+use Rattle.ldmodel.specs.Stayed.{GoodLink}
+use Rattle.ldmodel.specs.declared.fault.Fault as code
+use Rattle.ldmodel.specs.declared.names.ObjectPlace.{ObjectPlace}
+use Rattle.ldmodel.specs.declared.sections.Part.TheVariants.{InTable}
+use Rattle.ldmodel.specs.declared.sections.SectionKey.{SectionKey}
+use Rattle.emit_relocate.specs.Changes.{AreChanged, Evaluated, IsEvaluatedAt, IsEvaluatedOf, IsMoved, IsSectionAdded}
+use Rattle.emit_relocate.specs.Changes.{Results, file_patch_at, own_sites, section_key}
+use Rattle.emit_relocate.specs.Earlier.{HasStayedAt, IsKept, has_moved}
+use Rattle.emit_relocate.specs.Fields.{IsCounted, faults_of}
+use Rattle.emit_relocate.specs.Filled.{IsOrder, IsRunAdded, ObjectSection, ends_of, sections_in, sections_of}
+use Rattle.emit_relocate.specs.KnownLink.{KnownLink, named_object}
+use Rattle.emit_relocate.specs.declared.earlier.FileRange.{FileRange}
+use Rattle.emit_relocate.proofs.Added.{counted_more, raise_none}
+use Rattle.emit_relocate.proofs.Filling.{as_many}
+use Rattle.emit_relocate.proofs.Found.{there}
+
+abbrev pub run_of : Evaluated → List Patch
+run_of c = c.run
+
+abbrev pub patches_of : Evaluated → List Patch
+patches_of c = c.patches
+
+abbrev pub sites_of : Evaluated → List Site
+sites_of c = c.sites
+
+pub flat_runs : (cs : List Evaluated) → flat_map (λ run. run) (map run_of cs) ≡ flat_map run_of cs
+flat_runs [] = refl
+flat_runs (c ∷ cs) = ap (λ r. c.run ++ r) (flat_runs cs)
+
+-- a section of an object that is known to have stayed
+pub kept_by : (range : SectionKey → Option FileRange) (key : ObjectPlace) (number : SectionIndex) (r : FileRange)
+    → Some r ≡ range (record { object = key; part = InTable number }) → IsKept range key
+kept_by range key number r e = (InTable number, ap is_some (sym e))
+
+module _ (old : GoodLink) (l : KnownLink) (range : SectionKey → Option FileRange) where
+  module _ (key : ObjectPlace) (o : NamedObject) (x : LinkedSection) (number : SectionIndex)
+      (named : named_object l key ≡ Some o) (is : number ≡ x.number) where
+    abbrev own : ObjectSection
+    own = record { object = o; section = x }
+
+    key_is : record { object = key; part = InTable number } ≡ section_key key own
+    key_is = ap (λ n. record { object = key; part = InTable n }) is
+
+    pub renewed : (f0 f1 : List Patch) (g0 g1 : List code.Fault) (m0 m1 : Counts)
+        → None ≡ range (record { object = key; part = InTable number })
+        → IsRunAdded l (record { object = o; section = x }) f0 f1 g0 g1 m0 m1 → (ps : List Patch)
+        → IsSectionAdded old l range (record { object = o; section = x }) f0 f1 ps ps g0 g1 m0 m1
+    renewed f0 f1 g0 g1 m0 m1 e h ps =
+        let c : Evaluated = record { run = h.run; patches = []; sites = own_sites l own } in
+        record {
+          evaluated = c;
+          is_evaluated = record {
+            key = key;
+            named = named;
+            outcome = subst (λ a. IsEvaluatedAt old l (section_key key own) a own c) (e ∙ ap range key_is)
+                (record { run = h.is_run; patches = refl; sites = refl });
+          };
+          fields = h.fields;
+          patches = sym (append-nil ps);
+          counts = h.counts;
+        }
+
+    pub retained : (r : FileRange) (p0 p1 : List Patch) (g0 g1 : List code.Fault) (m0 m1 : Counts)
+        → Some r ≡ range (record { object = key; part = InTable number })
+        → HasStayedAt old l (record { object = key; part = InTable number }) r
+        → IsMoved old l r (own_sites l (record { object = o; section = x })) p0 p1 g0 g1 m0 m1 → (fs : List Patch)
+        → IsSectionAdded old l range (record { object = o; section = x }) fs fs p0 p1 g0 g1 m0 m1
+    retained r p0 p1 g0 g1 m0 m1 e stays h fs =
+        let ts : List Site = filter (has_moved old l) (own_sites l own) in
+        let c : Evaluated = record { run = []; patches = filter_map (file_patch_at l r) ts; sites = ts } in
+        record {
+          evaluated = c;
+          is_evaluated = record {
+            key = key;
+            named = named;
+            outcome = subst (λ a. IsEvaluatedAt old l (section_key key own) a own c) (e ∙ ap range key_is)
+                (record {
+                  stayed = λ t d. subst (λ k. HasStayedAt old l k r) key_is stays;
+                  run = refl;
+                  patches = refl;
+                  sites = refl;
+                });
+          };
+          fields = sym (append-nil fs);
+          patches = h.patches;
+          counts = h.counts;
+        }
+
+  -- lists of input sections
+
+  pub changed_one : (s : ObjectSection) (a b : Results)
+      → IsSectionAdded old l range s a.fields b.fields a.patches b.patches a.faults b.faults a.counts b.counts
+      → (n : ℕ) → n ≡ length b.fields → b.ends ≡ a.ends ++ n ∷ [] → AreChanged old l range (s ∷ []) a b
+  changed_one s a b h n many e = record {
+    sections = h.evaluated ∷ [];
+    each = (h.is_evaluated, tt);
+    fields = h.fields ∙ ap (λ r. a.fields ++ r) (sym (append-nil h.evaluated.run));
+    ends = e
+        ∙ ap (λ k. a.ends ++ k ∷ []) (many ∙ ap length h.fields ∙ length-append a.fields h.evaluated.run);
+    patches = h.patches ∙ ap (λ r. a.patches ++ r) (sym (append-nil h.evaluated.patches));
+    counts = subst (λ ts. IsCounted l ts a.faults b.faults a.counts b.counts) (sym (append-nil h.evaluated.sites))
+        h.counts;
+  }
+
+  pub changed_none : (a b : Results) → b.fields ≡ a.fields → b.ends ≡ a.ends → b.patches ≡ a.patches
+      → b.faults ≡ a.faults → b.counts ≡ a.counts → a.counts.fields < 2 ^ 64 → AreChanged old l range [] a b
+  changed_none a b fields ends patches faults counts h = record {
+    sections = [];
+    each = tt;
+    fields = fields ∙ sym (append-nil a.fields);
+    ends = ends ∙ sym (append-nil a.ends);
+    patches = patches ∙ sym (append-nil a.patches);
+    counts = record {
+      faults = ap (faults_of l) faults ∙ sym (append-nil (faults_of l a.faults));
+      counted = counts ∙ raise_none a.counts h;
+    };
+  }
+
+  ends_append : (n : ℕ) (a b : List (List Patch)) → ends_of n (a ++ b) ≡ ends_of n a
+      ++ ends_of (n + length (flat_map (λ run. run) a)) b
+  ends_append n [] b = let e : n ≡ n + 0 = omega arith in ap (λ k. ends_of k b) e
+  ends_append n (r ∷ a) b =
+      let e : n + length r + length (flat_map (λ run. run) a) ≡ n + length (r ++ flat_map (λ run. run) a) =
+      omega (arith, length-append r (flat_map (λ run. run) a)) in
+      ap (λ rest. (n + length r) ∷ rest) (ends_append (n + length r) a b
+      ∙ ap (λ k. ends_of (n + length r) a ++ ends_of k b) e)
+
+  zip_append : (a b : List ObjectSection) (r q : List Evaluated) → AllZip (IsEvaluatedOf old l range) a r
+      → AllZip (IsEvaluatedOf old l range) b q → AllZip (IsEvaluatedOf old l range) (a ++ b) (r ++ q)
+  zip_append [] b [] q h k = k
+  zip_append [] b (x ∷ r) q h k = absurd h
+  zip_append (s ∷ a) b [] q h k = absurd h
+  zip_append (s ∷ a) b (x ∷ r) q h k = (h.0, zip_append a b r q h.1 k)
+
+  pub changed_more : (ss ts : List ObjectSection) (a b c : Results) → AreChanged old l range ss a b
+      → AreChanged old l range ts b c → AreChanged old l range (ss ++ ts) a c
+  changed_more ss ts a b c h k = record {
+    sections = h.sections ++ k.sections;
+    each = zip_append ss ts h.sections k.sections h.each k.each;
+    fields = k.fields ∙ ap (λ r. r ++ flat_map run_of k.sections) h.fields
+        ∙ append_assoc a.fields (flat_map run_of h.sections) (flat_map run_of k.sections)
+        ∙ ap (λ r. a.fields ++ r) (sym (flat_map-append run_of h.sections k.sections));
+    ends =
+        let hs : List (List Patch) = map run_of h.sections in
+        let ks : List (List Patch) = map run_of k.sections in
+        let many : length b.fields ≡ length a.fields + length (flat_map (λ run. run) hs) =
+        ap length h.fields ∙ length-append a.fields (flat_map run_of h.sections)
+        ∙ ap (λ r. length a.fields + length r) (sym (flat_runs h.sections)) in
+        k.ends ∙ ap (λ r. r ++ ends_of (length b.fields) ks) h.ends
+        ∙ append_assoc a.ends (ends_of (length a.fields) hs) (ends_of (length b.fields) ks)
+        ∙ ap (λ n. a.ends ++ (ends_of (length a.fields) hs ++ ends_of n ks)) many
+        ∙ ap (λ r. a.ends ++ r) (sym (ends_append (length a.fields) hs ks)
+        ∙ ap (ends_of (length a.fields)) (sym (map-append run_of h.sections k.sections)));
+    patches = k.patches ∙ ap (λ r. r ++ flat_map patches_of k.sections) h.patches
+        ∙ append_assoc a.patches (flat_map patches_of h.sections) (flat_map patches_of k.sections)
+        ∙ ap (λ r. a.patches ++ r) (sym (flat_map-append patches_of h.sections k.sections));
+    counts = subst (λ ts. IsCounted l ts a.faults c.faults a.counts c.counts)
+        (sym (flat_map-append sites_of h.sections k.sections))
+        (counted_more l (flat_map sites_of h.sections) (flat_map sites_of k.sections) a.faults b.faults c.faults
+        a.counts b.counts c.counts h.counts k.counts);
+  }
+
+  module _ (a b c : Results) where
+    -- one section more of an object
+    section_at : (o : NamedObject) (xs : List LinkedSection) (i : ℕ) (m : Option LinkedSection) → slice_get xs i ≡ m
+        → i < length xs → AreChanged old l range (sections_of o (take i xs)) a b
+        → ((x : LinkedSection) → slice_get xs i ≡ Some x
+        → AreChanged old l range (record { object = o; section = x } ∷ []) b c)
+        → AreChanged old l range (sections_of o (take (i + 1) xs)) a c
+    section_at o xs i None is low h k = absurd (there xs i low is)
+    section_at o xs i (Some x) is low h k =
+        let more : take (i + 1) xs ≡ take i xs ++ x ∷ [] =
+        ap (λ n. take n xs) (add-one i) ∙ take-suc xs i x low
+        ∙ ap (λ y. take i xs ++ y ∷ []) (get_or_from_slice_get xs i x x is) in
+        let both : sections_of o (take (i + 1) xs) ≡ sections_of o (take i xs)
+        ++ record { object = o; section = x } ∷ [] =
+        ap (sections_of o) more ∙ map-append (λ y. record { object = o; section = y }) (take i xs) (x ∷ []) in
+        rw both (changed_more (sections_of o (take i xs)) (record { object = o; section = x } ∷ []) a b c h (k x is))
+
+    pub next_section : (o : NamedObject) (xs : List LinkedSection) (i : ℕ) → i < length xs
+        → AreChanged old l range (sections_of o (take i xs)) a b
+        → ((x : LinkedSection) → slice_get xs i ≡ Some x
+        → AreChanged old l range (record { object = o; section = x } ∷ []) b c)
+        → AreChanged old l range (sections_of o (take (i + 1) xs)) a c
+    next_section o xs i low h k = section_at o xs i (slice_get xs i) refl low h k
+
+    -- one object more
+    pub object_at : (os : List NamedObject) (i : ℕ) (o : NamedObject) → slice_get os i ≡ Some o
+        → AreChanged old l range (sections_in (take i os)) a b
+        → AreChanged old l range (sections_of o o.object.sections) b c
+        → AreChanged old l range (sections_in (take (i + 1) os)) a c
+    object_at os i o is h k =
+        let low : i < length os = slice_get_within os i o is in
+        let more : take (i + 1) os ≡ take i os ++ o ∷ [] =
+        ap (λ n. take n os) (add-one i) ∙ take-suc os i o low
+        ∙ ap (λ y. take i os ++ y ∷ []) (get_or_from_slice_get os i o o is) in
+        let both : sections_in (take (i + 1) os) ≡ sections_in (take i os) ++ sections_of o o.object.sections =
+        ap sections_in more ∙ flat_map-append (λ (y : NamedObject). sections_of y y.object.sections) (take i os)
+        (o ∷ [])
+        ∙ ap (λ r. sections_in (take i os) ++ r) (append-nil (sections_of o o.object.sections)) in
+        rw both (changed_more (sections_in (take i os)) (sections_of o o.object.sections) a b c h k)
+
+  pub whole_object : (o : NamedObject) (xs : List LinkedSection) (i : ℕ) → length xs ≤ i → i ≤ length xs
+      → (a b : Results) → AreChanged old l range (sections_of o (take i xs)) a b
+      → AreChanged old l range (sections_of o xs) a b
+  whole_object o xs i low high a b h =
+      let e : i ≡ length xs = omega arith in
+      subst (λ ys. AreChanged old l range (sections_of o ys) a b) (ap (λ n. take n xs) e ∙ take-length xs) h
+
+  -- all objects
+  pub whole_link : (keys : List ObjectPlace) (i : ℕ) → IsOrder l keys → length keys ≤ i → i ≤ length keys
+      → (a b : Results) → AreChanged old l range (sections_in (take i l.project.objects)) a b
+      → AreChanged old l range (sections_in l.project.objects) a b
+  whole_link keys i order low high a b h =
+      let many = as_many l keys order in
+      let e : i ≡ length l.project.objects = omega (arith, many) in
+      subst (λ os. AreChanged old l range (sections_in os) a b) (ap (λ n. take n l.project.objects) e
+      ∙ take-length l.project.objects) h
+
+  pub of_read : (o : NamedObject) (read : ObjectData) → o.object ≡ read → (a b : Results)
+      → AreChanged old l range (sections_of o read.sections) a b
+      → AreChanged old l range (sections_of o o.object.sections) a b
+  of_read o read same a b h =
+      subst (λ (r : ObjectData). AreChanged old l range (sections_of o r.sections) a b) (sym same) h

@@ -1,0 +1,201 @@
+-- Sites of sections that stayed, of which those are evaluated whose symbol has another value.
+use Rattle.std.proofs.Common.{◌≡◌, ◌<◌, ◌≤◌, ◌^◌, ℕ, ◌+◌, List, [], ◌∷◌, ◌++◌, length, map, filter, take, get_or, false}
+use Rattle.std.proofs.Common.{true, Option, Some, None, Ok, Err, not, refl, ap, sym, ◌∙◌, arith, append_assoc}
+use Rattle.std.proofs.Common.{append-nil, subst}
+use Rattle.std.proofs.Math.Seq.{take-length}
+use Rattle.std.specs.Prelude.{option_to_list}
+use Rattle.std.specs.List.{cons_option, filter_map}
+use Rattle.std.specs.Option.{option_and_then, option_map_or}
+use Rattle.std.proofs.lemmas.Bool.{eq-eqb}
+use Rattle.std.proofs.lemmas.List.{map-append}
+use Rattle.std.proofs.lemmas.List.Elements.{filter-append, filter_map-append}
+use Rattle.elfobj.specs.Sections.{LinkedSection}
+use Rattle.elfobj.specs.declared.relocation.Relocation.{Relocation}
+use Rattle.elfobj.specs.declared.section.SectionIndex.{SectionIndex}
+use Rattle.emit_fields.specs.declared.patch.Patch.{Patch}
+use Rattle.ldmodel.specs.Counts.{Counts}
+use Rattle.ldmodel.specs.FaultCode.{fault_of}
+use Rattle.ldmodel.specs.Layout.{PlacedPiece}
+use Rattle.ldmodel.specs.Project.{NamedObject}
+use Rattle.ldmodel.specs.Raised.{raised}
+use Rattle.ldmodel.specs.Relocations.{Site, is_evaluated, site_field, site_value, sites_at}
+use Rattle.ldmodel.specs.Stayed.{GoodLink}
+use Rattle.ldmodel.specs.SymbolValues.{SymbolValue, Number, NotDefined, NotInOutput, placed_part}
+use Rattle.ldmodel.specs.declared.fault.Fault as code
+use Rattle.ldmodel.specs.declared.names.ObjectPlace.{ObjectPlace}
+use Rattle.ldmodel.specs.declared.sections.Part.TheVariants.{InTable}
+use Rattle.elfobj.specs.declared.meter.Count.TheVariants as count
+use Rattle.emit_relocate.specs.Changes.{IsMoved, file_patch_at, in_file, own_sites}
+use Rattle.emit_relocate.specs.Earlier.{HasSameValues, has_moved, is_same_value}
+use Rattle.emit_relocate.specs.Fields.{IsCounted, evaluations, faults_of, field_at, sites_among}
+use Rattle.emit_relocate.specs.KnownLink.{KnownLink, named_object, start_of}
+use Rattle.emit_relocate.specs.declared.earlier.FileRange.{FileRange}
+use Rattle.emit_relocate.proofs.Added.{among_more, counted_more, tried_nothing}
+use Rattle.emit_relocate.proofs.Filling.{none_in, start_in, start_is}
+
+-- a value is the same as itself
+same_self : (v : SymbolValue) → is_same_value v v ≡ true
+same_self (Number a) = eq-eqb a a refl
+same_self NotDefined = refl
+same_self NotInOutput = refl
+
+as_list : (m : Option Patch) → cons_option m [] ≡ option_to_list m
+as_list None = refl
+as_list (Some q) = refl
+
+module _ (old : GoodLink) (l : KnownLink) where
+  pub unmoved : (t : Site) → site_value old.project old.layout t ≡ site_value l.project l.layout t
+      → has_moved old l t ≡ false
+  unmoved t e =
+      ap (λ v. not (is_same_value v (site_value l.project l.layout t))) e
+      ∙ ap not (same_self (site_value l.project l.layout t))
+
+  module _ (r : FileRange) where
+    -- by the list of those that were evaluated
+    moved_by : (ts fs : List Site) (p0 p1 : List Patch) (g0 g1 : List code.Fault) (m0 m1 : Counts)
+        → filter (has_moved old l) ts ≡ fs → p1 ≡ p0 ++ filter_map (file_patch_at l r) fs
+        → IsCounted l fs g0 g1 m0 m1 → IsMoved old l r ts p0 p1 g0 g1 m0 m1
+    moved_by ts fs p0 p1 g0 g1 m0 m1 e patches counts = record {
+      patches = patches ∙ ap (λ xs. p0 ++ filter_map (file_patch_at l r) xs) (sym e);
+      counts = subst (λ xs. IsCounted l xs g0 g1 m0 m1) (sym e) counts;
+    }
+
+    -- nothing was evaluated
+    pub moved_nothing : (ps : List Patch) (gs : List code.Fault) (m : Counts) → m.fields < 2 ^ 64
+        → IsMoved old l r [] ps ps gs gs m m
+    moved_nothing ps gs m h = record {
+      patches = sym (append-nil ps);
+      counts = (tried_nothing l ps gs m h).counts;
+    }
+
+    pub moved_none : (o : NamedObject) (x : LinkedSection) (start : ℕ) (a : Relocation) (ps : List Patch)
+        (gs : List code.Fault) (m : Counts) → is_evaluated a.kind ≡ false → m.fields < 2 ^ 64
+        → IsMoved old l r (sites_among o x start (a ∷ [])) ps ps gs gs m m
+    moved_none o x start a ps gs m e h = rw e (moved_nothing ps gs m h)
+
+    module _ (o : NamedObject) (x : LinkedSection) (start : ℕ) (a : Relocation) (own : is_evaluated a.kind ≡ true) where
+      abbrev site : Site
+      site = record { object = o; section = x; start = start; relocation = a }
+
+      pub moved_same : (ps : List Patch) (gs : List code.Fault) (m : Counts) → has_moved old l site ≡ false
+          → m.fields < 2 ^ 64 → IsMoved old l r (sites_among o x start (a ∷ [])) ps ps gs gs m m
+      moved_same ps gs m e h =
+          let none = moved_nothing ps gs m h in
+          rw own (moved_by (site ∷ []) [] ps ps gs gs m m (rw e refl) none.patches none.counts)
+
+      module _ (differs : has_moved old l site ≡ true) where
+        pub moved_field : (ps qs : List Patch) (q : Patch) (gs : List code.Fault) (m0 m1 : Counts)
+            → site_field l.project l.layout site ≡ Ok q.field → q.offset ≡ a.offset
+            → qs ≡ ps ++ option_to_list (in_file r q) → m1 ≡ raised m0 count.Fields (evaluations l (site ∷ []))
+            → IsMoved old l r (sites_among o x start (a ∷ [])) ps qs gs gs m0 m1
+        moved_field ps qs q gs m0 m1 is at e n = rw own
+            (moved_by (site ∷ []) (site ∷ []) ps qs gs gs m0 m1 (rw differs refl) patches
+            (record { faults = rw is (sym (append-nil (faults_of l gs))); counted = n }))
+          where
+            placed : field_at l site ≡ Some q
+            placed = rw is (ap (λ k. Some (record { offset = k; field = q.field })) (sym at))
+
+            patches : qs ≡ ps ++ filter_map (file_patch_at l r) (site ∷ [])
+            patches =
+                e
+                ∙ ap (λ ms. ps ++ ms)
+                (sym (as_list (in_file r q)) ∙ sym (ap (λ b. cons_option (option_and_then (in_file r) b) []) placed))
+
+        pub moved_fault : (ps : List Patch) (f : code.Fault) (gs hs : List code.Fault) (m0 m1 : Counts)
+            → site_field l.project l.layout site ≡ Err (fault_of l.project l.number f) → hs ≡ gs ++ f ∷ []
+            → m1 ≡ raised m0 count.Fields (evaluations l (site ∷ []))
+            → IsMoved old l r (sites_among o x start (a ∷ [])) ps ps gs hs m0 m1
+        moved_fault ps f gs hs m0 m1 is e n = rw own
+            (moved_by (site ∷ []) (site ∷ []) ps ps gs hs m0 m1 (rw differs refl) (rw is (sym (append-nil ps)))
+            (record {
+              faults = rw is (ap (faults_of l) e ∙ map-append (fault_of l.project l.number) gs (f ∷ []));
+              counted = n;
+            }))
+
+    -- first some sites, then others
+    pub moved_more : (a b : List Site) (p0 p1 p2 : List Patch) (g0 g1 g2 : List code.Fault) (m0 m1 m2 : Counts)
+        → IsMoved old l r a p0 p1 g0 g1 m0 m1 → IsMoved old l r b p1 p2 g1 g2 m1 m2
+        → IsMoved old l r (a ++ b) p0 p2 g0 g2 m0 m2
+    moved_more a b p0 p1 p2 g0 g1 g2 m0 m1 m2 h k =
+        let first : List Site = filter (has_moved old l) a in
+        let second : List Site = filter (has_moved old l) b in
+        moved_by (a ++ b) (first ++ second) p0 p2 g0 g2 m0 m2 (filter-append (has_moved old l) a b)
+        (k.patches ∙ ap (λ ps. ps ++ filter_map (file_patch_at l r) second) h.patches
+        ∙ append_assoc p0 (filter_map (file_patch_at l r) first) (filter_map (file_patch_at l r) second)
+        ∙ ap (λ ps. p0 ++ ps) (sym (filter_map-append (file_patch_at l r) first second)))
+        (counted_more l first second g0 g1 g2 m0 m1 m2 h.counts k.counts)
+
+    module _ (o : NamedObject) (x : LinkedSection) (start : ℕ) (rs : List Relocation) (i : ℕ) where
+      pub moved_next : (d : Relocation) → i < length rs
+          → (p0 p1 p2 : List Patch) (g0 g1 g2 : List code.Fault) (m0 m1 m2 : Counts)
+          → IsMoved old l r (sites_among o x start (take i rs)) p0 p1 g0 g1 m0 m1
+          → IsMoved old l r (sites_among o x start (get_or rs i d ∷ [])) p1 p2 g1 g2 m1 m2
+          → IsMoved old l r (sites_among o x start (take (i + 1) rs)) p0 p2 g0 g2 m0 m2
+      moved_next d low p0 p1 p2 g0 g1 g2 m0 m1 m2 h k =
+          rw (among_more o x start rs i d low)
+          (moved_more (sites_among o x start (take i rs)) (sites_among o x start (get_or rs i d ∷ [])) p0 p1 p2 g0 g1
+          g2 m0 m1 m2 h k)
+
+      pub moved_all : length rs ≤ i → i ≤ length rs → (p0 p1 : List Patch) (g0 g1 : List code.Fault) (m0 m1 : Counts)
+          → IsMoved old l r (sites_among o x start (take i rs)) p0 p1 g0 g1 m0 m1
+          → IsMoved old l r (sites_among o x start rs) p0 p1 g0 g1 m0 m1
+      moved_all low high p0 p1 g0 g1 m0 m1 h =
+          let e : i ≡ length rs = omega arith in
+          subst (λ ys. IsMoved old l r (sites_among o x start ys) p0 p1 g0 g1 m0 m1) (ap (λ n. take n rs) e
+          ∙ take-length rs) h
+
+  -- an object whose symbols are all worth what they were
+  module _ (key : ObjectPlace) (o : NamedObject) (named : named_object l key ≡ Some o) (same : HasSameValues old l key)
+    where
+      none_of : (x : LinkedSection) (start : ℕ) (rs : List Relocation)
+          → filter (has_moved old l) (map (λ a. record { object = o; section = x; start = start; relocation = a }) rs)
+          ≡ []
+      none_of x start [] = refl
+      none_of x start (a ∷ rs) =
+          let t : Site = record { object = o; section = x; start = start; relocation = a } in
+          let e : has_moved old l t ≡ false = unmoved t (same t named) in
+          rw e (none_of x start rs)
+
+      none_at : (x : LinkedSection) (a : Option PlacedPiece)
+          → filter (has_moved old l) (option_map_or (λ (y : PlacedPiece). sites_at o x y.start) a []) ≡ []
+      none_at x None = refl
+      none_at x (Some y) = none_of x y.start (filter (λ (r : Relocation). is_evaluated r.kind) x.relocations)
+
+      pub moved_in_none : (r : FileRange) (x : LinkedSection) (ps : List Patch) (gs : List code.Fault) (m : Counts)
+          → m.fields < 2 ^ 64 → IsMoved old l r (own_sites l (record { object = o; section = x })) ps ps gs gs m m
+      moved_in_none r x ps gs m h =
+          let none = moved_nothing r ps gs m h in
+          moved_by r (own_sites l (record { object = o; section = x })) [] ps ps gs gs m m
+          (none_at x (placed_part l.layout o.name (InTable x.number))) none.patches none.counts
+
+  -- a section by where it starts, if it is in the output
+  module _ (r : FileRange) (key : ObjectPlace) (o : NamedObject) (x : LinkedSection) (number : SectionIndex)
+      (named : named_object l key ≡ Some o) (is : number ≡ x.number) where
+    abbrev placed : Option PlacedPiece
+    placed = placed_part l.layout o.name (InTable x.number)
+
+    abbrev sites_in : Option PlacedPiece → List Site
+    sites_in a = option_map_or (λ (y : PlacedPiece). sites_at o x y.start) a []
+
+    pub moved_unplaced : None ≡ start_of l (record { object = key; part = InTable number })
+        → (ps : List Patch) (gs : List code.Fault) (m : Counts) → m.fields < 2 ^ 64
+        → IsMoved old l r (own_sites l (record { object = o; section = x })) ps ps gs gs m m
+    moved_unplaced e ps gs m h =
+        let gone : placed ≡ None = none_in placed (e ∙ start_is l key o x number named is) in
+        subst (λ a. IsMoved old l r (sites_in a) ps ps gs gs m m) (sym gone) (moved_nothing r ps gs m h)
+
+    module _ (start : ℕ) (p0 p1 : List Patch) (g0 g1 : List code.Fault) (m0 m1 : Counts) where
+      moved_at : (a : Option PlacedPiece) → placed ≡ a → Some start ≡ start_in a
+          → ((y : PlacedPiece) → placed ≡ Some y → y.start ≡ start
+          → IsMoved old l r (sites_at o x start) p0 p1 g0 g1 m0 m1)
+          → IsMoved old l r (sites_in a) p0 p1 g0 g1 m0 m1
+      moved_at None p e k = cc
+      moved_at (Some y) p e k =
+          let same : start ≡ y.start = cc in
+          subst (λ n. IsMoved old l r (sites_at o x n) p0 p1 g0 g1 m0 m1) same (k y p (sym same))
+
+      pub moved_placed : Some start ≡ start_of l (record { object = key; part = InTable number })
+          → ((y : PlacedPiece) → placed_part l.layout o.name (InTable x.number) ≡ Some y → y.start ≡ start
+          → IsMoved old l r (sites_at o x start) p0 p1 g0 g1 m0 m1)
+          → IsMoved old l r (own_sites l (record { object = o; section = x })) p0 p1 g0 g1 m0 m1
+      moved_placed e k = moved_at placed refl (e ∙ start_is l key o x number named is) k

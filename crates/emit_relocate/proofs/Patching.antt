@@ -1,0 +1,323 @@
+-- Patches of input sections that stayed.
+use Rattle.std.proofs.Common.{◌≡◌, ◌<◌, ◌≤◌, ◌+◌, ◌-◌, ℕ, Bool, true, false, not, ◌&&◌, List, [], ◌∷◌, ◌++◌, length}
+use Rattle.std.proofs.Common.{map, filter, flat_map, Option, None, Some, Result, Ok, Err, refl, sym, ap, ◌∙◌, subst}
+use Rattle.std.proofs.Common.{arith, cond, nat_le, ◌==◌}
+use Rattle.std.specs.List.{All, AllZip, Contains}
+use Rattle.std.specs.List.Sorted.{IsPermutation}
+use Rattle.std.specs.Option.{option_and_then}
+use Rattle.std.proofs.lemmas.Bool.{eq-eqb}
+use Rattle.std.proofs.lemmas.Bool.Decides.{nat_tests}
+use Rattle.std.proofs.lemmas.List.Elements.{All-contains, All-contains_itself, All-weaker, filter-append}
+use Rattle.std.proofs.lemmas.List.Sorted.{Contains-permutation, IsPermutation-sym, IsPermutation-trans}
+use Rattle.elfobj.specs.Profile.{HasRelocationsOfProfile, IsRelocationOfProfile}
+use Rattle.elfobj.specs.RelocationKinds.{width}
+use Rattle.elfobj.specs.Sections.{LinkedSection}
+use Rattle.emit_fields.specs.declared.patch.Patch.{Patch}
+use Rattle.ldmodel.specs.Fault.{Fault}
+use Rattle.ldmodel.specs.Layout.{Layout, PlacedPiece, PlacedSection}
+use Rattle.ldmodel.specs.Project.{NamedObject, Project}
+use Rattle.ldmodel.specs.Relocations.{Site, patch_of, site_field, sites}
+use Rattle.ldmodel.specs.Segments.{file_offset, has_file_bytes, segments}
+use Rattle.ldmodel.specs.Stayed.{FileRange as FileBytes, GoodLink, LinkedPiece, has_stayed, is_moved, linked_piece}
+use Rattle.ldmodel.specs.Stayed.{linked_pieces, pieces_in, retargeted, sites_in, stayed, value_in}
+use Rattle.ldmodel.specs.SymbolValues.{number_or_0}
+use Rattle.ldmodel.specs.declared.sections.SectionKey.{SectionKey}
+use Rattle.ldmodel_laws.specs.StayedSites.{has_part_stayed}
+use Rattle.emit_relocate.specs.Changes.{AreChanged, Evaluated, IsEvaluatedAt, IsEvaluatedOf, Results, file_patch_at}
+use Rattle.emit_relocate.specs.Changes.{in_file, own_sites, section_key}
+use Rattle.emit_relocate.specs.Earlier.{IsComplete, good_link, has_moved, range_of}
+use Rattle.emit_relocate.specs.Filled.{ObjectSection, sections_in}
+use Rattle.emit_relocate.specs.KnownLink.{KnownLink}
+use Rattle.emit_relocate.specs.Patched.{AreAllPatched, AreFew, AreOfProfile, AreSized, IsPatchOfSite, file_patch}
+use Rattle.emit_relocate.specs.declared.earlier.FileRange.{FileRange}
+use Rattle.emit_relocate.proofs.Changing.{patches_of}
+use Rattle.emit_relocate.proofs.Fewer.{Some_of, both_of, given_of, none_of}
+use Rattle.emit_relocate.proofs.Lists.{filter_in, filter_nothing, filter_where, given_in, here, in_filter, in_given}
+use Rattle.emit_relocate.proofs.Lists.{in_joined, in_mapped, joined_in, later, none_in_nil, partner_in, partner_of}
+use Rattle.emit_relocate.proofs.Settling.{Home, all_sites, belongs, home, keyed, lies, lies_as, own, same_where}
+
+-- a field that stands in its place in the file
+record Stands (r : FileRange) (t : Site) (f : List ℕ) (q : Patch) : Type 0 where
+  is : q ≡ record { offset = r.offset + t.relocation.offset; field = f }
+  fits : t.relocation.offset + length f ≤ r.length
+
+stands : (r : FileRange) (t : Site) (f : List ℕ) (q : Patch)
+    → in_file r (record { offset = t.relocation.offset; field = f }) ≡ Some q → Stands r t f q
+stands r t f q e = go (nat_le (t.relocation.offset + length f) r.length) refl e
+  where
+    go : (b : Bool) → nat_le (t.relocation.offset + length f) r.length ≡ b
+        → cond b (Some (record { offset = r.offset + t.relocation.offset; field = f })) None ≡ Some q → Stands r t f q
+    go true k h = record { is = cc; fits = grind (arith, nat_tests) }
+    go false k h = cc
+
+-- a site with a patch has a field
+record Patched (l : KnownLink) (r : FileRange) (t : Site) (q : Patch) : Type 0 where
+  field : List ℕ
+  is_field : site_field l.project l.layout t ≡ Ok field
+  stands_at : Stands r t field q
+
+patched : (l : KnownLink) (r : FileRange) (t : Site) (q : Patch) → file_patch_at l r t ≡ Some q → Patched l r t q
+patched l r t q e = go (site_field l.project l.layout t) refl e
+  where
+    go : (a : Result (List ℕ) Fault) → site_field l.project l.layout t ≡ a
+        → option_and_then (in_file r) (patch_of t a) ≡ Some q → Patched l r t q
+    go (Ok f) k h = record { field = f; is_field = k; stands_at = stands r t f q h }
+    go (Err f) k h = cc
+
+module _ (l : KnownLink) where
+  -- of an object and a section of the project
+  record Member (s : ObjectSection) : Type 0 where
+    object : Contains l.project.objects s.object
+    section : Contains s.object.object.sections s.section
+
+  member : (s : ObjectSection) → Contains (sections_in l.project.objects) s → Member s
+  member s c =
+      let found = in_joined (λ (o : NamedObject). map (λ x. record { object = o; section = x }) o.object.sections)
+      l.project.objects s c in
+      let mapped = in_mapped (λ (x : LinkedSection). record { object = found.origin; section = x })
+      found.origin.object.sections s found.gives in
+      let object : found.origin ≡ s.object = ap (λ (z : ObjectSection). z.object) mapped.gives in
+      let section : mapped.source ≡ s.section = ap (λ (z : ObjectSection). z.section) mapped.gives in
+      record {
+        object = subst (λ o. Contains l.project.objects o) object found.among;
+        section = subst (λ x. Contains s.object.object.sections x) section
+            (subst (λ (o : NamedObject). Contains o.object.sections mapped.source) object mapped.among);
+      }
+
+  module _ (old : GoodLink) (profile : AreOfProfile l.project) where
+    own_profile : (s : ObjectSection) → Contains (sections_in l.project.objects) s → (t : Site)
+        → Contains (own_sites l s) t → HasRelocationsOfProfile (length s.object.object.symbols) t.section
+    own_profile s c t d =
+        let m = member s c in
+        subst (λ x. HasRelocationsOfProfile (length s.object.object.symbols) x) (sym (own old l s t d).section)
+        (profile s.object s.section m.object m.section)
+
+module _ (old : GoodLink) (l : KnownLink) (range : SectionKey → Option FileRange)
+    (by_piece : IsPermutation (sites l.project l.layout)
+    (flat_map (sites_in l.project) (linked_pieces l.project l.layout)))
+    (both : (x : LinkedPiece) → Contains (pieces_in (good_link l)) x → has_stayed old x ≡ true
+    → Contains (stayed old (good_link l)) x) (profile : AreOfProfile l.project) where
+  inside : (s : ObjectSection) (t : Site) → Contains (sections_in l.project.objects) s → Contains (own_sites l s) t
+      → Contains (sites l.project l.layout) t
+  inside s t c d =
+      subst (λ ts. Contains ts t) (all_sites l) (joined_in (own_sites l) (sections_in l.project.objects) s t c d)
+
+  patch_at : (s : ObjectSection) (c : Evaluated) (r : Option FileRange) (h : IsEvaluatedOf old l range s c)
+      → IsEvaluatedAt old l (section_key h.key s) r s c → Contains (sections_in l.project.objects) s → (q : Patch)
+      → Contains c.patches q → IsPatchOfSite old (good_link l) q
+  patch_at s c None h k among q d = absurd (none_in_nil q (subst (λ qs. Contains qs q) k.patches d))
+  patch_at s c (Some r) h k among q d =
+      let given = in_given (file_patch_at l r) c.sites q (subst (λ qs. Contains qs q) k.patches d) in
+      let t : Site = given.giver in
+      let kept = in_filter (has_moved old l) (own_sites l s) t (subst (λ ts. Contains ts t) k.sites given.among) in
+      let at : Home old l t = home old l by_piece t (inside s t among kept.0) in
+      let stays = k.stayed t kept.0 at.piece (keyed old l s h.key h.named t kept.0 at) in
+      let p = patched l r t q given.gives in
+      let offset : at.piece.range.offset ≡ r.offset = ap (λ a. a.offset) stays.1 in
+      let long : at.piece.range.length ≡ r.length = ap (λ a. a.length) stays.1 in
+      let field : q.field ≡ p.field = ap (λ (x : Patch). x.field) p.stands_at.is in
+      let place : q.offset ≡ r.offset + t.relocation.offset = ap (λ (x : Patch). x.offset) p.stands_at.is in
+      let fits = p.stands_at.fits in
+      record {
+        piece = at.piece;
+        site = t;
+        among_stayed = both at.piece at.among stays.0;
+        among = at.within;
+        apart = (own_profile l old profile s among t kept.0).apart;
+        is_field = p.is_field ∙ ap Ok (sym field);
+        place = p.stands_at.is
+            ∙ ap (λ n. record { offset = n + t.relocation.offset; field = p.field }) (sym offset)
+            ∙ ap (λ f. file_patch at.piece t f) (sym field);
+        inside = omega (arith, place, fits, offset, long, ap length field);
+      }
+
+  pub each_patch : (a b : Results) → a.patches ≡ [] → AreChanged old l range (sections_in l.project.objects) a b
+      → All (IsPatchOfSite old (good_link l)) b.patches
+  each_patch a b none h =
+      All-weaker (Contains b.patches) (IsPatchOfSite old (good_link l)) (λ q d.
+      let found = in_joined patches_of h.sections q
+      (subst (λ qs. Contains qs q) (h.patches ∙ ap (λ qs. qs ++ flat_map patches_of h.sections) none) d) in
+      let s = partner_of (IsEvaluatedOf old l range) (sections_in l.project.objects) h.sections found.origin h.each
+      found.among in
+      patch_at s.partner found.origin (range (section_key s.related.key s.partner)) s.related s.related.outcome s.among
+      q found.gives) b.patches (All-contains_itself b.patches)
+
+-- ---- where all that stayed is known to have stayed
+
+-- an input section with bytes in the file has as many as its size
+range_whole : (p : Project) (s : Layout) (x : LinkedPiece) → Contains (linked_pieces p s) x → 0 < x.range.length
+    → x.range.length ≡ x.size
+unfolding linked_pieces
+range_whole p s x c some =
+    let found = in_joined (λ (q : PlacedSection). map (linked_piece p (segments s.sections) q) q.pieces) s.sections x c
+    in
+    let mapped = in_mapped (linked_piece p (segments s.sections) found.origin) found.origin.pieces x found.gives in
+    whole found.origin mapped.source
+    (has_file_bytes found.origin && not (mapped.source.piece.size == 0))
+    (ap (λ (y : LinkedPiece). y.range.length) mapped.gives) (ap (λ (y : LinkedPiece). y.size) mapped.gives)
+  where
+    whole : (q : PlacedSection) (z : PlacedPiece) (b : Bool)
+        → (cond {A = FileBytes} b
+        (record { offset = file_offset (segments s.sections) q + (z.start - q.start); length = z.piece.size })
+        (record { offset = 0; length = 0 })).length ≡ x.range.length
+        → z.piece.size ≡ x.size → x.range.length ≡ x.size
+    whole q z true e f = sym e ∙ f
+    whole q z false e f = absurd (omega (arith, some, e))
+
+-- a site whose symbol has another number has another value
+moved_of : (old : GoodLink) (l : KnownLink) (t : Site) → is_moved old (good_link l) t ≡ true → has_moved old l t ≡ true
+moved_of old l t e = go (has_moved old l t) refl
+  where
+    go : (b : Bool) → has_moved old l t ≡ b → b ≡ true
+    go true k = refl
+    go false k =
+        let same : value_in old t ≡ value_in (good_link l) t = ap number_or_0 ((same_where old l t).0 k) in
+        let none : is_moved old (good_link l) t ≡ false =
+        ap not (eq-eqb (value_in old t) (value_in (good_link l) t) same) in
+        cc
+
+among_moved : (old new : GoodLink) (t : Site) → Contains (retargeted old new) t → is_moved old new t ≡ true
+unfolding retargeted
+among_moved old new t c = (in_filter (is_moved old new) (flat_map (sites_in new.project) (stayed old new)) t c).1
+
+abbrev pub HasWidth : Site → Patch → Type 0
+HasWidth t q = length q.field ≡ width t.relocation.kind
+
+module _ (old : GoodLink) (l : KnownLink) (range : SectionKey → Option FileRange) (complete : IsComplete range old l)
+    (by_piece : IsPermutation (sites l.project l.layout)
+    (flat_map (sites_in l.project) (linked_pieces l.project l.layout)))
+    (wide : (x : LinkedPiece) (t : Site) (field : List ℕ) → Contains (sites_in l.project x) t
+    → site_field l.project l.layout t ≡ Ok field → length field ≡ width t.relocation.kind) where
+  module _ (of_stayed : (x : LinkedPiece) → Contains (stayed old (good_link l)) x
+      → Contains (pieces_in (good_link l)) x × (has_stayed old x ≡ true)) (profile : AreOfProfile l.project)
+      (sized : AreSized (good_link l)) where
+    module _ (x : LinkedPiece) (t : Site) (f : List ℕ) (stays : Contains (stayed old (good_link l)) x)
+        (some : 0 < x.range.length) (within : Contains (sites_in l.project x) t) (moved : has_moved old l t ≡ true)
+        (is : site_field l.project l.layout t ≡ Ok f) where
+      abbrev home_is : Home old l t
+      home_is = record {
+        piece = x;
+        among = (of_stayed x stays).0;
+        within = within;
+        belongs_to = belongs l.project x t within;
+      }
+
+      gives : (r : FileRange) → x.range ≡ range_of r → t.relocation.offset + length f ≤ r.length
+          → file_patch_at l r t ≡ Some (file_patch x t f)
+      gives r e fits =
+          let passes : nat_le (t.relocation.offset + length f) r.length ≡ true = grind (arith, nat_tests) in
+          ap (λ a. option_and_then (in_file r) (patch_of t a)) is
+          ∙ ap (λ b. cond b (Some (record { offset = r.offset + t.relocation.offset; field = f })) None) passes
+          ∙ ap (λ a. Some (record { offset = a.offset + t.relocation.offset; field = f })) (sym e)
+
+      all_at : (s : ObjectSection) (c : Evaluated) (r : Option FileRange) (h : IsEvaluatedOf old l range s c)
+          → range (section_key h.key s) ≡ r → IsEvaluatedAt old l (section_key h.key s) r s c
+          → Contains (sections_in l.project.objects) s → Contains (own_sites l s) t
+          → Contains c.patches (file_patch x t f)
+      all_at s c None h e k among d =
+          let out : has_stayed old x ≡ false =
+          complete (section_key h.key s) x e (keyed old l s h.key h.named t d home_is) in
+          absurd (let no : ⊥ = (let y : true ≡ false = sym ((of_stayed x stays).1) ∙ out in cc) in no)
+      all_at s c (Some r) h e k among d =
+          let at = k.stayed t d x (keyed old l s h.key h.named t d home_is) in
+          let of_own = own old l s t d in
+          let rows = own_profile l old profile s among t d in
+          let one = All-contains (IsRelocationOfProfile (length s.object.object.symbols) t.section.size)
+          t.section.relocations t.relocation rows.each
+          (subst (λ (z : LinkedSection). Contains z.relocations t.relocation) (sym of_own.section) of_own.relocation) in
+          let end = one.field in
+          let long : x.range.length ≡ r.length = ap (λ a. a.length) at.1 in
+          let whole : x.range.length ≡ x.size = range_whole l.project l.layout x (of_stayed x stays).0 some in
+          let size : x.size ≡ t.section.size = sized x t (of_stayed x stays).0 within in
+          let fits : t.relocation.offset + length f ≤ r.length =
+          omega (arith, end, wide x t f within is, long, whole, size) in
+          subst (λ qs. Contains qs (file_patch x t f)) (sym k.patches)
+          (given_in (file_patch_at l r) c.sites t (file_patch x t f)
+          (subst (λ ts. Contains ts t) (sym k.sites) (filter_in (has_moved old l) (own_sites l s) t d moved))
+          (gives r at.1 fits))
+
+    pub all_patches : (a b : Results) → a.patches ≡ [] → AreChanged old l range (sections_in l.project.objects) a b
+        → AreAllPatched old (good_link l) b.patches
+    all_patches a b none h = λ x t f stays some within again is.
+        let among : Contains (sites l.project l.layout) t =
+        Contains-permutation (flat_map (sites_in l.project) (linked_pieces l.project l.layout))
+        (sites l.project l.layout) t (IsPermutation-sym _ _ by_piece)
+        (joined_in (sites_in l.project) (linked_pieces l.project l.layout) x t (of_stayed x stays).0 within) in
+        let found = in_joined (own_sites l) (sections_in l.project.objects) t
+        (subst (λ ts. Contains ts t) (sym (all_sites l)) among) in
+        let c = partner_in (IsEvaluatedOf old l range) (sections_in l.project.objects) h.sections found.origin h.each
+        found.among in
+        let patches : b.patches ≡ flat_map patches_of h.sections =
+        h.patches ∙ ap (λ qs. qs ++ flat_map patches_of h.sections) none in
+        subst (λ qs. Contains qs (file_patch x t f)) (sym patches)
+        (joined_in patches_of h.sections c.partner (file_patch x t f) c.among
+        (all_at x t f stays some within (moved_of old l t (among_moved old (good_link l) t again)) is found.origin
+        c.partner (range (section_key c.related.key found.origin)) c.related refl c.related.outcome found.among
+        found.gives))
+
+  -- ---- at most one patch for each site that is retargeted
+
+  module _ (by_part : (x : LinkedPiece) → Contains (pieces_in (good_link l)) x
+      → has_part_stayed old (good_link l) x.object x.part ≡ has_stayed old x) where
+    abbrev both : Site → Bool
+    both t = lies old l t && has_moved old l t
+
+    few_at : (s : ObjectSection) (c : Evaluated) (r : Option FileRange) (h : IsEvaluatedOf old l range s c)
+        → range (section_key h.key s) ≡ r → IsEvaluatedAt old l (section_key h.key s) r s c
+        → ((t : Site) → Contains (own_sites l s) t → Contains (sites l.project l.layout) t)
+        → Some_of HasWidth (filter both (own_sites l s)) c.patches
+    few_at s c None h e k inside =
+        let none : filter both (own_sites l s) ≡ filter (λ t. false) (own_sites l s) =
+        filter_where both (λ t. false) (own_sites l s) (λ t d.
+        let at : Home old l t = home old l by_piece t (inside t d) in
+        let out : lies old l t ≡ false = lies_as old l range complete by_piece by_part t at
+        ∙ complete (section_key h.key s) at.piece e (keyed old l s h.key h.named t d at) in
+        ap (λ b. b && has_moved old l t) out) in
+        subst (λ ts. Some_of HasWidth ts c.patches) (sym (none ∙ filter_nothing (own_sites l s)))
+        (subst (Some_of HasWidth []) (sym k.patches) (none_of HasWidth))
+    few_at s c (Some r) h e k inside =
+        let same : c.sites ≡ filter both (own_sites l s) =
+        k.sites
+        ∙ filter_where (has_moved old l) both (own_sites l s) (λ t d.
+        let at : Home old l t = home old l by_piece t (inside t d) in
+        let here : lies old l t ≡ true = lies_as old l range complete by_piece by_part t at
+        ∙ (k.stayed t d at.piece (keyed old l s h.key h.named t d at)).0 in
+        sym (ap (λ b. b && has_moved old l t) here)) in
+        subst (λ ts. Some_of HasWidth ts c.patches) same
+        (subst (Some_of HasWidth c.sites) (sym k.patches)
+        (given_of HasWidth (file_patch_at l r) c.sites (λ t q d g.
+        let kept = in_filter (has_moved old l) (own_sites l s) t (subst (λ ts. Contains ts t) k.sites d) in
+        let at : Home old l t = home old l by_piece t (inside t kept.0) in
+        let p = patched l r t q g in
+        ap length (ap (λ (x : Patch). x.field) p.stands_at.is) ∙ wide at.piece t p.field at.within p.is_field)))
+
+    few_of_some : (ss : List ObjectSection) (cs : List Evaluated) → AllZip (IsEvaluatedOf old l range) ss cs
+        → ((s : ObjectSection) (t : Site) → Contains ss s → Contains (own_sites l s) t
+        → Contains (sites l.project l.layout) t)
+        → Some_of HasWidth (filter both (flat_map (own_sites l) ss)) (flat_map patches_of cs)
+    few_of_some [] [] h inside = none_of HasWidth
+    few_of_some [] (c ∷ cs) h inside = absurd h
+    few_of_some (s ∷ ss) [] h inside = absurd h
+    few_of_some (s ∷ ss) (c ∷ cs) h inside =
+        subst (λ ts. Some_of HasWidth ts (c.patches ++ flat_map patches_of cs))
+        (sym (filter-append both (own_sites l s) (flat_map (own_sites l) ss)))
+        (both_of HasWidth (filter both (own_sites l s)) (filter both (flat_map (own_sites l) ss)) c.patches
+        (flat_map patches_of cs)
+        (few_at s c (range (section_key h.0.key s)) h.0 refl h.0.outcome (λ t d. inside s t (here s ss) d))
+        (few_of_some ss cs h.1 (λ z t d e. inside z t (later s ss z d) e)))
+
+    pub few_patches : (a b : Results) → a.patches ≡ [] → AreChanged old l range (sections_in l.project.objects) a b
+        → IsPermutation (filter both (sites l.project l.layout)) (retargeted old (good_link l))
+        → AreFew old (good_link l) b.patches
+    few_patches a b none h permuted =
+        let few = few_of_some (sections_in l.project.objects) h.sections h.each (λ s t d e.
+        subst (λ ts. Contains ts t) (all_sites l) (joined_in (own_sites l) (sections_in l.project.objects) s t d e)) in
+        let patches : b.patches ≡ flat_map patches_of h.sections =
+        h.patches ∙ ap (λ qs. qs ++ flat_map patches_of h.sections) none in
+        record {
+          sites = few.some;
+          others = few.others;
+          parts = IsPermutation-trans _ _ _
+              (subst (λ ts. IsPermutation (few.some ++ few.others) (filter both ts)) (all_sites l) few.parts) permuted;
+          widths = subst (AllZip HasWidth few.some) (sym patches) few.related;
+        }

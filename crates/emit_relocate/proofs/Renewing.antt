@@ -1,0 +1,45 @@
+-- What was evaluated of all input sections, where none is known to have stayed: all.
+use Rattle.std.proofs.Common.{◌≡◌, List, [], ◌∷◌, ◌++◌, map, flat_map, Option, None, refl, ap, sym, ◌∙◌, subst}
+use Rattle.std.specs.List.{AllZip}
+use Rattle.ldmodel.specs.Stayed.{GoodLink}
+use Rattle.ldmodel.specs.declared.sections.SectionKey.{SectionKey}
+use Rattle.emit_relocate.specs.Changes.{AreChanged, AreFilled, Evaluated, IsEvaluatedAt, IsEvaluatedOf, IsRenewed, Results}
+use Rattle.emit_relocate.specs.Changes.{own_sites, section_key}
+use Rattle.emit_relocate.specs.Fields.{IsCounted}
+use Rattle.emit_relocate.specs.Filled.{IsRunOf, ObjectSection, sections_in}
+use Rattle.emit_relocate.specs.KnownLink.{KnownLink}
+use Rattle.emit_relocate.specs.declared.earlier.FileRange.{FileRange}
+use Rattle.emit_relocate.proofs.Changing.{flat_runs, run_of, sites_of}
+use Rattle.emit_relocate.proofs.Settling.{all_sites}
+
+module _ (old : GoodLink) (l : KnownLink) (range : SectionKey → Option FileRange)
+    (nothing : (key : SectionKey) → range key ≡ None) where
+  renewed : (s : ObjectSection) (c : Evaluated) → IsEvaluatedOf old l range s c → IsRenewed l s c
+  renewed s c h =
+      subst (λ r. IsEvaluatedAt old l (section_key h.key s) r s c) (nothing (section_key h.key s)) h.outcome
+
+  all_runs : (ss : List ObjectSection) (cs : List Evaluated) → AllZip (IsEvaluatedOf old l range) ss cs
+      → AllZip (IsRunOf l) ss (map run_of cs)
+  all_runs [] [] k = tt
+  all_runs [] (c ∷ cs) k = absurd k
+  all_runs (s ∷ ss) [] k = absurd k
+  all_runs (s ∷ ss) (c ∷ cs) k = ((renewed s c k.0).run, all_runs ss cs k.1)
+
+  all_evaluated : (ss : List ObjectSection) (cs : List Evaluated) → AllZip (IsEvaluatedOf old l range) ss cs
+      → flat_map sites_of cs ≡ flat_map (own_sites l) ss
+  all_evaluated [] [] k = refl
+  all_evaluated [] (c ∷ cs) k = absurd k
+  all_evaluated (s ∷ ss) [] k = absurd k
+  all_evaluated (s ∷ ss) (c ∷ cs) k =
+      ap (λ r. r ++ flat_map sites_of cs) ((renewed s c k.0).sites)
+      ∙ ap (λ r. own_sites l s ++ r) (all_evaluated ss cs k.1)
+
+  pub all_filled : (a b : Results) → AreChanged old l range (sections_in l.project.objects) a b → AreFilled l a b
+  all_filled a b h = record {
+    runs = map run_of h.sections;
+    each = all_runs (sections_in l.project.objects) h.sections h.each;
+    fields = h.fields ∙ ap (λ r. a.fields ++ r) (sym (flat_runs h.sections));
+    ends = h.ends;
+    counts = subst (λ ts. IsCounted l ts a.faults b.faults a.counts b.counts)
+        (all_evaluated (sections_in l.project.objects) h.sections h.each ∙ all_sites l) h.counts;
+  }

@@ -1,0 +1,58 @@
+-- Rows of a table of the values of symbols.
+use Rattle.std.proofs.Common.{◌≡◌, ◌∙◌, ◌≤◌, ℕ, zero, suc, List, [], ◌∷◌, Option, Some, None}
+use Rattle.std.proofs.Common.{ap, arith, drop, length, map, refl, subst, sym, take}
+use Rattle.std.specs.Prelude.{slice_get, slice_index_or}
+use Rattle.std.specs.Option.{option_map_or}
+use Rattle.std.proofs.lemmas.List.{get_or-drop, get_or-take, get_or_past, length-map, length-take}
+use Rattle.std.proofs.lemmas.Option.{slice_get_within}
+use Rattle.elfobj.specs.Object.{ObjectData}
+use Rattle.elfobj.specs.Symbols.{NamedSymbol}
+use Rattle.elfobj.specs.declared.symbol.Symbol.{Symbol}
+use Rattle.ldmodel.specs.Project.{NamedObject}
+use Rattle.ldmodel.specs.SymbolValues as model
+use Rattle.ldmodel.specs.Targets.{referenced_value}
+use Rattle.ldmodel.specs.declared.names.ObjectPlace.{ObjectPlace}
+use Rattle.emit_relocate.specs.KnownLink.{KnownLink, named_object}
+use Rattle.emit_relocate.specs.SymbolTable.{HasSymbolValues, IsRow, row_at}
+use Rattle.emit_relocate.specs.Values.{value_of}
+use Rattle.emit_relocate.specs.declared.symbol_table.SymbolTable.{SymbolTable}
+use Rattle.emit_relocate.specs.declared.value.SymbolValue as code
+use Rattle.emit_relocate.specs.declared.value.SymbolValue.TheVariants.{NotDefined}
+
+past : {X : Type 0} (xs : List X) (j : ℕ) → slice_get xs j ≡ None → length xs ≤ j
+past [] j e = omega arith
+past (x ∷ xs) zero e = absurd (let none : ⊥ = cc in none)
+past (x ∷ xs) (suc j) e = omega (arith, past xs j e)
+
+short : {X : Type 0} (n : ℕ) (xs : List X) → length (take n xs) ≤ n
+short n xs = omega (arith, length-take n xs)
+
+-- the row of the object of a key has the values of the object's symbols
+pub row_is : (l : KnownLink) (t : SymbolTable) (key : ObjectPlace) (o : NamedObject) (read : ObjectData)
+    (symbols : List Symbol) (row : List code.SymbolValue) → HasSymbolValues l t → named_object l key ≡ Some o
+    → o.object ≡ read → symbols ≡ map (λ (y : NamedSymbol). y.symbol) read.symbols
+    → row ≡ row_at t key.0 (length symbols) → IsRow l o row
+row_is l t key o read symbols row worth named same are is j =
+    subst (λ r. value_of (slice_index_or r j NotDefined)
+    ≡ option_map_or (referenced_value l.project l.layout o) (slice_get o.object.symbols j) model.NotDefined) (sym is)
+    (go (slice_get o.object.symbols j) refl)
+  where
+    many : length symbols ≡ length o.object.symbols
+    many =
+        ap length are ∙ length-map read.symbols (λ (y : NamedSymbol). y.symbol)
+        ∙ ap (λ (r : ObjectData). length r.symbols) (sym same)
+
+    go : (a : Option NamedSymbol) → slice_get o.object.symbols j ≡ a
+        → value_of (slice_index_or (row_at t key.0 (length symbols)) j NotDefined)
+        ≡ option_map_or (referenced_value l.project l.layout o) a model.NotDefined
+    go None e =
+        let tail = drop (slice_index_or t.starts.items key.0 0) t.values.items in
+        let least = short (length symbols) tail in
+        let end = past o.object.symbols j e in
+        ap value_of (get_or_past (take (length symbols) tail) j NotDefined (omega (arith, least, end, many)))
+    go (Some x) e =
+        let tail = drop (slice_index_or t.starts.items key.0 0) t.values.items in
+        let within = slice_get_within o.object.symbols j x e in
+        ap value_of (get_or-take (length symbols) tail j NotDefined (omega (arith, within, many))
+        ∙ get_or-drop (slice_index_or t.starts.items key.0 0) t.values.items j NotDefined)
+        ∙ worth key j o x named e

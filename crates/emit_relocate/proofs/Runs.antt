@@ -1,0 +1,120 @@
+-- Fields of relocations that share no byte share none.
+use Rattle.std.proofs.Common.{◌≡◌, inl, inr, ◌<◌, ◌≤◌, ℕ, ◌+◌, List, [], ◌∷◌, ◌++◌, length, Some, true, false, ap, ◌∙◌}
+use Rattle.std.proofs.Common.{arith, get_or, subst}
+use Rattle.std.specs.Prelude.{slice_get}
+use Rattle.std.specs.List.{All, AllPairs}
+use Rattle.std.proofs.lemmas.Bool.{cases_eq}
+use Rattle.std.proofs.lemmas.List.{get_or_append_left, length-append}
+use Rattle.std.proofs.lemmas.Option.{get_or_from_slice_get, slice_get_within}
+use Rattle.std.proofs.Math.Seq.{get_or-append_seam}
+use Rattle.elfobj.specs.Profile as elf
+use Rattle.elfobj.specs.RelocationKinds.{width}
+use Rattle.elfobj.specs.Relocations as of
+use Rattle.elfobj.specs.Relocations.{field_end}
+use Rattle.elfobj.specs.declared.relocation.Relocation.{Relocation}
+use Rattle.elfobj.specs.declared.relocation.RelocationKind.{RelocationKind}
+use Rattle.elfobj.specs.declared.relocation.RelocationKind.TheVariants as kind
+use Rattle.emit_fields.specs.Patches.{IsWithin, meets}
+use Rattle.emit_fields.specs.declared.patch.Patch.{Patch}
+use Rattle.ldmodel.specs.Relocations.{is_evaluated}
+use Rattle.emit_relocate.specs.Fields.{AreFieldsOf, IsAmong, IsNext}
+use Rattle.emit_relocate.specs.Sites.{IsFieldOf}
+
+some_width : (k : RelocationKind) → is_evaluated k ≡ true → 0 < width k
+some_width kind.None e = cc
+some_width kind.Abs64 e = omega arith
+some_width kind.Pc32 e = omega arith
+some_width kind.Plt32 e = omega arith
+some_width kind.Abs32 e = omega arith
+some_width kind.Abs32Signed e = omega arith
+some_width kind.Abs16 e = omega arith
+some_width kind.Pc16 e = omega arith
+some_width kind.Abs8 e = omega arith
+some_width kind.Pc8 e = omega arith
+some_width kind.Pc64 e = omega arith
+
+-- what holds of the items of a list and of one more
+module _ {X : Type 0} (xs : List X) (x : X) where
+  at_last : (k : ℕ) (d : X) → k ≡ length xs → get_or (xs ++ x ∷ []) k d ≡ x
+  at_last k d e = ap (λ n. get_or (xs ++ x ∷ []) n d) e ∙ get_or-append_seam xs x [] d
+
+  below_last : (k : ℕ) → k < length (xs ++ x ∷ []) → (k ≡ length xs → ⊥) → k < length xs
+  below_last k low differs =
+      let long : length (xs ++ x ∷ []) ≡ length xs + 1 = length-append xs (x ∷ []) in
+      omega (arith, low, long, differs)
+
+  all_longer : (P : X → Type 0) → All P xs → P x → All P (xs ++ x ∷ [])
+  all_longer P all one = λ k d low. elim (cases_eq k (length xs)) [
+    | inl e ↦ rw (at_last k d e) one
+    | inr differs ↦ rw (get_or_append_left xs (x ∷ []) d k (below_last k low differs))
+        (all k d (below_last k low differs))
+  ]
+
+  pairs_longer : (R : X → X → Type 0) → AllPairs R xs → All (λ y. R y x) xs → AllPairs R (xs ++ x ∷ [])
+  pairs_longer R pairs one = λ i j d before low. elim (cases_eq j (length xs)) [
+    | inl e ↦
+        let early : i < length xs = omega (arith, before, e) in
+        rw (at_last j d e, get_or_append_left xs (x ∷ []) d i early) (one i d early)
+    | inr differs ↦
+        let late : j < length xs = below_last j low differs in
+        let early : i < length xs = omega (arith, before, late) in
+        rw (get_or_append_left xs (x ∷ []) d i early, get_or_append_left xs (x ∷ []) d j late) (pairs i j d before late)
+  ]
+
+-- fields of two relocations that are apart are apart
+apart_fields : (r q : Relocation) (x y : Patch) → IsFieldOf r x → IsFieldOf q y → of.meets r q ≡ false → meets x y
+    ≡ false
+apart_fields r q x y h k e = rw (h.offset_is, h.width_is, k.offset_is, k.width_is) e
+
+module _ (rs : List Relocation) (i : ℕ) (r : Relocation) (is : slice_get rs i ≡ Some r) where
+  further : (x : Patch) → IsAmong rs i x → IsAmong rs (i + 1) x
+  further x h = (h.0, h.1, omega (arith, h.2), h.3, h.4)
+
+  apart_from : elf.AreApart rs → (y : Patch) → IsFieldOf r y → (x : Patch) → IsAmong rs i x → meets x y ≡ false
+  apart_from all y k x h =
+      let first : get_or rs h.0 r ≡ h.1 = get_or_from_slice_get rs h.0 h.1 r h.3 in
+      let second : get_or rs i r ≡ r = get_or_from_slice_get rs i r r is in
+      apart_fields h.1 r x y h.4 k (rw (first, second) at (all h.0 i r h.2 (slice_get_within rs i r is)))
+
+  added_one : (ps : List Patch) (y : Patch) → AreFieldsOf rs i ps → IsFieldOf r y
+      → AreFieldsOf rs (i + 1) (ps ++ y ∷ [])
+  added_one ps y h k = record {
+    each = all_longer ps y (IsAmong rs (i + 1)) (λ j d low. further (get_or ps j d) (h.each j d low))
+        (i, r, omega arith, is, k);
+    apart = λ all. pairs_longer ps y (λ p q. meets p q ≡ false) (h.apart all) (λ j d low.
+        apart_from all y k (get_or ps j d) (h.each j d low));
+  }
+
+  pub next_fields : (ps qs : List Patch) → AreFieldsOf rs i ps → IsNext r ps qs → AreFieldsOf rs (i + 1) qs
+  next_fields ps qs h (inl e) =
+      rw e (record { each = λ j d low. further (get_or ps j d) (h.each j d low); apart = h.apart })
+  next_fields ps qs h (inr n) = rw (n.1) (added_one ps n.0 h n.2)
+
+pub no_fields : (rs : List Relocation) (ps : List Patch) → ps ≡ [] → AreFieldsOf rs 0 ps
+no_fields rs ps e = rw e
+    (record {
+      each = λ j d low. absurd (omega (arith, low));
+      apart = λ all i j d before low.
+          absurd (omega (arith, low));
+    })
+
+pub all_fields : (rs : List Relocation) (ps : List Patch) (i : ℕ) → length rs ≤ i → i ≤ length rs → AreFieldsOf rs i ps
+    → AreFieldsOf rs (length rs) ps
+all_fields rs ps i low high h =
+    let e : i ≡ length rs = omega arith in
+    subst (λ n. AreFieldsOf rs n ps) e h
+
+-- fields of relocations that end by a limit end there
+within_one : (n : ℕ) (r : Relocation) (x : Patch) → IsFieldOf r x → field_end r ≤ n → IsWithin n x
+within_one n r x h end =
+    let wide = some_width r.kind h.kept in
+    let at = h.offset_is in
+    let width = h.width_is in
+    record { some = omega (arith, width, wide); end = omega (arith, at, width, end) }
+
+pub within : (rs : List Relocation) (n m : ℕ) (ps : List Patch) → AreFieldsOf rs m ps → All (λ r. field_end r ≤ n) rs
+    → All (IsWithin n) ps
+within rs n m ps h ends = λ k d low.
+    let f = h.each k d low in
+    let last : get_or rs f.0 f.1 ≡ f.1 = get_or_from_slice_get rs f.0 f.1 f.1 f.3 in
+    within_one n f.1 (get_or ps k d) f.4 (rw last at (ends f.0 f.1 (slice_get_within rs f.0 f.1 f.3)))

@@ -1,0 +1,14 @@
+use Rattle.std.proofs.Common.{take}
+use Rattle.ldmodel.specs.Stayed.{GoodLink}
+use Rattle.emit_relocate.specs.Changes.{AreChanged, no_results, results_of}
+use Rattle.emit_relocate.specs.Filled.{EndBelow, IsOrder, sections_in}
+use Rattle.emit_relocate.specs.KnownLink.{KnownLink}
+use Rattle.emit_relocate.specs.SymbolTable.{HasSymbolValues}
+use Rattle.emit_relocate.proofs.changed_fields.changed_fields.Given as goal
+
+abbrev pub invariant-loop-key : goal.invariant-loop-key
+invariant-loop-key g l =
+    (old : GoodLink) (k : KnownLink) → g.L.Known.knows l.link k → g.E.Earlier.knows l.earlier old k
+    → HasSymbolValues k l.symbols → EndBelow k → IsOrder k l.objects
+    → AreChanged old k (g.E.Earlier.range l.earlier) (sections_in (take l.key-index k.project.objects))
+    (no_results l.initial.meter) (results_of l.fields l.meter)

@@ -1,0 +1,16 @@
+use Rattle.std.proofs.Common.{take}
+use Rattle.elfobj.specs.Sections.{LinkedSection}
+use Rattle.ldmodel.specs.Project.{NamedObject}
+use Rattle.emit_relocate.specs.Fields.{AreFieldsOf, IsTried, sites_among}
+use Rattle.emit_relocate.specs.KnownLink.{KnownLink}
+use Rattle.emit_relocate.specs.Sites.{IsPlaced}
+use Rattle.emit_relocate.proofs.fields.add_sites.Given as goal
+
+abbrev pub invariant-loop-entry : goal.invariant-loop-entry
+invariant-loop-entry l = record {
+  of : AreFieldsOf l.section.relocations.now l.entry l.fields.items;
+  tried : (k : KnownLink) (o : NamedObject) (x : LinkedSection) → IsPlaced k l.section o x
+      → IsTried k (sites_among o x l.section.start (take l.entry l.section.relocations.now)) l.initial.fields.items
+      l.fields.items
+      l.initial.faults.items l.faults.items l.initial.meter l.meter;
+}

@@ -1,0 +1,10 @@
+use Rattle.std.proofs.Common.{◌≡◌, ◌<◌, ℕ, get_or, length}
+use Rattle.emit_relocate.specs.Index.{slots_at, wanted_at}
+use Rattle.emit_relocate.specs.declared.index.TargetSite.{TargetSite}
+use Rattle.emit_relocate.proofs.index.want_none.Given as goal
+
+abbrev pub invariant-loop-site : goal.invariant-loop-site
+invariant-loop-site l =
+    ((t : ℕ) → slots_at l.targets.items t ≡ slots_at l.initial.targets.items t)
+    × (length l.targets.items ≡ length l.initial.targets.items)
+    × ((k : ℕ) (d : TargetSite) → k < l.site-index → wanted_at l.targets.items (get_or l.sites k d).target.0 ≡ 0)

@@ -1,0 +1,22 @@
+use Rattle.std.proofs.Common.{◌∙◌, ap, sym}
+use Rattle.elfobj.specs.Raised.{raised}
+use Rattle.elfobj.specs.declared.meter.Count.TheVariants.{Fields}
+use Rattle.elfobj.specs.declared.relocation.Relocation.{Relocation}
+use Rattle.ldmodel.specs.SymbolValues.{SymbolValue}
+use Rattle.emit_relocate.specs.Fields.{work_of}
+use Rattle.emit_relocate.proofs.Evaluations.{one_evaluation}
+use Rattle.emit_relocate.proofs.Sites.{evaluated}
+use Rattle.emit_relocate.proofs.site.evaluate.Goals as goal
+
+pub returns-clause-evaluated : goal.returns-clause-evaluated
+returns-clause-evaluated c =
+    λ l t h is. evaluated l t _ _
+    (c.site_value-value.ensures l t h.site (ap (λ (r : Relocation). r.symbol) is))
+    (c.field_with.ensures.outcome l t h is)
+
+pub returns-clause-counted : goal.returns-clause-counted
+returns-clause-counted c =
+    λ l t h is. c.field_with.ensures.counted
+    ∙ ap (λ (v : SymbolValue). raised c.args.meter.now Fields (work_of v))
+    (c.site_value-value.ensures l t h.site (ap (λ (r : Relocation). r.symbol) is))
+    ∙ ap (raised c.args.meter.now Fields) (sym (one_evaluation l t))

@@ -1,0 +1,127 @@
+-- What comes of input sections beside an earlier link: the fields of those that did not stay; and, of those that did,
+-- the fields of the sites whose symbol has another value, in their places in the file.
+use Rattle.std.specs.Prelude.{◌≡◌, ℕ, ◌+◌, List, [], ◌++◌, map, flat_map, filter, nat_le, if◌then◌else◌, Option, Some}
+use Rattle.std.specs.Prelude.{Contains, None, length}
+use Rattle.std.specs.List.{AllZip, filter_map}
+use Rattle.std.specs.Option.{option_and_then}
+use Rattle.emit_fields.specs.Patches.{patch_end}
+use Rattle.emit_fields.specs.declared.patch.Patch.{Patch}
+use Rattle.ldmodel.specs.Counts.{Counts}
+use Rattle.ldmodel.specs.Relocations.{Site, sites, sites_of_section}
+use Rattle.ldmodel.specs.Stayed.{GoodLink}
+use Rattle.ldmodel.specs.declared.fault.Fault as code
+use Rattle.ldmodel.specs.declared.names.ObjectPlace.{ObjectPlace}
+use Rattle.ldmodel.specs.declared.sections.Part.TheVariants.{InTable}
+use Rattle.ldmodel.specs.declared.sections.SectionKey.{SectionKey}
+use Rattle.emit_relocate.specs.Earlier.{HasStayedAt, has_moved}
+use Rattle.emit_relocate.specs.Fields.{IsCounted, field_at}
+use Rattle.emit_relocate.specs.Filled.{IsRunOf, ObjectSection, ends_of, sections_in}
+use Rattle.emit_relocate.specs.KnownLink.{KnownLink, named_object}
+use Rattle.emit_relocate.specs.declared.changed_fields.ChangedFields.{ChangedFields}
+use Rattle.emit_relocate.specs.declared.earlier.FileRange.{FileRange}
+
+-- a field of a section in its place in the file, if it lies within the section's bytes there
+abbrev pub in_file : FileRange → Patch → Option Patch
+in_file r q = if nat_le (patch_end q) r.length then Some (record q { offset = r.offset + q.offset }) else None
+
+-- the field of a site of a section whose bytes stand in a range of the file
+abbrev pub file_patch_at : KnownLink → FileRange → Site → Option Patch
+file_patch_at l r t = option_and_then (in_file r) (field_at l t)
+
+-- those of these sites whose symbol has another value were evaluated: their fields were added, in their places in the
+-- file, and their faults, and each counted
+pub record IsMoved (old : GoodLink) (l : KnownLink) (r : FileRange) (ts : List Site)
+    (old_patches new_patches : List Patch) (old_faults new_faults : List code.Fault) (before after : Counts)
+    : Type 0 where
+  pub patches : new_patches ≡ old_patches ++ filter_map (file_patch_at l r) (filter (has_moved old l) ts)
+  pub counts : IsCounted l (filter (has_moved old l) ts) old_faults new_faults before after
+
+-- what was evaluated of an input section: its fields; patches in the file; and the sites
+pub record Evaluated : Type 0 where
+  pub run : List Patch
+  pub patches : List Patch
+  pub sites : List Site
+
+abbrev pub own_sites : KnownLink → ObjectSection → List Site
+own_sites l s = sites_of_section l.layout s.object s.section
+
+-- the section did not stay, as far as is known: all its fields
+pub record IsRenewed (l : KnownLink) (s : ObjectSection) (c : Evaluated) : Type 0 where
+  pub run : IsRunOf l s c.run
+  pub patches : c.patches ≡ []
+  pub sites : c.sites ≡ own_sites l s
+
+-- it stayed, with its bytes in a range of the file, if it has sites: no fields, and patches of the sites whose symbol
+-- has another value
+pub record IsRetained (old : GoodLink) (l : KnownLink) (key : SectionKey) (r : FileRange) (s : ObjectSection)
+    (c : Evaluated) : Type 0 where
+  pub stayed : (t : Site) → Contains (own_sites l s) t → HasStayedAt old l key r
+  pub run : c.run ≡ []
+  pub patches : c.patches ≡ filter_map (file_patch_at l r) c.sites
+  pub sites : c.sites ≡ filter (has_moved old l) (own_sites l s)
+
+abbrev pub IsEvaluatedAt : GoodLink → KnownLink → SectionKey → Option FileRange → ObjectSection → Evaluated → Type 0
+IsEvaluatedAt old l key None s c = IsRenewed l s c
+IsEvaluatedAt old l key (Some r) s c = IsRetained old l key r s c
+
+abbrev pub section_key : ObjectPlace → ObjectSection → SectionKey
+section_key key s = record { object = key; part = InTable s.section.number }
+
+-- by what is known to have stayed
+pub record IsEvaluatedOf (old : GoodLink) (l : KnownLink) (range : SectionKey → Option FileRange) (s : ObjectSection)
+    (c : Evaluated) : Type 0 where
+  pub key : ObjectPlace
+  pub named : named_object l key ≡ Some s.object
+  pub outcome : IsEvaluatedAt old l (section_key key s) (range (section_key key s)) s c
+
+-- what was evaluated of an input section was added
+pub record IsSectionAdded (old : GoodLink) (l : KnownLink) (range : SectionKey → Option FileRange) (s : ObjectSection)
+    (old_fields new_fields old_patches new_patches : List Patch) (old_faults new_faults : List code.Fault)
+    (before after : Counts) : Type 0 where
+  pub evaluated : Evaluated
+  pub is_evaluated : IsEvaluatedOf old l range s evaluated
+  pub fields : new_fields ≡ old_fields ++ evaluated.run
+  pub patches : new_patches ≡ old_patches ++ evaluated.patches
+  pub counts : IsCounted l evaluated.sites old_faults new_faults before after
+
+-- what has been evaluated so far: fields, the places where those of each input section end, patches in the file,
+-- faults, and the counts of work
+pub record Results : Type 0 where
+  pub fields : List Patch
+  pub ends : List ℕ
+  pub patches : List Patch
+  pub faults : List code.Fault
+  pub counts : Counts
+
+abbrev pub results_of : ChangedFields → Counts → Results
+results_of f counts = record {
+  fields = f.patches.items;
+  ends = f.ends.items;
+  patches = f.retargeted.items;
+  faults = f.faults.items;
+  counts = counts;
+}
+
+abbrev pub no_results : Counts → Results
+no_results counts = record { fields = []; ends = []; patches = []; faults = []; counts = counts }
+
+-- what was evaluated of these input sections was added, one after another
+pub record AreChanged (old : GoodLink) (l : KnownLink) (range : SectionKey → Option FileRange) (ss : List ObjectSection)
+    (before after : Results) : Type 0 where
+  pub sections : List Evaluated
+  pub each : AllZip (IsEvaluatedOf old l range) ss sections
+  pub fields : after.fields ≡ before.fields ++ flat_map (λ (c : Evaluated). c.run) sections
+  pub ends : after.ends ≡ before.ends ++ ends_of (length before.fields) (map (λ (c : Evaluated). c.run) sections)
+  pub patches : after.patches ≡ before.patches ++ flat_map (λ (c : Evaluated). c.patches) sections
+  pub counts :
+      IsCounted l (flat_map (λ (c : Evaluated). c.sites) sections) before.faults after.faults before.counts
+      after.counts
+
+-- all that there is to evaluate was evaluated, of all input sections: their fields were added one after another, the
+-- places where those of each end, the faults of their sites, and their number
+pub record AreFilled (l : KnownLink) (before after : Results) : Type 0 where
+  pub runs : List (List Patch)
+  pub each : AllZip (IsRunOf l) (sections_in l.project.objects) runs
+  pub fields : after.fields ≡ before.fields ++ flat_map (λ run. run) runs
+  pub ends : after.ends ≡ before.ends ++ ends_of (length before.fields) runs
+  pub counts : IsCounted l (sites l.project l.layout) before.faults after.faults before.counts after.counts

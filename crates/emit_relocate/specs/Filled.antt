@@ -1,0 +1,59 @@
+-- The fields of input sections of objects, in their order.
+use Rattle.std.specs.Prelude.{◌≡◌, ℕ, ◌+◌, ◌<◌, ◌^◌, List, [], ◌∷◌, ◌++◌, length, map, flat_map, Option, Some, None}
+use Rattle.elfobj.specs.Sections.{LinkedSection}
+use Rattle.emit_fields.specs.declared.patch.Patch.{Patch}
+use Rattle.ldmodel.specs.Counts.{Counts}
+use Rattle.ldmodel.specs.Image.{section_numbered}
+use Rattle.ldmodel.specs.Layout.{PlacedPiece}
+use Rattle.ldmodel.specs.Project.{NamedObject}
+use Rattle.ldmodel.specs.Relocations.{sites_of_section}
+use Rattle.ldmodel.specs.SymbolValues.{placed_part}
+use Rattle.ldmodel.specs.declared.fault.Fault as code
+use Rattle.ldmodel.specs.declared.names.ObjectPlace.{ObjectPlace}
+use Rattle.ldmodel.specs.declared.sections.Part.TheVariants.{InTable}
+use Rattle.emit_relocate.specs.Fields.{IsCounted, IsRun}
+use Rattle.emit_relocate.specs.KnownLink.{KnownLink, named_object}
+
+-- an input section: a section of an object
+pub record ObjectSection : Type 0 where
+  pub object : NamedObject
+  pub section : LinkedSection
+
+abbrev pub sections_of : NamedObject → List LinkedSection → List ObjectSection
+sections_of o xs = map (λ x. record { object = o; section = x }) xs
+
+-- those of objects, in their order
+abbrev pub sections_in : List NamedObject → List ObjectSection
+sections_in os = flat_map (λ (o : NamedObject). sections_of o o.object.sections) os
+
+-- the fields of an input section; none where it is not in the output
+abbrev pub IsRunAt : KnownLink → ObjectSection → Option PlacedPiece → List Patch → Type 0
+IsRunAt l s None run = run ≡ []
+IsRunAt l s (Some y) run = IsRun l s.object s.section y.start run
+
+abbrev pub IsRunOf : KnownLink → ObjectSection → List Patch → Type 0
+IsRunOf l s run = IsRunAt l s (placed_part l.layout s.object.name (InTable s.section.number)) run
+
+-- its fields were added, and its sites counted
+pub record IsRunAdded (l : KnownLink) (s : ObjectSection) (old new : List Patch)
+    (old_faults new_faults : List code.Fault) (before after : Counts) : Type 0 where
+  pub run : List Patch
+  pub fields : new ≡ old ++ run
+  pub is_run : IsRunOf l s run
+  pub counts : IsCounted l (sites_of_section l.layout s.object s.section) old_faults new_faults before after
+
+-- where lists end that stand one after another from a place on
+abbrev pub ends_of : ℕ → List (List Patch) → List ℕ
+ends_of n [] = []
+ends_of n (run ∷ runs) = (n + length run) ∷ ends_of (n + length run) runs
+
+-- each input section in the output ends below 2^64, as a layout without faults has it
+abbrev pub EndBelow : KnownLink → Type 0
+EndBelow l =
+    (key : ObjectPlace) (o : NamedObject) (x : LinkedSection) (y : PlacedPiece) → named_object l key ≡ Some o
+    → section_numbered o x.number ≡ Some x → placed_part l.layout o.name (InTable x.number) ≡ Some y
+    → y.start + x.size < 2 ^ 64
+
+-- these are the keys of the objects, in their order
+abbrev pub IsOrder : KnownLink → List ObjectPlace → Type 0
+IsOrder l keys = map (named_object l) keys ≡ map Some l.project.objects

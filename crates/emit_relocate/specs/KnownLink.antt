@@ -1,0 +1,101 @@
+-- What a linker knows of its link: a project and a layout, and what the keys of objects and of names stand for.
+use Rattle.std.specs.Prelude.{◌≡◌, ℕ, ◌<◌, List, Option, Some, slice_get, false, unwrap_or}
+use Rattle.std.specs.Option.{option_map}
+use Rattle.elfobj.specs.Object.{ObjectData}
+use Rattle.elfobj.specs.Symbols.{NamedSymbol}
+use Rattle.elfobj.specs.declared.relocation.SymbolIndex.{SymbolIndex}
+use Rattle.ldmodel.specs.HandedOver.{decision_of}
+use Rattle.ldmodel.specs.Layout.{Layout, PlacedPiece, script_value}
+use Rattle.ldmodel.specs.Live.{symbol_at}
+use Rattle.ldmodel.specs.NameFaults.{object_name}
+use Rattle.ldmodel.specs.Names.{Entry, decision, entry_symbol, is_local}
+use Rattle.ldmodel.specs.Project.{NamedObject, Project}
+use Rattle.ldmodel.specs.SymbolValues.{SymbolValue, address_in, placed_part, name_value, symbol_index}
+use Rattle.ldmodel.specs.declared.names.Case.{Case}
+use Rattle.ldmodel.specs.declared.names.NameKey.{NameKey}
+use Rattle.ldmodel.specs.declared.names.ObjectPlace.{ObjectPlace}
+use Rattle.ldmodel.specs.declared.sections.Part.TheVariants.{InCommon}
+use Rattle.ldmodel.specs.declared.sections.SectionKey.{SectionKey}
+use Rattle.emit_relocate.specs.Values.{value_of}
+use Rattle.ldmodel.specs.Targets.{Target, Name, Section, Fixed}
+use Rattle.ldmodel.specs.declared.target.Target as code_target
+use Rattle.ldmodel.specs.declared.target.Target.TheVariants as of
+use Rattle.elfobj.specs.declared.symbol.Symbol.{Symbol}
+use Rattle.emit_relocate.specs.declared.value.SymbolValue as code
+use Rattle.emit_relocate.specs.declared.value.SymbolValue.TheVariants as value
+
+-- `number` says which place in the project the object of a key has, and `name` which name a key stands for
+pub record KnownLink : Type 0 where
+  pub project : Project
+  pub layout : Layout
+  pub number : ℕ → ℕ
+  pub name : ℕ → Option (List ℕ)
+
+abbrev pub named_object : KnownLink → ObjectPlace → Option NamedObject
+named_object l k = slice_get l.project.objects (l.number k.0)
+
+abbrev pub object_of : KnownLink → ObjectPlace → Option ObjectData
+object_of l k = option_map (λ (o : NamedObject). o.object) (named_object l k)
+
+abbrev pub name_of_object : KnownLink → ObjectPlace → List ℕ
+name_of_object l k = object_name l.project (l.number k.0)
+
+-- where an input section starts, if it is in the output
+abbrev pub start_of : KnownLink → SectionKey → Option ℕ
+start_of l k = option_map (λ (x : PlacedPiece). x.start) (placed_part l.layout (name_of_object l k.object) k.part)
+
+-- a key is that of the name of a symbol, unless the symbol is local
+abbrev pub IsNameOf : KnownLink → ObjectPlace → SymbolIndex → NameKey → Type 0
+IsNameOf l object symbol k =
+    (x : NamedSymbol) → symbol_at l.project (l.number object.0) symbol.0 ≡ Some x → is_local x.symbol.binding ≡ false
+    → l.name k.0 ≡ Some x.name
+
+abbrev pub IsCaseOf : KnownLink → NameKey → Option Case → Type 0
+IsCaseOf l k case =
+    (name : List ℕ) → l.name k.0 ≡ Some name → option_map (decision_of l.number) case ≡ Some (decision l.project name)
+
+abbrev pub IsScriptValueOf : KnownLink → NameKey → Option ℕ → Type 0
+IsScriptValueOf l k value = (name : List ℕ) → l.name k.0 ≡ Some name → value ≡ script_value l.layout name
+
+-- the value of the name of a key
+abbrev pub IsNameValueOf : KnownLink → NameKey → SymbolValue → Type 0
+IsNameValueOf l k value = (name : List ℕ) → l.name k.0 ≡ Some name → value ≡ name_value l.project l.layout name
+
+-- the address of the common block that an entry owns
+abbrev pub common_value : KnownLink → Entry → SymbolValue
+common_value l owner =
+    address_in (placed_part l.layout (object_name l.project owner.object) (InCommon (symbol_index owner))) 0
+
+-- each name has its value under its key
+abbrev pub AreNameValues : KnownLink → List code.SymbolValue → Type 0
+AreNameValues l values =
+    (k : ℕ) (name : List ℕ) → l.name k ≡ Some name
+    → option_map value_of (slice_get values k) ≡ Some (name_value l.project l.layout name)
+
+-- the value under the key of a name
+abbrev pub value_under : List code.SymbolValue → NameKey → code.SymbolValue
+value_under values k = unwrap_or (slice_get values k.0) value.NotDefined
+
+-- a symbol of the object of a key, by its number
+pub record IsSymbolOf (l : KnownLink) (object : ObjectPlace) (index : SymbolIndex) (symbol : Symbol) (o : NamedObject)
+    (x : NamedSymbol) : Type 0 where
+  pub object_is : named_object l object ≡ Some o
+  pub entry_is : slice_get o.object.symbols index.0 ≡ Some x
+  pub symbol_is : x.symbol ≡ symbol
+
+-- what a target of the code stands for
+abbrev pub named_target : KnownLink → code_target.Target → Option Target
+named_target l (of.Name k) = option_map Name (l.name k.0)
+named_target l (of.Section object section) = Some (Section (name_of_object l object) section)
+named_target l of.Fixed = Some Fixed
+
+-- what the entry symbol stands for, if there is one, and the value that the script gives it
+pub record IsEntryCase (l : KnownLink) (case : Option Case) (given : Option ℕ) : Type 0 where
+  pub decided : option_map (decision_of l.number) case ≡ option_map (decision l.project) (entry_symbol l.project)
+  pub given_is : (name : List ℕ) → entry_symbol l.project ≡ Some name → given ≡ script_value l.layout name
+
+-- the same of the names with keys below a number
+abbrev pub AreValuesBelow : KnownLink → ℕ → List code.SymbolValue → Type 0
+AreValuesBelow l n values =
+    (k : ℕ) (name : List ℕ) → k < n → l.name k ≡ Some name
+    → option_map value_of (slice_get values k) ≡ Some (name_value l.project l.layout name)

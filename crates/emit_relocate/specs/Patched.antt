@@ -1,0 +1,53 @@
+-- Fields of sites in input sections that stayed, in their places in the file.
+use Rattle.std.specs.Prelude.{◌≡◌, ℕ, ◌+◌, ◌<◌, ◌≤◌, List, ◌++◌, length, Contains, Ok}
+use Rattle.std.specs.List.{AllZip}
+use Rattle.std.specs.List.Sorted.{IsPermutation}
+use Rattle.elfobj.specs.Profile.{AreApart, HasRelocationsOfProfile}
+use Rattle.elfobj.specs.RelocationKinds.{width}
+use Rattle.elfobj.specs.Sections.{LinkedSection}
+use Rattle.emit_fields.specs.Patches.{patch_end}
+use Rattle.emit_fields.specs.declared.patch.Patch.{Patch}
+use Rattle.ldmodel.specs.Project.{NamedObject, Project}
+use Rattle.ldmodel.specs.Relocations.{Site, site_field}
+use Rattle.ldmodel.specs.Stayed.{GoodLink, LinkedPiece, pieces_in, retargeted, sites_in, stayed}
+
+-- the field of a site of an input section, in its place in the file
+abbrev pub file_patch : LinkedPiece → Site → List ℕ → Patch
+file_patch x t field = record { offset = x.range.offset + t.relocation.offset; field = field }
+
+-- the relocations of each section are of the profile, as the object reader has found
+abbrev pub AreOfProfile : Project → Type 0
+AreOfProfile p =
+    (o : NamedObject) (x : LinkedSection) → Contains p.objects o → Contains o.object.sections x
+    → HasRelocationsOfProfile (length o.object.symbols) x
+
+-- an input section in the output with sites has the size of its section
+abbrev pub AreSized : GoodLink → Type 0
+AreSized l =
+    (x : LinkedPiece) (t : Site) → Contains (pieces_in l) x → Contains (sites_in l.project x) t
+    → x.size ≡ t.section.size
+
+-- the new field of a site of an input section that stayed, where the relocations of the section share no byte
+pub record IsPatchOfSite (old new : GoodLink) (q : Patch) : Type 0 where
+  pub piece : LinkedPiece
+  pub site : Site
+  pub among_stayed : Contains (stayed old new) piece
+  pub among : Contains (sites_in new.project piece) site
+  pub apart : AreApart site.section.relocations
+  pub is_field : site_field new.project new.layout site ≡ Ok q.field
+  pub place : q ≡ file_patch piece site q.field
+  pub inside : patch_end q ≤ piece.range.offset + piece.range.length
+
+-- those whose symbol has another value have one, where their input section has bytes in the file
+abbrev pub AreAllPatched : GoodLink → GoodLink → List Patch → Type 0
+AreAllPatched old new patches =
+    (x : LinkedPiece) (t : Site) (field : List ℕ) → Contains (stayed old new) x → 0 < x.range.length
+    → Contains (sites_in new.project x) t → Contains (retargeted old new) t
+    → site_field new.project new.layout t ≡ Ok field → Contains patches (file_patch x t field)
+
+-- at most one for each of them
+pub record AreFew (old new : GoodLink) (patches : List Patch) : Type 0 where
+  pub sites : List Site
+  pub others : List Site
+  pub parts : IsPermutation (sites ++ others) (retargeted old new)
+  pub widths : AllZip (λ (t : Site) (q : Patch). length q.field ≡ width t.relocation.kind) sites patches

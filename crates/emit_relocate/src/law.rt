@@ -1,0 +1,83 @@
+//! Laws of what is evaluated beside an earlier link.
+
+ghost use Rattle.std.specs.Prelude.{◌≡◌, ◌+◌, ◌++◌, All, None, Option, [], length};
+ghost use Rattle.std.specs.List.{filter_map};
+ghost use Rattle.elfobj.specs.Raised.{raised};
+ghost use Rattle.ldmodel_laws.specs.PlacedOnce.{IsPlacedOnce};
+ghost use Rattle.ldmodel_laws.specs.Untouched.{AreRead, IsGood};
+ghost use Rattle.ldmodel.specs.Relocations.{sites};
+ghost use Rattle.ldmodel.specs.Stayed.{GoodLink, retargeted};
+ghost use Rattle.ldmodel.specs.WorkBound.{sites_outside};
+ghost use Rattle.ldmodel.specs.declared.sections.SectionKey.{SectionKey};
+ghost use Rattle.elfobj.specs.declared.meter.Count.TheVariants.{Fields};
+ghost use Rattle.emit_relocate.specs.Changes.{AreChanged, AreFilled, Results};
+ghost use Rattle.emit_relocate.specs.Earlier.{IsComplete, good_link};
+ghost use Rattle.emit_relocate.specs.Fields.{fault_at, faults_of};
+ghost use Rattle.emit_relocate.specs.Filled.{sections_in};
+ghost use Rattle.emit_relocate.specs.KnownLink.{KnownLink};
+ghost use Rattle.emit_relocate.specs.Patched.{AreAllPatched, AreFew, AreOfProfile, AreSized, IsPatchOfSite};
+ghost use Rattle.emit_relocate.specs.declared.earlier.FileRange.{FileRange};
+
+use ldmodel_laws::stayed::{
+    fields_in_image, sites_by_piece, stayed_by_part, stayed_in_both, unmoved_sites,
+};
+
+/// Where nothing is known to have stayed all is evaluated, as without an earlier link.
+pub fn all_is_evaluated()
+    ensures { (old : GoodLink) (l : KnownLink) (range : SectionKey → Option FileRange) (a b : Results)
+        → AreChanged old l range (sections_in l.project.objects) a b → ((key : SectionKey) → range key ≡ None)
+        → AreFilled l a b }
+{}
+
+/// Beside a good link the faults that are found are those of all sites: what is not evaluated has none.
+pub fn no_fault_is_missed()
+    ensures { (old : GoodLink) (l : KnownLink) (range : SectionKey → Option FileRange) (a b : Results)
+        → AreChanged old l range (sections_in l.project.objects) a b → IsGood old → AreRead l.project
+        → IsPlacedOnce l.project l.layout
+        → faults_of l b.faults ≡ faults_of l a.faults ++ filter_map (fault_at l) (sites l.project l.layout) }
+{
+    unmoved_sites();
+    sites_by_piece();
+    stayed_in_both();
+}
+
+/// Between good links, where each section that stayed is known to have stayed, each site counts that lies outside of
+/// what stayed or whose symbol has another value, once, and no other.
+pub fn due_sites_count()
+    ensures { (old : GoodLink) (l : KnownLink) (range : SectionKey → Option FileRange) (a b : Results)
+        → AreChanged old l range (sections_in l.project.objects) a b → IsComplete range old l → IsGood old
+        → IsGood (good_link l) → IsPlacedOnce l.project l.layout
+        → b.counts ≡ raised a.counts Fields
+        (length (sites_outside old (good_link l)) + length (retargeted old (good_link l))) }
+{
+    sites_by_piece();
+    stayed_by_part();
+    fields_in_image();
+}
+
+/// Each patch is the field of a site of an input section that stayed, in its place in the file.
+pub fn patches_are_fields()
+    ensures { (old : GoodLink) (l : KnownLink) (range : SectionKey → Option FileRange) (a b : Results)
+        → AreChanged old l range (sections_in l.project.objects) a b → a.patches ≡ [] → AreOfProfile l.project
+        → IsPlacedOnce l.project l.layout → All (IsPatchOfSite old (good_link l)) b.patches }
+{
+    sites_by_piece();
+    stayed_in_both();
+}
+
+/// Where each section that stayed is known to have stayed, each site in one whose symbol has another value has a patch,
+/// and no site has two.
+pub fn patches_are_those_retargeted()
+    ensures all { (old : GoodLink) (l : KnownLink) (range : SectionKey → Option FileRange) (a b : Results)
+        → AreChanged old l range (sections_in l.project.objects) a b → a.patches ≡ [] → IsComplete range old l
+        → AreOfProfile l.project → AreSized (good_link l) → IsPlacedOnce l.project l.layout
+        → AreAllPatched old (good_link l) b.patches }
+    ensures few { (old : GoodLink) (l : KnownLink) (range : SectionKey → Option FileRange) (a b : Results)
+        → AreChanged old l range (sections_in l.project.objects) a b → a.patches ≡ [] → IsComplete range old l
+        → IsGood old → IsGood (good_link l) → IsPlacedOnce l.project l.layout → AreFew old (good_link l) b.patches }
+{
+    sites_by_piece();
+    stayed_by_part();
+    stayed_in_both();
+    fields_in_image();
+}

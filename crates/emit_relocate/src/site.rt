@@ -1,0 +1,152 @@
+//! Relocations of an input section in the output: each one's field, or its fault.
+
+ghost use Rattle.std.specs.Prelude.{◌≡◌, ◌≤◌, All, IfOk, ◌+◌, ◌<◌, ◌^◌, Some, [], ◌∷◌, length, option_copied, slice_get};
+ghost use Rattle.std.specs.Prelude.{true};
+ghost use Rattle.elfobj.specs.Raised.{raised};
+ghost use Rattle.elfobj.specs.declared.meter.Count.TheVariants.{Fields};
+ghost use Rattle.elfobj.specs.Profile.{AreApart};
+ghost use Rattle.elfobj.specs.Relocations.{field_end};
+ghost use Rattle.elfobj.specs.Sections.{LinkedSection};
+ghost use Rattle.ldmodel.specs.Relocations.{Site, is_evaluated, site_value};
+ghost use Rattle.emit_relocate.specs.Fields.{evaluations, work_of};
+ghost use Rattle.emit_relocate.specs.KnownLink.{KnownLink};
+ghost use Rattle.emit_relocate.specs.Sites.{IsEvaluated, IsFieldOf, IsSectionOf, IsOutcome, IsSite, IsSiteAt};
+ghost use Rattle.emit_relocate.specs.Values.{value_of};
+
+use crate::value::SymbolValue;
+use elfobj::object::Object;
+use elfobj::relocation::{Relocation, RelocationKind, SymbolIndex};
+use elfobj::section::{LinkedIndex, SectionIndex};
+use elfobj::symbol::Symbol;
+use emit_fields::field::evaluate::field;
+use emit_fields::patch::Patch;
+use ldmodel::fault::{Fault, SiteKey};
+use ldmodel::meter::Meter;
+use ldmodel::names::ObjectPlace;
+
+/// An input section in the output, with what its relocations need.
+#[derive(Clone, Copy, Debug)]
+pub struct PlacedSection<'a> {
+    /// The object of the section.
+    pub object: ObjectPlace,
+    /// The number of the section among the section headers.
+    pub section: SectionIndex,
+    /// The address that it starts at.
+    pub start: u64,
+    /// The symbols of the object.
+    pub symbols: &'a [Symbol],
+    /// What they are worth, by their numbers.
+    pub values: &'a [SymbolValue],
+    /// The relocations of the section, in the order of their table.
+    pub relocations: &'a [Relocation],
+}
+
+impl<'a> PlacedSection<'a> {
+    /// A section of an object that starts at an address. `values` are the values of the object's symbols.
+    pub fn new(
+        key: ObjectPlace,
+        object: &'a Object,
+        index: LinkedIndex,
+        start: u64,
+        values: &'a [SymbolValue],
+    ) -> PlacedSection<'a>
+        requires { index.0 < length object.now.sections }
+        ensures start { result.start ≡ start }
+        ensures values { result.values.now ≡ values.now }
+        ensures section { (x : LinkedSection) → slice_get object.now.sections index.0 ≡ Some x
+            → IsSectionOf object.now x key result }
+        ensures apart { AreApart result.relocations.now }
+        ensures ends { (x : LinkedSection) → slice_get object.now.sections index.0 ≡ Some x
+            → All (λ r. field_end r ≤ x.size) result.relocations.now }
+    {
+        let section = object.sections()[index.0];
+        PlacedSection {
+            object: key,
+            section: section.number,
+            start,
+            symbols: object.symbols(),
+            values,
+            relocations: object.relocations(index),
+        }
+    }
+}
+
+/// Whether a relocation of this kind is evaluated: `NONE` is not.
+pub fn is_evaluated(kind: RelocationKind) -> bool
+    ensures { result ≡ is_evaluated kind }
+{
+    !matches!(kind, RelocationKind::None)
+}
+
+/// The value of the symbol that a relocation of a section names.
+pub fn site_value(section: &PlacedSection<'_>, symbol: SymbolIndex) -> SymbolValue
+    ensures { (l : KnownLink) (t : Site) → IsSite l section.now t → t.relocation.symbol ≡ symbol
+        → value_of result ≡ site_value l.project l.layout t }
+{
+    section
+        .values
+        .get(symbol.0 as usize)
+        .copied()
+        .unwrap_or(SymbolValue::NotDefined)
+}
+
+/// The field of a relocation of number `entry` against a symbol of a value; or its fault.
+fn field_with(
+    section: &PlacedSection<'_>,
+    entry: u32,
+    relocation: &Relocation,
+    value: SymbolValue,
+    meter: &mut Meter,
+) -> Result<Patch, Fault>
+    requires evaluated { is_evaluated relocation.now.kind ≡ true }
+    requires below { section.now.start + relocation.now.offset < 2 ^ 64 }
+    ensures field { IfOk result (IsFieldOf relocation.now) }
+    ensures outcome { (l : KnownLink) (t : Site) → IsSiteAt l section.now entry t → t.relocation ≡ relocation.now
+        → IsOutcome l t (value_of value) result }
+    ensures counted { meter.new ≡ raised meter.old Fields (work_of (value_of value)) }
+{
+    // so that the range of the count is known
+    let _fields = meter.fields();
+    let site = SiteKey {
+        object: section.object,
+        section: section.section,
+        entry,
+    };
+    match value {
+        SymbolValue::NotDefined => Err(Fault::UndefinedSymbol(site)),
+        SymbolValue::NotInOutput => Err(Fault::TargetNotInOutput(site)),
+        SymbolValue::Number(value) => {
+            let place = section.start + relocation.offset;
+            match field(relocation, value, place, meter) {
+                Ok(field) => Ok(Patch {
+                    offset: relocation.offset as usize,
+                    field,
+                }),
+                Err(overflow) => Err(Fault::FieldOverflow {
+                    site,
+                    value: overflow.value,
+                }),
+            }
+        }
+    }
+}
+
+/// The field of a relocation of number `entry`, in its place; or its fault. The call counts one relocation, where the
+/// symbol has a value.
+pub fn evaluate(
+    section: &PlacedSection<'_>,
+    entry: u32,
+    relocation: &Relocation,
+    meter: &mut Meter,
+) -> Result<Patch, Fault>
+    requires evaluated { is_evaluated relocation.now.kind ≡ true }
+    requires below { section.now.start + relocation.now.offset < 2 ^ 64 }
+    ensures field { IfOk result (IsFieldOf relocation.now) }
+    ensures evaluated { (l : KnownLink) (t : Site) → IsSiteAt l section.now entry t → t.relocation ≡ relocation.now
+        → IsEvaluated l t result }
+    ensures counted { (l : KnownLink) (t : Site) → IsSiteAt l section.now entry t → t.relocation ≡ relocation.now
+        → meter.new ≡ raised meter.old Fields (evaluations l (t ∷ [])) }
+{
+    let value = site_value(section, relocation.symbol);
+    field_with(section, entry, relocation, value, meter)
+}

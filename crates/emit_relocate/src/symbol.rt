@@ -1,0 +1,132 @@
+//! Values of symbols: of a local one by its own entry, of another by what its name stands for.
+
+ghost use Rattle.std.specs.Prelude.{◌≡◌, ℕ, List, Some, IfOk, option_to_list};
+ghost use Rattle.std.specs.Option.{option_map};
+ghost use Rattle.ldmodel.specs.FaultCode.{fault_of};
+ghost use Rattle.ldmodel.specs.HandedOver.{decision_of, entry_of};
+ghost use Rattle.ldmodel.specs.Layout.{script_value};
+ghost use Rattle.ldmodel.specs.Relocations.{entry_fault};
+ghost use Rattle.ldmodel.specs.SymbolValues.{decided_value, entry_point, entry_value, own_value, value_or_undefined};
+ghost use Rattle.emit_relocate.specs.KnownLink.{AreNameValues, IsEntryCase, IsNameValueOf, KnownLink, common_value};
+ghost use Rattle.emit_relocate.specs.KnownLink.{name_of_object};
+ghost use Rattle.emit_relocate.specs.Values.{value_of};
+
+use crate::known::Known;
+use crate::value::{SymbolValue, address_from};
+use elfobj::relocation::SymbolIndex;
+use elfobj::symbol::{Symbol, SymbolPlace};
+use ldmodel::fault::Fault;
+use ldmodel::memory::NoMemory;
+use ldmodel::names::{Case, Entry, NameKey, ObjectPlace};
+use ldmodel::sections::{Part, SectionKey};
+use std::alloc::Global;
+
+/// The value of a symbol of an object by its own entry (gABI, "Symbol Values"): an address in its section, its number,
+/// or 0 for the null entry.
+pub fn own_value<L: Known>(link: &L, object: ObjectPlace, symbol: &Symbol) -> SymbolValue
+    ensures { (l : KnownLink) → L.knows link.now l → value_of result
+        ≡ own_value l.layout (name_of_object l object) symbol.now.place symbol.now.value }
+{
+    match symbol.place {
+        SymbolPlace::Section(section) => {
+            let part = Part::InTable(section);
+            address_from(link.start(SectionKey { object, part }), symbol.value)
+        }
+        SymbolPlace::Absolute => SymbolValue::Number(symbol.value),
+        SymbolPlace::Undefined => SymbolValue::Number(0),
+        SymbolPlace::Common => SymbolValue::NotDefined,
+    }
+}
+
+/// The value of the symbol of an entry, if there is such an entry.
+fn entry_value<L: Known>(link: &L, entry: Entry) -> SymbolValue
+    ensures { (l : KnownLink) → L.knows link.now l → value_of result
+        ≡ entry_value l.project l.layout (entry_of l.number entry) }
+{
+    let key = ObjectPlace(entry.key);
+    let Some(object) = link.object(key) else {
+        return SymbolValue::NotDefined;
+    };
+    match object.symbols().get(entry.symbol as usize) {
+        None => SymbolValue::NotDefined,
+        Some(symbol) => own_value(link, key, symbol),
+    }
+}
+
+/// The address of the common block that an entry owns.
+fn common_value<L: Known>(link: &L, owner: Entry) -> SymbolValue
+    ensures { (l : KnownLink) → L.knows link.now l → value_of result ≡ common_value l (entry_of l.number owner) }
+{
+    let object = ObjectPlace(owner.key);
+    let part = Part::InCommon(SymbolIndex(owner.symbol));
+    address_from(link.start(SectionKey { object, part }), 0)
+}
+
+/// The number that the script gives a name, if it gives one.
+fn given_value(given: Option<u64>) -> SymbolValue
+    ensures { value_of result ≡ value_or_undefined given }
+{
+    match given {
+        None => SymbolValue::NotDefined,
+        Some(value) => SymbolValue::Number(value),
+    }
+}
+
+/// The value of a name, by what it stands for and the value that the script gives it.
+fn decided_value<L: Known>(link: &L, case: Case, given: Option<u64>) -> SymbolValue
+    ensures { (l : KnownLink) → L.knows link.now l → (name : List ℕ) → given ≡ script_value l.layout name
+        → value_of result ≡ decided_value l.project l.layout name (decision_of l.number case) }
+{
+    match case {
+        Case::Strong(entry) | Case::Weak(entry) => entry_value(link, entry),
+        Case::Common { owner, .. } => common_value(link, owner),
+        Case::Script | Case::Provided => given_value(given),
+        Case::Undefined | Case::Duplicate => SymbolValue::NotDefined,
+    }
+}
+
+/// The value of the entry symbol, `e_entry`: 0 where there is none. It stands for `case`, and the script gives it the
+/// value `given`, if any.
+pub fn entry_point<L: Known>(link: &L, case: Option<Case>, given: Option<u64>) -> SymbolValue
+    ensures { (l : KnownLink) → L.knows link.now l → IsEntryCase l case given → value_of result
+        ≡ entry_point l.project l.layout }
+{
+    match case {
+        None => SymbolValue::Number(0),
+        Some(case) => decided_value(link, case, given),
+    }
+}
+
+/// The fault of an entry symbol of a value: its section is not in the output.
+#[tactic(auto, unfolding(ldmodel::specs::FaultCode::fault_of))]
+pub fn entry_fault(value: SymbolValue) -> Option<Fault>
+    ensures { (l : KnownLink) → option_to_list (option_map (fault_of l.project l.number) result)
+        ≡ entry_fault (value_of value) }
+{
+    match value {
+        SymbolValue::NotInOutput => Some(Fault::EntryNotInOutput),
+        SymbolValue::Number(_) | SymbolValue::NotDefined => None,
+    }
+}
+
+/// The value of the name of a key.
+pub fn name_value<L: Known>(link: &L, name: NameKey) -> SymbolValue
+    ensures { (l : KnownLink) → L.knows link.now l → IsNameValueOf l name (value_of result) }
+{
+    match link.case(name) {
+        None => SymbolValue::NotDefined,
+        Some(case) => decided_value(link, case, link.script_value(name)),
+    }
+}
+
+/// The values of all names, each under its key. What stands under a key of no name has no meaning.
+pub fn name_values<L: Known>(alloc: Global, link: &L) -> Result<Vec<SymbolValue>, NoMemory>
+    ensures { IfOk result (λ v. (l : KnownLink) → L.knows link.now l → AreNameValues l v.items) }
+{
+    let limit = link.name_limit();
+    let mut values = Vec::with_capacity(alloc, limit)?;
+    for key in 0..limit {
+        values.push(name_value(link, NameKey(key)))?;
+    }
+    Ok(values)
+}

@@ -1,0 +1,98 @@
+//! What relocations name, and the values of what they name.
+
+ghost use Rattle.std.specs.Prelude.{◌≡◌, Some};
+ghost use Rattle.elfobj.specs.Symbols.{NamedSymbol};
+ghost use Rattle.ldmodel.specs.Names.{is_local, is_weak_binding};
+ghost use Rattle.ldmodel.specs.Project.{NamedObject};
+ghost use Rattle.ldmodel.specs.SymbolValues.{number_or_0};
+ghost use Rattle.ldmodel.specs.Targets.{referenced_value, target_number, target_of};
+ghost use Rattle.ldmodel.specs.Targets as model;
+ghost use Rattle.emit_relocate.specs.KnownLink.{AreNameValues, IsSymbolOf, KnownLink, named_target, value_under};
+ghost use Rattle.emit_relocate.specs.Values.{value_of};
+
+use crate::known::Known;
+use crate::symbol::own_value;
+use crate::value::SymbolValue;
+use elfobj::relocation::SymbolIndex;
+use elfobj::symbol::{Binding, Symbol, SymbolPlace};
+use ldmodel::names::{NameKey, ObjectPlace};
+use ldmodel::sections::{Part, SectionKey};
+use ldmodel::target::Target;
+
+/// Whether a symbol is seen in its own object alone.
+fn is_local(binding: Binding) -> bool
+    ensures { result ≡ is_local binding }
+{
+    matches!(binding, Binding::Local)
+}
+
+/// Whether a reference needs no definition.
+fn is_weak(binding: Binding) -> bool
+    ensures { result ≡ is_weak_binding binding }
+{
+    matches!(binding, Binding::Weak)
+}
+
+/// What the value of a symbol of an object depends on: its name; the section that a local one lies in; or nothing.
+pub fn target_of<L: Known>(
+    link: &L,
+    object: ObjectPlace,
+    index: SymbolIndex,
+    symbol: &Symbol,
+) -> Target
+    ensures { (l : KnownLink) → L.knows link.now l → (o : NamedObject) (x : NamedSymbol)
+        → IsSymbolOf l object index symbol.now o x → named_target l result ≡ Some (target_of o x) }
+{
+    if !is_local(symbol.binding) {
+        return Target::Name(link.name_key(object, index));
+    }
+    match symbol.place {
+        SymbolPlace::Section(section) => Target::Section(object, section),
+        SymbolPlace::Undefined | SymbolPlace::Absolute | SymbolPlace::Common => Target::Fixed,
+    }
+}
+
+/// The value of the name of a key, in a table of the values of all names.
+fn value_under(values: &[SymbolValue], name: NameKey) -> SymbolValue
+    ensures { result ≡ value_under values.now name }
+{
+    match values.get(name.0) {
+        None => SymbolValue::NotDefined,
+        Some(value) => *value,
+    }
+}
+
+/// The number of a target: the value of a name, where one without a number counts as 0, or the address of a section.
+/// `values` are the values of all names. While the number of a target stays the same, so do the fields of all
+/// relocations against it.
+pub fn target_number<L: Known>(link: &L, values: &[SymbolValue], target: Target) -> u64
+    ensures { (l : KnownLink) → L.knows link.now l → AreNameValues l values.now → (t : model.Target)
+        → named_target l target ≡ Some t → result ≡ target_number l.project l.layout t }
+{
+    match target {
+        Target::Name(name) => value_under(values, name).number_or_0(),
+        Target::Section(object, section) => {
+            let part = Part::InTable(section);
+            link.start(SectionKey { object, part }).unwrap_or(0)
+        }
+        Target::Fixed => 0,
+    }
+}
+
+/// S, the value of a symbol that a relocation of its object names. `values` are the values of all names.
+pub fn referenced_value<L: Known>(
+    link: &L,
+    values: &[SymbolValue],
+    object: ObjectPlace,
+    index: SymbolIndex,
+    symbol: &Symbol,
+) -> SymbolValue
+    ensures { (l : KnownLink) → L.knows link.now l → AreNameValues l values.now → (o : NamedObject) (x : NamedSymbol)
+        → IsSymbolOf l object index symbol.now o x → value_of result ≡ referenced_value l.project l.layout o x }
+{
+    if is_local(symbol.binding) {
+        return own_value(link, object, symbol);
+    }
+    let value = value_under(values, link.name_key(object, index));
+    value.or_weak(is_weak(symbol.binding))
+}

@@ -1,0 +1,215 @@
+-- The map by the code's values is the map of the link.
+use Rattle.std.proofs.Common.{◌≡◌, ℕ, List, [], ◌∷◌, ◌++◌, drop, filter, flat_map, length, map, refl, ap, sym}
+use Rattle.std.proofs.Common.{◌∙◌, subst, Bool, true, false, cond, Option, codes}
+use Rattle.std.proofs.Common.{append_assoc}
+use Rattle.std.specs.Prelude.{Contains}
+use Rattle.std.specs.Vec.{vec_items}
+use Rattle.ldscript.specs.Numbering.{OutputSectionAt, output_sections}
+use Rattle.ldscript.specs.Numbered.{shown_sections}
+use Rattle.ldmodel.specs.Layout.{Layout, PlacedPiece, PlacedSection}
+use Rattle.ldmodel.specs.Lent.{placed_of, starts_of}
+use Rattle.ldmodel.specs.Lines.{line_of, hex}
+use Rattle.ldmodel.specs.MapText.{map_text, entry_line, section_lines, piece_line, symbol_line, value_word}
+use Rattle.ldmodel.specs.Names.{Decision, decision, declared_names}
+use Rattle.ldmodel.specs.OutputSymbols.{OutputSymbol, in_byte_order, is_defined, output_symbol}
+use Rattle.ldmodel.specs.OutputSymbols.{output_symbols, owner}
+use Rattle.ldmodel.specs.Project.{Project}
+use Rattle.ldmodel.specs.Rows as model
+use Rattle.ldmodel.specs.SymbolValues.{SymbolValue, Number, NotDefined, NotInOutput, name_value}
+use Rattle.ldmodel.specs.declared.rows.Piece.{Piece}
+use Rattle.emit_text.specs.MapOf.{IsMapOf, IsSymbolOf, AreSymbolsOf, IsValue, name_of, name_in, row_of, shown_piece}
+use Rattle.emit_text.specs.MapOf.{shown_row, symbol_names}
+use Rattle.emit_text.specs.ShownMap.{merged, piece_text, pieces_text, section_text, sections_text, shown_map}
+use Rattle.emit_text.specs.ShownMap.{symbol_text, symbols_text, value_text}
+use Rattle.emit_text.specs.declared.maps.MapParts.{MapParts}
+use Rattle.emit_text.specs.declared.symbols.MapSymbol.{MapSymbol}
+use Rattle.emit_text.proofs.ByteOrder.{Name, In, Once, contained_in, distinct_once, filtered_asc}
+use Rattle.emit_text.proofs.ByteOrder.{filtered_in, in_append, in_contained, in_filtered, in_sorted}
+use Rattle.emit_text.proofs.ByteOrder.{same_list, sorted_asc, sorted_in}
+use Rattle.emit_text.proofs.MergedNames.{Each, asc_from, each_merged, each_name, each_of, merged_asc, merged_in}
+use Rattle.emit_text.proofs.MergedNames.{names_append}
+
+-- ---- sections and rows
+
+piece_same : (p : Project) (number : ℕ → ℕ) (x : Piece) (y : PlacedPiece) → shown_piece p number x ≡ y.piece
+    → piece_text p number x y.start ≡ piece_line y
+piece_same p number x y e =
+    ap (λ (z : model.Piece). line_of (codes "piece" ∷ hex y.start ∷ hex z.size ∷ z.object ∷ z.name ∷ [])) e
+
+pieces_same : (p : Project) (number : ℕ → ℕ) (ys : List PlacedPiece) (xs : List Piece) (rest : List ℕ)
+    → shown_row p number xs ≡ map (λ (y : PlacedPiece). y.piece) ys
+    → pieces_text p number xs (map (λ (y : PlacedPiece). y.start) ys ++ rest) ≡ flat_map piece_line ys
+pieces_same p number [] [] rest e = refl
+pieces_same p number [] (x ∷ xs) rest e = absurd (cc)
+pieces_same p number (y ∷ ys) [] rest e = absurd (cc)
+pieces_same p number (y ∷ ys) (x ∷ xs) rest e =
+    let head : shown_piece p number x ≡ y.piece = cc in
+    let tail : shown_row p number xs ≡ map (λ (z : PlacedPiece). z.piece) ys = cc in
+    ap (λ t. t ++ pieces_text p number xs (map (λ (z : PlacedPiece). z.start) ys ++ rest))
+    (piece_same p number x y head)
+    ∙ ap (λ t. piece_line y ++ t) (pieces_same p number ys xs rest tail)
+
+starts_left : (p : Project) (number : ℕ → ℕ) (ys : List PlacedPiece) (xs : List Piece) (rest : List ℕ)
+    → shown_row p number xs ≡ map (λ (y : PlacedPiece). y.piece) ys
+    → drop (length xs) (map (λ (y : PlacedPiece). y.start) ys ++ rest) ≡ rest
+starts_left p number [] [] rest e = refl
+starts_left p number [] (x ∷ xs) rest e = absurd (cc)
+starts_left p number (y ∷ ys) [] rest e = absurd (cc)
+starts_left p number (y ∷ ys) (x ∷ xs) rest e =
+    let tail : shown_row p number xs ≡ map (λ (z : PlacedPiece). z.piece) ys = cc in
+    starts_left p number ys xs rest tail
+
+sections_same : (p : Project) (number : ℕ → ℕ) (qs : List PlacedSection) (os : List OutputSectionAt)
+    (rows : List (List Piece)) → map name_of qs ≡ map name_in os
+    → map (shown_row p number) rows ≡ map row_of qs
+    → sections_text p number (map placed_of qs) os rows (flat_map starts_of qs) ≡ flat_map section_lines qs
+sections_same p number [] os rows e r = refl
+sections_same p number (q ∷ qs) [] rows e r = absurd (cc)
+sections_same p number (q ∷ qs) (o ∷ os) [] e r = absurd (cc)
+sections_same p number (q ∷ qs) (o ∷ os) (row ∷ rows) e r =
+    let name : q.name ≡ o.section.name = cc in
+    let names : map name_of qs ≡ map name_in os = cc in
+    let here : shown_row p number row ≡ row_of q = cc in
+    let later : map (shown_row p number) rows ≡ map row_of qs = cc in
+    let starts = flat_map starts_of qs in
+    let line = section_text o.section.name (placed_of q) in
+    let rest : List ℕ → List ℕ = λ ss. sections_text p number (map placed_of qs) os rows ss in
+    ap (λ t. line ++ (t ++ rest (drop (length row) (starts_of q ++ starts))))
+    (pieces_same p number q.pieces row starts here)
+    ∙ ap (λ ss. line ++ (flat_map piece_line q.pieces ++ rest ss)) (starts_left p number q.pieces row starts here)
+    ∙ ap (λ t. line ++ (flat_map piece_line q.pieces ++ t)) (sections_same p number qs os rows names later)
+    ∙ ap (λ m. section_text m (placed_of q) ++ (flat_map piece_line q.pieces ++ flat_map section_lines qs)) (sym name)
+    ∙ sym (append_assoc (section_text q.name (placed_of q)) (flat_map piece_line q.pieces) (flat_map section_lines qs))
+
+-- ---- symbols
+
+abbrev stands : Project → Name → Bool
+stands p name = is_defined (decision p name)
+
+-- the line of a name, or none
+abbrev named_line : Project → Layout → Name → List ℕ
+named_line p s name = cond (stands p name) (symbol_line p (output_symbol p s name)) []
+
+listed : (p : Project) (s : Layout) (xs : List Name)
+    → flat_map (symbol_line p) (filter (λ (x : OutputSymbol). is_defined x.decision) (map (output_symbol p s) xs))
+    ≡ flat_map (named_line p s) xs
+listed p s [] = refl
+listed p s (x ∷ xs) = go (stands p x) (listed p s xs)
+  where
+    go : (b : Bool) → flat_map (symbol_line p)
+        (filter (λ (y : OutputSymbol). is_defined y.decision) (map (output_symbol p s) xs))
+        ≡ flat_map (named_line p s) xs
+        → flat_map (symbol_line p)
+        (cond b (output_symbol p s x ∷ filter (λ (y : OutputSymbol).
+        is_defined y.decision) (map (output_symbol p s) xs))
+        (filter (λ (y : OutputSymbol). is_defined y.decision) (map (output_symbol p s) xs)))
+        ≡ cond b (symbol_line p (output_symbol p s x)) [] ++ flat_map (named_line p s) xs
+    go true e = ap (λ t. symbol_line p (output_symbol p s x) ++ t) e
+    go false e = e
+
+filtered_lines : (p : Project) (s : Layout) (xs : List Name) → flat_map (named_line p s) (filter (stands p) xs)
+    ≡ flat_map (named_line p s) xs
+filtered_lines p s [] = refl
+filtered_lines p s (x ∷ xs) = go (stands p x) refl (filtered_lines p s xs)
+  where
+    go : (b : Bool) → stands p x ≡ b → flat_map (named_line p s) (filter (stands p) xs) ≡ flat_map (named_line p s) xs
+        → flat_map (named_line p s) (cond b (x ∷ filter (stands p) xs) (filter (stands p) xs)) ≡ named_line p s x
+        ++ flat_map (named_line p s) xs
+    go true h e = ap (λ t. named_line p s x ++ t) e
+    go false h e = e ∙ ap (λ b. cond b (symbol_line p (output_symbol p s x)) [] ++ flat_map (named_line p s) xs) (sym h)
+
+value_same : (v : SymbolValue) (o : Option ℕ) → IsValue v o → value_text o ≡ value_word v
+value_same (Number x) o e = ap value_text e
+value_same NotInOutput o e = ap value_text e
+value_same NotDefined o e = ap value_text e
+
+symbol_same : (p : Project) (number : ℕ → ℕ) (s : Layout) (x : MapSymbol) → IsSymbolOf p number s x
+    → symbol_text p number x ≡ named_line p s x.name.now
+symbol_same p number s x h =
+    ap (λ (d : Decision).
+    cond (is_defined d) (line_of (codes "symbol" ∷ value_text x.value ∷ x.name.now ∷ owner p d ∷ [])) []) h.case
+    ∙ go (stands p x.name.now) refl
+  where
+    go : (b : Bool) → stands p x.name.now ≡ b
+        → cond b (line_of (codes "symbol" ∷ value_text x.value ∷ x.name.now ∷ owner p (decision p x.name.now) ∷ [])) []
+        ≡ cond b (symbol_line p (output_symbol p s x.name.now)) []
+    go true e = ap (λ v. line_of (codes "symbol" ∷ v ∷ x.name.now ∷ owner p (decision p x.name.now) ∷ []))
+        (value_same (name_value p s x.name.now) x.value (h.value e))
+    go false e = refl
+
+symbols_same : (p : Project) (number : ℕ → ℕ) (s : Layout) (xs : List MapSymbol) → Each (IsSymbolOf p number s) xs
+    → symbols_text p number xs ≡ flat_map (named_line p s) (symbol_names xs)
+symbols_same p number s [] h = refl
+symbols_same p number s (x ∷ xs) h =
+    ap (λ t. t ++ symbols_text p number xs) (symbol_same p number s x h.0)
+    ∙ ap (λ t. named_line p s x.name.now ++ t) (symbols_same p number s xs h.1)
+
+names_once : (p : Project) → Once (declared_names p)
+unfolding declared_names
+names_once p = distinct_once _
+
+-- the names that stand for something are the same ones
+module _ (p : Project) (number : ℕ → ℕ) (s : Layout) (xs ys : List MapSymbol) (h : AreSymbolsOf p number s xs)
+    (k : AreSymbolsOf p number s ys)
+    (all : (name : List ℕ) → Contains (declared_names p) name → is_defined (decision p name) ≡ true
+    → Contains (symbol_names (xs ++ ys)) name) where
+  abbrev both : List Name
+  both = symbol_names (merged xs ys)
+
+  abbrev every : List Name
+  every = in_byte_order (declared_names p)
+
+  each : Each (IsSymbolOf p number s) (merged xs ys)
+  each = each_merged (IsSymbolOf p number s) xs ys (each_of (IsSymbolOf p number s) xs h.each)
+      (each_of (IsSymbolOf p number s) ys k.each)
+
+  to_every : (z : Name) → In z (filter (stands p) both) → In z (filter (stands p) every)
+  to_every z i =
+      let parts = in_filtered (stands p) z both i in
+      let declared : Contains (declared_names p) z =
+      each_name (IsSymbolOf p number s) (λ w. is_defined (decision p w) ≡ true → Contains (declared_names p) w) (λ x q.
+      q.declared) (merged xs ys) z each parts.0 parts.1 in
+      filtered_in (stands p) z every (sorted_in z (declared_names p) (in_contained z (declared_names p) declared))
+      parts.1
+
+  to_both : (z : Name) → In z (filter (stands p) every) → In z (filter (stands p) both)
+  to_both z i =
+      let parts = in_filtered (stands p) z every i in
+      let among = all z (contained_in z (declared_names p) (in_sorted z (declared_names p) parts.0)) parts.1 in
+      let either = in_append z (symbol_names xs) (symbol_names ys)
+      (subst (λ l. In z l) (names_append xs ys) (in_contained z (symbol_names (xs ++ ys)) among)) in
+      filtered_in (stands p) z both (merged_in xs ys z either) parts.1
+
+  same_names : filter (stands p) both ≡ filter (stands p) every
+  same_names = same_list (filter (stands p) both) (filter (stands p) every)
+      (filtered_asc (stands p) both (merged_asc xs ys (asc_from xs h.order) (asc_from ys k.order)))
+      (filtered_asc (stands p) every (sorted_asc (declared_names p) (names_once p))) to_every to_both
+
+  pub all_symbols : symbols_text p number (merged xs ys) ≡ flat_map (symbol_line p) (output_symbols p s)
+  unfolding output_symbols
+  all_symbols =
+      symbols_same p number s (merged xs ys) each ∙ sym (filtered_lines p s both)
+      ∙ ap (flat_map (named_line p s)) same_names
+      ∙ filtered_lines p s every ∙ sym (listed p s every)
+
+pub map_is_shown : (p : Project) (number : ℕ → ℕ) (s : Layout) (m : MapParts) → IsMapOf p number s m
+    → shown_map p number m ≡ map_text p s
+unfolding shown_map map_text
+map_is_shown p number s m h =
+    let sections : sections_text p number m.laid.sections.now (shown_sections m.sections.now)
+    (map vec_items m.rows.now) m.laid.starts.now ≡ flat_map section_lines s.sections =
+    ap (λ qs. sections_text p number qs (shown_sections m.sections.now) (map vec_items m.rows.now) m.laid.starts.now)
+    h.laid.sections
+    ∙ ap (λ ss. sections_text p number (map placed_of s.sections) (shown_sections m.sections.now)
+    (map vec_items m.rows.now) ss) h.laid.starts
+    ∙ ap (λ os. sections_text p number (map placed_of s.sections) os (map vec_items m.rows.now)
+    (flat_map starts_of s.sections)) h.sections
+    ∙ sections_same p number s.sections (output_sections p.script) (map vec_items m.rows.now) h.names h.rows in
+    let symbols = all_symbols p number s m.named.now m.given.now h.named h.given h.complete in
+    ap (λ e. line_of (codes "entry" ∷ hex e ∷ [])
+    ++ (sections_text p number m.laid.sections.now (shown_sections m.sections.now) (map vec_items m.rows.now)
+    m.laid.starts.now ++ symbols_text p number (merged m.named.now m.given.now))) h.entry
+    ∙ ap (λ t. entry_line p s ++ (t ++ symbols_text p number (merged m.named.now m.given.now))) sections
+    ∙ ap (λ t. entry_line p s ++ (flat_map section_lines s.sections ++ t)) symbols
+    ∙ sym (append_assoc (entry_line p s) (flat_map section_lines s.sections)
+    (flat_map (symbol_line p) (output_symbols p s)))

@@ -1,0 +1,11 @@
+-- With the lines still to come, the text is the whole one.
+use Rattle.std.proofs.Common.{◌≡◌, drop}
+use Rattle.emit_text.specs.Drafts.{added}
+use Rattle.emit_text.specs.ShownMap.{symbols_text}
+use Rattle.emit_text.proofs.symbols.put_all.Given as goal
+
+abbrev pub invariant-loop-symbol : goal.invariant-loop-symbol
+invariant-loop-symbol g l =
+    added l.draft (symbols_text (g.M.Members.project l.members) (g.M.Members.number l.members)
+    (drop l.symbol-index l.symbols))
+    ≡ added l.initial.draft (symbols_text (g.M.Members.project l.members) (g.M.Members.number l.members) l.symbols)

@@ -1,0 +1,71 @@
+-- Which values the map of a link is made of. `number` says which place in the project the object of a key has.
+use Rattle.std.specs.Prelude.{◌≡◌, ℕ, List, ◌++◌, map, Option, Some, None, true, All, AllPairs, Contains}
+use Rattle.std.specs.Vec.{vec_items}
+use Rattle.ldscript.specs.Numbered.{shown_sections}
+use Rattle.ldscript.specs.Numbering.{OutputSectionAt, output_sections}
+use Rattle.ldmodel.specs.FaultCode.{name_of_part}
+use Rattle.ldmodel.specs.HandedOver.{decision_of, piece_of}
+use Rattle.ldmodel.specs.Layout.{Layout, PlacedPiece, PlacedSection}
+use Rattle.ldmodel.specs.Lent.{IsLaid}
+use Rattle.ldmodel.specs.NameFaults.{object_name}
+use Rattle.ldmodel.specs.Names.{declared_names, decision}
+use Rattle.ldmodel.specs.OutputSymbols.{is_before, is_defined}
+use Rattle.ldmodel.specs.Project.{Project}
+use Rattle.ldmodel.specs.Rows as model
+use Rattle.ldmodel.specs.SymbolValues.{SymbolValue, Number, NotDefined, NotInOutput, entry_point, name_value}
+use Rattle.ldmodel.specs.SymbolValues.{number_or_0}
+use Rattle.ldmodel.specs.declared.rows.Piece.{Piece}
+use Rattle.ldmodel.specs.declared.sections.SectionKey.{SectionKey}
+use Rattle.emit_text.specs.declared.maps.MapParts.{MapParts}
+use Rattle.emit_text.specs.declared.symbols.MapSymbol.{MapSymbol}
+
+-- an entry of a row, by the names of its object and section
+abbrev pub shown_piece : Project → (number : ℕ → ℕ) → Piece → model.Piece
+shown_piece p number x =
+    piece_of (λ key. object_name p (number key)) (λ (k : SectionKey). name_of_part p (number k.object.0) k.part) x
+
+abbrev pub shown_row : Project → (number : ℕ → ℕ) → List Piece → List model.Piece
+shown_row p number row = map (shown_piece p number) row
+
+-- the entries of the row of an output section
+abbrev pub row_of : PlacedSection → List model.Piece
+row_of q = map (λ (x : PlacedPiece). x.piece) q.pieces
+
+abbrev pub name_of : PlacedSection → List ℕ
+name_of q = q.name
+
+abbrev pub name_in : OutputSectionAt → List ℕ
+name_in o = o.section.name
+
+-- a value, where there is one
+abbrev pub IsValue : SymbolValue → Option ℕ → Type 0
+IsValue (Number n) v = v ≡ Some n
+IsValue NotInOutput v = v ≡ None
+IsValue NotDefined v = v ≡ None
+
+-- a name with what it stands for and, where that is something, its value; the name is then one that is declared
+pub record IsSymbolOf (p : Project) (number : ℕ → ℕ) (s : Layout) (x : MapSymbol) : Type 0 where
+  pub case : decision_of number x.case ≡ decision p x.name.now
+  pub value : is_defined (decision p x.name.now) ≡ true → IsValue (name_value p s x.name.now) x.value
+  pub declared : is_defined (decision p x.name.now) ≡ true → Contains (declared_names p) x.name.now
+
+-- such names in byte order, each once
+pub record AreSymbolsOf (p : Project) (number : ℕ → ℕ) (s : Layout) (xs : List MapSymbol) : Type 0 where
+  pub each : All (IsSymbolOf p number s) xs
+  pub order : AllPairs (λ (x y : MapSymbol). is_before x.name.now y.name.now ≡ true) xs
+
+abbrev pub symbol_names : List MapSymbol → List (List ℕ)
+symbol_names xs = map (λ (x : MapSymbol). x.name.now) xs
+
+-- the values are those of a project's link, which stands at a layout
+pub record IsMapOf (p : Project) (number : ℕ → ℕ) (s : Layout) (m : MapParts) : Type 0 where
+  pub entry : m.entry ≡ number_or_0 (entry_point p s)
+  pub sections : shown_sections m.sections.now ≡ output_sections p.script
+  pub names : map name_of s.sections ≡ map name_in (output_sections p.script)
+  pub laid : IsLaid p.script s m.laid
+  pub rows : map (shown_row p number) (map vec_items m.rows.now) ≡ map row_of s.sections
+  pub named : AreSymbolsOf p number s m.named.now
+  pub given : AreSymbolsOf p number s m.given.now
+  -- each name that stands for something is in one of the two lists
+  pub complete : (name : List ℕ) → Contains (declared_names p) name → is_defined (decision p name) ≡ true
+      → Contains (symbol_names (m.named.now ++ m.given.now)) name

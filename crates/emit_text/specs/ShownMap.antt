@@ -1,0 +1,95 @@
+-- The map by the values that the code has for it.
+use Rattle.std.specs.Prelude.{ℕ, List, [], ◌∷◌, ◌++◌, drop, flat_map, length, map, replicate, codes, Bool}
+use Rattle.std.specs.Prelude.{if◌then◌else◌}
+use Rattle.std.specs.Prelude.{Option, Some, None}
+use Rattle.std.specs.Cmp.Lexicographic.{slice_cmp}
+use Rattle.std.specs.Ordering.{nat_cmp}
+use Rattle.std.specs.Vec.{vec_items}
+use Rattle.std.specs.declared.cmp.Ordering.{Ordering}
+use Rattle.std.specs.declared.cmp.Ordering.TheVariants.{Less, Equal, Greater}
+use Rattle.ldscript.specs.Numbered.{shown_sections}
+use Rattle.ldscript.specs.Numbering.{OutputSectionAt}
+use Rattle.ldmodel.specs.FaultCode.{name_of_part}
+use Rattle.ldmodel.specs.HandedOver.{decision_of}
+use Rattle.ldmodel.specs.Lines.{line_of, hex}
+use Rattle.ldmodel.specs.NameFaults.{object_name}
+use Rattle.ldmodel.specs.OutputSymbols.{is_defined, owner}
+use Rattle.ldmodel.specs.Project.{Project}
+use Rattle.ldmodel.specs.declared.laid.Placed.{Placed}
+use Rattle.ldmodel.specs.declared.rows.Piece.{Piece}
+use Rattle.emit_text.specs.declared.maps.MapParts.{MapParts}
+use Rattle.emit_text.specs.declared.symbols.MapSymbol.{MapSymbol}
+
+abbrev pub letters : (writable executable : Bool) → List ℕ
+letters writable executable =
+    codes "r" ++ (if writable then codes "w" else codes "-") ++ (if executable then codes "x" else codes "-")
+
+abbrev pub section_text : List ℕ → Placed → List ℕ
+section_text name x =
+    line_of (codes "section" ∷ name ∷ hex x.start ∷ hex x.load ∷ hex x.size ∷ letters x.writable x.executable ∷ [])
+
+abbrev pub piece_text : Project → (number : ℕ → ℕ) → Piece → ℕ → List ℕ
+piece_text p number x start =
+    line_of (codes "piece" ∷ hex start ∷ hex x.size ∷ object_name p (number x.section.object.0)
+    ∷ name_of_part p (number x.section.object.0) x.section.part ∷ [])
+
+-- the pieces of a row, whose addresses are the first of these
+abbrev pub pieces_text : Project → (number : ℕ → ℕ) → List Piece → List ℕ → List ℕ
+pieces_text p number [] starts = []
+pieces_text p number (x ∷ xs) [] = []
+pieces_text p number (x ∷ xs) (start ∷ starts) = piece_text p number x start ++ pieces_text p number xs starts
+
+-- output sections with their names and rows, and the addresses of all pieces
+abbrev pub sections_text : Project → (number : ℕ → ℕ) → List Placed → List OutputSectionAt → List (List Piece)
+    → List ℕ → List ℕ
+sections_text p number [] os rows starts = []
+sections_text p number (q ∷ qs) [] rows starts = []
+sections_text p number (q ∷ qs) (o ∷ os) [] starts = []
+sections_text p number (q ∷ qs) (o ∷ os) (row ∷ rows) starts =
+    section_text o.section.name q ++ (pieces_text p number row starts
+    ++ sections_text p number qs os rows (drop (length row) starts))
+
+abbrev pub value_text : Option ℕ → List ℕ
+value_text (Some x) = hex x
+value_text None = replicate 16 45
+
+-- nothing for a name that stands for nothing
+abbrev pub symbol_text : Project → (number : ℕ → ℕ) → MapSymbol → List ℕ
+symbol_text p number x =
+    if is_defined (decision_of number x.case)
+    then line_of (codes "symbol" ∷ value_text x.value ∷ x.name.now ∷ owner p (decision_of number x.case) ∷ [])
+    else []
+
+abbrev pub symbols_text : Project → (number : ℕ → ℕ) → List MapSymbol → List ℕ
+symbols_text p number xs = flat_map (symbol_text p number) xs
+
+-- how the name of y stands to that of x in byte order
+abbrev pub compared : MapSymbol → MapSymbol → Ordering
+compared y x = slice_cmp nat_cmp y.name.now x.name.now
+
+abbrev pub by_order : {X : Type 0} → Ordering → (less equal greater : X) → X
+by_order Less less equal greater = less
+by_order Equal less equal greater = equal
+by_order Greater less equal greater = greater
+
+-- those at the front whose names stand before that of x
+abbrev pub before : MapSymbol → List MapSymbol → List MapSymbol
+before x [] = []
+before x (y ∷ ys) = by_order (compared y x) (y ∷ before x ys) [] []
+
+-- those that follow them, without one of the name of x
+abbrev pub after : MapSymbol → List MapSymbol → List MapSymbol
+after x [] = []
+after x (y ∷ ys) = by_order (compared y x) (after x ys) ys (y ∷ ys)
+
+-- two lists in byte order as one; of a name that both have, the entry of the first
+abbrev pub merged : List MapSymbol → List MapSymbol → List MapSymbol
+merged [] ys = ys
+merged (x ∷ xs) ys = before x ys ++ x ∷ merged xs (after x ys)
+
+unfoldable pub shown_map : Project → (number : ℕ → ℕ) → MapParts → List ℕ
+shown_map p number m =
+    line_of (codes "entry" ∷ hex m.entry ∷ [])
+    ++ (sections_text p number m.laid.sections.now (shown_sections m.sections.now) (map vec_items m.rows.now)
+    m.laid.starts.now
+    ++ symbols_text p number (merged m.named.now m.given.now))

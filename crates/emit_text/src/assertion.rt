@@ -1,0 +1,55 @@
+//! The ASSERTs of a script by their numbers.
+
+ghost use Rattle.std.specs.Prelude.{◌≡◌, OnOk, IfOk, ◌++◌};
+ghost use Rattle.ldscript.specs.Numbering.{asserted_by, asserted_in};
+ghost use Rattle.ldscript.specs.Numbered.{shown_commons};
+ghost use Rattle.emit_text.specs.Naming.{shown_assertions};
+
+use ldmodel::memory::NoMemory;
+use ldscript::tree::{Assertion, Common, CommonAt};
+use std::alloc::Global;
+
+/// An ASSERT.
+#[derive(Clone, Copy)]
+pub struct AssertionAt<'a> {
+    /// The line of its first token.
+    pub line: u32,
+    /// What it says.
+    pub assertion: &'a Assertion,
+}
+
+fn add_assertion<'a>(
+    list: &mut Vec<AssertionAt<'a>>,
+    command: &CommonAt<'a>,
+) -> Result<(), NoMemory>
+    ensures { OnOk result (shown_assertions list.new.items ≡ shown_assertions list.old.items
+        ++ asserted_by command.now.line command.now.command.now) }
+{
+    match command.command {
+        Common::Assert(assertion) => {
+            let line = command.line;
+            list.push(AssertionAt { line, assertion })?;
+            Ok(())
+        }
+        Common::Assign(_) | Common::Provide(_) => Ok(()),
+    }
+}
+
+/// The ASSERTs among the assignments, PROVIDEs and ASSERTs of a script, in their order: at the place that the number of
+/// each one (`AssertionIndex`) says.
+///
+/// # Errors
+///
+/// Where there is no memory for the list.
+pub fn assertions<'a>(
+    alloc: Global,
+    commands: &[CommonAt<'a>],
+) -> Result<Vec<AssertionAt<'a>>, NoMemory>
+    ensures { IfOk result (λ v. shown_assertions v.items ≡ asserted_in (shown_commons commands.now)) }
+{
+    let mut list = Vec::new(alloc);
+    for command in commands {
+        add_assertion(&mut list, command)?;
+    }
+    Ok(list)
+}

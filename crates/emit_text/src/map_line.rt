@@ -1,0 +1,134 @@
+//! The map's lines.
+
+ghost use Rattle.std.specs.Prelude.{◌≡◌, ◌∷◌, ◌++◌, [], OnOk, codes};
+ghost use Rattle.ldmodel.specs.Lines.{hex, line_of};
+ghost use Rattle.emit_text.specs.Drafts.{added};
+ghost use Rattle.emit_text.specs.ShownMap.{value_text};
+
+use crate::draft::Draft;
+use crate::hex::hex_digits;
+use ldmodel::memory::NoMemory;
+
+/// `entry ADDRESS`
+pub fn put_entry_line(draft: &mut Draft, entry: u64) -> Result<(), NoMemory>
+    ensures { OnOk result (draft.new ≡ added draft.old (line_of (codes "entry" ∷ hex entry ∷ []))) }
+{
+    draft.put(b"entry ")?;
+    draft.put_hex(entry)?;
+    draft.put_byte(b'\n')
+}
+
+/// ` START LOAD SIZE ` of a line.
+fn section_numbers(start: u64, load: u64, size: u64) -> [u8; 52]
+    ensures { result ≡ 32 ∷ (hex start ++ 32 ∷ []) ++ (hex load ++ 32 ∷ []) ++ (hex size ++ 32 ∷ []) }
+{
+    let start = hex_digits(start);
+    let load = hex_digits(load);
+    let size = hex_digits(size);
+    [
+        b' ', start[0], start[1], start[2], start[3], start[4], start[5], start[6], start[7],
+        start[8], start[9], start[10], start[11], start[12], start[13], start[14], start[15], b' ',
+        load[0], load[1], load[2], load[3], load[4], load[5], load[6], load[7], load[8], load[9],
+        load[10], load[11], load[12], load[13], load[14], load[15], b' ', size[0], size[1],
+        size[2], size[3], size[4], size[5], size[6], size[7], size[8], size[9], size[10], size[11],
+        size[12], size[13], size[14], size[15], b' ',
+    ]
+}
+
+/// `section NAME START LOAD SIZE FLAGS`
+pub fn put_section_line(
+    draft: &mut Draft,
+    name: &[u8],
+    numbers: (u64, u64, u64),
+    flags: &[u8],
+) -> Result<(), NoMemory>
+    ensures { OnOk result (draft.new
+        ≡ added draft.old (line_of
+        (codes "section" ∷ name.now ∷ hex numbers.0 ∷ hex numbers.1 ∷ hex numbers.2 ∷ flags.now ∷ []))) }
+{
+    draft.put(b"section ")?;
+    draft.put(name)?;
+    draft.put(&section_numbers(numbers.0, numbers.1, numbers.2))?;
+    draft.put(flags)?;
+    draft.put_byte(b'\n')
+}
+
+/// The two names at the end of a line.
+#[inline(always)]
+fn put_names(draft: &mut Draft, first: &[u8], second: &[u8]) -> Result<(), NoMemory>
+    ensures { OnOk result (draft.new ≡ added draft.old (first.now ++ 32 ∷ [] ++ second.now ++ 10 ∷ [])) }
+{
+    draft.put(first)?;
+    draft.put_byte(b' ')?;
+    draft.put(second)?;
+    draft.put_byte(b'\n')
+}
+
+/// `piece ADDRESS SIZE ` of a line.
+#[inline(always)]
+fn piece_front(start: u64, size: u64) -> [u8; 40]
+    ensures { result ≡ codes "piece " ++ (hex start ++ 32 ∷ []) ++ (hex size ++ 32 ∷ []) }
+{
+    let start = hex_digits(start);
+    let size = hex_digits(size);
+    [
+        b'p', b'i', b'e', b'c', b'e', b' ', start[0], start[1], start[2], start[3], start[4],
+        start[5], start[6], start[7], start[8], start[9], start[10], start[11], start[12],
+        start[13], start[14], start[15], b' ', size[0], size[1], size[2], size[3], size[4],
+        size[5], size[6], size[7], size[8], size[9], size[10], size[11], size[12], size[13],
+        size[14], size[15], b' ',
+    ]
+}
+
+/// `piece ADDRESS SIZE OBJECT SECTION`
+pub fn put_piece_line(
+    draft: &mut Draft,
+    start: u64,
+    size: u64,
+    object: &[u8],
+    section: &[u8],
+) -> Result<(), NoMemory>
+    ensures { OnOk result (draft.new
+        ≡ added draft.old (line_of (codes "piece" ∷ hex start ∷ hex size ∷ object.now ∷ section.now ∷ []))) }
+{
+    draft.put(&piece_front(start, size))?;
+    put_names(draft, object, section)
+}
+
+/// `symbol VALUE ` of a line.
+#[inline(always)]
+fn symbol_front(value: u64) -> [u8; 24]
+    ensures { result ≡ codes "symbol " ++ (hex value ++ 32 ∷ []) }
+{
+    let value = hex_digits(value);
+    [
+        b's', b'y', b'm', b'b', b'o', b'l', b' ', value[0], value[1], value[2], value[3], value[4],
+        value[5], value[6], value[7], value[8], value[9], value[10], value[11], value[12],
+        value[13], value[14], value[15], b' ',
+    ]
+}
+
+/// `symbol VALUE ` of a line, at the end.
+#[inline(always)]
+fn put_symbol_front(draft: &mut Draft, value: Option<u64>) -> Result<(), NoMemory>
+    ensures { OnOk result (draft.new ≡ added draft.old (codes "symbol " ++ (value_text value ++ 32 ∷ []))) }
+{
+    match value {
+        Some(number) => draft.put(&symbol_front(number)),
+        None => draft.put(b"symbol ---------------- "),
+    }
+}
+
+/// `symbol VALUE NAME OWNER`
+pub fn put_symbol_line(
+    draft: &mut Draft,
+    value: Option<u64>,
+    name: &[u8],
+    owner: &[u8],
+) -> Result<(), NoMemory>
+    ensures { OnOk result (draft.new
+        ≡ added draft.old (line_of (codes "symbol" ∷ value_text value ∷ name.now ∷ owner.now ∷ []))) }
+{
+    put_symbol_front(draft, value)?;
+    put_names(draft, name, owner)
+}

@@ -1,0 +1,175 @@
+//! The map.
+
+ghost use Rattle.std.specs.Prelude.{◌≡◌, OnOk, IfOk, length, drop, map};
+ghost use Rattle.std.specs.Vec.{vec_items};
+ghost use Rattle.ldscript.specs.Numbered.{shown_sections};
+ghost use Rattle.ldmodel.specs.Layout.{Layout};
+ghost use Rattle.ldmodel.specs.MapText.{map_text};
+ghost use Rattle.emit_text.specs.Drafts.{added};
+ghost use Rattle.emit_text.specs.MapOf.{IsMapOf};
+ghost use Rattle.emit_text.specs.ShownMap.{letters, piece_text, pieces_text, section_text, sections_text, shown_map};
+
+use crate::draft::Draft;
+use crate::map_line::{put_entry_line, put_piece_line, put_section_line};
+use crate::members::Members;
+use crate::named::next_part_name;
+use crate::symbols::{MapSymbol, put_symbols};
+use ldmodel::laid::{Laid, Placed};
+use ldmodel::memory::NoMemory;
+use ldmodel::rows::Piece;
+use ldscript::tree::OutputSectionAt;
+use std::alloc::Global;
+
+/// What the map shows of a link.
+#[derive(Clone, Copy)]
+pub struct MapParts<'a> {
+    /// The entry point.
+    pub entry: u64,
+    /// The output sections of the script, in their order.
+    pub sections: &'a [OutputSectionAt<'a>],
+    /// Where they stand.
+    pub laid: Laid<'a>,
+    /// The input sections in each.
+    pub rows: &'a [Vec<Piece>],
+    /// Names in byte order, among them all that objects declare and that stand for something.
+    pub named: &'a [MapSymbol<'a>],
+    /// Names in byte order, among them all others that the script gives a value.
+    pub given: &'a [MapSymbol<'a>],
+}
+
+/// What may be done with the bytes of an output section.
+fn flags(placed: &Placed) -> &'static [u8]
+    ensures { result.now ≡ letters placed.now.writable placed.now.executable }
+{
+    match (placed.writable, placed.executable) {
+        (false, false) => b"r--",
+        (true, false) => b"rw-",
+        (false, true) => b"r-x",
+        (true, true) => b"rwx",
+    }
+}
+
+/// `section NAME START LOAD SIZE FLAGS`
+fn put_section(draft: &mut Draft, name: &[u8], placed: &Placed) -> Result<(), NoMemory>
+    ensures { OnOk result (draft.new ≡ added draft.old (section_text name.now placed.now)) }
+{
+    let numbers = (placed.start, placed.load, placed.size);
+    put_section_line(draft, name, numbers, flags(placed))
+}
+
+/// `piece ADDRESS SIZE OBJECT SECTION`; and the place of its section, given that of the piece before.
+fn put_piece<M: Members>(
+    draft: &mut Draft,
+    members: &M,
+    piece: &Piece,
+    start: u64,
+    last: usize,
+) -> Result<usize, NoMemory>
+    ensures { OnOk result (draft.new
+        ≡ added draft.old (piece_text (M.project members.now) (M.number members.now) piece.now start)) }
+{
+    let object = members.name(piece.section.object);
+    let (name, place) = next_part_name(members, piece.section, last);
+    put_piece_line(draft, start, piece.size, object, name)?;
+    Ok(place)
+}
+
+/// The lines of a row, whose addresses are the first of `starts`, and the others of these.
+fn put_pieces<'a, M: Members>(
+    draft: &mut Draft,
+    members: &M,
+    row: &[Piece],
+    starts: &'a [u64],
+) -> Result<&'a [u64], NoMemory>
+    ensures text { OnOk result (draft.new
+        ≡ added draft.old (pieces_text (M.project members.now) (M.number members.now) row.now starts.now)) }
+    ensures rest { IfOk result (λ rest. rest.now ≡ drop (length row.now) starts.now) }
+{
+    let mut rest = starts;
+    let mut place = 0;
+    for piece in row {
+        let Some((start, others)) = rest.split_first() else {
+            return Ok(rest);
+        };
+        place = put_piece(draft, members, piece, *start, place)?;
+        rest = others;
+    }
+    Ok(rest)
+}
+
+/// The lines of all output sections, each with its row.
+fn put_sections<M: Members>(
+    draft: &mut Draft,
+    members: &M,
+    parts: &MapParts<'_>,
+) -> Result<(), NoMemory>
+    ensures { OnOk result (draft.new
+        ≡ added draft.old (sections_text (M.project members.now) (M.number members.now) parts.now.laid.sections.now
+        (shown_sections parts.now.sections.now) (map vec_items parts.now.rows.now) parts.now.laid.starts.now)) }
+{
+    let mut starts = parts.laid.starts;
+    // three tables side by side
+    for k in 0..parts.laid.sections.len() {
+        let Some(section) = parts.sections.get(k) else {
+            return Ok(());
+        };
+        let Some(row) = parts.rows.get(k) else {
+            return Ok(());
+        };
+        let placed = &parts.laid.sections[k];
+        put_section(draft, section.section.name.as_bytes(), placed)?;
+        starts = put_pieces(draft, members, row, starts)?;
+    }
+    Ok(())
+}
+
+/// The lines of the map.
+fn put_map<M: Members>(draft: &mut Draft, members: &M, parts: &MapParts<'_>) -> Result<(), NoMemory>
+    ensures { OnOk result (draft.new
+        ≡ added draft.old (shown_map (M.project members.now) (M.number members.now) parts.now)) }
+{
+    put_entry_line(draft, parts.entry)?;
+    put_sections(draft, members, parts)?;
+    put_symbols(draft, members, parts.named, parts.given)
+}
+
+/// Room for the line of an input section: 42 bytes, and both names.
+const PIECE_ROOM: usize = 96;
+/// Room for the line of a symbol: 26 bytes, and both names.
+const SYMBOL_ROOM: usize = 64;
+/// Room for the line of an output section, 64 bytes and its name, or of the entry point.
+const SECTION_ROOM: usize = 96;
+
+/// Room for the lines of the map, if names are of common length. What is not written of it is not touched.
+fn likely_size(parts: &MapParts<'_>) -> usize {
+    let mut pieces = 0usize;
+    for row in parts.rows {
+        pieces = pieces.saturating_add(row.len());
+    }
+    let symbols = parts.named.len().saturating_add(parts.given.len());
+    let sections = parts.sections.len().saturating_add(1);
+    pieces
+        .saturating_mul(PIECE_ROOM)
+        .saturating_add(symbols.saturating_mul(SYMBOL_ROOM))
+        .saturating_add(sections.saturating_mul(SECTION_ROOM))
+}
+
+/// The map of a link: the entry point, the output sections with their rows, and the symbols in byte order of names.
+/// `specs/MapOf.antt` says which values `parts` must have. It is written once, into room that grows where names are
+/// long: to measure it first would take as long as to write it.
+///
+/// # Errors
+///
+/// Where there is no memory for the text, the only memory that it takes.
+pub fn map_text<M: Members>(
+    alloc: Global,
+    parts: &MapParts<'_>,
+    members: &M,
+) -> Result<Vec<u8>, NoMemory>
+    ensures { (s : Layout) → IsMapOf (M.project members.now) (M.number members.now) s parts.now
+        → IfOk result (λ text. text.items ≡ map_text (M.project members.now) s) }
+{
+    let mut written = Draft::to_write(alloc, likely_size(parts))?;
+    put_map(&mut written, members, parts)?;
+    Ok(written.into_bytes())
+}

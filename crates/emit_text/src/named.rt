@@ -1,0 +1,106 @@
+//! The names that an object has under numbers.
+
+ghost use Rattle.std.specs.Prelude.{◌≡◌, ◌<◌, slice_get, None, Some, IfSome, length, MatchOption};
+ghost use Rattle.ldmodel.specs.FaultCode.{name_of_part, name_of_section, name_of_symbol, place_of, relocation_at};
+ghost use Rattle.emit_text.specs.Naming.{numbered};
+
+use crate::members::Members;
+use elfobj::object::Object;
+use elfobj::relocation::{Relocation, SymbolIndex};
+use elfobj::section::{LinkedIndex, SectionIndex};
+use ldmodel::fault::SiteKey;
+use ldmodel::names::ObjectPlace;
+use ldmodel::sections::{Part, SectionKey};
+
+/// The place of a section among those of an object.
+fn find_section(object: &Object, number: SectionIndex) -> Option<LinkedIndex>
+    ensures found { IfSome result (λ i. i.0 < length object.now.sections) }
+    ensures is { MatchOption result (numbered object.now.sections number ≡ None) (λ i.
+        numbered object.now.sections number ≡ slice_get object.now.sections i.0) }
+{
+    // what it says of their order is wanted for the proof: only one has this number
+    let _in_order = object.sections();
+    object.section_at(number)
+}
+
+/// The place of a section among those of an object, looked for at one place before all others.
+fn find_section_near(object: &Object, number: SectionIndex, likely: usize) -> Option<LinkedIndex>
+    ensures found { IfSome result (λ i. i.0 < length object.now.sections) }
+    ensures is { MatchOption result (numbered object.now.sections number ≡ None) (λ i.
+        numbered object.now.sections number ≡ slice_get object.now.sections i.0) }
+{
+    let Some(section) = object.sections().get(likely) else {
+        return find_section(object, number);
+    };
+    if section.number.0 == number.0 {
+        return Some(LinkedIndex(likely));
+    }
+    find_section(object, number)
+}
+
+/// The name of a section of an object; no bytes where there is none.
+pub fn section_name<M: Members>(members: &M, object: ObjectPlace, section: SectionIndex) -> &[u8]
+    ensures { result.now ≡ name_of_section (M.project members.now) (M.number members.now object.0) section }
+{
+    let Some(found) = members.object(object) else {
+        return &[];
+    };
+    match find_section(found, section) {
+        Some(index) => found.section_name(index),
+        None => &[],
+    }
+}
+
+/// The name of a part of an object; that of a common block is `COMMON`.
+pub fn part_name<M: Members>(members: &M, section: SectionKey) -> &[u8]
+    ensures { result.now ≡ name_of_part (M.project members.now) (M.number members.now section.object.0) section.part }
+{
+    match section.part {
+        Part::InTable(number) => section_name(members, section.object, number),
+        Part::InCommon(_) => b"COMMON",
+    }
+}
+
+/// The name of a part, and the place of its section. It is looked for after that of the part before, which is the place
+/// of most parts of a row.
+pub fn next_part_name<M: Members>(members: &M, section: SectionKey, last: usize) -> (&[u8], usize)
+    ensures { result.0.now ≡ name_of_part (M.project members.now) (M.number members.now section.object.0) section.part }
+{
+    let Part::InTable(number) = section.part else {
+        return (b"COMMON", last);
+    };
+    let Some(object) = members.object(section.object) else {
+        return (&[], last);
+    };
+    match find_section_near(object, number, last.wrapping_add(1)) {
+        Some(index) => (object.section_name(index), index.0),
+        None => (&[], last),
+    }
+}
+
+/// The name of an entry of an object's symbol table; no bytes where there is none, and for a local symbol.
+pub fn symbol_name<M: Members>(members: &M, object: ObjectPlace, symbol: SymbolIndex) -> &[u8]
+    ensures { result.now ≡ name_of_symbol (M.project members.now) (M.number members.now object.0) symbol.0 }
+{
+    let Some(found) = members.object(object) else {
+        return &[];
+    };
+    if (symbol.0 as usize) < found.symbols().len() {
+        found.name_of(symbol)
+    } else {
+        &[]
+    }
+}
+
+/// The relocation of a site.
+pub fn relocation<M: Members>(members: &M, site: SiteKey) -> Option<Relocation>
+    ensures { result ≡ relocation_at (M.project members.now) (place_of (M.number members.now) site) }
+{
+    let Some(object) = members.object(site.object) else {
+        return None;
+    };
+    let Some(index) = find_section(object, site.section) else {
+        return None;
+    };
+    object.relocations(index).get(site.entry as usize).copied()
+}

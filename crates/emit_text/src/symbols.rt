@@ -1,0 +1,123 @@
+//! The map's lines of symbols.
+
+ghost use Rattle.std.specs.Prelude.{◌≡◌, ◌≤◌, OnOk, IfOk, drop, length};
+ghost use Rattle.ldmodel.specs.HandedOver.{decision_of};
+ghost use Rattle.ldmodel.specs.OutputSymbols.{owner};
+ghost use Rattle.emit_text.specs.Drafts.{added};
+ghost use Rattle.emit_text.specs.ShownMap.{after, before, merged, symbol_text, symbols_text};
+
+use crate::draft::Draft;
+use crate::map_line::put_symbol_line;
+use crate::members::Members;
+use ldmodel::memory::NoMemory;
+use ldmodel::names::{Case, Entry, ObjectPlace};
+use std::cmp::Ordering;
+
+/// A name, what it stands for, and its value.
+#[derive(Clone, Copy, Debug)]
+pub struct MapSymbol<'a> {
+    /// The name.
+    pub name: &'a [u8],
+    /// What it stands for. A name that stands for nothing, and one that is defined twice, has no line.
+    pub case: Case,
+    /// Its value; `None` where its section is not in the output.
+    pub value: Option<u64>,
+}
+
+/// The name of the object that a name's definition stands in, or `script`.
+fn owner_name<M: Members>(members: &M, case: Case) -> &[u8]
+    ensures { result.now ≡ owner (M.project members.now) (decision_of (M.number members.now) case) }
+{
+    match case {
+        Case::Strong(Entry { key, .. }) | Case::Weak(Entry { key, .. }) => members.name(ObjectPlace(
+            key,
+        )),
+        Case::Common { owner, .. } => members.name(ObjectPlace(owner.key)),
+        Case::Script | Case::Provided | Case::Undefined | Case::Duplicate => b"script",
+    }
+}
+
+/// The line of a name that stands for something, and none of another.
+#[tactic(auto, using(crate::proofs::Draftings::added_none))]
+fn put_symbol<M: Members>(
+    draft: &mut Draft,
+    members: &M,
+    symbol: &MapSymbol<'_>,
+) -> Result<(), NoMemory>
+    ensures { OnOk result (draft.new
+        ≡ added draft.old (symbol_text (M.project members.now) (M.number members.now) symbol.now)) }
+{
+    match symbol.case {
+        Case::Undefined => Ok(()),
+        Case::Duplicate => Ok(()),
+        Case::Strong(_) | Case::Weak(_) | Case::Common { .. } | Case::Script | Case::Provided => {
+            put_symbol_line(
+                draft,
+                symbol.value,
+                symbol.name,
+                owner_name(members, symbol.case),
+            )
+        }
+    }
+}
+
+/// The lines of these symbols.
+fn put_all<M: Members>(
+    draft: &mut Draft,
+    members: &M,
+    symbols: &[MapSymbol<'_>],
+) -> Result<(), NoMemory>
+    ensures { OnOk result (draft.new
+        ≡ added draft.old (symbols_text (M.project members.now) (M.number members.now) symbols.now)) }
+{
+    for symbol in symbols {
+        put_symbol(draft, members, symbol)?;
+    }
+    Ok(())
+}
+
+/// The lines of those of `given` from a place on that stand before a symbol, and the place after them and after one of
+/// the same name.
+fn put_before<M: Members>(
+    draft: &mut Draft,
+    members: &M,
+    given: &[MapSymbol<'_>],
+    from: usize,
+    symbol: &MapSymbol<'_>,
+) -> Result<usize, NoMemory>
+    requires { from ≤ length given.now }
+    ensures text { OnOk result (draft.new
+        ≡ added draft.old (symbols_text (M.project members.now) (M.number members.now)
+        (before symbol.now (drop from given.now)))) }
+    ensures rest { IfOk result (λ next. drop next given.now ≡ after symbol.now (drop from given.now)) }
+    ensures within { IfOk result (λ next. next ≤ length given.now) }
+{
+    for i in from..given.len() {
+        let first = &given[i];
+        match first.name.cmp(symbol.name) {
+            Ordering::Less => put_symbol(draft, members, first)?,
+            Ordering::Equal => return Ok(i + 1),
+            Ordering::Greater => return Ok(i),
+        }
+    }
+    Ok(given.len())
+}
+
+/// The lines of two lists of symbols, each in byte order of names, as one in that order. Of a name that both have, the
+/// line is that of `named`.
+pub(crate) fn put_symbols<M: Members>(
+    draft: &mut Draft,
+    members: &M,
+    named: &[MapSymbol<'_>],
+    given: &[MapSymbol<'_>],
+) -> Result<(), NoMemory>
+    ensures { OnOk result (draft.new
+        ≡ added draft.old (symbols_text (M.project members.now) (M.number members.now) (merged named.now given.now))) }
+{
+    let mut next = 0;
+    for symbol in named {
+        next = put_before(draft, members, given, next, symbol)?;
+        put_symbol(draft, members, symbol)?;
+    }
+    put_all(draft, members, &given[next..])
+}

@@ -1,0 +1,114 @@
+-- A name that stands for something is declared.
+use Rattle.std.proofs.Common.{◌≡◌, ◌∙◌, ◌⊎◌, ℕ, suc, Bool, true, false, cond, List, [], ◌∷◌, ◌++◌, filter, map, refl}
+use Rattle.std.proofs.Common.{ap}
+use Rattle.std.proofs.Common.{inl, inr}
+use Rattle.std.specs.Prelude.{Option, Some, None, bytes_eq}
+use Rattle.std.proofs.lemmas.Bool.{true≢false}
+use Rattle.std.proofs.lemmas.Slice.Eq.{bytes_eq-Decides}
+use Rattle.ldscript.specs.statements.Given.{assigned_from, assigned_here, given_as, provided_from}
+use Rattle.ldscript.specs.statements.Numbering.{AssignmentAt, CommonAt, assigned_by, assigned_in, common_commands}
+use Rattle.ldscript.specs.statements.declared.common.Common.{Common}
+use Rattle.ldscript.specs.statements.declared.common.Common.TheVariants as commons
+use Rattle.ldscript.specs.statements.declared.statement.Statement.{Statement}
+use Rattle.ldmodel.specs.Assertions.{number_if_any}
+use Rattle.ldmodel.specs.Layout.{Layout}
+use Rattle.ldmodel.specs.Names.{Declaration, Decision, Strong, Script, Common as CommonCase, Weak, Provided, Undefined}
+use Rattle.ldmodel.specs.Names.{Duplicate, decided, decision, declarations, declared_names, entries, is_of_name}
+use Rattle.ldmodel.specs.Names.{names_in_objects}
+use Rattle.ldmodel.specs.OutputSymbols.{is_defined}
+use Rattle.ldmodel.specs.Project.{Project}
+use Rattle.ldmodel.specs.ScriptNames.{assigned_names, is_assigned, is_assignment, is_provided, provided_names}
+use Rattle.ldmodel.specs.SymbolValues.{decided_value, name_value}
+use Rattle.emit_values.proofs.Members.{In, Name, append_in, distinct_in}
+
+pub same_name : (x y : Name) → bytes_eq x y ≡ true → x ≡ y
+same_name x y = (bytes_eq-Decides x y).0
+
+decided_none : (v : Bool) → decided false v [] ≡ Undefined
+unfolding decided
+decided_none true = refl
+decided_none false = refl
+
+no_entries : (ds : List Declaration) (name : Name) → (In name (map (λ (d : Declaration). d.name) ds) → ⊥)
+    → filter (is_of_name name) ds ≡ []
+no_entries [] name n = refl
+no_entries (d ∷ ds) name n = go (bytes_eq name d.name) refl (no_entries ds name (λ i. n (inr i)))
+  where
+    go : (b : Bool) → bytes_eq name d.name ≡ b → filter (is_of_name name) ds ≡ []
+        → cond b (d ∷ filter (is_of_name name) ds) (filter (is_of_name name) ds) ≡ []
+    go true e h = absurd (n (inl (same_name name d.name e)))
+    go false e h = h
+
+abbrev name_of : AssignmentAt → Name
+name_of a = a.assignment.name
+
+assigned_at : (n line : ℕ) (c : Common) (name : Name) (later : Option ℕ) (rest : List AssignmentAt) (k : ℕ)
+    → assigned_here n c name later ≡ Some k → (later ≡ Some k → In name (map name_of rest))
+    → In name (map name_of (assigned_by line c ++ rest))
+assigned_at n line (commons.Assign a) name later rest k h more = go (bytes_eq name a.name) refl h
+  where
+    go : (b : Bool) → bytes_eq name a.name ≡ b → cond b (Some n) later ≡ Some k
+        → (name ≡ a.name) ⊎ In name (map name_of rest)
+    go true e h = inl (same_name name a.name e)
+    go false e h = inr (more h)
+assigned_at n line (commons.Provide a) name later rest k h more = more h
+assigned_at n line (commons.Assert a) name later rest k h more = more h
+
+assigned_found : (cs : List CommonAt) (n : ℕ) (name : Name) (k : ℕ) → assigned_from n cs name ≡ Some k
+    → In name (map name_of (assigned_in cs))
+assigned_found [] n name k h = absurd (cc)
+assigned_found (c ∷ cs) n name k h =
+    assigned_at n c.line c.command name (assigned_from (suc n) cs name) (assigned_in cs) k h
+    (assigned_found cs (suc n) name k)
+
+not_assigned : (script : List Statement) (name : Name) → (In name (assigned_names script) → ⊥)
+    → is_assigned script name ≡ false
+unfolding assigned_names
+not_assigned script name n =
+    go (assigned_from 0 (common_commands script) name) (provided_from 0 (common_commands script) name) refl
+  where
+    go : (a b : Option ℕ) → assigned_from 0 (common_commands script) name ≡ a
+        → is_assignment (given_as a b) ≡ false
+    go (Some k) b e = absurd (n (assigned_found (common_commands script) 0 name k e))
+    go None (Some k) e = refl
+    go None None e = refl
+
+not_declared : (p : Project) (name : Name) → (In name (declared_names p) → ⊥) → decision p name ≡ Undefined
+unfolding decision declared_names
+not_declared p name n =
+    let all : List Name = names_in_objects p.objects ++ assigned_names p.script ++ provided_names p.script in
+    let none : (In name all → ⊥) = λ i. n (distinct_in name all i) in
+    let objects : entries p.objects name ≡ [] =
+    no_entries (declarations p.objects) name
+    (λ i. none (append_in name (names_in_objects p.objects ++ assigned_names p.script) (provided_names p.script)
+    (inl (append_in name (names_in_objects p.objects) (assigned_names p.script) (inl i))))) in
+    let script : is_assigned p.script name ≡ false =
+    not_assigned p.script name
+    (λ i. none (append_in name (names_in_objects p.objects ++ assigned_names p.script) (provided_names p.script)
+    (inl (append_in name (names_in_objects p.objects) (assigned_names p.script) (inr i))))) in
+    ap (λ (ds : List Declaration). decided (is_assigned p.script name) (is_provided p.script name) ds) objects
+    ∙ (ap (λ (b : Bool). decided b (is_provided p.script name) []) script ∙ decided_none (is_provided p.script name))
+
+undefined_value : (p : Project) (s : Layout) (name : Name) (d : Decision) → is_defined d ≡ false
+    → number_if_any (decided_value p s name d) ≡ None
+undefined_value p s name (Strong e) h = absurd (true≢false h)
+undefined_value p s name Script h = absurd (true≢false h)
+undefined_value p s name (CommonCase e size align) h = absurd (true≢false h)
+undefined_value p s name (Weak e) h = absurd (true≢false h)
+undefined_value p s name Provided h = absurd (true≢false h)
+undefined_value p s name Undefined h = refl
+undefined_value p s name Duplicate h = refl
+
+-- a name that is not among the declared ones that stand for something has no value
+pub no_value : (p : Project) (s : Layout) (name : Name)
+    → (In name (declared_names p) → is_defined (decision p name) ≡ true → ⊥)
+    → number_if_any (name_value p s name) ≡ None
+unfolding name_value
+no_value p s name n = go (is_defined (decision p name)) refl
+  where
+    go : (b : Bool) → is_defined (decision p name) ≡ b
+        → number_if_any (decided_value p s name (decision p name)) ≡ None
+    go true e =
+        undefined_value p s name (decision p name)
+        (ap is_defined (not_declared p name (λ i. n i e)))
+    go false e = undefined_value p s name (decision p name) e

@@ -1,0 +1,59 @@
+use Rattle.std.proofs.Common.{◌∙◌, ap, arith, map, refl, sym}
+use Rattle.ldscript.specs.statements.Numbered.{shown_commons}
+use Rattle.ldscript.specs.statements.Numbering.{asserted_in, common_commands}
+use Rattle.ldmodel.specs.Assertions.{final_scope}
+use Rattle.ldmodel.specs.Names.{provided}
+use Rattle.ldmodel.specs.Rows.{rows}
+use Rattle.ldmodel_project.specs.ByPlace.{faults_in}
+use Rattle.emit_text.specs.Naming.{shown_assertions}
+use Rattle.emit_values.specs.Values.{shown_symbol}
+use Rattle.emit_values.specs.FinalScope.{meaning_of}
+use Rattle.emit_values.specs.declared.final_scope.FinalScope.{FinalScope}
+use Rattle.emit_values.proofs.Failing.{all_done, one_more}
+use Rattle.emit_values.proofs.Looking.{scope_is}
+use Rattle.emit_values.proofs.Regions.{regions_are}
+use Rattle.emit_values.proofs.asserting.assertion_faults.Goals as goal
+
+pub loop-number-preserved : goal.loop-number-preserved
+loop-number-preserved c =
+    let scope : FinalScope =
+    record { script = c.script-script.result; laid = c.laid.result; symbols = c.of.result } in
+    one_more c.args.project.now (meaning_of scope) c.deref-at-items.result.now c.loop-number.number c.at-item.result
+    c.loop-number.faults.items c.add_unless_holds.new.faults.items
+    (ap shown_assertions c.deref-at-items.ensures.value
+    ∙ (c.in_ok-assertions.ensures
+    ∙ ap asserted_in (ap shown_commons c.deref.ensures.value
+    ∙ (c.in_ok-commands.ensures ∙ ap common_commands c.script-script.ensures))))
+    (omega (arith, c.loop-number-test.true)) (sym c.at-item.is) c.in_ok-add_unless_holds.ensures c.loop-number.invariant
+
+pub returns-then-is_empty : goal.returns-then-is_empty
+returns-then-is_empty c =
+    λ s a laying values.
+    all_done c.args.project.now s (final_scope c.args.project.now s) c.in_ok-assertions.assertions.items 0
+    c.new.result.items
+    (c.in_ok-assertions.ensures
+    ∙ ap asserted_in (ap shown_commons c.deref.ensures.value
+    ∙ (c.in_ok-commands.ensures ∙ ap common_commands c.script-script.ensures)))
+    (grind (arith, c.is_empty.ensures, c.if-is_empty.true)) refl (ap (faults_in c.args.project.now) c.new.ensures.items)
+
+pub returns : goal.returns
+returns c =
+    λ s a laying values.
+    let scope : FinalScope =
+    record { script = c.script-script.result; laid = c.laid.result; symbols = c.of.result } in
+    all_done c.args.project.now s (meaning_of scope) c.deref-at-items.result.now c.loop-number.number
+    c.loop-number.faults.items
+    (ap shown_assertions c.deref-at-items.ensures.value
+    ∙ (c.in_ok-assertions.ensures
+    ∙ ap asserted_in (ap shown_commons c.deref.ensures.value
+    ∙ (c.in_ok-commands.ensures ∙ ap common_commands c.script-script.ensures))))
+    (omega (arith, c.loop-number-test.false))
+    (scope_is c.args.project.now s scope c.script-script.ensures
+    (c.laid.ensures.laid c.args.project.now.script s laying.places)
+    (ap (map shown_symbol) (c.of.ensures ∙ c.deref-2.ensures.value) ∙ values.symbols)
+    (c.outputs_are_of_script.ensures c.args.project.now (rows c.args.project.now) (provided c.args.project.now) s
+    laying.placed)
+    (regions_are c.args.project.now.script s
+    (c.layout_by_effects.ensures c.args.project.now.script (rows c.args.project.now) (provided c.args.project.now) s
+    laying.placed)))
+    c.loop-number.invariant

@@ -1,0 +1,11 @@
+use Rattle.std.proofs.Common.{List, subst, sym}
+use Rattle.ldscript.specs.statements.declared.statement.Statement.{Statement}
+use Rattle.place.specs.sections.Places.{AreOf}
+use Rattle.emit_values.proofs.given.GivenValues.of.Goals as goal
+
+pub returns : goal.returns
+returns c = record {
+  values = λ s laid. c.in_ok-values.ensures s
+      (subst (λ (t : List Statement). AreOf t s c.args.laying.now.placement) (sym c.script-script.ensures) laid.places);
+  sorted = c.in_ok-sorted.ensures;
+}

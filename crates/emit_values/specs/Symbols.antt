@@ -1,0 +1,48 @@
+-- The symbols of the output, name by name.
+use Rattle.std.specs.Prelude.{◌≡◌, ℕ, ◌-◌, zero, suc, List, [], ◌∷◌, ◌++◌, map, filter, Bool, ◌&&◌, bytes_eq, nat_lt}
+use Rattle.std.specs.Prelude.{if◌then◌else◌, slice_index_or}
+use Rattle.ldmodel.specs.Layout.{Layout}
+use Rattle.ldmodel.specs.OutputSymbols as model
+use Rattle.ldmodel.specs.OutputSymbols.{is_defined, output_symbol}
+use Rattle.ldmodel.specs.Project.{Project}
+use Rattle.symres.specs.Naming.{IsNaming}
+use Rattle.emit_relocate.specs.KnownLink.{AreNameValues}
+use Rattle.emit_values.specs.LinkView.{known_link}
+use Rattle.emit_values.specs.ScriptValues.{AreScriptValues}
+use Rattle.emit_values.specs.Values.{shown_symbol}
+use Rattle.emit_values.specs.declared.symbols.Sources.{Sources}
+use Rattle.emit_values.specs.declared.values.OutputSymbol.{OutputSymbol}
+
+abbrev pub shown : List OutputSymbol → List model.OutputSymbol
+shown xs = map shown_symbol xs
+
+-- those that stand for something
+abbrev pub defined : List model.OutputSymbol → List model.OutputSymbol
+defined xs = filter (λ (x : model.OutputSymbol). is_defined x.decision) xs
+
+abbrev pub defined_symbols : Project → Layout → List (List ℕ) → List model.OutputSymbol
+defined_symbols p s names = defined (map (output_symbol p s) names)
+
+-- they are those of a project at a layout
+pub record AreSources (p : Project) (s : Layout) (x : Sources) : Type 0 where
+  pub naming : IsNaming p x.naming.now
+  pub script : p.script ≡ x.script.now
+  pub names : AreNameValues (known_link p s x.naming.now) x.names.now
+  pub given : AreScriptValues s x.given.now
+
+-- the symbols of these names were added
+abbrev pub AddsSymbols : Project → Layout → List (List ℕ) → (old new : List OutputSymbol) → Type 0
+AddsSymbols p s names old new = shown new ≡ shown old ++ defined_symbols p s names
+
+-- the name at a place is that before it
+abbrev pub is_repeat : List (List ℕ) → ℕ → Bool
+is_repeat names k = nat_lt 0 k && bytes_eq (slice_index_or names (k - 1) []) (slice_index_or names k [])
+
+-- the name at a place, unless it is that before it
+abbrev pub fresh : List (List ℕ) → ℕ → List (List ℕ)
+fresh names k = if is_repeat names k then [] else slice_index_or names k [] ∷ []
+
+-- the first n names, without repeats
+abbrev pub distinct_first : List (List ℕ) → ℕ → List (List ℕ)
+distinct_first names zero = []
+distinct_first names (suc n) = distinct_first names n ++ fresh names n

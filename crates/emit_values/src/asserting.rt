@@ -1,0 +1,100 @@
+//! The ASSERTs of a link that do not hold.
+
+ghost use Rattle.std.specs.Prelude.{◌≡◌, ◌++◌, IfOk, OnOk};
+ghost use Rattle.emit_values.specs.FinalScope.{fault_unless, holds_in, meaning_of};
+ghost use Rattle.place.specs.Laying.{IsLaying};
+ghost use Rattle.ldmodel.specs.Assertions as definition;
+ghost use Rattle.ldmodel.specs.Layout.{Layout};
+ghost use Rattle.symres.specs.Naming.{NamingState};
+ghost use Rattle.ldmodel_project.specs.ByPlace.{faults_in};
+ghost use Rattle.place.specs.terms.Outcomes.{outcome_of};
+ghost use Rattle.emit_values.specs.Values.{AreValues};
+
+use crate::final_scope::FinalScope;
+use crate::symbols_by_name::SymbolsByName;
+use crate::values::Values;
+use ldmodel_laws::layout::layout_by_effects;
+use place::laying::Laying;
+use ldmodel::fault::{AssertionIndex, Fault};
+use ldmodel::memory::NoMemory;
+use ldmodel_project::view::ProjectView;
+use place::terms::value::{ValueFault, value};
+use ldscript::tree::Assertion;
+use emit_text::assertion::assertions;
+use place::sections::law::outputs_are_of_script;
+use std::alloc::{AllocError, Global};
+
+/// Whether a value counts as true; where there is none, it does not.
+fn is_true(outcome: Result<u64, ValueFault<'_>>) -> bool
+    ensures { result ≡ definition.is_true_value (outcome_of outcome.entry) }
+{
+    match outcome {
+        Ok(number) => number != 0,
+        Err(_) => false,
+    }
+}
+
+/// Whether the condition of an ASSERT holds.
+fn holds(scope: &FinalScope<'_, '_>, assertion: &Assertion) -> bool
+    ensures { result ≡ holds_in (meaning_of scope.now) assertion.now.condition }
+{
+    is_true(value(assertion.condition.expr(), scope, 0))
+}
+
+/// Adds the fault of an ASSERT, by its number, unless it holds.
+fn add_unless_holds(
+    scope: &FinalScope<'_, '_>,
+    number: usize,
+    assertion: &Assertion,
+    faults: &mut Vec<Fault>,
+) -> Result<(), NoMemory>
+    ensures { OnOk result (faults.new.items ≡ faults.old.items
+        ++ fault_unless (holds_in (meaning_of scope.now) assertion.now.condition) number) }
+{
+    if holds(scope, assertion) {
+        return Ok(());
+    }
+    match u32::try_from(number) {
+        Ok(number) => {
+            faults.push(Fault::AssertionFailed(AssertionIndex(number)))?;
+            Ok(())
+        }
+        Err(_) => Err(AllocError),
+    }
+}
+
+/// The faults of the ASSERTs whose conditions do not hold, in the order of the text: `F15`.
+///
+/// # Errors
+///
+/// Where memory runs out.
+pub fn assertion_faults(
+    alloc: Global,
+    project: &ProjectView<'_>,
+    laying: &Laying,
+    values: &Values<'_>,
+) -> Result<Vec<Fault>, NoMemory>
+    ensures { IfOk result (λ fs. (s : Layout) (a : NamingState) → IsLaying project.now s laying.now
+        → AreValues project.now s a values.now
+        → faults_in project.now fs.items ≡ definition.assertion_faults project.now s) }
+{
+    layout_by_effects();
+    outputs_are_of_script();
+    let script = project.script();
+    let commands = script.common_commands(alloc)?;
+    let assertions = assertions(alloc, &commands)?;
+    if assertions.is_empty() {
+        // without conditions the names are not looked at
+        return Ok(Vec::new(alloc));
+    }
+    let scope = FinalScope {
+        script,
+        laid: laying.placement.laid(),
+        symbols: SymbolsByName::of(&values.symbols),
+    };
+    let mut faults = Vec::new(alloc);
+    for (number, at) in assertions.iter().enumerate() {
+        add_unless_holds(&scope, number, at.assertion, &mut faults)?;
+    }
+    Ok(faults)
+}

@@ -1,0 +1,62 @@
+//! What the conditions of ASSERTs may name.
+
+ghost use Rattle.std.specs.Prelude.{◌≡◌};
+ghost use Rattle.ldmodel.specs.Assertions.{number_if_any};
+ghost use Rattle.emit_relocate.specs.Values.{value_of};
+
+use crate::symbols_by_name::SymbolsByName;
+use ldmodel::laid::{Laid, Placed, PlacedRegion};
+use place::terms::scope::Scope;
+use ldscript::script::Script;
+use emit_relocate::value::SymbolValue;
+
+/// What stands in the output at the end of a link: its symbols, output sections and memory regions.
+#[derive(Clone, Copy)]
+pub struct FinalScope<'a, 'b> {
+    /// The script.
+    pub script: &'a Script,
+    /// Where the output sections and memory regions are.
+    pub laid: Laid<'a>,
+    /// The symbols of the output.
+    pub symbols: SymbolsByName<'a, 'b>,
+}
+
+/// The number of a value, if it has one.
+fn number_of(value: SymbolValue) -> Option<u64>
+    ensures { result ≡ number_if_any (value_of value) }
+{
+    match value {
+        SymbolValue::Number(number) => Some(number),
+        SymbolValue::NotDefined | SymbolValue::NotInOutput => None,
+    }
+}
+
+impl<'a, 'b> Scope for FinalScope<'a, 'b> {
+    ghost use Rattle.std.specs.Prelude.{⊤};
+    ghost use Rattle.emit_values.specs.FinalScope.{meaning_of};
+
+    ghost can_look_up = { λ _. ⊤ };
+
+    ghost meaning = { λ f. meaning_of f };
+
+    fn symbol(&self, name: &[u8]) -> Option<u64> {
+        match self.symbols.find(name) {
+            Some(symbol) => number_of(symbol.value),
+            None => None,
+        }
+    }
+
+    fn section(&self, name: &[u8]) -> Option<Placed> {
+        match self.script.section_number(name) {
+            Some(number) => self.laid.sections.get(number).copied(),
+            None => None,
+        }
+    }
+
+    fn region(&self, name: &[u8]) -> Option<PlacedRegion> {
+        match self.script.region_number(name) {
+            Some(number) => self.laid.regions.get(number).copied(),
+            None => None,
+        }
+    }
+}

@@ -1,0 +1,42 @@
+//! What of a link is made once for both its view and its values: the values that the script gives names, and the order
+//! of all names.
+
+ghost use Rattle.std.specs.Prelude.{IfOk};
+
+use crate::script_values::ScriptValues;
+use place::laying::Laying;
+use ldmodel::memory::NoMemory;
+use symres::naming::Naming;
+use symres::sorted::NamedKey;
+use ldmodel_project::view::ProjectView;
+use std::alloc::Global;
+
+/// The values that the script gives names, and all names that objects declare in byte order.
+#[derive(Drop)]
+pub struct GivenValues<'a> {
+    pub(crate) values: ScriptValues<'a>,
+    pub(crate) sorted: Vec<NamedKey<'a>>,
+}
+
+impl<'a> GivenValues<'a> {
+    ghost use Rattle.emit_values.specs.Given.{IsGiven};
+
+    /// The values and the names of a project with these names and this layout.
+    ///
+    /// # Errors
+    ///
+    /// Where memory runs out.
+    pub fn of(
+        alloc: Global,
+        project: &'a ProjectView<'_>,
+        naming: &'a Naming,
+        laying: &Laying,
+    ) -> Result<GivenValues<'a>, NoMemory>
+        ensures { IfOk result (IsGiven project.now naming.now laying.now) }
+    {
+        let script = project.script();
+        let values = ScriptValues::of(alloc, script, &laying.placement)?;
+        let sorted = naming.sorted(alloc)?;
+        Ok(GivenValues { values, sorted })
+    }
+}

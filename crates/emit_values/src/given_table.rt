@@ -1,0 +1,52 @@
+//! The values that a script gives names, under the keys of the names.
+
+ghost use Rattle.std.specs.Prelude.{◌≡◌, IfOk, None, replicate};
+ghost use Rattle.emit_values.specs.GivenTable.{HasPlaces, IsGivenTable, IsPut};
+ghost use Rattle.emit_values.specs.ScriptValues.{value_in};
+
+use crate::script_values::{ScriptValues, given_name};
+use ldmodel::memory::NoMemory;
+use symres::naming::Naming;
+use std::alloc::Global;
+
+/// A table of no values.
+fn no_values(alloc: Global, count: usize) -> Result<Vec<Option<u64>>, NoMemory>
+    ensures { IfOk result (λ v. v.items ≡ replicate count None) }
+{
+    vec![in alloc; None; count]
+}
+
+/// Puts a value under the key of a name, if the name has one.
+fn put_given(naming: &Naming, name: &[u8], value: Option<u64>, table: &mut Vec<Option<u64>>)
+    requires { HasPlaces naming.now table.old.items }
+    ensures { IsPut naming.now name.now value table.old.items table.new.items }
+{
+    naming.keys_decided();
+    match naming.key_named(name) {
+        Some(key) => table[key.0] = value,
+        None => {}
+    }
+}
+
+/// The table of all names. A name is looked up for each command of the script that gives one a value, so the time is
+/// that of the commands but for the table itself.
+///
+/// # Errors
+///
+/// Where memory runs out.
+pub(crate) fn given_table(
+    alloc: Global,
+    naming: &Naming,
+    values: &ScriptValues<'_>,
+) -> Result<Vec<Option<u64>>, NoMemory>
+    ensures { IfOk result (λ table. IsGivenTable naming.now (value_in values.now) table.items) }
+{
+    naming.keys_decided();
+    let commands = values.script.common_commands(alloc)?;
+    let mut table = no_values(alloc, naming.limit())?;
+    for at in &commands {
+        let name = given_name(at.command);
+        put_given(naming, name, values.value(name), &mut table);
+    }
+    Ok(table)
+}

@@ -1,0 +1,89 @@
+//! What the evaluation of relocations asks of a link.
+
+ghost use Rattle.std.specs.Prelude.{◌≡◌, ◌<◌, ℕ, List, Some, not, option_copied};
+ghost use Rattle.std.specs.Option.{option_map};
+ghost use Rattle.ldmodel.specs.Layout.{Layout, PlacedPiece};
+ghost use Rattle.ldmodel.specs.Live.{symbol_at};
+ghost use Rattle.ldmodel.specs.NameFaults.{object_name};
+ghost use Rattle.ldmodel.specs.Names.{is_local};
+ghost use Rattle.ldmodel.specs.Project.{Project};
+ghost use Rattle.ldmodel.specs.SymbolValues.{placed_part};
+ghost use Rattle.place.specs.Starts.{AreStarts};
+ghost use Rattle.emit_relocate.specs.KnownLink.{IsCaseOf, IsNameOf, IsScriptValueOf, KnownLink, object_of, start_of};
+ghost use Rattle.emit_values.specs.LinkView.{IsLinkView};
+ghost use Rattle.emit_values.specs.Seen.{is_seen};
+
+use crate::link_view::LinkView;
+use elfobj::object::Object;
+use elfobj::relocation::SymbolIndex;
+use elfobj::symbol::Binding;
+use place::starts::Starts;
+use ldmodel::names::{Case, NameKey, ObjectPlace};
+use ldmodel::sections::SectionKey;
+use ldmodel_project::view::ProjectView;
+use emit_relocate::known::Known;
+
+/// Whether a symbol declares its name to other objects.
+fn declares(binding: Binding) -> bool
+    ensures { result ≡ not (is_local binding) }
+{
+    match binding {
+        Binding::Local => false,
+        Binding::Global | Binding::Weak => true,
+    }
+}
+
+/// Whether there is a symbol that isn't local.
+fn sees(project: &ProjectView<'_>, object: ObjectPlace, symbol: SymbolIndex) -> bool
+    ensures { result ≡ is_seen (symbol_at project.now object.0 symbol.0) }
+{
+    let Some(found) = project.object(object) else {
+        return false;
+    };
+    let Some(entry) = found.symbols().get(symbol.0 as usize) else {
+        return false;
+    };
+    declares(entry.binding)
+}
+
+/// Where an input section starts, if it is in the output.
+fn start_in(starts: &Starts, section: SectionKey) -> Option<u64>
+    ensures { (p : Project) (s : Layout) → AreStarts p s starts.now → result
+        ≡ option_map (λ (x : PlacedPiece). x.start) (placed_part s (object_name p section.object.0) section.part) }
+{
+    match starts.find(section) {
+        None => None,
+        Some(place) => Some(place.start),
+    }
+}
+
+impl<'a, 'p> Known for LinkView<'a, 'p> {
+    ghost knows = { λ v l. IsLinkView l v };
+
+    fn object(&self, key: ObjectPlace) -> Option<&Object> {
+        self.project.object(key)
+    }
+
+    fn start(&self, section: SectionKey) -> Option<u64> {
+        start_in(self.starts, section)
+    }
+
+    fn name_key(&self, object: ObjectPlace, symbol: SymbolIndex) -> NameKey {
+        if !sees(self.project, object, symbol) {
+            return NameKey(0);
+        }
+        self.naming.key_of(object.0, symbol)
+    }
+
+    fn name_limit(&self) -> usize {
+        self.naming.limit()
+    }
+
+    fn case(&self, name: NameKey) -> Option<Case> {
+        self.naming.case_of(name)
+    }
+
+    fn script_value(&self, name: NameKey) -> Option<u64> {
+        self.given.get(name.0).copied().unwrap_or(None)
+    }
+}

@@ -1,0 +1,114 @@
+//! The values that a script gives names, by name.
+
+ghost use Rattle.std.specs.Prelude.{◌≡◌, ◌∷◌, ◌++◌, [], List, IfOk, OnOk};
+ghost use Rattle.ldscript.specs.statements.Numbered.{shown_commons};
+ghost use Rattle.ldscript.specs.statements.Numbering.{common_commands};
+ghost use Rattle.ldscript.specs.statements.declared.statement.Statement.{Statement};
+ghost use Rattle.ldmodel.specs.Layout.{Layout, ScriptSymbol};
+ghost use Rattle.ldmodel.specs.Lent.{given_name, name_given_by};
+ghost use Rattle.place.specs.sections.Places.{AreOf};
+ghost use Rattle.place.specs.terms.SymbolTable.{AreValuesOf};
+ghost use Rattle.place.specs.terms.Tables.{symbol_number};
+ghost use Rattle.emit_values.specs.ScriptValues.{AreScriptValues, value_in};
+
+use ldmodel::memory::NoMemory;
+use ldmodel::script_symbol::CommonIndex;
+use ldscript::script::Script;
+use ldscript::tree::{Common, CommonAt, Given};
+use place::sections::placement::Placement;
+use std::alloc::{AllocError, Global};
+
+/// The values that a script gives names, under the numbers of its commands.
+#[derive(Drop)]
+pub(crate) struct ScriptValues<'a> {
+    pub(crate) script: &'a Script,
+    values: Vec<Option<u64>>,
+}
+
+/// The number of the command that gives a name its value.
+fn command_number(script: &Script, name: &[u8]) -> Option<usize>
+    ensures { result ≡ symbol_number script.now name.now }
+{
+    match script.given(name) {
+        Some(Given::Assigned(number)) | Some(Given::Provided(number)) => Some(number),
+        None => None,
+    }
+}
+
+/// The name that a command gives a value to; no bytes where it gives none.
+pub(crate) fn given_name(command: &Common) -> &[u8]
+    ensures { result.now ≡ given_name command.now }
+{
+    match command {
+        Common::Assign(assignment) | Common::Provide(assignment) => assignment.name.as_bytes(),
+        Common::Assert(_) => &[],
+    }
+}
+
+/// The name that the command of a number gives a value to; no bytes where there is none.
+fn name_given<'a>(commands: &[CommonAt<'a>], number: CommonIndex) -> &'a [u8]
+    ensures { (script : List Statement) → shown_commons commands.now ≡ common_commands script → result.now
+        ≡ name_given_by script number.0 }
+{
+    match commands.get(number.0 as usize) {
+        Some(at) => given_name(at.command),
+        None => &[],
+    }
+}
+
+/// Notes that a name is given a value. The first value of a name counts.
+fn note_value(
+    script: &Script,
+    name: &[u8],
+    value: u64,
+    values: &mut Vec<Option<u64>>,
+) -> Result<(), NoMemory>
+    ensures { OnOk result ((xs : List ScriptSymbol) → AreValuesOf script.now values.old.items xs
+        → AreValuesOf script.now values.new.items (xs ++ record { name = name.now; value = value } ∷ [])) }
+{
+    let Some(number) = command_number(script, name) else {
+        // Unreachable: each name of a layout is one that its script gives a value
+        return Err(AllocError);
+    };
+    if number >= values.len() {
+        return Err(AllocError);
+    }
+    match values[number] {
+        None => {
+            values[number] = Some(value);
+            Ok(())
+        }
+        Some(_) => Ok(()),
+    }
+}
+
+impl<'a> ScriptValues<'a> {
+    /// The values of the names of a layout of this script.
+    ///
+    /// # Errors
+    ///
+    /// Where memory runs out.
+    pub fn of(
+        alloc: Global,
+        script: &'a Script,
+        placement: &Placement,
+    ) -> Result<ScriptValues<'a>, NoMemory>
+        ensures { IfOk result (λ v. (s : Layout) → AreOf script.now s placement.now → AreScriptValues s v) }
+    {
+        let commands = script.common_commands(alloc)?;
+        let mut values = vec![in alloc; None; commands.len()]?;
+        for symbol in placement.symbols() {
+            let name = name_given(&commands, symbol.command);
+            note_value(script, name, symbol.value, &mut values)?;
+        }
+        Ok(ScriptValues { script, values })
+    }
+
+    /// The value that the script gives a name, if it gives one. The time is logarithmic in the number of names.
+    pub fn value(&self, name: &[u8]) -> Option<u64>
+        ensures { result ≡ value_in self.now name.now }
+    {
+        let number = command_number(self.script, name)?;
+        *self.values.get(number)?
+    }
+}

@@ -1,0 +1,104 @@
+//! The values of names and of the entry symbol, and the symbols of the output.
+
+ghost use Rattle.std.specs.Prelude.{◌≡◌, IfOk};
+ghost use Rattle.ldmodel.specs.Layout.{Layout};
+ghost use Rattle.symres.specs.Naming.{IsNaming};
+ghost use Rattle.symres.specs.Sorted.{AreSorted};
+ghost use Rattle.ldmodel.specs.SymbolValues.{entry_point};
+ghost use Rattle.emit_relocate.specs.Values.{value_of};
+ghost use Rattle.emit_values.specs.LinkView.{IsLinkView, known_link};
+ghost use Rattle.emit_values.specs.ScriptValues.{AreScriptValues};
+ghost use Rattle.emit_values.specs.Values.{AreValues};
+
+use crate::candidate::candidates;
+use crate::given::GivenValues;
+use crate::link_view::LinkView;
+use crate::script_values::ScriptValues;
+use crate::symbols::{Sources, symbols_of};
+use ldmodel::memory::NoMemory;
+use ldmodel::names::Case;
+use symres::naming::Naming;
+use ldmodel_project::view::ProjectView;
+use emit_relocate::symbol::{entry_point, name_values};
+use emit_relocate::value::SymbolValue;
+use std::alloc::Global;
+
+/// A symbol of the output: a name that stands for something.
+#[derive(Clone, Copy, Debug)]
+pub struct OutputSymbol<'a> {
+    /// The name.
+    pub name: &'a [u8],
+    /// What it stands for.
+    pub case: Case,
+    /// Its value, if it has one.
+    pub value: SymbolValue,
+}
+
+/// What the symbols of a link are worth.
+#[derive(Drop)]
+pub struct Values<'a> {
+    /// The values of all names under their keys.
+    pub names: Vec<SymbolValue>,
+    /// The value of the entry symbol: 0 where there is none.
+    pub entry: SymbolValue,
+    /// The symbols of the output, in byte order of their names.
+    pub symbols: Vec<OutputSymbol<'a>>,
+}
+
+/// The value of the entry symbol, which is looked up.
+fn entry_value(
+    project: &ProjectView<'_>,
+    naming: &Naming,
+    given: &ScriptValues<'_>,
+    link: &LinkView<'_, '_>,
+) -> SymbolValue
+    ensures { (s : Layout) → IsNaming project.now naming.now → AreScriptValues s given.now
+        → IsLinkView (known_link project.now s naming.now) link.now
+        → value_of result ≡ entry_point project.now s }
+{
+    match project.entry_symbol() {
+        None => entry_point(link, None, None),
+        Some(name) => {
+            let case = naming.case_named(project.script(), name);
+            entry_point(link, Some(case), given.value(name))
+        }
+    }
+}
+
+impl<'a> Values<'a> {
+    /// The values of the symbols of a link. The names that the script alone gives, and the entry symbol, are looked up.
+    ///
+    /// # Errors
+    ///
+    /// Where memory runs out.
+    pub fn of(
+        alloc: Global,
+        project: &'a ProjectView<'_>,
+        naming: &'a Naming,
+        link: &LinkView<'_, '_>,
+        given: &GivenValues<'a>,
+    ) -> Result<Values<'a>, NoMemory>
+        requires naming { IsNaming project.now naming.now }
+        requires sorted { AreSorted naming.now given.now.sorted.items }
+        ensures { IfOk result (λ v. (s : Layout) → AreScriptValues s given.now.values
+            → IsLinkView (known_link project.now s naming.now) link.now
+            → AreValues project.now s naming.now v) }
+    {
+        let script = project.script();
+        let names = name_values(alloc, link)?;
+        let entry = entry_value(project, naming, &given.values, link);
+        let candidates = candidates(alloc, naming, script, &given.sorted)?;
+        let sources = Sources {
+            script,
+            naming,
+            names: &names,
+            given: &given.values,
+        };
+        let symbols = symbols_of(alloc, &sources, &candidates)?;
+        Ok(Values {
+            names,
+            entry,
+            symbols,
+        })
+    }
+}

@@ -1,0 +1,49 @@
+-- The numbers of input sections.
+use Rattle.std.specs.Prelude.{◌≡◌, ◌<◌, ◌+◌, ℕ, Bool, true, List, length, Option, Some, None, position}
+use Rattle.std.specs.Prelude.{nat_lt, if◌then◌else◌, slice_get, All, Contains, IsSome}
+use Rattle.std.specs.Option.{option_map}
+use Rattle.ldmodel.specs.InputSections.{common_blocks, input_sections}
+use Rattle.ldmodel.specs.Project.{NamedObject, Project}
+use Rattle.ldmodel.specs.Sections.{InputSection}
+use Rattle.ldmodel.specs.declared.sections.Part.{Part}
+use Rattle.ldmodel.specs.declared.sections.Part.TheVariants.{InTable, InCommon}
+use Rattle.gather_sections.specs.Ranks.{is_ranked}
+use Rattle.gather_sections.specs.Slots.{slots_of}
+use Rattle.gather_sections.specs.declared.section_table.SectionTable.{SectionTable}
+use Rattle.gather_sections.specs.declared.slots.Slots.{Slots}
+
+-- the number of header number k of object number n
+abbrev pub slot_of : List Slots → ℕ → ℕ → Option ℕ
+slot_of slots n k =
+    if nat_lt k (slots_of slots n).count then Some ((slots_of slots n).begin + k) else None
+
+-- the number of a common block
+abbrev pub block_of : SectionTable → ℕ → ℕ → Option ℕ
+block_of t n x = option_map (λ (j : ℕ). t.slots + j) (position (is_ranked (n, true, x)) t.blocks.items)
+
+-- the number of a part of object number n, if it has one
+abbrev pub number_of : SectionTable → ℕ → Part → Option ℕ
+number_of t n (InTable k) = slot_of t.objects.items n k.0
+number_of t n (InCommon x) = block_of t n x.0
+
+-- how many numbers there are
+abbrev pub len_of : SectionTable → ℕ
+len_of t = t.slots + length t.blocks.items
+
+-- each input section of the project has a number, and no two parts of objects have the same one
+pub record IsTableOf (p : Project) (t : SectionTable) : Type 0 where
+  pub all : (s : InputSection) → Contains (input_sections p) s → IsSome (number_of t s.id.object s.id.part)
+  pub below : (n : ℕ) (q : Part) (at : ℕ) → number_of t n q ≡ Some at → at < len_of t
+  pub apart : (n m : ℕ) (q r : Part) (at : ℕ) → number_of t n q ≡ Some at → number_of t m r ≡ Some at
+      → (n ≡ m) × (q ≡ r)
+
+-- a part is a common block whose rank is among these
+abbrev pub IsBlockAmong : List (ℕ × Bool × ℕ) → ℕ → Part → Type 0
+IsBlockAmong ranks n (InTable k) = ⊥
+IsBlockAmong ranks n (InCommon x) = Contains ranks (n, true, x.0)
+
+-- the ranks of the common blocks of the project are among these
+abbrev pub AreBlockRanks : Project → List (ℕ × Bool × ℕ) → Type 0
+AreBlockRanks p ranks =
+    (i : ℕ) (o : NamedObject) → slice_get p.objects i ≡ Some o
+    → All (λ (s : InputSection). IsBlockAmong ranks s.id.object s.id.part) (common_blocks p i o)

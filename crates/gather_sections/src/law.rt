@@ -1,0 +1,13 @@
+//! What holds of the definitions themselves.
+
+ghost use Rattle.std.specs.Prelude.{Contains};
+ghost use Rattle.ldmodel.specs.InputSections.{input_sections};
+ghost use Rattle.ldmodel.specs.Project.{Project};
+ghost use Rattle.ldmodel.specs.Sections.{InputSection};
+ghost use Rattle.gather_sections.specs.OfObjects.{IsOfObject};
+
+/// Each input section of a project is of the object at its place, and stands under the name of that.
+#[tactic(auto, using(crate::proofs::OfObjects::of_objects))]
+pub fn sections_of_objects()
+    ensures { (p : Project) (s : InputSection) → Contains (input_sections p) s → IsOfObject p s }
+{}

@@ -1,0 +1,74 @@
+//! The header numbers of the objects of a project, those of each after those of the one before.
+
+ghost use Rattle.std.specs.Prelude.{◌≡◌, ◌+◌, ◌<◌, All, IfOk};
+ghost use Rattle.elfobj.specs.Sections.{LinkedSection};
+ghost use Rattle.gather_sections.specs.Slots.{AreLaid, AreLinkedCounted};
+
+use elfobj::object::Object;
+use elfobj::section::SectionIndex;
+use ldmodel::memory::NoMemory;
+use ldmodel_project::view::ProjectView;
+use std::alloc::{AllocError, Global};
+
+/// The header numbers of an object that a table has: those from 0 to that of its last linked section.
+#[derive(Clone, Copy)]
+pub(crate) struct Slots {
+    /// Where they begin among those of all objects.
+    pub(crate) begin: u32,
+    /// How many there are.
+    pub(crate) count: u32,
+}
+
+/// The header numbers of all objects.
+#[derive(Drop)]
+pub(crate) struct AllSlots {
+    /// Those of each object.
+    pub(crate) objects: Vec<Slots>,
+    /// How many there are in all.
+    pub(crate) slots: u32,
+}
+
+/// How many header numbers there are up to that of a section.
+fn count_to(section: SectionIndex) -> u32
+    ensures { result ≡ section.0 + 1 }
+{
+    u32::from(section.0) + 1
+}
+
+/// How many header numbers an object has up to that of its last linked section.
+fn count_of(object: &Object) -> u32
+    ensures { All (λ (x : LinkedSection). x.number.0 < result) object.now.sections }
+{
+    match object.sections().last() {
+        None => 0,
+        Some(last) => count_to(last.number),
+    }
+}
+
+/// The header numbers of all objects of a project. They are made of the objects alone, so an object has as many in each
+/// link.
+///
+/// # Errors
+///
+/// Where memory runs out.
+pub(crate) fn lay_slots(alloc: Global, project: &ProjectView<'_>) -> Result<AllSlots, NoMemory>
+    ensures laid { IfOk result (λ x. AreLaid x.objects.items x.slots) }
+    ensures counted { IfOk result (λ x. AreLinkedCounted project.now x.objects.items) }
+{
+    let inputs = project.inputs();
+    let mut objects = Vec::with_capacity(alloc, inputs.len())?;
+    let mut slots: u32 = 0;
+    for input in inputs {
+        let count = count_of(input.object);
+        objects.push(Slots {
+            begin: slots,
+            count,
+        })?;
+        match slots.checked_add(count) {
+            Some(sum) => slots = sum,
+            // Unreachable: 2^32 section headers take 256 GiB
+            None => return Err(AllocError),
+        }
+    }
+    Ok(AllSlots { objects, slots })
+}

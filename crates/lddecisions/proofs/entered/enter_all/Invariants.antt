@@ -1,7 +1,0 @@
-use Rattle.std.proofs.Common.{◌≡◌, take}
-use Rattle.lddecisions.specs.Keyed.{tables_of}
-use Rattle.lddecisions.proofs.entered.enter_all.Given as goal
-
--- the objects before this place are entered
-abbrev pub invariant-loop-place : goal.invariant-loop-place
-invariant-loop-place l = l.names.objects ≡ take l.place (tables_of l.objects)

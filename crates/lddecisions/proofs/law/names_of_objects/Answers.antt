@@ -1,8 +1,0 @@
-use Rattle.lddecisions.proofs.ProjectNames.{all_names, one_object}
-use Rattle.lddecisions.proofs.law.names_of_objects.Goals as goal
-
-pub returns-clause-all : goal.returns-clause-all
-returns-clause-all c = all_names
-
-pub returns-clause-one : goal.returns-clause-one
-returns-clause-one c = one_object

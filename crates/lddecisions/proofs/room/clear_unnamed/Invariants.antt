@@ -1,5 +1,0 @@
-use Rattle.lddecisions.proofs.MakingRoom.{Cleaned}
-use Rattle.lddecisions.proofs.room.clear_unnamed.Given as goal
-
-abbrev pub invariant-loop-key : goal.invariant-loop-key
-invariant-loop-key l = Cleaned l.names.names l.fn.cases l.cases l.key

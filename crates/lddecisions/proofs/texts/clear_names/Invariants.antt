@@ -1,7 +1,0 @@
-use Rattle.std.proofs.Common.{take}
-use Rattle.lddecisions.specs.Texts.{IsCleared}
-use Rattle.lddecisions.proofs.texts.clear_names.Given as goal
-
--- the names of the symbols before this one are cleared
-abbrev pub invariant-loop-number : goal.invariant-loop-number
-invariant-loop-number l = IsCleared l.names.names (take l.number l.object.symbols) l.fn.cases l.cases

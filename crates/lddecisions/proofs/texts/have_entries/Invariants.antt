@@ -1,7 +1,0 @@
-use Rattle.std.proofs.Common.{take}
-use Rattle.lddecisions.specs.Room.{HaveEntries}
-use Rattle.lddecisions.proofs.texts.have_entries.Given as goal
-
--- the names of the symbols before this one have entries
-abbrev pub invariant-loop-number : goal.invariant-loop-number
-invariant-loop-number l = HaveEntries l.names.objects (take l.number l.object.symbols)

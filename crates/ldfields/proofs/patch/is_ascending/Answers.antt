@@ -1,8 +1,0 @@
-use Rattle.std.proofs.Common.{arith}
-use Rattle.std.proofs.lemmas.List.Sorted.{IsNonDecreasingBy-from_all_adjacent}
-use Rattle.ldfields.specs.declared.patch.Patch.{Patch}
-use Rattle.ldfields.proofs.patch.is_ascending.Goals as goal
-
-pub returns : goal.returns
-returns c = λ e. IsNonDecreasingBy-from_all_adjacent (λ (s : Patch). s.offset) c.args.patches.now
-    (λ k d low. c.loop-k.invariant k d (omega (arith, low)))

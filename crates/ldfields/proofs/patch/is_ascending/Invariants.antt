@@ -1,7 +1,0 @@
-use Rattle.std.proofs.Common.{◌≤◌}
-use Rattle.std.specs.List.{AllAdjacentBelow}
-use Rattle.ldfields.specs.declared.patch.Patch.{Patch}
-use Rattle.ldfields.proofs.patch.is_ascending.Given as goal
-
-abbrev pub invariant-loop-k : goal.invariant-loop-k
-invariant-loop-k l = AllAdjacentBelow (λ (x y : Patch). x.offset ≤ y.offset) l.patches l.k

@@ -1,0 +1,213 @@
+//! Readers and writers that a stream is read from and its answers written to, and that count failed calls.
+
+ghost use Rattle.std.specs.Prelude.{◌≡◌, ◌≤◌, ◌<◌, ℕ, List, [], Option, length, IfOk, OnOk};
+ghost use Rattle.std.specs.Io.KnownBytes.{ReadConsumes, WriteAppends, Keeps, append_known};
+ghost use Rattle.std.specs.Io.Buffered.{reader_remaining, writer_contents, writer_buffer};
+ghost use Rattle.ldi_stream.specs.Stepped.{CountsFailure, ReaderState, WriterState};
+
+use crate::fault::{ReadFault, WriteFault};
+use ldmodel::memory::NoMemory;
+use std::alloc::{AllocError, Global};
+use std::io::{BufReader, BufWriter, Read, Write};
+use std::marker::Model;
+
+/// A reader that counts its failed calls.
+pub trait Source {
+    /// What is left to read, where the reader shows it.
+    ghost rest: { Self → Option (List ℕ) };
+
+    /// How many calls have failed.
+    ghost failed: { Self → ℕ };
+
+    /// Reads bytes into the front of `buf`, and says how many: none only at the end or where `buf` is empty.
+    ///
+    /// # Errors
+    ///
+    /// Where the device failed. Nothing was read then.
+    fn read(&mut self, buf: &mut [u8]) -> Result<usize, ReadFault>
+        ensures count { IfOk result (λ n. n ≤ length buf.old) }
+        ensures bytes { ReadConsumes (rest self.old) (rest self.new) result buf.new }
+        ensures counted { CountsFailure (failed self.old) (failed self.new) result };
+
+    /// How many calls have failed; 2^64 - 1 says that or more.
+    fn failures(&self) -> u64
+        ensures { result ≡ failed self.now };
+}
+
+/// A writer that counts its failed calls.
+pub trait Sink {
+    /// What was written so far, where the writer shows it.
+    ghost written: { Self → Option (List ℕ) };
+
+    /// The end of what was written that is held back, until a flush sends it on.
+    ghost held: { Self → List ℕ };
+
+    /// How many calls have failed.
+    ghost failed: { Self → ℕ };
+
+    /// Writes a front of `bytes`, and says how long it is: empty only where `bytes` is.
+    ///
+    /// # Errors
+    ///
+    /// Where the device failed, or took no byte of some. Nothing was written then.
+    fn write(&mut self, bytes: &[u8]) -> Result<usize, WriteFault>
+        ensures count { IfOk result (λ n. n ≤ length bytes.now) }
+        ensures some { IfOk result (λ n. 0 < length bytes.now → 0 < n) }
+        ensures bytes { WriteAppends (written self.old) (written self.new) result bytes.now }
+        ensures counted { CountsFailure (failed self.old) (failed self.new) result };
+
+    /// Sends on what was written and is still held back.
+    ///
+    /// # Errors
+    ///
+    /// Where the device failed.
+    fn flush(&mut self) -> Result<(), WriteFault>
+        ensures bytes { Keeps (written self.old) (written self.new) }
+        ensures flushed { OnOk result (held self.new ≡ []) }
+        ensures counted { CountsFailure (failed self.old) (failed self.new) result };
+
+    /// How many calls have failed; 2^64 - 1 says that or more.
+    fn failures(&self) -> u64
+        ensures { result ≡ failed self.now };
+}
+
+/// A reader of std as a source, with a buffer, since commands are read by the byte.
+#[derive(Drop)]
+pub struct CommandReader<R: Read + Drop> {
+    reader: BufReader<R>,
+    failures: u64,
+}
+
+impl<R: Read + Drop> Model for CommandReader<R> {
+    ghost Value = { ReaderState };
+
+    ghost view = { λ s. record { rest = reader_remaining R.remaining s.reader; failed = s.failures } };
+}
+
+impl<R: Read + Drop> CommandReader<R> {
+    /// A source that has not failed yet.
+    ///
+    /// # Errors
+    ///
+    /// Where there is no memory for the buffer.
+    #[tactic(auto, using(crate::proofs::KnownBuffers::rest_of_new))]
+    pub fn new(alloc: Global, reader: R) -> Result<CommandReader<R>, NoMemory>
+        ensures { IfOk result (λ s. s ≡ record { rest = R.remaining reader; failed = 0 }) }
+    {
+        match BufReader::new(alloc, reader) {
+            Ok(reader) => Ok(CommandReader {
+                reader,
+                failures: 0,
+            }),
+            Err(_) => Err(AllocError),
+        }
+    }
+}
+
+impl<R: Read + Drop> Source for CommandReader<R> {
+    ghost rest = { λ s. s.rest };
+
+    ghost failed = { λ s. s.failed };
+
+    fn read(&mut self, buf: &mut [u8]) -> Result<usize, ReadFault> {
+        match self.reader.read(buf) {
+            Ok(n) => Ok(n),
+            Err(_) => {
+                self.failures = self.failures.saturating_add(1);
+                Err(ReadFault)
+            }
+        }
+    }
+
+    fn failures(&self) -> u64 {
+        self.failures
+    }
+}
+
+/// A writer of std as a sink, with a buffer: an answer is written in parts and then flushed.
+#[derive(Drop)]
+pub struct AnswerWriter<W: Write + Drop> {
+    writer: BufWriter<W>,
+    failures: u64,
+}
+
+impl<W: Write + Drop> Model for AnswerWriter<W> {
+    ghost Value = { WriterState };
+
+    ghost view = { λ s. record {
+      written = writer_contents W.contents s.writer;
+      held = writer_buffer s.writer;
+      failed = s.failures;
+    } };
+}
+
+impl<W: Write + Drop> AnswerWriter<W> {
+    /// A sink that has not failed yet and holds nothing back.
+    ///
+    /// # Errors
+    ///
+    /// Where there is no memory for the buffer.
+    #[tactic(auto, using(crate::proofs::KnownBuffers::written_of_new))]
+    pub fn new(alloc: Global, writer: W) -> Result<AnswerWriter<W>, NoMemory>
+        ensures { IfOk result (λ s. s ≡ record { written = W.contents writer; held = []; failed = 0 }) }
+    {
+        match BufWriter::new(alloc, writer) {
+            Ok(writer) => Ok(AnswerWriter {
+                writer,
+                failures: 0,
+            }),
+            Err(_) => Err(AllocError),
+        }
+    }
+
+    /// The writer. What is held back is not sent on: after a failed call nothing more is written.
+    pub fn into_writer(self) -> W
+        ensures { self.written ≡ append_known (W.contents result) self.held }
+    {
+        let AnswerWriter {
+            writer,
+            failures: _,
+        } = self;
+        let (inner, _held) = writer.into_parts();
+        inner
+    }
+}
+
+impl<W: Write + Drop> Sink for AnswerWriter<W> {
+    ghost written = { λ s. s.written };
+
+    ghost held = { λ s. s.held };
+
+    ghost failed = { λ s. s.failed };
+
+    fn write(&mut self, bytes: &[u8]) -> Result<usize, WriteFault> {
+        match self.writer.write(bytes) {
+            Ok(n) => {
+                if n == 0 && !bytes.is_empty() {
+                    self.failures = self.failures.saturating_add(1);
+                    Err(WriteFault)
+                } else {
+                    Ok(n)
+                }
+            }
+            Err(_) => {
+                self.failures = self.failures.saturating_add(1);
+                Err(WriteFault)
+            }
+        }
+    }
+
+    fn flush(&mut self) -> Result<(), WriteFault> {
+        match self.writer.flush() {
+            Ok(_) => Ok(()),
+            Err(_) => {
+                self.failures = self.failures.saturating_add(1);
+                Err(WriteFault)
+            }
+        }
+    }
+
+    fn failures(&self) -> u64 {
+        self.failures
+    }
+}

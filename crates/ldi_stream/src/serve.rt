@@ -1,0 +1,202 @@
+//! One command of a stream: read, made and answered.
+
+ghost use Rattle.std.specs.Prelude.{◌≡◌, ℕ, List, [], Option, length, IfSome, OnOk};
+ghost use Rattle.ldmodel.specs.Answers.{EditReply, asked};
+ghost use Rattle.ldmodel.specs.Commands.{IsBad};
+ghost use Rattle.ldmodel.specs.EditMeaning.{change_of};
+ghost use Rattle.ldmodel.specs.Link.{link};
+ghost use Rattle.ldmodel.specs.Project.{Project};
+ghost use Rattle.ldi_stream.specs.Heads.{aimed, announced, edit_of, query_of};
+ghost use Rattle.ldi_stream.specs.Ran.{FaultsCounted, Flushed, world};
+ghost use Rattle.ldi_stream.specs.Stepped.{CountsFailure, EditStepped, Stepped, Writes};
+
+use crate::Status;
+use crate::answer::{write_bytes, write_linked, write_malformed, write_refused};
+use crate::devices::{Sink, Source};
+use crate::fault::{RunFault, WriteFault};
+use crate::head::{Aim, CommandHead, EditHead, Query, read_head};
+use crate::line::{LineEnd, MAX_LINE, read_line};
+use crate::payload::{Payload, read_payload};
+use ldmodel_laws::streams::{lines_without_feed, one_first_command};
+use ldmodel::edit::{Edit, EditRefusal};
+use ldmodel::linker::Linker;
+use ldmodel::meter::Meter;
+use std::alloc::Global;
+
+/// What a step of a run comes to.
+#[derive(Clone, Copy, Debug, PartialEq, Eq)]
+pub enum Step {
+    /// A command was answered.
+    Next,
+    /// The run has ended.
+    End(Status),
+}
+
+/// Makes an edit and answers it.
+fn make_edit<W: Sink, L: Linker>(
+    sink: &mut W,
+    linker: &mut L,
+    edit: Edit<'_>,
+) -> Result<(), WriteFault>
+    ensures text { (answer : List ℕ) × Writes (W.written sink.old) (W.written sink.new) answer result
+        × EditReply (L.project linker.old) (change_of edit.entry) answer (L.project linker.new) }
+    ensures flushed { OnOk result (W.held sink.new ≡ []) }
+    ensures counted { CountsFailure (W.failed sink.old) (W.failed sink.new) result }
+{
+    let mut meter = Meter::new();
+    match linker.apply(edit, &mut meter) {
+        Ok(linked) => write_linked(sink, linked),
+        Err(refusal) => write_refused(sink, refusal),
+    }
+}
+
+/// Makes the edit that a whole payload is meant for, and answers it.
+fn use_payload<W: Sink, L: Linker>(
+    sink: &mut W,
+    linker: &mut L,
+    aim: Aim<'_>,
+    bytes: Vec<u8>,
+) -> Result<(), WriteFault>
+    ensures text { (answer : List ℕ) × Writes (W.written sink.old) (W.written sink.new) answer result
+        × EditReply (L.project linker.old) (aimed aim.entry bytes.items) answer (L.project linker.new) }
+    ensures flushed { OnOk result (W.held sink.new ≡ []) }
+    ensures counted { CountsFailure (W.failed sink.old) (W.failed sink.new) result }
+{
+    match aim {
+        Aim::Add { name, at } => make_edit(sink, linker, Edit::Add { name, at, bytes }),
+        Aim::Replace { name } => make_edit(sink, linker, Edit::Replace { name, bytes }),
+        Aim::Script => {
+            let text = bytes.as_slice();
+            make_edit(sink, linker, Edit::Script { text })
+        }
+    }
+}
+
+/// Reads the payload of an edit, makes the edit and answers it.
+fn serve_payload<R: Source, W: Sink, L: Linker>(
+    alloc: Global,
+    source: &mut R,
+    sink: &mut W,
+    linker: &mut L,
+    aim: Aim<'_>,
+    count: usize,
+) -> Result<Step, RunFault>
+    ensures stepped { EditStepped (aimed aim.entry) count
+        (world (R.rest source.old) (W.written sink.old) (L.project linker.old))
+        (world (R.rest source.new) (W.written sink.new) (L.project linker.new)) result }
+    ensures flushed { Flushed (W.held sink.old) (W.held sink.new) result }
+    ensures counted { FaultsCounted (R.failed source.old) (R.failed source.new)
+        (W.failed sink.old) (W.failed sink.new) result }
+{
+    match read_payload(alloc, source, count)? {
+        Payload::Whole(bytes) => {
+            use_payload(sink, linker, aim, bytes)?;
+            Ok(Step::Next)
+        }
+        Payload::NoMemory => {
+            write_refused(sink, EditRefusal::NoMemory)?;
+            Ok(Step::Next)
+        }
+        Payload::Short => {
+            write_malformed(sink)?;
+            Ok(Step::End(Status::Malformed))
+        }
+    }
+}
+
+/// Makes an edit that brings no payload, and answers it.
+fn serve_bare<W: Sink, L: Linker>(
+    sink: &mut W,
+    linker: &mut L,
+    edit: Edit<'_>,
+) -> Result<Step, RunFault>
+    ensures stepped { (rest : Option (List ℕ)) → EditStepped (λ _. change_of edit.entry) 0
+        (world rest (W.written sink.old) (L.project linker.old))
+        (world rest (W.written sink.new) (L.project linker.new)) result }
+    ensures flushed { Flushed (W.held sink.old) (W.held sink.new) result }
+    ensures counted { (r : ℕ) → FaultsCounted r r (W.failed sink.old) (W.failed sink.new) result }
+{
+    make_edit(sink, linker, edit)?;
+    Ok(Step::Next)
+}
+
+/// Makes the edit of a line that was read, with its payload, and answers it.
+fn serve_edit<R: Source, W: Sink, L: Linker>(
+    alloc: Global,
+    source: &mut R,
+    sink: &mut W,
+    linker: &mut L,
+    head: EditHead<'_>,
+) -> Result<Step, RunFault>
+    ensures stepped { EditStepped (edit_of head.entry) (announced head.entry)
+        (world (R.rest source.old) (W.written sink.old) (L.project linker.old))
+        (world (R.rest source.new) (W.written sink.new) (L.project linker.new)) result }
+    ensures flushed { Flushed (W.held sink.old) (W.held sink.new) result }
+    ensures counted { FaultsCounted (R.failed source.old) (R.failed source.new)
+        (W.failed sink.old) (W.failed sink.new) result }
+{
+    match head {
+        EditHead::WithPayload { aim, count } => {
+            serve_payload(alloc, source, sink, linker, aim, count)
+        }
+        EditHead::Move { name, to } => serve_bare(sink, linker, Edit::Move { name, to }),
+        EditHead::Remove { name } => serve_bare(sink, linker, Edit::Remove { name }),
+    }
+}
+
+/// What a query asks of the link.
+fn asked<L: Linker>(linker: &L, query: Query) -> &[u8]
+    ensures { result.now ≡ asked (query_of query) (link (L.project linker.now)) }
+{
+    match query {
+        Query::Image => linker.image(),
+        Query::Map => linker.map(),
+        Query::Faults => linker.faults(),
+    }
+}
+
+/// Answers bytes that no command begins.
+fn serve_bad<W: Sink>(sink: &mut W) -> Result<Step, RunFault>
+    ensures stepped { (old new : Option (List ℕ)) (p : Project) → IfSome old IsBad
+        → Stepped (world old (W.written sink.old) p) (world new (W.written sink.new) p) result }
+    ensures flushed { Flushed (W.held sink.old) (W.held sink.new) result }
+    ensures counted { (r : ℕ) → FaultsCounted r r (W.failed sink.old) (W.failed sink.new) result }
+{
+    write_malformed(sink)?;
+    Ok(Step::End(Status::Malformed))
+}
+
+/// Reads one command, makes it and answers it; or meets the end of the stream, or bytes that no command
+/// begins.
+///
+/// # Errors
+///
+/// Where a call of `source` or `sink` failed.
+pub fn serve_one<R: Source, W: Sink, L: Linker>(
+    alloc: Global,
+    source: &mut R,
+    sink: &mut W,
+    linker: &mut L,
+) -> Result<Step, RunFault>
+    ensures stepped { Stepped (world (R.rest source.old) (W.written sink.old) (L.project linker.old))
+        (world (R.rest source.new) (W.written sink.new) (L.project linker.new)) result }
+    ensures flushed { Flushed (W.held sink.old) (W.held sink.new) result }
+    ensures counted { FaultsCounted (R.failed source.old) (R.failed source.new)
+        (W.failed sink.old) (W.failed sink.new) result }
+{
+    one_first_command();
+    lines_without_feed();
+    let mut line = [0u8; MAX_LINE];
+    match read_line(source, &mut line)? {
+        LineEnd::Ended => Ok(Step::End(Status::Done(linker.status()))),
+        LineEnd::Broken => serve_bad(sink),
+        LineEnd::Line(n) => match read_head(&line[..n]) {
+            None => serve_bad(sink),
+            Some(CommandHead::Ask(query)) => {
+                write_bytes(sink, asked(linker, query))?;
+                Ok(Step::Next)
+            }
+            Some(CommandHead::Edit(head)) => serve_edit(alloc, source, sink, linker, head),
+        },
+    }
+}

@@ -1,0 +1,11 @@
+-- What `get_flag` says of the rows.
+use Rattle.std.proofs.Common.{◌≡◌, ◌↔◌, Bool, Option, Some, IsTrue, true, false, codes, inl, inr}
+use Rattle.clap.specs.Words.{Text}
+use Rattle.ldi_words.specs.Call.{IsFlag}
+
+-- a flag is set where its text is `true`
+pub flag_says : (stated : Option Text) (b : Bool) → IsFlag stated → (stated ≡ Some (codes "true") → b ≡ true)
+    → (stated ≡ Some (codes "false") → b ≡ false)
+    → IsTrue b ↔ (stated ≡ Some (codes "true"))
+flag_says stated b (inl e) set unset = (λ _. e, set)
+flag_says stated b (inr e) set unset = (λ h. let no = unset e in cc, set)

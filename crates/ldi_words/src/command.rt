@@ -1,0 +1,149 @@
+//! The command `ldi` with its two subcommands, as it is described to `clap`.
+
+ghost use Rattle.std.specs.Prelude.{◌≡◌, IfOk, false};
+ghost use Rattle.clap.specs.Words.{App, rule_of};
+ghost use Rattle.ldi_words.specs.Command.{Choices, IsApp, ListsOrphans};
+ghost use Rattle.ldi_words.specs.Command.{gc_rule, entry_rule, orphans_rule};
+ghost use Rattle.ldi_words.specs.Command.{script_rule, image_rule, map_rule, objects_rule};
+ghost use Rattle.ldi_words.specs.Command.{ldi, link_app, session_app, with_options};
+
+use clap::{Arg, ArgAction, Command};
+use std::alloc::{AllocError, Global};
+
+/// What `ldi --version` prints after the name.
+const VERSION: &str = "0.1.0";
+
+/// The values of `--orphan-handling`.
+static ORPHANS: [&str; 2] = ["error", "discard"];
+
+/// `--gc-sections`.
+fn gc_arg<'a>(alloc: Global) -> Arg<'a>
+    ensures rule { rule_of result ≡ gc_rule }
+    ensures local { result.global ≡ false }
+{
+    Arg::new(alloc, "gc-sections")
+        .long("gc-sections")
+        .action(ArgAction::SetTrue)
+        .help("Leave out sections that the program cannot reach [default: keep them]")
+}
+
+/// `-e SYMBOL`.
+fn entry_arg<'a>(alloc: Global) -> Arg<'a>
+    ensures rule { rule_of result ≡ entry_rule }
+    ensures local { result.global ≡ false }
+{
+    Arg::new(alloc, "entry")
+        .short('e')
+        .value_name("SYMBOL")
+        .help("Start the program at this symbol [default: the one of the script's ENTRY]")
+}
+
+/// `--orphan-handling HANDLING`.
+fn orphans_arg<'a>(alloc: Global, choices: &'a [&'a str]) -> Arg<'a>
+    ensures rule { rule_of result ≡ orphans_rule choices.entry }
+    ensures local { result.global ≡ false }
+{
+    Arg::new(alloc, "orphan-handling")
+        .long("orphan-handling")
+        .value_name("HANDLING")
+        .value_parser(choices)
+        .default_value("error")
+        .help("Handling of sections that no statement takes")
+}
+
+/// `-T SCRIPT`.
+fn script_arg<'a>(alloc: Global) -> Arg<'a>
+    ensures rule { rule_of result ≡ script_rule }
+    ensures local { result.global ≡ false }
+{
+    Arg::new(alloc, "script")
+        .short('T')
+        .value_name("SCRIPT")
+        .required(true)
+        .help("The file of the linker script")
+}
+
+/// `-o IMAGE`.
+fn image_arg<'a>(alloc: Global) -> Arg<'a>
+    ensures rule { rule_of result ≡ image_rule }
+    ensures local { result.global ≡ false }
+{
+    Arg::new(alloc, "image")
+        .short('o')
+        .value_name("IMAGE")
+        .required(true)
+        .help("The file to write the image to")
+}
+
+/// `--Map MAP`.
+fn map_arg<'a>(alloc: Global) -> Arg<'a>
+    ensures rule { rule_of result ≡ map_rule }
+    ensures local { result.global ≡ false }
+{
+    Arg::new(alloc, "map").long("Map").value_name("MAP").help(
+        "The file to write the map to [default: no map is written]",
+    )
+}
+
+/// The objects.
+fn objects_arg<'a>(alloc: Global) -> Arg<'a>
+    ensures rule { rule_of result ≡ objects_rule }
+    ensures local { result.global ≡ false }
+{
+    Arg::new(alloc, "objects")
+        .value_name("OBJECT")
+        .action(ArgAction::Append)
+        .help("The files of the objects, in the order in which they are linked")
+}
+
+/// Adds the options that both subcommands take.
+fn add_options<'a>(
+    alloc: Global,
+    command: Command<'a>,
+    choices: &'a [&'a str],
+) -> Result<Command<'a>, AllocError>
+    ensures { IfOk result (λ c. (a : App) → IsApp a command.entry
+        → IsApp (with_options choices.entry a) c) }
+{
+    command
+        .arg(gc_arg(alloc))?
+        .arg(entry_arg(alloc))?
+        .arg(orphans_arg(alloc, choices))
+}
+
+/// `ldi session`.
+fn session_command<'a>(alloc: Global, choices: &'a [&'a str]) -> Result<Command<'a>, AllocError>
+    ensures { IfOk result (IsApp (session_app choices.entry)) }
+{
+    let session = Command::new(alloc, "session")
+        .about("Reads edits and queries from standard input and links again after each edit")
+        .after_help("Example: ldi session --gc-sections -e _start < commands > answers");
+    add_options(alloc, session, choices)
+}
+
+/// `ldi link`.
+fn link_command<'a>(alloc: Global, choices: &'a [&'a str]) -> Result<Command<'a>, AllocError>
+    ensures { IfOk result (IsApp (link_app choices.entry)) }
+{
+    let link = Command::new(alloc, "link")
+        .about("Links objects once, from files to files")
+        .after_help("Example: ldi link -T image.ld -o image --Map image.map start.o main.o")
+        .arg(script_arg(alloc))?
+        .arg(image_arg(alloc))?
+        .arg(map_arg(alloc))?;
+    add_options(alloc, link, choices)?.arg(objects_arg(alloc))
+}
+
+/// `ldi`, which is given one of its two subcommands.
+pub(crate) fn ldi_command<'a>(alloc: Global) -> Result<Command<'a>, AllocError>
+    ensures { IfOk result (λ c. (choices : Choices) × ListsOrphans choices × IsApp (ldi choices) c) }
+{
+    let choices = ORPHANS.as_slice();
+    Command::new(alloc, "ldi")
+        .about("A static linker for ELF-64 objects of x86-64 that links again after every edit")
+        .version(VERSION)
+        .subcommand_required(true)
+        .disable_help_subcommand(true)
+        .subcommand(session_command(alloc, choices)?)?
+        .subcommand(link_command(alloc, choices)?)
+}

@@ -1,7 +1,0 @@
-use Rattle.std.proofs.Common.{◌≡◌, ◌+◌, ◌*◌, length, take}
-use Rattle.std.specs.List.{fold}
-use Rattle.ldimage.specs.SegmentBytes.{file_end_of}
-use Rattle.ldimage.proofs.headers.loaded_end.Given as goal
-
-abbrev pub invariant-loop-g : goal.invariant-loop-g
-invariant-loop-g l = l.end ≡ fold file_end_of (64 + 56 * length l.segments) (take l.g-index l.segments)

@@ -1,7 +1,0 @@
-use Rattle.ldproject.specs.Inputs.{shown_inputs}
-use Rattle.ldkept.proofs.Symbols.{TableSoFar}
-use Rattle.ldkept.proofs.symbol_table.symbol_values.Given as goal
-
-abbrev pub invariant-loop-place : goal.invariant-loop-place
-invariant-loop-place l =
-    TableSoFar l.project l.link l.names (shown_inputs l.inputs) l.place l.starts.items l.values.items

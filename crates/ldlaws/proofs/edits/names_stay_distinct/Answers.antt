@@ -1,5 +1,0 @@
-use Rattle.ldlaws.proofs.DistinctNames as names
-use Rattle.ldlaws.proofs.edits.names_stay_distinct.Goals as goal
-
-pub returns-clause-kept : goal.returns-clause-kept
-returns-clause-kept c = names.names_stay_distinct

@@ -1,5 +1,0 @@
-use Rattle.ldlaws.proofs.Outcomes as outcomes
-use Rattle.ldlaws.proofs.edits.one_outcome.Goals as goal
-
-pub returns : goal.returns
-returns c = outcomes.one_outcome c.one_cut.ensures c.one_tree.ensures

@@ -1,5 +1,0 @@
-use Rattle.ldlaws.proofs.OnceInRows as once
-use Rattle.ldlaws.proofs.gathering.once_in_rows.Goals as goal
-
-pub returns : goal.returns
-returns c = once.once_in_rows

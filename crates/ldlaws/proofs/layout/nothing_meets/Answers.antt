@@ -1,5 +1,0 @@
-use Rattle.ldlaws.proofs.Spreading as spreading
-use Rattle.ldlaws.proofs.layout.nothing_meets.Goals as goal
-
-pub returns : goal.returns
-returns c script rows provided s e = spreading.script_spread rows provided script s e

@@ -1,5 +1,0 @@
-use Rattle.ldlaws.proofs.OwnRows as own
-use Rattle.ldlaws.proofs.layout.placed_are_rows.Goals as goal
-
-pub returns : goal.returns
-returns c = own.placed_are_rows

@@ -1,5 +1,0 @@
-use Rattle.ldlaws.proofs.Courses as courses
-use Rattle.ldlaws.proofs.link_command.one_link_answer.Goals as goal
-
-pub returns : goal.returns
-returns c = courses.one_link_answer c.one_outcome.ensures

@@ -1,5 +1,0 @@
-use Rattle.ldlaws.proofs.StayedSites as stays
-use Rattle.ldlaws.proofs.stayed.retargeted_in_index.Goals as goal
-
-pub returns : goal.returns
-returns c = stays.retargeted_in_index

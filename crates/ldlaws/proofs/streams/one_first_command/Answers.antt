@@ -1,5 +1,0 @@
-use Rattle.ldlaws.proofs.Cutting as cutting
-use Rattle.ldlaws.proofs.streams.one_first_command.Goals as goal
-
-pub returns : goal.returns
-returns c = cutting.one_first

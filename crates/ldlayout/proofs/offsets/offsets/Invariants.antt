@@ -1,9 +1,0 @@
--- What is found so far, and what the rest gives, are all.
-use Rattle.std.proofs.Common.{◌≡◌, ◌++◌, drop}
-use Rattle.ldlayout.specs.Offsets.{offsets_in}
-use Rattle.ldlayout.proofs.offsets.offsets.Given as goal
-
-abbrev pub invariant-loop-section : goal.invariant-loop-section
-invariant-loop-section l =
-    l.offsets.items ++ offsets_in (drop l.section-index l.sections) (drop l.number l.segments)
-    ≡ offsets_in l.sections l.segments

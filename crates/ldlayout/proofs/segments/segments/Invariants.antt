@@ -1,7 +1,0 @@
--- The groups so far have their places, and the file is not long.
-use Rattle.std.proofs.Common.{drop}
-use Rattle.ldlayout.proofs.FileOffsets.{Placing}
-use Rattle.ldlayout.proofs.segments.segments.Given as goal
-
-abbrev pub invariant-loop-group : goal.invariant-loop-group
-invariant-loop-group l = Placing l.group-items (drop l.group-index l.group-items) l.segments.items l.end l.group-index

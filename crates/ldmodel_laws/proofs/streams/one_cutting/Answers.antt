@@ -1,0 +1,5 @@
+use Rattle.ldmodel_laws.proofs.Cutting as cutting
+use Rattle.ldmodel_laws.proofs.streams.one_cutting.Goals as goal
+
+pub returns : goal.returns
+returns c = cutting.one_cutting

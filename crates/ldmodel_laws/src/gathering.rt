@@ -1,0 +1,55 @@
+//! Laws of gathering: which statement takes a section, which sections are live, and their order in a row.
+
+ghost use Rattle.std.specs.Prelude.{◌≡◌, ◌↔◌, ℕ, Bool, true, false, Contains, List, MatchOption, Option, filter};
+ghost use Rattle.std.specs.Prelude.{flat_map};
+ghost use Rattle.ldscript.specs.statements.declared.input.Sort.{Sort};
+ghost use Rattle.ldscript.specs.statements.declared.statement.Statement.{Statement};
+ghost use Rattle.ldmodel.specs.Edits.{AreNamesDistinct};
+ghost use Rattle.ldmodel.specs.FirstMatch.{first_match};
+ghost use Rattle.ldmodel.specs.Gathering.{candidates};
+ghost use Rattle.ldmodel.specs.Live.{is_root, live, refers_to};
+ghost use Rattle.ldmodel.specs.Project.{Project};
+ghost use Rattle.ldmodel.specs.Reach.{Path};
+ghost use Rattle.ldmodel.specs.Rows.{Piece, below, rows};
+ghost use Rattle.ldmodel.specs.Sections.{InputSection};
+ghost use Rattle.ldmodel.specs.Sorting.{IsOrdered, sort_by};
+ghost use Rattle.ldmodel_laws.specs.FirstMatches.{IsFirstMatch, IsUnmatched};
+ghost use Rattle.ldmodel_laws.specs.PlacedOnce.{AreNumbered, Differ};
+ghost use Rattle.ldmodel_laws.specs.Spread.{EachLater};
+
+use ldscript::terms::pattern_law::match_by_splitting;
+
+/// The input statement that takes a section is the first one of the script that matches it: its file pattern matches
+/// the object's name, and one of its words the section's name and no excluded pattern of that word the object's.
+pub fn first_match_by_splitting()
+    ensures { (script : List Statement) (file section : List ℕ)
+        → MatchOption (first_match script file section)
+        (IsUnmatched script file section) (IsFirstMatch script file section) }
+{
+    match_by_splitting();
+}
+
+/// With garbage collection a section is live exactly where a path of sections that are not left out leads to it from a
+/// root, each next one the target of some relocation of the one before; without it, where it is not left out. Live
+/// sections stand in the order of all.
+pub fn live_by_path()
+    ensures collected { (p : Project) (s : InputSection) → p.options.gc ≡ true
+        → Contains (live p) s ↔ Path (is_root p) (refers_to p) (candidates p) s }
+    ensures all { (p : Project) → p.options.gc ≡ false → live p ≡ candidates p }
+    ensures in_order { (p : Project) → (test : InputSection → Bool) × (live p ≡ filter test (candidates p)) }
+{}
+
+/// Pieces in the order of a sort, such as those that a statement takes, are the one list that has them ascending by the
+/// key of the sort, and those with equal keys in the order that they had.
+pub fn row_by_order()
+    ensures { (sort : Option Sort) (pieces sorted : List Piece)
+        → IsOrdered (below sort) pieces sorted ↔ sorted ≡ sort_by (below sort) pieces }
+{}
+
+/// No input section stands in the rows twice, neither in one row nor in two: no two of all their entries are of one
+/// part of one object. The names of objects are distinct (`edits::names_stay_distinct`), and the sections of each have
+/// different numbers, as the object reader gives them.
+pub fn once_in_rows()
+    ensures { (p : Project) → AreNamesDistinct p.objects → AreNumbered p
+        → EachLater Differ (flat_map (λ r. r) (rows p)) }
+{}

@@ -1,0 +1,90 @@
+//! Laws of layout: a placement by equations between neighbours.
+
+ghost use Rattle.std.specs.Prelude.{◌≡◌, ◌↔◌, ◌≤◌, ℕ, List, [], ◌∷◌, ◌++◌, length, Ok, Err, map};
+ghost use Rattle.ldscript.specs.Script.{IsSound};
+ghost use Rattle.ldscript.specs.statements.Numbering.{common_commands, output_sections, regions};
+ghost use Rattle.ldscript.specs.statements.declared.section.BodyStatement.{BodyStatement};
+ghost use Rattle.ldscript.specs.statements.declared.statement.Item.{Item};
+ghost use Rattle.ldscript.specs.statements.declared.statement.Statement.{Statement};
+ghost use Rattle.ldmodel.specs.Body.{Body, body_step};
+ghost use Rattle.ldmodel.specs.Fault.{Fault};
+ghost use Rattle.ldmodel.specs.FileLayout.{Each};
+ghost use Rattle.ldmodel.specs.Layout.{Layout, nothing_placed};
+ghost use Rattle.ldmodel.specs.Placement.{item_step, placement};
+ghost use Rattle.ldmodel.specs.Project.{Project};
+ghost use Rattle.ldmodel.specs.Rows.{Piece, rows};
+ghost use Rattle.ldmodel_laws.specs.Alike.{AreAlike, AreSameBefore, BodiesStayAlike, HeadsAgree, IsPartedAt};
+ghost use Rattle.ldmodel_laws.specs.Alike.{ItemsStayAlike, LeadTo, StatementsStayAlike, names_given};
+ghost use Rattle.ldmodel_laws.specs.Placed.{IsFirstFault, IsPlacement};
+ghost use Rattle.ldmodel_laws.specs.Spread.{IsSpread, Notes, dots_in, dots_of, entries_in};
+ghost use Rattle.ldmodel_laws.specs.Traces.{Trace};
+
+/// A layout is that of a script exactly where the statements lead to it, each from where the one before it ended: the
+/// statements of the script, those of SECTIONS, those of the body of each output section, the regions of MEMORY, and
+/// the entries of each input statement, of which each starts at the least multiple of its alignment not below `.` and
+/// moves `.` to its end. A fault is the first exactly where the statements, regions or entries before one, at whatever
+/// depth, lead to a state in which that one has it.
+pub fn placement_by_steps()
+    ensures placed { (script : List Statement) (rows : List (List Piece)) (provided : List (List ℕ)) (s : Layout)
+        → (placement script rows provided ≡ Ok s) ↔ IsPlacement script rows provided s }
+    ensures faulty { (script : List Statement) (rows : List (List Piece)) (provided : List (List ℕ)) (f : Fault)
+        → (placement script rows provided ≡ Err f) ↔ IsFirstFault script rows provided f }
+{}
+
+/// A layout comes of the regions and output sections of its script, each added once and in the order of the text;
+/// nothing else adds to them. An output section is added when its body is filled, effect by effect: `.` goes on to an
+/// address, an entry of the row or a data command takes its place, a symbol is given a value.
+pub fn layout_by_effects()
+    ensures { (script : List Statement) (rows : List (List Piece)) (provided : List (List ℕ)) (s : Layout)
+        → placement script rows provided ≡ Ok s
+        → Trace nothing_placed (regions script) (output_sections script) s }
+{}
+
+/// Each entry of every row is placed once and in the order of the row, whichever PROVIDEs are in force: what stands in
+/// the output sections are the rows.
+pub fn placed_are_rows()
+    ensures { (p : Project) (provided : List (List ℕ)) (s : Layout)
+        → placement p.script (rows p) provided ≡ Ok s → map entries_in s.sections ≡ rows p }
+{}
+
+/// What a layout keeps of `.` is its value before each statement of SECTIONS and of the body of an output section, one
+/// for each, in the order of the text: a statement of SECTIONS adds the value before itself and then those of its body,
+/// a statement of a body adds the value before itself, and a script has as many as it has such statements.
+pub fn dots_by_statement()
+    ensures counted { (script : List Statement) (rows : List (List Piece)) (provided : List (List ℕ)) (s : Layout)
+        → placement script rows provided ≡ Ok s → length s.dots ≡ dots_in script }
+    ensures of_item { (rows : List (List Piece)) (provided : List (List ℕ)) (s : Layout) (i : Item) (t : Layout)
+        → item_step rows provided s i ≡ Ok t → Notes (dots_of i) s t }
+    ensures of_body { (provided : List (List ℕ)) (b : Body) (x : BodyStatement) (c : Body)
+        → body_step provided b x ≡ Ok c → c.layout.dots ≡ b.layout.dots ++ b.layout.dot ∷ [] }
+{}
+
+/// In an output section of a placement nothing meets: its input sections and its data commands lie from its start up to
+/// its end, each past the earlier ones of its kind, and none of one kind shares an address with one of the other.
+pub fn nothing_meets()
+    ensures { (script : List Statement) (rows : List (List Piece)) (provided : List (List ℕ)) (s : Layout)
+        → placement script rows provided ≡ Ok s → Each IsSpread s.sections }
+{}
+
+/// Two layouts of a script whose rows are the same before a number, and that both come to the same statement of
+/// SECTIONS before an output section of that number, differ in symbols alone, whichever PROVIDEs are in force in each:
+/// `.`, regions, output sections and their input sections are the same, and so are the values of symbols that both
+/// have. A PROVIDE gives its own symbol a value and moves nothing, no name is given a value twice, and what names a
+/// symbol that is not there has a fault.
+pub fn placements_alike()
+    ensures { (script before : List Statement) (items : List Item) (first : ℕ) (old rows : List (List Piece))
+        (earlier provided : List (List ℕ)) (s t : Layout) → IsSound script → IsPartedAt script before items
+        → AreSameBefore first old rows → LeadTo old earlier before items s → LeadTo rows provided before items t
+        → length t.sections ≤ first → AreAlike [] s t }
+{}
+
+/// `placements_alike` step by step: what leads from layouts, or from bodies of output sections, that differ in symbols
+/// alone, leads to ones that do, and the names to come stay new.
+pub fn steps_stay_alike()
+    ensures begun { (script : List Statement) → IsSound script
+        → AreAlike (names_given (common_commands script)) nothing_placed nothing_placed }
+    ensures statements { StatementsStayAlike }
+    ensures items { ItemsStayAlike }
+    ensures heads { HeadsAgree }
+    ensures bodies { BodiesStayAlike }
+{}

@@ -1,0 +1,25 @@
+//! Laws of names.
+
+ghost use Rattle.std.specs.Prelude.{◌≡◌, ℕ, Bool, List, filter, map};
+ghost use Rattle.elfobj.specs.Symbols.{NamedSymbol};
+ghost use Rattle.ldmodel.specs.Names.{Declaration, decided, decision, declarations_of, is_of_name};
+ghost use Rattle.ldmodel.specs.Project.{Project};
+ghost use Rattle.ldmodel.specs.ScriptNames.{is_assigned, is_provided};
+ghost use Rattle.ldmodel_laws.specs.Renumbering.{AreTablesOf, renumbered, renumbered_decision};
+
+/// What a name stands for doesn't depend on how objects are numbered, by their places or by keys.
+pub fn decided_renumbered()
+    ensures { (number : ℕ → ℕ) (is_assigned is_provided : Bool) (ds : List Declaration)
+        → decided is_assigned is_provided (map (renumbered number) ds)
+        ≡ renumbered_decision number (decided is_assigned is_provided ds) }
+{}
+
+/// What a name stands for may as well be decided over the symbol tables of the objects under keys, in the order of the
+/// objects.
+pub fn decision_by_keys()
+    ensures { (number : ℕ → ℕ) (p : Project) (tables : List (ℕ × List NamedSymbol)) (name : List ℕ)
+        → AreTablesOf number p.objects tables
+        → decision p name ≡ renumbered_decision number
+        (decided (is_assigned p.script name) (is_provided p.script name)
+        (filter (is_of_name name) (declarations_of tables))) }
+{}

@@ -1,0 +1,150 @@
+//! Laws of what two links have in common.
+
+ghost use Rattle.std.specs.Prelude.{◌≡◌, ◌≢◌, ◌↔◌, ◌+◌, ◌++◌, ◌<◌, ◌≤◌, ℕ, Bool, Contains, List, Ok, Some, false};
+ghost use Rattle.std.specs.Prelude.{◌&&◌, filter, flat_map, length, not, slice_index, true};
+ghost use Rattle.std.specs.List.Sorted.{IsPermutation};
+ghost use Rattle.elfobj.specs.Profile.{AreApart};
+ghost use Rattle.elfobj.specs.RelocationKinds.{width};
+ghost use Rattle.elfobj.specs.Symbols.{NamedSymbol};
+ghost use Rattle.ldmodel.specs.Image.{byte_at};
+ghost use Rattle.ldmodel.specs.Layout.{Layout, PlacedPiece, PlacedSection};
+ghost use Rattle.ldmodel.specs.Project.{Project};
+ghost use Rattle.ldmodel.specs.Relocations.{Site, site_field, site_symbol, sites};
+ghost use Rattle.ldmodel.specs.SectionHeaders.{image_length};
+ghost use Rattle.ldmodel.specs.Segments.{segments};
+ghost use Rattle.ldmodel.specs.Stayed.{GoodLink, LinkedPiece, has_stayed, is_moved, linked_piece, linked_pieces};
+ghost use Rattle.ldmodel.specs.Stayed.{pieces_in, retargeted, sites_in, stayed};
+ghost use Rattle.ldmodel.specs.Targets.{Target, target_number, target_of};
+ghost use Rattle.ldmodel.specs.WorkBound.{bytes_stayed, sites_outside};
+ghost use Rattle.ldmodel_laws.specs.PlacedOnce.{IsPlacedOnce};
+ghost use Rattle.ldmodel_laws.specs.StayedSites.{HasSites, IsFound, has_part_stayed, lies_in_stayed};
+ghost use Rattle.ldmodel_laws.specs.Untouched.{AreRead, HasField, HasSameValue, IsFaultless, IsGood, IsOutside};
+
+/// Untouched bytes: a byte of an input section that stayed, outside the fields of its sites whose symbol has another
+/// value, is the same in both images.
+pub fn untouched_bytes()
+    ensures { (old new : GoodLink) → IsGood old → IsGood new → (x : LinkedPiece) → Contains (stayed old new) x
+        → (i : ℕ) → ((t : Site) → Contains (retargeted old new) t → Contains (sites_in new.project x) t → IsOutside i t)
+        → i < x.range.length
+        → byte_at old.project old.layout (x.range.offset + i) ≡ byte_at new.project new.layout (x.range.offset + i) }
+{}
+
+/// Retargeted sites are found: a site in an input section that stayed whose symbol has another value names a target
+/// whose number is another in the two links; so an index from targets to sites has it under such a target.
+pub fn retargeted_by_target()
+    ensures { (old new : GoodLink) → IsGood old → IsGood new
+        → (t : Site) (a : NamedSymbol) → Contains (retargeted old new) t → site_symbol t ≡ Some a
+        → target_number old.project old.layout (target_of t.object a)
+        ≢ target_number new.project new.layout (target_of t.object a) }
+{}
+
+/// A link without faults is good: what `untouched_bytes` and `retargeted_by_target` ask of it holds.
+pub fn faultless_is_good()
+    ensures { (l : GoodLink) → IsFaultless l → IsGood l }
+{}
+
+/// An input section in an output section is one of the link; and those that stayed are those of the new link that the
+/// old one has too.
+pub fn stayed_in_both()
+    ensures linked { (l : GoodLink) (q : PlacedSection) (z : PlacedPiece) → Contains l.layout.sections q
+        → Contains q.pieces z
+        → Contains (pieces_in l) (linked_piece l.project (segments l.layout.sections) q z) }
+    ensures stayed { (old new : GoodLink) (x : LinkedPiece)
+        → Contains (stayed old new) x ↔ (Contains (pieces_in new) x × (has_stayed old x ≡ true)) }
+{}
+
+/// The bytes of an input section lie in the image; those of one that stayed lie in the old image too.
+pub fn pieces_in_image()
+    ensures own { (l : GoodLink) → IsGood l → (x : LinkedPiece) → Contains (pieces_in l) x → (i : ℕ)
+        → i < x.range.length → x.range.offset + i < image_length l.project l.layout }
+    ensures old { (old new : GoodLink) → IsGood old → (x : LinkedPiece) → Contains (stayed old new) x → (i : ℕ)
+        → i < x.range.length → x.range.offset + i < image_length old.project old.layout }
+{}
+
+/// Each site of an input section has a field, which is as wide as its relocation says; and the image has the field in
+/// its place, where the relocations of the section share no byte, as the object reader has found.
+pub fn fields_in_image()
+    ensures found { (l : GoodLink) → IsGood l → (x : LinkedPiece) → Contains (pieces_in l) x → (t : Site)
+        → Contains (sites_in l.project x) t → HasField l t }
+    ensures some { (l : GoodLink) (x : LinkedPiece) (t : Site) → Contains (sites_in l.project x) t
+        → 0 < width t.relocation.kind }
+    ensures wide { (l : GoodLink) (x : LinkedPiece) (t : Site) (field : List ℕ) → Contains (sites_in l.project x) t
+        → site_field l.project l.layout t ≡ Ok field → length field ≡ width t.relocation.kind }
+    ensures byte { (l : GoodLink) → IsGood l → (x : LinkedPiece) → Contains (pieces_in l) x → (t : Site)
+        → Contains (sites_in l.project x) t → AreApart t.section.relocations → (field : List ℕ)
+        → site_field l.project l.layout t ≡ Ok field → (i : ℕ) → i < length field
+        → t.relocation.offset + i < x.range.length
+        → byte_at l.project l.layout (x.range.offset + (t.relocation.offset + i)) ≡ slice_index field i }
+{}
+
+/// A site whose symbol has the same value in both links has the same field in them. In an input section that stayed,
+/// where the old link is good, it has a field: a relocation that need not be evaluated again has no fault.
+pub fn unmoved_sites()
+    ensures same { (old new : GoodLink) (t : Site) → HasSameValue old new t
+        → site_field new.project new.layout t ≡ site_field old.project old.layout t }
+    ensures found { (old new : GoodLink) → IsGood old → AreRead new.project → (x : LinkedPiece) (t : Site)
+        → Contains (stayed old new) x → Contains (sites_in new.project x) t → HasSameValue old new t
+        → HasField new t }
+{}
+
+/// The sites in input sections that stayed are retargeted exactly where their symbols have other values, compared as
+/// values and not as numbers: 0 is also the number of a symbol that nothing defines and of one whose section is not in
+/// the output. So a test that fails exactly where the values are equal keeps the retargeted sites, in their order.
+pub fn moved_by_value()
+    ensures one { (old new : GoodLink) → IsGood old → IsGood new → (x : LinkedPiece) (t : Site)
+        → Contains (stayed old new) x → Contains (sites_in new.project x) t
+        → HasSameValue old new t ↔ (is_moved old new t ≡ false) }
+    ensures all { (old new : GoodLink) → IsGood old → IsGood new → (test : Site → Bool)
+        → ((t : Site) → Contains (flat_map (sites_in new.project) (stayed old new)) t
+        → (test t ≡ false) ↔ HasSameValue old new t)
+        → filter test (flat_map (sites_in new.project) (stayed old new)) ≡ retargeted old new }
+{}
+
+/// The sites of a link in the order of its objects and in the order of its input sections are two lists of the same
+/// sites, each as often, also of those that a test keeps. The sites by input sections are those in input sections that
+/// stayed, and the others. The layout may have faults of relocation; one without faults at all is such a layout.
+pub fn sites_by_piece()
+    ensures same { (p : Project) (s : Layout) → IsPlacedOnce p s
+        → IsPermutation (sites p s) (flat_map (sites_in p) (linked_pieces p s)) }
+    ensures kept { (p : Project) (s : Layout) (test : Site → Bool) → IsPlacedOnce p s
+        → IsPermutation (filter test (sites p s)) (filter test (flat_map (sites_in p) (linked_pieces p s))) }
+    ensures parted { (old new : GoodLink) → IsPermutation (flat_map (sites_in new.project) (pieces_in new))
+        (flat_map (sites_in new.project) (stayed old new) ++ sites_outside old new) }
+    ensures faultless { (l : GoodLink) → IsFaultless l → IsPlacedOnce l.project l.layout }
+{}
+
+/// Whether a site lies in an input section that stayed follows from the object and the number of its section: an input
+/// section stayed exactly where its part of its object is among those that did. So one pass over the sites in the order
+/// of the objects finds those that are retargeted, by a test of values too, and those outside of what stayed.
+pub fn stayed_by_part()
+    ensures piece { (old new : GoodLink) → IsPlacedOnce new.project new.layout → (x : LinkedPiece)
+        → Contains (pieces_in new) x → has_part_stayed old new x.object x.part ≡ has_stayed old x }
+    ensures site { (old new : GoodLink) → IsPlacedOnce new.project new.layout → (t : Site)
+        → Contains (sites new.project new.layout) t → lies_in_stayed old new t ≡ true
+        → (x : LinkedPiece) × Contains (stayed old new) x × Contains (sites_in new.project x) t }
+    ensures moved { (old new : GoodLink) → IsPlacedOnce new.project new.layout
+        → IsPermutation (filter (λ t. lies_in_stayed old new t && is_moved old new t)
+        (sites new.project new.layout)) (retargeted old new) }
+    ensures valued { (old new : GoodLink) → IsPlacedOnce new.project new.layout → IsGood old → IsGood new
+        → (test : Site → Bool) → ((t : Site) → Contains (sites new.project new.layout) t
+        → lies_in_stayed old new t ≡ true → (test t ≡ false) ↔ HasSameValue old new t)
+        → IsPermutation (filter (λ t. lies_in_stayed old new t && test t) (sites new.project new.layout))
+        (retargeted old new) }
+    ensures outside { (old new : GoodLink) → IsPlacedOnce new.project new.layout
+        → IsPermutation (filter (λ t. not (lies_in_stayed old new t)) (sites new.project new.layout))
+        (sites_outside old new) }
+{}
+
+/// The input sections that stayed have no more bytes than the new image.
+pub fn stayed_in_image()
+    ensures { (old new : GoodLink) → IsGood new
+        → bytes_stayed old new ≤ image_length new.project new.layout }
+{}
+
+/// An index from targets to the sites of a link finds those that are retargeted: each is among the sites of a target
+/// whose number is another in the two links.
+pub fn retargeted_in_index()
+    ensures { (old new : GoodLink) → IsGood old → IsGood new → IsPlacedOnce new.project new.layout
+        → (index : Target → List Site) → HasSites new.project new.layout index
+        → (t : Site) → Contains (retargeted old new) t → IsFound old new index t }
+{}

@@ -1,0 +1,21 @@
+use Rattle.std.proofs.Common.{ℕ, List, Option, subst}
+use Rattle.elfobj.specs.Symbols.{NamedSymbol}
+use Rattle.ldmodel_project.specs.Listing.{Entry}
+use Rattle.ldmodel_project.specs.Next.{next_entries, touched_key}
+use Rattle.ldmodel_project.specs.Tables.{HasTableAt, symbols_under, tables_under}
+use Rattle.ldmodel_project.specs.Touched.{IsAmong}
+use Rattle.ldmodel_project.proofs.Tabled.{table-among, tables-others}
+use Rattle.ldmodel_project.proofs.law.tables_follow.Goals as goal
+
+pub returns-clause-before : goal.returns-clause-before
+returns-clause-before c entries s key h touched =
+    table-among key s.places.before entries
+    (subst (λ (t : Option ℕ). IsAmong t s.places.before entries) touched h.before)
+
+pub returns-clause-after : goal.returns-clause-after
+returns-clause-after c entries s key h touched =
+    let next : List Entry = next_entries entries s in
+    subst (λ (ts : List (ℕ × List NamedSymbol)).
+    HasTableAt key (symbols_under next key) s.places.after ts (tables_under next))
+    (tables-others entries next (touched_key s.step) key touched h.others)
+    (table-among key s.places.after next (subst (λ (t : Option ℕ). IsAmong t s.places.after next) touched h.after))

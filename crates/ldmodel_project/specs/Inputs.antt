@@ -1,0 +1,11 @@
+-- The objects of a project as a link takes them.
+use Rattle.std.specs.Prelude.{List, map}
+use Rattle.ldmodel.specs.Project.{NamedObject}
+use Rattle.ldmodel_project.specs.declared.input.InputObject.{InputObject}
+
+abbrev pub shown_input : InputObject → NamedObject
+shown_input x = record { name = x.name.now; object = x.object.now }
+
+-- the objects that these stand for, in their order
+abbrev pub shown_inputs : List InputObject → List NamedObject
+shown_inputs xs = map shown_input xs

@@ -1,0 +1,40 @@
+//! Laws of tables that are kept under the keys of objects.
+
+ghost use Rattle.std.specs.Prelude.{◌≡◌, ℕ, List, Some, is_some, map, nat_eq, position};
+ghost use Rattle.std.specs.List.{enumerate_from};
+ghost use Rattle.elfobj.specs.Symbols.{NamedSymbol};
+ghost use Rattle.ldmodel.specs.Names.{symbol_tables};
+ghost use Rattle.ldmodel.specs.Project.{NamedObject};
+ghost use Rattle.ldmodel_project.specs.Listing.{AreKeysDistinct, Entry, found_under, keys_of};
+ghost use Rattle.ldmodel_project.specs.Next.{next_entries, touched_key};
+ghost use Rattle.ldmodel_project.specs.Tables.{HasTableAt, place_or_0, symbols_under, tables_under, without_table};
+ghost use Rattle.ldmodel_project.specs.Touched.{IsArranged};
+ghost use Rattle.ldmodel_project.specs.declared.staged.StagedObjects.{StagedObjects};
+
+/// Symbol tables under keys follow an edit: before it and after it they are the tables of the other objects, and among
+/// them, where the touched object stands, the table of that.
+pub fn tables_follow()
+    ensures before { (entries : List Entry) (s : StagedObjects) (key : ℕ) → IsArranged entries s
+        → touched_key s.step ≡ Some key
+        → HasTableAt key (symbols_under entries key) s.places.before (without_table key (tables_under entries))
+        (tables_under entries) }
+    ensures after { (entries : List Entry) (s : StagedObjects) (key : ℕ) → IsArranged entries s
+        → touched_key s.step ≡ Some key
+        → HasTableAt key (symbols_under (next_entries entries s) key) s.places.after
+        (without_table key (tables_under entries)) (tables_under (next_entries entries s)) }
+{}
+
+/// Symbol tables under keys are the tables of the objects under their places, where a place stands for each key.
+pub fn tables_by_place()
+    ensures { (keys : List ℕ) (objects : List NamedObject) (tables : List (ℕ × List NamedSymbol))
+        → AreKeysDistinct keys → map (λ (t : ℕ × List NamedSymbol). t.0) tables ≡ keys
+        → map (λ (t : ℕ × List NamedSymbol). t.1) tables ≡ symbol_tables objects
+        → map (λ (t : ℕ × List NamedSymbol). (place_or_0 keys t.0, t.1)) tables
+        ≡ enumerate_from 0 (symbol_tables objects) }
+{}
+
+/// A key stands somewhere exactly where an object is under it.
+pub fn found_where_placed()
+    ensures { (entries : List Entry) (key : ℕ)
+        → is_some (position (nat_eq key) (keys_of entries)) ≡ is_some (found_under entries key) }
+{}

@@ -1,0 +1,63 @@
+//! Objects under their names.
+
+ghost use Rattle.std.specs.Prelude.{◌≡◌, IfOk};
+ghost use Rattle.ldmodel_project.specs.Inputs.{shown_input};
+
+use crate::input::InputObject;
+use elfobj::object::Object;
+use ldmodel::memory::NoMemory;
+use std::alloc::Global;
+use std::marker::Model;
+
+/// An object and the name under which it was added.
+#[derive(Drop)]
+pub struct NamedObject {
+    name: Vec<u8>,
+    object: Object,
+}
+
+impl Model for NamedObject {
+    ghost use Rattle.ldmodel.specs.Project.{NamedObject};
+
+    ghost Value = { NamedObject };
+
+    ghost view = { λ o. record { name = o.name.items; object = o.object } };
+}
+
+impl NamedObject {
+    /// An object under a copy of a name.
+    ///
+    /// # Errors
+    ///
+    /// Where memory runs out.
+    pub fn new(alloc: Global, name: &[u8], object: Object) -> Result<NamedObject, NoMemory>
+        ensures { IfOk result (λ o. o ≡ record { name = name.now; object = object }) }
+    {
+        let name = Vec::from_slice(alloc, name)?;
+        Ok(NamedObject { name, object })
+    }
+
+    /// The name: 1 to 255 bytes in a project.
+    pub fn name(&self) -> &[u8]
+        ensures { result.now ≡ self.now.name }
+    {
+        &self.name
+    }
+
+    /// The object.
+    pub fn object(&self) -> &Object
+        ensures { result.now ≡ self.now.object }
+    {
+        &self.object
+    }
+
+    /// The object under its name, lent for a link.
+    pub fn input(&self) -> InputObject<'_>
+        ensures { shown_input result ≡ self.now }
+    {
+        InputObject {
+            name: &self.name,
+            object: &self.object,
+        }
+    }
+}

@@ -1,0 +1,120 @@
+//! The keys of objects by place, and the places of keys.
+
+ghost use Rattle.std.specs.Prelude.{◌≡◌, ◌==◌, IfOk, OnOk, length, nat_eq, position, slice_get};
+ghost use Rattle.std.specs.Option.{option_map};
+ghost use Rattle.ldmodel.specs.declared.names.ObjectKey.{ObjectKey};
+ghost use Rattle.ldmodel_project.specs.Listing.{AreKeysDistinct};
+ghost use Rattle.ldmodel_project.specs.Order.{HasPlaces, IsNoted};
+
+use ldmodel::memory::NoMemory;
+use ldmodel::names::ObjectKey;
+use std::alloc::{AllocError, Global};
+use std::marker::Model;
+
+/// The keys of objects in an order, each once, and where each stands: both are found in constant time.
+#[derive(Drop)]
+pub struct Order {
+    keys: Vec<usize>,
+    places: Vec<Option<usize>>,
+}
+
+impl Model for Order {
+    ghost use Rattle.std.specs.Prelude.{ℕ, List};
+    ghost use Rattle.ldmodel_project.specs.Listing.{AreKeysDistinct};
+    ghost use Rattle.ldmodel_project.specs.Order.{HasPlaces};
+
+    ghost Value = { List ℕ };
+
+    ghost view = { λ o. o.keys.items };
+
+    ghost invariant = { λ o. AreKeysDistinct o.keys.items × HasPlaces o.keys.items o.places.items };
+}
+
+/// Notes where a key stands. The table grows so that it has a place for the key.
+fn note_place(places: &mut Vec<Option<usize>>, key: usize, place: usize) -> Result<(), NoMemory>
+    ensures { OnOk result (IsNoted places.old.items places.new.items key place) }
+{
+    if places.len() <= key {
+        let Some(len) = key.checked_add(1) else {
+            return Err(AllocError);
+        };
+        places.resize(len, None)?;
+    }
+    places[key] = Some(place);
+    Ok(())
+}
+
+/// Where each of these keys stands among them, under its number.
+///
+/// # Errors
+///
+/// Where memory runs out: it takes some for each number up to the greatest key.
+pub fn places_of(alloc: Global, keys: &[usize]) -> Result<Vec<Option<usize>>, NoMemory>
+    requires { AreKeysDistinct keys.now }
+    ensures { IfOk result (λ v. HasPlaces keys.now v.items) }
+{
+    let mut places = Vec::new(alloc);
+    for (place, key) in keys.iter().enumerate() {
+        note_place(&mut places, *key, place)?;
+    }
+    Ok(places)
+}
+
+impl Order {
+    /// These keys, in this order.
+    ///
+    /// # Errors
+    ///
+    /// Where memory runs out: it takes some for each key and for each number up to the greatest key.
+    pub fn of(alloc: Global, keys: &[usize]) -> Result<Order, NoMemory>
+        requires { AreKeysDistinct keys.now }
+        ensures { IfOk result (λ o. o ≡ keys.now) }
+    {
+        let places = places_of(alloc, keys)?;
+        let keys = Vec::from_slice(alloc, keys)?;
+        Ok(Order { keys, places })
+    }
+
+    /// The number of keys.
+    pub fn len(&self) -> usize
+        ensures { result ≡ length self.now }
+    {
+        self.keys.len()
+    }
+
+    /// Whether there is no key.
+    pub fn is_empty(&self) -> bool
+        ensures { result ≡ (length self.now == 0) }
+    {
+        self.keys.is_empty()
+    }
+
+    /// The keys, in their order.
+    pub fn keys(&self) -> &[usize]
+        ensures value { result.now ≡ self.now }
+        ensures distinct { AreKeysDistinct self.now }
+    {
+        let _places = &self.places;
+        &self.keys
+    }
+
+    /// The key at a place, from 0.
+    pub fn key_of(&self, place: usize) -> Option<ObjectKey>
+        ensures { option_map (λ (k : ObjectKey). k.0) result ≡ slice_get self.now place }
+    {
+        match self.keys.get(place) {
+            Some(key) => Some(ObjectKey(*key)),
+            None => None,
+        }
+    }
+
+    /// Where a key stands, if it does.
+    pub fn place_of(&self, key: ObjectKey) -> Option<usize>
+        ensures { result ≡ position (nat_eq key.0) self.now }
+    {
+        match self.places.get(key.0) {
+            Some(place) => *place,
+            None => None,
+        }
+    }
+}

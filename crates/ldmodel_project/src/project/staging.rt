@@ -1,0 +1,154 @@
+//! Staging an edit: all growths that it needs, before anything changes.
+
+ghost use Rattle.std.specs.Prelude.{◌≡◌, ℕ, List, IfOk, None, OnOk, Option};
+ghost use Rattle.ldmodel.specs.EditMeaning.{change_of};
+ghost use Rattle.ldmodel.specs.Edits.{Add, Replace, Move, Remove, SetScript};
+ghost use Rattle.ldmodel.specs.Project.{NamedObject};
+ghost use Rattle.ldmodel_project.specs.Holding.{Holding, Makes, MakesScript, ReadsAtMostOne, ReadsFor, SameHolding};
+ghost use Rattle.ldmodel_project.specs.Holding.{ReadsAnObject, ReadsOne, Stages, StandsAsNamed};
+ghost use Rattle.ldmodel_project.specs.Next.{touched_key};
+ghost use Rattle.ldmodel_project.specs.Staging.{IsStaged, IsTouching};
+
+use crate::edit::{object_refused, script_refused};
+use crate::project::Project;
+use crate::staged::{Staged, StagedObjects};
+use elfobj::object::Object;
+use ldmodel::edit::{Edit, EditRefusal};
+use ldmodel::memory::NoMemory;
+use ldmodel::meter::Meter;
+use ldscript::script::Script;
+
+/// An edit of the objects alone, for which all memory was had.
+fn staged(grown: Result<StagedObjects, NoMemory>) -> Result<Staged, EditRefusal>
+    ensures ok { (h : Holding) (next : List NamedObject) → IfOk grown (λ s. IsStaged h.contents s next)
+        → Makes h next result }
+    ensures touching { (before : Option ℕ) → IfOk grown (IsTouching before)
+        → IfOk result (λ s. IsTouching before s.objects) }
+    ensures after { (after : Option ℕ) → IfOk grown (λ s. s.places.after ≡ after)
+        → IfOk result (λ s. s.objects.places.after ≡ after) }
+{
+    match grown {
+        Ok(objects) => Ok(Staged {
+            objects,
+            script: None,
+        }),
+        Err(_) => Err(EditRefusal::NoMemory),
+    }
+}
+
+impl Project {
+    fn stage_add(
+        &mut self,
+        name: &[u8],
+        at: u64,
+        bytes: Vec<u8>,
+        meter: &mut Meter,
+    ) -> Result<Staged, EditRefusal>
+        ensures same { SameHolding self.old self.new }
+        ensures staged { Stages self.new (Add name.now at bytes.items) result }
+        ensures named { IfOk result (StandsAsNamed (Add name.now at bytes.items) self.new.contents) }
+        ensures counted { ReadsAtMostOne meter.old meter.new }
+        ensures read { OnOk result (ReadsAnObject meter.old meter.new) }
+    {
+        let place = match self.place_to_add(name, at, &bytes) {
+            Ok(place) => place,
+            Err(refusal) => return Err(refusal),
+        };
+        match Object::read(self.alloc, bytes, meter) {
+            Err((_bytes, why)) => Err(object_refused(why)),
+            Ok(object) => staged(self.kept.grow_add(name, place, object)),
+        }
+    }
+
+    fn stage_replace(
+        &self,
+        name: &[u8],
+        bytes: Vec<u8>,
+        meter: &mut Meter,
+    ) -> Result<Staged, EditRefusal>
+        ensures staged { Stages self.now (Replace name.now bytes.items) result }
+        ensures named { IfOk result (StandsAsNamed (Replace name.now bytes.items) self.now.contents) }
+        ensures counted { ReadsAtMostOne meter.old meter.new }
+        ensures read { OnOk result (ReadsAnObject meter.old meter.new) }
+    {
+        let place = match self.place_to_replace(name, &bytes) {
+            Ok(place) => place,
+            Err(refusal) => return Err(refusal),
+        };
+        match Object::read(self.alloc, bytes, meter) {
+            Err((_bytes, why)) => Err(object_refused(why)),
+            Ok(object) => staged(self.kept.grow_replace(name, place, object)),
+        }
+    }
+
+    fn stage_move(&self, name: &[u8], to: u64) -> Result<Staged, EditRefusal>
+        ensures staged { Stages self.now (Move name.now to) result }
+        ensures named { IfOk result (StandsAsNamed (Move name.now to) self.now.contents) }
+    {
+        match self.place_to_move(name, to) {
+            Err(refusal) => Err(refusal),
+            Ok(place) => staged(self.kept.grow_move(place, to as usize)),
+        }
+    }
+
+    fn stage_remove(&self, name: &[u8]) -> Result<Staged, EditRefusal>
+        ensures staged { Stages self.now (Remove name.now) result }
+        ensures named { IfOk result (StandsAsNamed (Remove name.now) self.now.contents) }
+    {
+        match self.place_to_remove(name) {
+            Err(refusal) => Err(refusal),
+            Ok(place) => staged(self.kept.grow_remove(place)),
+        }
+    }
+
+    /// Stages a script, which has been read.
+    fn stage_read(&self, script: Script) -> Result<Staged, EditRefusal>
+        ensures made { MakesScript self.now script result }
+        ensures untouched { IfOk result (λ s. touched_key s.objects.step ≡ None) }
+    {
+        match self.kept.grow_same() {
+            Ok(objects) => Ok(Staged {
+                objects,
+                script: Some(script),
+            }),
+            Err(_) => Err(EditRefusal::NoMemory),
+        }
+    }
+
+    fn stage_script(&self, text: &[u8]) -> Result<Staged, EditRefusal>
+        ensures staged { Stages self.now (SetScript text.now) result }
+        ensures named { IfOk result (StandsAsNamed (SetScript text.now) self.now.contents) }
+    {
+        if let Err(refusal) = self.may_read(text) {
+            return Err(refusal);
+        }
+        match Script::read(self.alloc, text) {
+            Err(why) => Err(script_refused(why)),
+            Ok(script) => self.stage_read(script),
+        }
+    }
+
+    /// Makes the tests of an edit and all growths that it needs, and changes nothing that is kept. It takes effect by
+    /// `commit`; dropped, it leaves no trace.
+    ///
+    /// # Errors
+    ///
+    /// The first refusal that applies, or out of memory where no refusal applies for which the object or the script
+    /// need not be read.
+    pub fn stage(&mut self, edit: Edit<'_>, meter: &mut Meter) -> Result<Staged, EditRefusal>
+        ensures same { SameHolding self.old self.new }
+        ensures staged { Stages self.new (change_of edit.entry) result }
+        ensures named { IfOk result (StandsAsNamed (change_of edit.entry) self.new.contents) }
+        ensures counted { ReadsAtMostOne meter.old meter.new }
+        ensures reads { ReadsFor (change_of edit.entry) meter.old meter.new }
+        ensures read { OnOk result (ReadsOne (change_of edit.entry) meter.old meter.new) }
+    {
+        match edit {
+            Edit::Add { name, at, bytes } => self.stage_add(name, at, bytes, meter),
+            Edit::Replace { name, bytes } => self.stage_replace(name, bytes, meter),
+            Edit::Move { name, to } => self.stage_move(name, to),
+            Edit::Remove { name } => self.stage_remove(name),
+            Edit::Script { text } => self.stage_script(text),
+        }
+    }
+}

@@ -1,7 +1,0 @@
-pub mod Entering
-pub mod Placing
-pub mod Providing
-pub mod Sorting
-pub mod Doubling
-pub mod Undoubled
-pub mod EntryFault

@@ -1,8 +1,0 @@
-use Rattle.std.proofs.Common.{◌≡◌, take}
-use Rattle.lddecisions.specs.Keyed as keyed
-use Rattle.ldnaming.specs.Entered.{tables_of}
-use Rattle.ldnaming.proofs.entered.by_place.Given as goal
-
--- the objects before this place are listed
-abbrev pub invariant-loop-place : goal.invariant-loop-place
-invariant-loop-place l = keyed.tables_of l.list.items ≡ take l.place (tables_of l.inputs)

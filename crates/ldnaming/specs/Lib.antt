@@ -1,9 +1,0 @@
-pub mod Entered
-pub mod Decided
-pub mod Placed
-pub mod Naming
-pub mod Keyed
-pub mod Provided
-pub mod Sorted
-pub mod Duplicates
-pub mod Undefined

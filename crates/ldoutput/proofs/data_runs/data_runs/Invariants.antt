@@ -1,7 +1,0 @@
--- The output sections so far have theirs, and the others are those of the rest.
-use Rattle.std.proofs.Common.{map}
-use Rattle.ldoutput.proofs.Running.{Runs}
-use Rattle.ldoutput.proofs.data_runs.data_runs.Given as goal
-
-abbrev pub invariant-loop-section : goal.invariant-loop-section
-invariant-loop-section l = Runs l.commands l.sections l.section l.at (map (λ run. run.now) l.runs.items)

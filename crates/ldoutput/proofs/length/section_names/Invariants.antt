@@ -1,9 +1,0 @@
--- The bytes so far, and those of the rest, are all.
-use Rattle.std.proofs.Common.{◌≡◌, ◌+◌, drop}
-use Rattle.ldoutput.proofs.Sizing.{tree_names}
-use Rattle.ldoutput.specs.Sizes.{names_size}
-use Rattle.ldoutput.proofs.length.section_names.Given as goal
-
-abbrev pub invariant-loop-at : goal.invariant-loop-at
-invariant-loop-at l =
-    l.bytes + names_size (tree_names (drop l.at-index l.sections)) ≡ names_size (tree_names l.sections)

@@ -1,5 +1,0 @@
-use Rattle.ldproject.proofs.Found.{found-placed}
-use Rattle.ldproject.proofs.law.found_where_placed.Goals as goal
-
-pub returns : goal.returns
-returns c entries key = found-placed entries key

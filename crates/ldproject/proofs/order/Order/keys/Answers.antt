@@ -1,6 +1,0 @@
-use Rattle.std.proofs.Common.{List, ℕ, subst}
-use Rattle.ldproject.specs.Listing.{AreKeysDistinct}
-use Rattle.ldproject.proofs.order.Order.keys.Goals as goal
-
-pub returns-clause-distinct : goal.returns-clause-distinct
-returns-clause-distinct c = subst (λ (keys : List ℕ). AreKeysDistinct keys) c.self.view_is c.self.invariant.0

@@ -1,8 +1,0 @@
-use Rattle.std.proofs.Common.{ap, subst}
-use Rattle.ldmodel.specs.Edits.{AreNamesDistinct}
-use Rattle.ldmodel.specs.Project.{Project}
-use Rattle.ldproject.proofs.view.ProjectView.inputs.Goals as goal
-
-pub returns-clause-distinct : goal.returns-clause-distinct
-returns-clause-distinct c =
-    subst AreNamesDistinct (ap (λ (p : Project). p.objects) c.self.view_is) c.self.invariant

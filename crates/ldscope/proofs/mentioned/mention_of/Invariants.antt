@@ -1,7 +1,0 @@
--- None of the names before is this one.
-use Rattle.std.proofs.Common.{◌≡◌, ℕ, ◌<◌, Some, slice_get}
-use Rattle.ldscope.specs.Mentions.{shown_names}
-use Rattle.ldscope.proofs.mentioned.mention_of.Given as goal
-
-abbrev pub invariant-loop-k : goal.invariant-loop-k
-invariant-loop-k l = (j : ℕ) → j < l.k → slice_get (shown_names l.names) j ≡ Some l.name → ⊥

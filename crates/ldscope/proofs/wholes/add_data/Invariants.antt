@@ -1,9 +1,0 @@
-use Rattle.std.proofs.Common.{◌≡◌, ◌++◌, drop, map}
-use Rattle.ldmodel.specs.Lent.{data_of}
-use Rattle.ldscope.specs.Wholes.{data_in}
-use Rattle.ldscope.proofs.wholes.add_data.Given as goal
-
-abbrev pub invariant-loop-at : goal.invariant-loop-at
-invariant-loop-at l =
-    map data_of l.fn.list.items ++ data_in l.section.0 l.commands
-    ≡ map data_of l.list.items ++ data_in l.section.0 (drop l.at-index l.commands)

@@ -1,8 +1,0 @@
-use Rattle.std.proofs.Common.{◌≡◌, ◌++◌, drop, map}
-use Rattle.ldscope.specs.SectionTable.{keyed}
-use Rattle.ldscope.specs.Wholes.{starts_in}
-use Rattle.ldscope.proofs.wholes.starts_of.Given as goal
-
-abbrev pub invariant-loop-section : goal.invariant-loop-section
-invariant-loop-section l = l.parts.starts.now ++ starts_in (map keyed l.parts.placed.now) ≡ l.list.items
-    ++ starts_in (map keyed (drop l.section-index l.parts.placed.now))

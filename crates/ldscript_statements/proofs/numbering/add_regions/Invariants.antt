@@ -1,0 +1,8 @@
+-- What is listed, with what is still to be listed, is all.
+use Rattle.std.proofs.Common.{◌≡◌, ◌++◌, drop}
+use Rattle.ldscript_statements.specs.Numbered.{shown_regions}
+use Rattle.ldscript_statements.proofs.numbering.add_regions.Given as goal
+
+abbrev pub invariant-loop-region : goal.invariant-loop-region
+invariant-loop-region l = shown_regions l.list.items ++ (drop l.region-index l.these) ≡ shown_regions
+    l.initial.list.items ++ l.these

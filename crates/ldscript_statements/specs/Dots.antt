@@ -1,0 +1,75 @@
+-- Uses of `.` that the profile does not have.
+use Rattle.std.specs.Prelude.{List, Bool, false, ◌||◌, is_none}
+use Rattle.std.specs.List.{list_any}
+use Rattle.ldscript_terms.specs.Expressions.{Expr, has_dot, has_align_dot}
+use Rattle.ldscript_terms.specs.DotForms.{dot_form}
+use Rattle.ldscript_statements.specs.declared.common.Common.{Common}
+use Rattle.ldscript_statements.specs.declared.common.Common.TheVariants as commons
+use Rattle.ldscript_statements.specs.declared.common.DotCommand.{DotCommand}
+use Rattle.ldscript_statements.specs.declared.common.DotCommand.TheVariants.{Set, Add}
+use Rattle.ldscript_statements.specs.declared.section.BodyCommand.{BodyCommand}
+use Rattle.ldscript_statements.specs.declared.section.BodyCommand.TheVariants as body
+use Rattle.ldscript_statements.specs.declared.section.BodyStatement.{BodyStatement}
+use Rattle.ldscript_statements.specs.declared.statement.Region.{Region}
+use Rattle.ldscript_statements.specs.declared.statement.ItemCommand.{ItemCommand}
+use Rattle.ldscript_statements.specs.declared.statement.ItemCommand.TheVariants as item
+use Rattle.ldscript_statements.specs.declared.statement.Item.{Item}
+use Rattle.ldscript_statements.specs.declared.statement.Command.{Command}
+use Rattle.ldscript_statements.specs.declared.statement.Command.TheVariants as top
+use Rattle.ldscript_statements.specs.declared.statement.Statement.{Statement}
+
+-- `.`, or an ALIGN of one argument, which stands for one with `.`
+abbrev pub uses_dot : Expr → Bool
+uses_dot e = has_dot e || has_align_dot e
+
+-- a `.` or such an ALIGN in an ASSERT
+abbrev pub assert_misplaces : Common → Bool
+assert_misplaces (commons.Assign a) = false
+assert_misplaces (commons.Provide a) = false
+assert_misplaces (commons.Assert a) = uses_dot a.condition
+
+-- a `.` or such an ALIGN in the expression of a command
+abbrev pub common_uses_dot : Common → Bool
+common_uses_dot (commons.Assign a) = uses_dot a.value
+common_uses_dot (commons.Provide a) = uses_dot a.value
+common_uses_dot (commons.Assert a) = uses_dot a.condition
+
+-- `.` is set to what it may not be set to in an output section
+abbrev pub dot_misplaces : DotCommand → Bool
+dot_misplaces (Set e) = is_none (dot_form e)
+dot_misplaces (Add e) = false
+
+abbrev pub body_command_misplaces : BodyCommand → Bool
+body_command_misplaces (body.Dot c) = dot_misplaces c
+body_command_misplaces (body.Common c) = assert_misplaces c
+body_command_misplaces (body.Data w e) = false
+body_command_misplaces (body.Input i) = false
+
+abbrev pub body_misplaces : BodyStatement → Bool
+body_misplaces s = body_command_misplaces s.command
+
+abbrev pub item_command_misplaces : ItemCommand → Bool
+item_command_misplaces (item.Dot c) = false
+item_command_misplaces (item.Common c) = assert_misplaces c
+item_command_misplaces (item.Section o) = list_any body_misplaces o.body
+item_command_misplaces (item.Discard inputs) = false
+
+abbrev pub item_misplaces : Item → Bool
+item_misplaces s = item_command_misplaces s.command
+
+-- a `.` or such an ALIGN in a region
+abbrev pub region_misplaces : Region → Bool
+region_misplaces r = uses_dot r.origin || uses_dot r.extent
+
+abbrev pub top_command_misplaces : Command → Bool
+top_command_misplaces (top.Entry n) = false
+top_command_misplaces (top.Memory regions) = list_any region_misplaces regions
+top_command_misplaces (top.Sections items) = list_any item_misplaces items
+top_command_misplaces (top.Common c) = common_uses_dot c
+
+abbrev pub top_misplaces : Statement → Bool
+top_misplaces s = top_command_misplaces s.command
+
+-- a use of `.` that the profile does not have
+abbrev pub has_misplaced_dot : List Statement → Bool
+has_misplaced_dot s = list_any top_misplaces s

@@ -1,0 +1,70 @@
+-- Which command gives a name, which output section or memory region has it, and the symbols that an expression names.
+use Rattle.std.specs.Prelude.{ℕ, suc, List, [], ◌∷◌, ◌++◌, Option, Some, None, bytes_eq, if◌then◌else◌}
+use Rattle.ldscript_terms.specs.Expressions.{Expr, Number, Dot, Name, Unary, Binary, Choice, OfRegion, OfSection, AlignDot}
+use Rattle.ldscript_terms.specs.Expressions.{Align}
+use Rattle.ldscript_statements.specs.declared.common.Common.{Common}
+use Rattle.ldscript_statements.specs.declared.common.Common.TheVariants as commons
+use Rattle.ldscript_statements.specs.declared.given.Given.{Given}
+use Rattle.ldscript_statements.specs.declared.given.Given.TheVariants.{Assigned, Provided}
+use Rattle.ldscript_statements.specs.declared.statement.Region.{Region}
+use Rattle.ldscript_statements.specs.declared.statement.Statement.{Statement}
+use Rattle.ldscript_statements.specs.Numbering.{OutputSectionAt, CommonAt, common_commands, output_sections, regions}
+
+-- the number of a command, if it assigns the name, else what later ones give
+abbrev pub assigned_here : ℕ → Common → List ℕ → Option ℕ → Option ℕ
+assigned_here number (commons.Assign a) name later = if bytes_eq name a.name then Some number else later
+assigned_here number (commons.Provide a) name later = later
+assigned_here number (commons.Assert a) name later = later
+
+abbrev pub assigned_from : ℕ → List CommonAt → List ℕ → Option ℕ
+assigned_from number [] name = None
+assigned_from number (c ∷ cs) name = assigned_here number c.command name (assigned_from (suc number) cs name)
+
+abbrev pub provided_here : ℕ → Common → List ℕ → Option ℕ → Option ℕ
+provided_here number (commons.Assign a) name later = later
+provided_here number (commons.Provide a) name later = if bytes_eq name a.name then Some number else later
+provided_here number (commons.Assert a) name later = later
+
+abbrev pub provided_from : ℕ → List CommonAt → List ℕ → Option ℕ
+provided_from number [] name = None
+provided_from number (c ∷ cs) name = provided_here number c.command name (provided_from (suc number) cs name)
+
+abbrev pub given_as : Option ℕ → Option ℕ → Option Given
+given_as (Some number) provided = Some (Assigned number)
+given_as None (Some number) = Some (Provided number)
+given_as None None = None
+
+-- the command that assigns or provides a name, by its number among `common_commands`; a script without a clash has one
+-- at most
+abbrev pub given_by : List Statement → List ℕ → Option Given
+given_by s name = given_as (assigned_from 0 (common_commands s) name) (provided_from 0 (common_commands s) name)
+
+abbrev pub section_from : ℕ → List OutputSectionAt → List ℕ → Option ℕ
+section_from number [] name = None
+section_from number (s ∷ ss) name =
+    if bytes_eq name s.section.name then Some number else section_from (suc number) ss name
+
+-- the number of the output section of a name
+abbrev pub section_number : List Statement → List ℕ → Option ℕ
+section_number s name = section_from 0 (output_sections s) name
+
+abbrev pub region_from : ℕ → List Region → List ℕ → Option ℕ
+region_from number [] name = None
+region_from number (r ∷ rs) name = if bytes_eq name r.name then Some number else region_from (suc number) rs name
+
+-- the number of the memory region of a name
+abbrev pub region_number : List Statement → List ℕ → Option ℕ
+region_number s name = region_from 0 (regions s) name
+
+-- the symbols that an expression names, from left to right
+abbrev pub symbols_of : Expr → List (List ℕ)
+symbols_of (Number n) = []
+symbols_of Dot = []
+symbols_of (Name n) = n ∷ []
+symbols_of (Unary o a) = symbols_of a
+symbols_of (Binary o a b) = symbols_of a ++ symbols_of b
+symbols_of (Choice t a b) = symbols_of t ++ symbols_of a ++ symbols_of b
+symbols_of (OfRegion q n) = []
+symbols_of (OfSection q n) = []
+symbols_of (AlignDot a) = symbols_of a
+symbols_of (Align a b) = symbols_of a ++ symbols_of b

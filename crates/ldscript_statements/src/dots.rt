@@ -1,0 +1,117 @@
+//! Uses of `.` that the profile does not have.
+
+ghost use Rattle.std.specs.Prelude.{◌≡◌};
+ghost use Rattle.std.specs.List.{list_any};
+ghost use Rattle.ldscript_statements.specs.Dots.{assert_misplaces, body_command_misplaces, body_misplaces, common_uses_dot};
+ghost use Rattle.ldscript_statements.specs.Dots.{dot_misplaces, has_misplaced_dot, item_command_misplaces, item_misplaces};
+ghost use Rattle.ldscript_statements.specs.Dots.{region_misplaces, top_command_misplaces, top_misplaces, uses_dot};
+
+use crate::common::{Common, DotCommand};
+use crate::formula::Formula;
+use crate::section::{BodyCommand, BodyStatement};
+use crate::statement::{Command, Item, ItemCommand, Region, Statement};
+
+impl Formula {
+    /// Whether the expression has `.`, or an `ALIGN` of one argument, which stands for one with `.`.
+    fn uses_dot(&self) -> bool
+        ensures { result ≡ uses_dot self.now }
+    {
+        let expr = self.expr();
+        expr.has_dot() || expr.has_align_dot()
+    }
+}
+
+/// Whether a command is an `ASSERT` with `.`.
+fn assert_misplaces(command: &Common) -> bool
+    ensures { result ≡ assert_misplaces command.now }
+{
+    match command {
+        Common::Assert(assertion) => assertion.condition.uses_dot(),
+        Common::Assign(_) | Common::Provide(_) => false,
+    }
+}
+
+/// Whether an expression of a command has `.`.
+fn common_uses_dot(command: &Common) -> bool
+    ensures { result ≡ common_uses_dot command.now }
+{
+    match command {
+        Common::Assign(assignment) | Common::Provide(assignment) => assignment.value.uses_dot(),
+        Common::Assert(assertion) => assertion.condition.uses_dot(),
+    }
+}
+
+/// Whether a command sets `.` in an output section to what `.` may not be set to.
+fn dot_misplaces(command: &DotCommand) -> bool
+    ensures { result ≡ dot_misplaces command.now }
+{
+    match command {
+        DotCommand::Set(value) => value.expr().dot_form().is_none(),
+        DotCommand::Add(_) => false,
+    }
+}
+
+fn body_misplaces(statement: &BodyStatement) -> bool
+    ensures { result ≡ body_misplaces statement.now }
+{
+    match &statement.command {
+        BodyCommand::Dot(command) => dot_misplaces(command),
+        BodyCommand::Common(command) => assert_misplaces(command),
+        BodyCommand::Data(_, _) | BodyCommand::Input(_) => false,
+    }
+}
+
+/// Whether a statement of an output section uses `.` where the profile does not have it.
+fn any_body_misplaces(all: &[BodyStatement]) -> bool
+    ensures { result ≡ list_any body_misplaces all.now }
+{
+    all.iter().any(|x| body_misplaces(x))
+}
+
+fn item_misplaces(item: &Item) -> bool
+    ensures { result ≡ item_misplaces item.now }
+{
+    match &item.command {
+        ItemCommand::Common(command) => assert_misplaces(command),
+        ItemCommand::Section(section) => any_body_misplaces(section.get().body.as_slice()),
+        ItemCommand::Dot(_) | ItemCommand::Discard(_) => false,
+    }
+}
+
+fn region_misplaces(region: &Region) -> bool
+    ensures { result ≡ region_misplaces region.now }
+{
+    region.origin.uses_dot() || region.extent.uses_dot()
+}
+
+/// Whether a region uses `.` where the profile does not have it.
+fn any_region_misplaces(all: &[Region]) -> bool
+    ensures { result ≡ list_any region_misplaces all.now }
+{
+    all.iter().any(|x| region_misplaces(x))
+}
+
+/// Whether a statement of `SECTIONS` uses `.` where the profile does not have it.
+fn any_item_misplaces(all: &[Item]) -> bool
+    ensures { result ≡ list_any item_misplaces all.now }
+{
+    all.iter().any(|x| item_misplaces(x))
+}
+
+fn top_misplaces(statement: &Statement) -> bool
+    ensures { result ≡ top_misplaces statement.now }
+{
+    match &statement.command {
+        Command::Entry(_) => false,
+        Command::Memory(regions) => any_region_misplaces(regions.as_slice()),
+        Command::Sections(items) => any_item_misplaces(items.as_slice()),
+        Command::Common(command) => common_uses_dot(command),
+    }
+}
+
+/// Whether `.` is used where the profile does not have it.
+pub fn has_misplaced_dot(statements: &[Statement]) -> bool
+    ensures { result ≡ has_misplaced_dot statements.now }
+{
+    statements.iter().any(|s| top_misplaces(s))
+}

@@ -1,0 +1,46 @@
+//! Tables from names to numbers. Comparisons of names order them, so that no choice of names makes one slow.
+
+ghost use Rattle.std.specs.Prelude.{◌≡◌, ℕ, List, None, Some, OnOk, bytes_eq, if◌then◌else◌};
+ghost use Rattle.ldscript_statements.specs.NumberTables.{number_at};
+
+use std::alloc::{AllocError, Global};
+use std::collections::BTreeMap;
+
+/// Numbers under names.
+#[derive(Drop)]
+pub struct NumberTable {
+    numbers: BTreeMap<Vec<u8>, usize>,
+}
+
+impl NumberTable {
+    /// The table of no name.
+    pub(crate) fn new(alloc: Global) -> NumberTable
+        ensures { (name : List ℕ) → number_at result name ≡ None }
+    {
+        NumberTable {
+            numbers: BTreeMap::new(alloc),
+        }
+    }
+
+    /// Puts a number under a name, in place of one that is there.
+    pub(crate) fn put(
+        &mut self,
+        alloc: Global,
+        name: &[u8],
+        number: usize,
+    ) -> Result<(), AllocError>
+        ensures { OnOk result ((q : List ℕ)
+            → number_at self.new q ≡ (if bytes_eq q name.now then Some number else number_at self.old q)) }
+    {
+        let key = Vec::from_slice(alloc, name)?;
+        self.numbers.insert(key, number)?;
+        Ok(())
+    }
+
+    /// The number under a name, in time logarithmic in the names of the table.
+    pub fn number(&self, name: &[u8]) -> Option<usize>
+        ensures { result ≡ number_at self.now name.now }
+    {
+        self.numbers.get(name).copied()
+    }
+}

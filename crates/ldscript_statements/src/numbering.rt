@@ -1,0 +1,349 @@
+//! The statements of a script in text order, out of their tree. A statement's number is its place in its list, from 0.
+
+ghost use Rattle.std.specs.Prelude.{◌≡◌, ◌≤◌, [], ◌∷◌, OnOk, IfOk, length};
+ghost use Rattle.std.specs.Option.{option_copied};
+ghost use Rattle.ldscript_statements.specs.Numbering.{items, items_of, sections_of, sections_in, output_sections, inputs_of};
+ghost use Rattle.ldscript_statements.specs.Numbering.{inputs_in, discarded_inputs, item_inputs, inputs_from, input_statements};
+ghost use Rattle.ldscript_statements.specs.Numbering.{commons_of, commons_in, item_commons, items_commons, top_commons};
+ghost use Rattle.ldscript_statements.specs.Numbering.{common_commands, regions, regions_in, entry_of};
+ghost use Rattle.ldscript_statements.specs.Numbered.{AddsItems, AddsSections, AddsInputs, AddsCommons, AddsRegions, shown_items};
+ghost use Rattle.ldscript_statements.specs.Numbered.{shown_sections, shown_inputs, shown_commons, shown_regions};
+
+use crate::common::Common;
+use crate::input::{Input, InputStatement};
+use crate::place::InputPlace;
+use crate::section::{BodyCommand, BodyStatement, OutputSection};
+use crate::statement::{Command, Item, ItemCommand, Region, Statement};
+use std::alloc::{AllocError, Global};
+
+/// An output section, and the line of its name.
+#[derive(Clone, Copy)]
+pub struct OutputSectionAt<'a> {
+    /// The line.
+    pub line: u32,
+    /// The section.
+    pub section: &'a OutputSection,
+}
+
+/// An input statement.
+#[derive(Clone, Copy)]
+pub struct InputStatementAt<'a> {
+    /// The line of the first token, which is `KEEP` where the statement has it.
+    pub line: u32,
+    /// Where it stands.
+    pub place: InputPlace,
+    /// What it takes.
+    pub input: &'a Input,
+}
+
+/// An assignment of a symbol, a `PROVIDE` or an `ASSERT`.
+#[derive(Clone, Copy)]
+pub struct CommonAt<'a> {
+    /// The line of its first token.
+    pub line: u32,
+    /// What it says.
+    pub command: &'a Common,
+}
+
+fn add_items<'a>(list: &mut Vec<&'a Item>, these: &'a [Item]) -> Result<(), AllocError>
+    ensures { OnOk result (AddsItems list.old.items list.new.items these.now) }
+{
+    for item in these {
+        list.push(item)?;
+    }
+    Ok(())
+}
+
+fn add_command_items<'a>(list: &mut Vec<&'a Item>, command: &'a Command) -> Result<(), AllocError>
+    ensures { OnOk result (AddsItems list.old.items list.new.items (items_of command.now)) }
+{
+    match command {
+        Command::Sections(items) => add_items(list, items.as_slice()),
+        Command::Entry(_) | Command::Memory(_) | Command::Common(_) => Ok(()),
+    }
+}
+
+/// The statements of `SECTIONS`.
+fn items<'a>(alloc: Global, statements: &'a [Statement]) -> Result<Vec<&'a Item>, AllocError>
+    ensures { IfOk result (λ v. shown_items v.items ≡ items statements.now) }
+{
+    let mut list = Vec::new(alloc);
+    for statement in statements {
+        add_command_items(&mut list, &statement.command)?;
+    }
+    Ok(list)
+}
+
+fn add_section<'a>(list: &mut Vec<OutputSectionAt<'a>>, item: &'a Item) -> Result<(), AllocError>
+    ensures { OnOk result (AddsSections list.old.items list.new.items (sections_of item.now.line item.now.command)) }
+{
+    match &item.command {
+        ItemCommand::Section(section) => {
+            let line = item.line;
+            let section = section.get();
+            list.push(OutputSectionAt { line, section })?;
+            Ok(())
+        }
+        ItemCommand::Dot(_) | ItemCommand::Common(_) | ItemCommand::Discard(_) => Ok(()),
+    }
+}
+
+fn sections_of_items<'a>(
+    alloc: Global,
+    items: &[&'a Item],
+) -> Result<Vec<OutputSectionAt<'a>>, AllocError>
+    ensures { IfOk result (λ v. shown_sections v.items ≡ sections_in (shown_items items.now)) }
+{
+    let mut list = Vec::new(alloc);
+    for item in items {
+        add_section(&mut list, *item)?;
+    }
+    Ok(list)
+}
+
+/// The output sections of a script, `/DISCARD/` not among them.
+pub fn output_sections<'a>(
+    alloc: Global,
+    statements: &'a [Statement],
+) -> Result<Vec<OutputSectionAt<'a>>, AllocError>
+    ensures { IfOk result (λ v. shown_sections v.items ≡ output_sections statements.now) }
+{
+    let items = items(alloc, statements)?;
+    sections_of_items(alloc, &items)
+}
+
+fn add_input<'a>(
+    list: &mut Vec<InputStatementAt<'a>>,
+    place: InputPlace,
+    statement: &'a BodyStatement,
+) -> Result<(), AllocError>
+    ensures { OnOk result (AddsInputs list.old.items list.new.items
+        (inputs_of place statement.now.line statement.now.command)) }
+{
+    match &statement.command {
+        BodyCommand::Input(input) => {
+            let line = statement.line;
+            list.push(InputStatementAt { line, place, input })?;
+            Ok(())
+        }
+        BodyCommand::Dot(_) | BodyCommand::Common(_) | BodyCommand::Data(_, _) => Ok(()),
+    }
+}
+
+fn add_body_inputs<'a>(
+    list: &mut Vec<InputStatementAt<'a>>,
+    place: InputPlace,
+    body: &'a [BodyStatement],
+) -> Result<(), AllocError>
+    ensures { OnOk result (AddsInputs list.old.items list.new.items (inputs_in place body.now)) }
+{
+    for statement in body {
+        add_input(list, place, statement)?;
+    }
+    Ok(())
+}
+
+fn add_discarded<'a>(
+    list: &mut Vec<InputStatementAt<'a>>,
+    inputs: &'a [InputStatement],
+) -> Result<(), AllocError>
+    ensures { OnOk result (AddsInputs list.old.items list.new.items (discarded_inputs inputs.now)) }
+{
+    for statement in inputs {
+        list.push(InputStatementAt {
+            line: statement.line,
+            place: InputPlace::InDiscard,
+            input: &statement.input,
+        })?;
+    }
+    Ok(())
+}
+
+/// The input statements of a statement of `SECTIONS`, where `number` is that of the next output section.
+fn add_item_inputs<'a>(
+    list: &mut Vec<InputStatementAt<'a>>,
+    number: usize,
+    command: &'a ItemCommand,
+) -> Result<(), AllocError>
+    ensures { OnOk result (AddsInputs list.old.items list.new.items (item_inputs number command.now)) }
+{
+    match command {
+        ItemCommand::Section(section) => {
+            let body = section.get().body.as_slice();
+            add_body_inputs(list, InputPlace::InSection(number), body)
+        }
+        ItemCommand::Discard(inputs) => add_discarded(list, inputs.as_slice()),
+        ItemCommand::Dot(_) | ItemCommand::Common(_) => Ok(()),
+    }
+}
+
+/// The number of output sections that a statement of `SECTIONS` is.
+fn section_count(item: &Item) -> usize
+    ensures count { result ≡ length (sections_of item.now.line item.now.command) }
+    ensures small { result ≤ 1 }
+{
+    match &item.command {
+        ItemCommand::Section(_) => 1,
+        ItemCommand::Dot(_) | ItemCommand::Common(_) | ItemCommand::Discard(_) => 0,
+    }
+}
+
+fn inputs_of_items<'a>(
+    alloc: Global,
+    items: &[&'a Item],
+) -> Result<Vec<InputStatementAt<'a>>, AllocError>
+    ensures { IfOk result (λ v. shown_inputs v.items ≡ inputs_from 0 (shown_items items.now)) }
+{
+    let mut list = Vec::new(alloc);
+    let mut number = 0;
+    for item in items {
+        let item: &'a Item = *item;
+        add_item_inputs(&mut list, number, &item.command)?;
+        number += section_count(item);
+    }
+    Ok(list)
+}
+
+/// The input statements of a script, those of `/DISCARD/` among them.
+pub fn input_statements<'a>(
+    alloc: Global,
+    statements: &'a [Statement],
+) -> Result<Vec<InputStatementAt<'a>>, AllocError>
+    ensures { IfOk result (λ v. shown_inputs v.items ≡ input_statements statements.now) }
+{
+    let items = items(alloc, statements)?;
+    inputs_of_items(alloc, &items)
+}
+
+fn add_common<'a>(
+    list: &mut Vec<CommonAt<'a>>,
+    line: u32,
+    command: &'a Common,
+) -> Result<(), AllocError>
+    ensures { OnOk result (AddsCommons list.old.items list.new.items
+        (record { line = line; command = command.now } ∷ [])) }
+{
+    list.push(CommonAt { line, command })?;
+    Ok(())
+}
+
+fn add_body_common<'a>(
+    list: &mut Vec<CommonAt<'a>>,
+    statement: &'a BodyStatement,
+) -> Result<(), AllocError>
+    ensures { OnOk result (AddsCommons list.old.items list.new.items
+        (commons_of statement.now.line statement.now.command)) }
+{
+    match &statement.command {
+        BodyCommand::Common(command) => add_common(list, statement.line, command),
+        BodyCommand::Dot(_) | BodyCommand::Data(_, _) | BodyCommand::Input(_) => Ok(()),
+    }
+}
+
+fn add_body_commons<'a>(
+    list: &mut Vec<CommonAt<'a>>,
+    body: &'a [BodyStatement],
+) -> Result<(), AllocError>
+    ensures { OnOk result (AddsCommons list.old.items list.new.items (commons_in body.now)) }
+{
+    for statement in body {
+        add_body_common(list, statement)?;
+    }
+    Ok(())
+}
+
+fn add_item_commons<'a>(list: &mut Vec<CommonAt<'a>>, item: &'a Item) -> Result<(), AllocError>
+    ensures { OnOk result (AddsCommons list.old.items list.new.items (item_commons item.now.line item.now.command)) }
+{
+    match &item.command {
+        ItemCommand::Common(command) => add_common(list, item.line, command),
+        ItemCommand::Section(section) => add_body_commons(list, section.get().body.as_slice()),
+        ItemCommand::Dot(_) | ItemCommand::Discard(_) => Ok(()),
+    }
+}
+
+fn add_items_commons<'a>(list: &mut Vec<CommonAt<'a>>, items: &'a [Item]) -> Result<(), AllocError>
+    ensures { OnOk result (AddsCommons list.old.items list.new.items (items_commons items.now)) }
+{
+    for item in items {
+        add_item_commons(list, item)?;
+    }
+    Ok(())
+}
+
+fn add_top_commons<'a>(
+    list: &mut Vec<CommonAt<'a>>,
+    statement: &'a Statement,
+) -> Result<(), AllocError>
+    ensures { OnOk result (AddsCommons list.old.items list.new.items
+        (top_commons statement.now.line statement.now.command)) }
+{
+    match &statement.command {
+        Command::Common(command) => add_common(list, statement.line, command),
+        Command::Sections(items) => add_items_commons(list, items.as_slice()),
+        Command::Entry(_) | Command::Memory(_) => Ok(()),
+    }
+}
+
+/// The assignments of symbols, `PROVIDE`s and `ASSERT`s of a script: outside of `SECTIONS`, in it, and in output
+/// sections.
+pub fn common_commands<'a>(
+    alloc: Global,
+    statements: &'a [Statement],
+) -> Result<Vec<CommonAt<'a>>, AllocError>
+    ensures { IfOk result (λ v. shown_commons v.items ≡ common_commands statements.now) }
+{
+    let mut list = Vec::new(alloc);
+    for statement in statements {
+        add_top_commons(&mut list, statement)?;
+    }
+    Ok(list)
+}
+
+fn add_regions<'a>(list: &mut Vec<&'a Region>, these: &'a [Region]) -> Result<(), AllocError>
+    ensures { OnOk result (AddsRegions list.old.items list.new.items these.now) }
+{
+    for region in these {
+        list.push(region)?;
+    }
+    Ok(())
+}
+
+fn add_command_regions<'a>(
+    list: &mut Vec<&'a Region>,
+    command: &'a Command,
+) -> Result<(), AllocError>
+    ensures { OnOk result (AddsRegions list.old.items list.new.items (regions_in command.now)) }
+{
+    match command {
+        Command::Memory(regions) => add_regions(list, regions.as_slice()),
+        Command::Entry(_) | Command::Sections(_) | Command::Common(_) => Ok(()),
+    }
+}
+
+/// The memory regions of a script.
+pub fn regions<'a>(
+    alloc: Global,
+    statements: &'a [Statement],
+) -> Result<Vec<&'a Region>, AllocError>
+    ensures { IfOk result (λ v. shown_regions v.items ≡ regions statements.now) }
+{
+    let mut list = Vec::new(alloc);
+    for statement in statements {
+        add_command_regions(&mut list, &statement.command)?;
+    }
+    Ok(list)
+}
+
+/// The name that `ENTRY` gives.
+pub fn entry(statements: &[Statement]) -> Option<&[u8]>
+    ensures { option_copied result ≡ entry_of statements.now }
+{
+    for statement in statements {
+        match &statement.command {
+            Command::Entry(name) => return Some(name.as_bytes()),
+            Command::Memory(_) | Command::Sections(_) | Command::Common(_) => {}
+        }
+    }
+    None
+}

@@ -1,0 +1,34 @@
+//! The symbols that an expression names.
+
+ghost use Rattle.std.specs.Prelude.{OnOk};
+ghost use Rattle.ldscript_terms.specs.Expressions.{expr_of};
+ghost use Rattle.ldscript_statements.specs.Given.{symbols_of};
+ghost use Rattle.ldscript_statements.specs.Tables.{AddsNames};
+
+use ldscript_terms::expression::Expr;
+use std::alloc::AllocError;
+
+/// Adds the symbols that an expression names to a list, from left to right, each as often as it is named.
+pub fn add_symbols<'a>(list: &mut Vec<&'a [u8]>, expr: &'a Expr) -> Result<(), AllocError>
+    ensures { OnOk result (AddsNames list.old.items list.new.items (symbols_of (expr_of expr.now))) }
+{
+    match expr {
+        Expr::Number(_) | Expr::Dot | Expr::OfRegion(_, _) | Expr::OfSection(_, _) => Ok(()),
+        Expr::Name(name) => {
+            list.push(name.as_bytes())?;
+            Ok(())
+        }
+        Expr::Unary(_, a) | Expr::AlignDot(a) => add_symbols(list, a),
+        Expr::Binary(_, a, b) | Expr::Align(a, b) => {
+            add_symbols(list, a)?;
+            add_symbols(list, b)?;
+            Ok(())
+        }
+        Expr::Choice(of) => {
+            add_symbols(list, &of.test)?;
+            add_symbols(list, &of.first)?;
+            add_symbols(list, &of.second)?;
+            Ok(())
+        }
+    }
+}

@@ -1,0 +1,180 @@
+-- The grammar of a script's expressions, rule by rule, tightest first.
+--
+-- primary   = NUMBER | "." | NAME | "(" whole ")" | of_region "(" NAME ")" | of_section "(" NAME ")" | ALIGN arguments
+--   of_region = ORIGIN | LENGTH
+--   of_section = ADDR | LOADADDR | SIZEOF
+--   arguments = "(" whole ")" | "(" whole "," whole ")"
+--   within 0  = primary | unary operator, within 0
+--   within n  = within n-1 | within n, operator of level n, within n-1          for n from 1 to 9
+--   whole     = within 9 | within 9 "?" whole ":" whole
+use Rattle.std.specs.Prelude.{◌≡◌, ℕ, suc, ◌^◌, ◌<◌, List, [], ◌∷◌, length, Option, Some, None, if◌then◌else◌, codes}
+use Rattle.std.specs.Prelude.{bytes_eq, IfOk, Result}
+use Rattle.ldscript_tokens.specs.Tokens as token
+use Rattle.ldscript_tokens.specs.Tokens.{Token, Lexeme}
+use Rattle.ldscript_tokens.specs.Numbers.{number_value}
+use Rattle.ldscript_tokens.specs.Words.{is_free_name}
+use Rattle.ldscript_tokens.specs.declared.token.Mark.{Mark}
+use Rattle.ldscript_tokens.specs.declared.token.Mark.TheVariants.{OpenParenthesis, CloseParenthesis, Comma, Question, Colon}
+use Rattle.ldscript_terms.specs.declared.operator.UnaryOperator.{UnaryOperator}
+use Rattle.ldscript_terms.specs.declared.operator.BinaryOperator.{BinaryOperator}
+use Rattle.ldscript_terms.specs.declared.expression.RegionQuery.{RegionQuery}
+use Rattle.ldscript_terms.specs.declared.expression.RegionQuery.TheVariants.{Origin, Length}
+use Rattle.ldscript_terms.specs.declared.expression.SectionQuery.{SectionQuery}
+use Rattle.ldscript_terms.specs.declared.expression.SectionQuery.TheVariants.{Address, LoadAddress, Size}
+use Rattle.ldscript_terms.specs.Operators.{unary_of, binary_of, level_of}
+use Rattle.ldscript_terms.specs.Expressions.{Expr, Number, Dot, Name, Unary, Binary, Choice, OfRegion, OfSection, AlignDot}
+use Rattle.ldscript_terms.specs.Expressions.{Align}
+
+-- what a name is to an expression: `.`, a word that asks something of a memory region or of an output section, ALIGN, a
+-- NAME, or another reserved word
+pub data Word : Type 0 where
+  Point : Word
+  AsksRegion : (query : RegionQuery) → Word
+  AsksSection : (query : SectionQuery) → Word
+  Aligns : Word
+  Free : (name : List ℕ) → Word
+  Reserved : Word
+
+-- the terminals of the grammar
+pub data Terminal : Type 0 where
+  Numeral : (value : ℕ) → Terminal
+  Worded : (word : Word) → Terminal
+  Sign : (mark : Mark) → Terminal
+  Other : Terminal
+
+unfoldable pub word_of : List ℕ → Word
+word_of name =
+    if bytes_eq name (codes ".") then Point
+    else (if bytes_eq name (codes "ORIGIN") then AsksRegion Origin
+    else (if bytes_eq name (codes "LENGTH") then AsksRegion Length
+    else (if bytes_eq name (codes "ADDR") then AsksSection Address
+    else (if bytes_eq name (codes "LOADADDR") then AsksSection LoadAddress
+    else (if bytes_eq name (codes "SIZEOF") then AsksSection Size
+    else (if bytes_eq name (codes "ALIGN") then Aligns
+    else (if is_free_name name then Free name else Reserved)))))))
+
+abbrev pub terminal_of : Token → Terminal
+terminal_of (token.Name name) = Worded (word_of name)
+terminal_of (token.Number spelled) = Numeral (number_value spelled)
+terminal_of (token.Punctuation mark) = Sign mark
+terminal_of _ = Other
+
+-- the tokens begin with a terminal, and these follow
+pub record Begins (ts : List Lexeme) (t : Terminal) (rest : List Lexeme) : Type 0 where
+  pub first : Lexeme
+  pub split : ts ≡ first ∷ rest
+  pub kind : terminal_of first.token ≡ t
+
+-- the tokens begin with an operator that stands before its operand
+pub record BeginsUnary (ts : List Lexeme) (op : UnaryOperator) (rest : List Lexeme) : Type 0 where
+  pub mark : Mark
+  pub begins : Begins ts (Sign mark) rest
+  pub spells : unary_of mark ≡ Some op
+
+-- the tokens begin with an operator of this level
+pub record BeginsBinary (level : ℕ) (ts : List Lexeme) (op : BinaryOperator) (rest : List Lexeme) : Type 0 where
+  pub mark : Mark
+  pub begins : Begins ts (Sign mark) rest
+  pub spells : binary_of mark ≡ Some op
+  pub binds : level_of op ≡ level
+
+-- the tokens begin with a NAME in parentheses
+pub record BeginsNamed (ts : List Lexeme) (name : List ℕ) (rest : List Lexeme) : Type 0 where
+  pub inner : List Lexeme
+  pub outer : List Lexeme
+  pub opens : Begins ts (Sign OpenParenthesis) inner
+  pub names : Begins inner (Worded (Free name)) outer
+  pub closes : Begins outer (Sign CloseParenthesis) rest
+
+-- Within 0 is an expression of unary operators alone, Within n one of operators of levels up to n
+pub data Level : Type 0 where
+  Primary : Level
+  Arguments : Level
+  Within : (level : ℕ) → Level
+  Whole : Level
+
+-- Spells l e ts rest: e stands at the front of ts, and rest is what follows it. A line for each rule
+pub data Spells : Level → Expr → List Lexeme → List Lexeme → Type 0 where
+  number : {value : ℕ} {ts rest : List Lexeme} → Begins ts (Numeral value) rest → value < 2 ^ 64
+      → Spells Primary (Number value) ts rest
+  dot : {ts rest : List Lexeme} → Begins ts (Worded Point) rest → Spells Primary Dot ts rest
+  name : {name : List ℕ} {ts rest : List Lexeme} → Begins ts (Worded (Free name)) rest
+      → Spells Primary (Name name) ts rest
+  group : {e : Expr} {ts us vs rest : List Lexeme} → Begins ts (Sign OpenParenthesis) us → Spells Whole e us vs
+      → Begins vs (Sign CloseParenthesis) rest → Spells Primary e ts rest
+  of_region : {q : RegionQuery} {name : List ℕ} {ts us rest : List Lexeme} → Begins ts (Worded (AsksRegion q)) us
+      → BeginsNamed us name rest → Spells Primary (OfRegion q name) ts rest
+  of_section : {q : SectionQuery} {name : List ℕ} {ts us rest : List Lexeme} → Begins ts (Worded (AsksSection q)) us
+      → BeginsNamed us name rest → Spells Primary (OfSection q name) ts rest
+  align : {e : Expr} {ts us rest : List Lexeme} → Begins ts (Worded Aligns) us → Spells Arguments e us rest
+      → Spells Primary e ts rest
+  one_argument : {a : Expr} {ts us vs rest : List Lexeme} → Begins ts (Sign OpenParenthesis) us → Spells Whole a us vs
+      → Begins vs (Sign CloseParenthesis) rest → Spells Arguments (AlignDot a) ts rest
+  two_arguments : {a b : Expr} {ts us vs ws xs rest : List Lexeme} → Begins ts (Sign OpenParenthesis) us
+      → Spells Whole a us vs → Begins vs (Sign Comma) ws → Spells Whole b ws xs → Begins xs (Sign CloseParenthesis) rest
+      → Spells Arguments (Align a b) ts rest
+  primary : {e : Expr} {ts rest : List Lexeme} → Spells Primary e ts rest → Spells (Within 0) e ts rest
+  unary : {op : UnaryOperator} {a : Expr} {ts us rest : List Lexeme} → BeginsUnary ts op us
+      → Spells (Within 0) a us rest → Spells (Within 0) (Unary op a) ts rest
+  operand : {n : ℕ} {e : Expr} {ts rest : List Lexeme} → Spells (Within n) e ts rest → Spells (Within (suc n)) e ts rest
+  binary : {n : ℕ} {op : BinaryOperator} {a b : Expr} {ts us vs rest : List Lexeme} → Spells (Within (suc n)) a ts us
+      → BeginsBinary (suc n) us op vs → Spells (Within n) b vs rest → Spells (Within (suc n)) (Binary op a b) ts rest
+  operators : {e : Expr} {ts rest : List Lexeme} → Spells (Within 9) e ts rest → Spells Whole e ts rest
+  choice : {test a b : Expr} {ts us vs ws xs rest : List Lexeme} → Spells (Within 9) test ts us
+      → Begins us (Sign Question) vs → Spells Whole a vs ws → Begins ws (Sign Colon) xs → Spells Whole b xs rest
+      → Spells Whole (Choice test a b) ts rest
+
+-- an operator, if there is one, binds more loosely than this level
+abbrev pub IsLooser : ℕ → Option BinaryOperator → Type 0
+IsLooser n None = Unit {0}
+IsLooser n (Some op) = n < level_of op
+
+abbrev pub IsNoOperator : Option BinaryOperator → Type 0
+IsNoOperator None = Unit {0}
+IsNoOperator (Some op) = ⊥
+
+-- a terminal that can't go on an expression of this level
+abbrev pub StopsAt : Level → Terminal → Type 0
+StopsAt (Within n) (Sign mark) = IsLooser n (binary_of mark)
+StopsAt Whole (Sign Question) = ⊥
+StopsAt Whole (Sign mark) = IsNoOperator (binary_of mark)
+StopsAt l t = Unit {0}
+
+-- what follows can't go on an expression of this level
+abbrev pub Stops : Level → List Lexeme → Type 0
+Stops Primary ts = Unit {0}
+Stops Arguments ts = Unit {0}
+Stops l [] = Unit {0}
+Stops l (x ∷ xs) = StopsAt l (terminal_of x.token)
+
+-- this expression and no other
+pub record Reading (l : Level) (ts : List Lexeme) (e : Expr) (rest : List Lexeme) : Type 0 where
+  pub spells : Spells l e ts rest
+  pub only : (f : Expr) (more : List Lexeme) → Spells l f ts more → Stops l more → (f ≡ e) × (more ≡ rest)
+  pub shorter : length rest < length ts
+
+-- no expression
+abbrev pub NoReading : Level → List Lexeme → Type 0
+NoReading l ts = (f : Expr) (more : List Lexeme) → Spells l f ts more → Stops l more → ⊥
+
+-- what stands at the front of the tokens, if an expression does
+abbrev pub Finds : {X : Type 0} → Level → List Lexeme → (X → Expr) → (X → List Lexeme) → Option X → Type 0
+Finds l ts expr rest (Some x) = Reading l ts (expr x) (rest x)
+Finds l ts expr rest None = NoReading l ts
+
+-- what a reader of this level gives; out of memory says nothing of the tokens
+abbrev pub Reads : {X E : Type 0} → Level → List Lexeme → (X → Expr) → (X → List Lexeme) → Result (Option X) E → Type 0
+Reads l ts expr rest r = IfOk r (λ found. Finds l ts expr rest found)
+
+-- no tokens have two trees
+abbrev pub OneTree : List Lexeme → Type 0
+OneTree ts = (e f : Expr) (rest more : List Lexeme) → Spells Whole e ts rest → Spells Whole f ts more → Stops Whole rest
+    → Stops Whole more → (e ≡ f) × (rest ≡ more)
+
+-- each tree whose rest can't go on it is the only one
+abbrev pub OneReading : List Lexeme → Type 0
+OneReading ts = (e : Expr) (rest : List Lexeme) → Spells Whole e ts rest → Stops Whole rest → Reading Whole ts e rest
+
+-- no expression goes on at this token
+abbrev pub EndsAt : Token → Type 0
+EndsAt t = (line : ℕ) (rest : List Lexeme) → Stops Whole (token.lexeme t line ∷ rest)

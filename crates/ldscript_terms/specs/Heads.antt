@@ -1,0 +1,27 @@
+-- How a primary expression begins.
+use Rattle.std.specs.Prelude.{◌≡◌, ◌^◌, ◌<◌, List}
+use Rattle.ldscript_tokens.specs.Tokens.{Lexeme}
+use Rattle.ldscript_tokens.specs.declared.token.Mark.TheVariants.{OpenParenthesis}
+use Rattle.ldscript_terms.specs.declared.head.Head.{Head}
+use Rattle.ldscript_terms.specs.declared.head.Head.TheVariants as head
+use Rattle.ldscript_terms.specs.Grammar.{Word, Point, AsksRegion, AsksSection, Aligns, Free, Numeral, Worded, Sign, Begins}
+
+-- a word that may begin one
+abbrev pub IsWord : Head → Word → Type 0
+IsWord (head.Number v) w = ⊥
+IsWord head.Dot w = w ≡ Point
+IsWord (head.Name n) w = w ≡ Free n.now
+IsWord (head.OfRegion q) w = w ≡ AsksRegion q
+IsWord (head.OfSection q) w = w ≡ AsksSection q
+IsWord head.Align w = w ≡ Aligns
+IsWord head.Group w = ⊥
+
+-- the tokens begin so, and these follow
+abbrev pub HasHead : List Lexeme → Head → List Lexeme → Type 0
+HasHead ts (head.Number v) rest = Begins ts (Numeral v) rest × (v < 2 ^ 64)
+HasHead ts head.Dot rest = Begins ts (Worded Point) rest
+HasHead ts (head.Name n) rest = Begins ts (Worded (Free n.now)) rest
+HasHead ts (head.OfRegion q) rest = Begins ts (Worded (AsksRegion q)) rest
+HasHead ts (head.OfSection q) rest = Begins ts (Worded (AsksSection q)) rest
+HasHead ts head.Align rest = Begins ts (Worded Aligns) rest
+HasHead ts head.Group rest = Begins ts (Sign OpenParenthesis) rest

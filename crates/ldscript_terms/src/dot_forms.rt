@@ -1,0 +1,46 @@
+//! What `.` may be set to in an output section.
+
+ghost use Rattle.std.specs.Prelude.{◌≡◌};
+ghost use Rattle.ldscript_terms.specs.DotForms.{dot_form, maybe_form_of};
+ghost use Rattle.ldscript_terms.specs.Expressions.{expr_of};
+
+use crate::expression::Expr;
+use crate::operator::BinaryOperator;
+
+/// An expression that `.` may be set to in an output section.
+#[derive(Clone, Copy)]
+pub enum DotForm<'a> {
+    /// `. + e`: `.` goes on by `e`.
+    Advance(&'a Expr),
+    /// `ALIGN(e)`, `.` not in `e`: `.` is aligned to `e`.
+    Align(&'a Expr),
+    /// `e`, with neither `.` nor `ALIGN`: `.` is the section's start and `e`.
+    Offset(&'a Expr),
+}
+
+impl Expr {
+    /// The form in which `.` may be set to it in an output section, or `None` where it has none of the three.
+    pub fn dot_form(&self) -> Option<DotForm<'_>>
+        ensures { maybe_form_of result ≡ dot_form (expr_of self.now) }
+    {
+        match self {
+            Expr::Binary(BinaryOperator::Add, left, e) if matches!(**left, Expr::Dot) => {
+                Some(DotForm::Advance(e))
+            }
+            Expr::AlignDot(e) => {
+                if e.has_dot() {
+                    None
+                } else {
+                    Some(DotForm::Align(e))
+                }
+            }
+            _ => {
+                if self.has_dot() || self.has_align() {
+                    None
+                } else {
+                    Some(DotForm::Offset(self))
+                }
+            }
+        }
+    }
+}

@@ -1,0 +1,179 @@
+//! What stands at the front of tokens, as far as an expression asks.
+
+ghost use Rattle.std.specs.Prelude.{◌≡◌, ◌<◌, ℕ, suc, List, MatchOption};
+ghost use Rattle.ldscript_tokens.specs.Tokens.{Lexeme};
+ghost use Rattle.ldscript_terms.specs.Grammar.{Begins, BeginsUnary, BeginsBinary, BeginsNamed, Sign, Worded, Free, word_of};
+ghost use Rattle.ldscript_terms.specs.Grammar.{Reserved, NoReading, Primary};
+ghost use Rattle.ldscript_terms.specs.Heads.{IsWord, HasHead};
+
+use crate::expression::{RegionQuery, SectionQuery};
+use crate::operator::{BinaryOperator, UnaryOperator, binary_operator, unary_operator};
+use ldscript_tokens::cursor::Cursor;
+use ldscript_tokens::number::number_value;
+use ldscript_tokens::token::{Mark, TokenKind};
+use ldscript_tokens::words::is_free_name;
+
+/// How a primary expression begins.
+#[derive(Clone, Copy)]
+pub enum Head<'a> {
+    /// With a number of this value, and ends there.
+    Number(u64),
+    /// With `.`, and ends there.
+    Dot,
+    /// With a name, and ends there.
+    Name(&'a [u8]),
+    /// With a word that asks something of a memory region.
+    OfRegion(RegionQuery),
+    /// With a word that asks something of an output section.
+    OfSection(SectionQuery),
+    /// With `ALIGN`.
+    Align,
+    /// With `(`.
+    Group,
+}
+
+/// How a name begins a primary expression, or `None` for a reserved word that begins none.
+#[tactic(auto, unfolding(crate::specs::Grammar::word_of))]
+fn word<'a>(name: &'a [u8]) -> Option<Head<'a>>
+    ensures { MatchOption result (word_of name.now ≡ Reserved) (λ h. IsWord h (word_of name.now)) }
+{
+    if name == b".".as_slice() {
+        Some(Head::Dot)
+    } else if name == b"ORIGIN".as_slice() {
+        Some(Head::OfRegion(RegionQuery::Origin))
+    } else if name == b"LENGTH".as_slice() {
+        Some(Head::OfRegion(RegionQuery::Length))
+    } else if name == b"ADDR".as_slice() {
+        Some(Head::OfSection(SectionQuery::Address))
+    } else if name == b"LOADADDR".as_slice() {
+        Some(Head::OfSection(SectionQuery::LoadAddress))
+    } else if name == b"SIZEOF".as_slice() {
+        Some(Head::OfSection(SectionQuery::Size))
+    } else if name == b"ALIGN".as_slice() {
+        Some(Head::Align)
+    } else if is_free_name(name) {
+        Some(Head::Name(name))
+    } else {
+        None
+    }
+}
+
+/// How a primary expression begins here and what follows, or `None` where none begins.
+pub fn read_head<'a>(tokens: &Cursor<'a>) -> Option<(Head<'a>, Cursor<'a>)>
+    ensures { MatchOption result (NoReading Primary tokens.now) (λ x. HasHead tokens.now x.0 x.1) }
+{
+    let Some((kind, bytes, _, rest)) = tokens.copy().next() else {
+        return None;
+    };
+    match kind {
+        TokenKind::Number => {
+            let Some(value) = number_value(bytes) else {
+                return None;
+            };
+            Some((Head::Number(value), rest))
+        }
+        TokenKind::Name => {
+            let Some(head) = word(bytes) else {
+                return None;
+            };
+            Some((head, rest))
+        }
+        TokenKind::Punctuation(mark) => {
+            if mark == Mark::OpenParenthesis {
+                Some((Head::Group, rest))
+            } else {
+                None
+            }
+        }
+        _ => None,
+    }
+}
+
+/// The mark that comes next, and what follows it.
+pub fn sign<'a>(tokens: &Cursor<'a>) -> Option<(Mark, Cursor<'a>)>
+    ensures { MatchOption result ((m : Mark) (r : List Lexeme) → Begins tokens.now (Sign m) r → ⊥)
+        (λ x. Begins tokens.now (Sign x.0) x.1) }
+{
+    let Some((kind, _, _, rest)) = tokens.copy().next() else {
+        return None;
+    };
+    match kind {
+        TokenKind::Punctuation(mark) => Some((mark, rest)),
+        _ => None,
+    }
+}
+
+/// What follows this mark, if it comes next.
+pub fn after<'a>(tokens: &Cursor<'a>, wanted: Mark) -> Option<Cursor<'a>>
+    ensures { MatchOption result ((r : List Lexeme) → Begins tokens.now (Sign wanted) r → ⊥)
+        (λ rest. Begins tokens.now (Sign wanted) rest) }
+{
+    let Some((mark, rest)) = sign(tokens) else {
+        return None;
+    };
+    if mark == wanted { Some(rest) } else { None }
+}
+
+/// The operator before an operand that comes next, and what follows it.
+pub fn unary_ahead<'a>(tokens: &Cursor<'a>) -> Option<(UnaryOperator, Cursor<'a>)>
+    ensures { MatchOption result ((op : UnaryOperator) (r : List Lexeme) → BeginsUnary tokens.now op r → ⊥)
+        (λ x. BeginsUnary tokens.now x.0 x.1) }
+{
+    let Some((mark, rest)) = sign(tokens) else {
+        return None;
+    };
+    match unary_operator(mark) {
+        Some(operator) => Some((operator, rest)),
+        None => None,
+    }
+}
+
+/// The operator of the level above `below` that comes next, and what follows it.
+pub fn binary_ahead<'a>(below: u8, tokens: &Cursor<'a>) -> Option<(BinaryOperator, Cursor<'a>)>
+    requires { below < 9 }
+    ensures { MatchOption result ((op : BinaryOperator) (r : List Lexeme) → BeginsBinary (suc below) tokens.now op r
+        → ⊥) (λ x. BeginsBinary (suc below) tokens.now x.0 x.1) }
+{
+    let Some((mark, rest)) = sign(tokens) else {
+        return None;
+    };
+    let Some(operator) = binary_operator(mark) else {
+        return None;
+    };
+    if operator.level() == below + 1 {
+        Some((operator, rest))
+    } else {
+        None
+    }
+}
+
+/// The name that comes next, if it is no reserved word and not `.`, and what follows it.
+fn free_name<'a>(tokens: &Cursor<'a>) -> Option<(&'a [u8], Cursor<'a>)>
+    ensures { MatchOption result ((n : List ℕ) (r : List Lexeme) → Begins tokens.now (Worded (Free n)) r → ⊥)
+        (λ x. Begins tokens.now (Worded (Free x.0.now)) x.1) }
+{
+    let Some((head, rest)) = read_head(tokens) else {
+        return None;
+    };
+    match head {
+        Head::Name(name) => Some((name, rest)),
+        _ => None,
+    }
+}
+
+/// The name in parentheses that comes next, and what follows it.
+pub fn name_in_parentheses<'a>(tokens: &Cursor<'a>) -> Option<(&'a [u8], Cursor<'a>)>
+    ensures { MatchOption result ((n : List ℕ) (r : List Lexeme) → BeginsNamed tokens.now n r → ⊥)
+        (λ x. BeginsNamed tokens.now x.0.now x.1) }
+{
+    let Some(inner) = after(tokens, Mark::OpenParenthesis) else {
+        return None;
+    };
+    let Some((name, outer)) = free_name(&inner) else {
+        return None;
+    };
+    match after(&outer, Mark::CloseParenthesis) {
+        Some(rest) => Some((name, rest)),
+        None => None,
+    }
+}

@@ -1,0 +1,86 @@
+//! Matching of a name.
+
+ghost use Rattle.std.specs.Prelude.{◌≡◌, ◌↔◌, ◌∷◌, [], IsTrue, List, MatchOption, length};
+ghost use Rattle.ldscript_terms.specs.Parts.{AnyRun, Part};
+ghost use Rattle.ldscript_terms.specs.Matching.{Matches};
+ghost use Rattle.ldscript_terms.specs.Spelling.{Spells};
+ghost use Rattle.ldscript_terms.specs.Trying.{IsWithin, TriedAs};
+
+use crate::word::first_part;
+
+/// What trying parts at the front of a name came to.
+#[derive(Clone, Copy)]
+pub enum Tried<'w, 'n> {
+    /// Each part took one byte, and the name ends with the last.
+    Whole,
+    /// Each part before a `*` took one byte. These are the rest of the word after the `*`, and of the name.
+    Star(&'w [u8], &'n [u8]),
+    /// No match from here: a part is not met, the name ends too early, or it goes on after the last part.
+    Missed,
+}
+
+/// The first of these bytes, and the others.
+fn split(bytes: &[u8]) -> Option<(u8, &[u8])>
+    ensures { MatchOption result (bytes.now ≡ []) (λ x. bytes.now ≡ x.0 ∷ x.1.now) }
+{
+    let (first, rest) = bytes.split_first()?;
+    Some((*first, rest))
+}
+
+/// Lets each part of a word take a byte of the name's front, up to the first `*`.
+fn try_front<'w, 'n>(word: &'w [u8], name: &'n [u8]) -> Tried<'w, 'n>
+    ensures value { (ps : List Part) → Spells ps word.now → TriedAs ps name.now result }
+    ensures within { IsWithin (length word.now) (length name.now) result }
+{
+    let mut rest = word;
+    let mut left = name;
+    while let Some((part, more)) = first_part(rest) {
+        if part.is_any_run() {
+            return Tried::Star(more, left);
+        }
+        let Some((byte, others)) = split(left) else {
+            return Tried::Missed;
+        };
+        if !part.is_met_by(rest, byte) {
+            return Tried::Missed;
+        }
+        rest = more;
+        left = others;
+    }
+    match split(left) {
+        None => Tried::Whole,
+        Some(_) => Tried::Missed,
+    }
+}
+
+/// Whether a name is matched by `*` and then the parts of a word.
+fn matches_behind_star(word: &[u8], name: &[u8]) -> bool
+    ensures { (ps : List Part) → Spells ps word.now → IsTrue result ↔ Matches (AnyRun ∷ ps) name.now }
+{
+    let mut after = word;
+    let mut left = name;
+    loop {
+        match try_front(after, left) {
+            Tried::Whole => return true,
+            Tried::Star(rest, behind) => {
+                after = rest;
+                left = behind;
+            }
+            Tried::Missed => match split(left) {
+                None => return false,
+                Some((_, others)) => left = others,
+            },
+        }
+    }
+}
+
+/// Whether the parts that a word spells match the whole name.
+pub fn matches_word(word: &[u8], name: &[u8]) -> bool
+    ensures { (ps : List Part) → Spells ps word.now → IsTrue result ↔ Matches ps name.now }
+{
+    match try_front(word, name) {
+        Tried::Whole => true,
+        Tried::Star(rest, left) => matches_behind_star(rest, left),
+        Tried::Missed => false,
+    }
+}

@@ -1,0 +1,109 @@
+//! A pattern of names.
+
+ghost use Rattle.std.specs.Prelude.{◌≡◌, ◌↔◌, ◌∷◌, [], ℕ, IsTrue, IfOk, IfSome, List, MatchOption, None, Some};
+ghost use Rattle.ldscript_terms.specs.Parts.{Part, AnyRun};
+ghost use Rattle.ldscript_terms.specs.Forms.{IsForm, parts_in};
+ghost use Rattle.ldscript_terms.specs.Spelling.{Spells, IsPatternOf};
+ghost use Rattle.ldscript_terms.specs.Matching.{Matches, exact_name, is_match};
+ghost use Rattle.ldscript_terms.specs.Trying.{IsSpelled};
+
+use crate::matching::matches_word;
+use crate::word::{exact_bytes, is_same, is_spelled, is_star};
+use ldscript_tokens::name::ScriptName;
+use std::alloc::{AllocError, Global};
+use std::marker::Model;
+
+/// What is kept of a pattern. A script may have half a million, so its parts are read anew where a name is matched.
+#[derive(Drop)]
+enum Form {
+    /// The one name that it matches: it has bytes alone.
+    Exact(ScriptName),
+    /// The word that spells it, with a `*`, a `?` or a set.
+    Wild(ScriptName),
+}
+
+/// A pattern that names meet as a whole. `*` matches any run of bytes, also an empty one; `?` one byte; both match
+/// `/` too. `\x` is the byte x. A set between `[` and `]` matches one of its bytes; in it `x-y` are the bytes from
+/// x to y, and a `-` that begins or ends it is itself. Any other byte is itself.
+#[derive(Drop)]
+pub struct Pattern {
+    form: Form,
+}
+
+impl Model for Pattern {
+    ghost use Rattle.std.specs.Prelude.{List};
+    ghost use Rattle.ldscript_terms.specs.Forms.{IsForm, parts_in};
+    ghost use Rattle.ldscript_terms.specs.Parts.{Part};
+
+    ghost Value = { List Part };
+
+    ghost view = { λ p. parts_in p.form };
+
+    ghost invariant = { λ p. IsForm p.form };
+}
+
+/// What is kept of the pattern that a word spells.
+fn form_of(alloc: Global, word: &[u8]) -> Result<Form, AllocError>
+    requires { IsSpelled word.now }
+    ensures form { IfOk result (λ f. IsForm f) }
+    ensures spelled { IfOk result (λ f. Spells (parts_in f) word.now) }
+{
+    match exact_bytes(alloc, word)? {
+        Some(name) => Ok(Form::Exact(ScriptName::new(alloc, &name)?)),
+        None => Ok(Form::Wild(ScriptName::new(alloc, word)?)),
+    }
+}
+
+impl Pattern {
+    /// Reads the pattern that a word spells: `None` if it spells none, as one with a `]` outside a set, or with a set
+    /// that is empty, has no end, or has a `[` or a `\` in it.
+    ///
+    /// # Errors
+    ///
+    /// Where memory runs out.
+    pub fn read(alloc: Global, word: &[u8]) -> Result<Option<Pattern>, AllocError>
+        ensures { IfOk result (λ r. MatchOption r ((ps : List Part) → Spells ps word.now → ⊥)
+            (λ p. IsPatternOf word.now p)) }
+    {
+        if !is_spelled(word) {
+            return Ok(None);
+        }
+        let form = form_of(alloc, word)?;
+        Ok(Some(Pattern { form }))
+    }
+
+    /// The one name that it matches, if it has bytes alone.
+    pub fn exact_name(&self) -> Option<&[u8]>
+        ensures value { MatchOption result (exact_name self.now ≡ None) (λ name. exact_name self.now ≡ Some name.now) }
+        ensures only { IfSome result (λ wanted. (name : List ℕ) → Matches self.now name ↔ name ≡ wanted.now) }
+    {
+        match &self.form {
+            Form::Exact(name) => Some(name.as_bytes()),
+            Form::Wild(_) => None,
+        }
+    }
+
+    /// Whether it is `*` alone, which matches every name.
+    pub fn is_any(&self) -> bool
+        ensures value { IsTrue result ↔ self.now ≡ AnyRun ∷ [] }
+        ensures all { IsTrue result → (name : List ℕ) → Matches self.now name }
+    {
+        match &self.form {
+            Form::Exact(_) => false,
+            Form::Wild(word) => is_star(word.as_bytes()),
+        }
+    }
+}
+
+/// Whether a pattern matches a whole name. It takes no memory, and at most about as many steps as the product of
+/// the lengths of the pattern's word and of the name: after each `*` the parts up to the next one are tried at each
+/// place of the name at most once.
+pub fn matches(pattern: &Pattern, name: &[u8]) -> bool
+    ensures splits { IsTrue result ↔ Matches pattern.now name.now }
+    ensures test { result ≡ is_match pattern.now name.now }
+{
+    match &pattern.form {
+        Form::Exact(exact) => is_same(name, exact.as_bytes()),
+        Form::Wild(word) => matches_word(word.as_bytes(), name),
+    }
+}

@@ -1,0 +1,177 @@
+//! The reader of expressions: one function for each kind of rule of the grammar, and one loop for all levels of
+//! operators between operands.
+
+ghost use Rattle.std.specs.Prelude.{suc, ◌<◌, ◌≤◌};
+ghost use Rattle.ldscript_terms.specs.Expressions.{expr_of};
+ghost use Rattle.ldscript_terms.specs.Grammar.{Reads, Primary, Arguments, Within, Whole};
+
+use crate::expression::{Branches, Expr};
+use crate::head::{Head, after, binary_ahead, name_in_parentheses, read_head, unary_ahead};
+use ldscript_tokens::cursor::Cursor;
+use ldscript_tokens::name::ScriptName;
+use ldscript_tokens::token::Mark;
+use std::alloc::{AllocError, Global};
+
+/// What a reader gives: what stands at the front of the tokens, with what follows it, or `None` where it does not stand
+/// there. The error, out of memory, says nothing of the tokens.
+pub type Parsed<'a, T> = Result<Option<(T, Cursor<'a>)>, AllocError>;
+
+/// The level of the operator that binds most loosely.
+const LOOSEST: u8 = 9;
+
+/// A number, `.`, a name, an expression in parentheses, or a word with its arguments.
+#[cycle(reader)]
+fn primary<'a>(alloc: Global, tokens: Cursor<'a>) -> Parsed<'a, Expr>
+    ensures { Reads Primary tokens.entry (λ x. expr_of x.0) (λ x. x.1) result }
+{
+    let Some((head, rest)) = read_head(&tokens) else {
+        return Ok(None);
+    };
+    match head {
+        Head::Number(value) => Ok(Some((Expr::Number(value), rest))),
+        Head::Dot => Ok(Some((Expr::Dot, rest))),
+        Head::Name(name) => {
+            let name = ScriptName::new(alloc, name)?;
+            Ok(Some((Expr::Name(name), rest)))
+        }
+        Head::OfRegion(query) => {
+            let Some((name, rest)) = name_in_parentheses(&rest) else {
+                return Ok(None);
+            };
+            let name = ScriptName::new(alloc, name)?;
+            Ok(Some((Expr::OfRegion(query, name), rest)))
+        }
+        Head::OfSection(query) => {
+            let Some((name, rest)) = name_in_parentheses(&rest) else {
+                return Ok(None);
+            };
+            let name = ScriptName::new(alloc, name)?;
+            Ok(Some((Expr::OfSection(query, name), rest)))
+        }
+        Head::Align => arguments(alloc, rest),
+        Head::Group => {
+            let Some((tree, rest)) = whole(alloc, rest)? else {
+                return Ok(None);
+            };
+            let Some(rest) = after(&rest, Mark::CloseParenthesis) else {
+                return Ok(None);
+            };
+            Ok(Some((tree, rest)))
+        }
+    }
+}
+
+/// The arguments of `ALIGN` in their parentheses, one or two.
+#[cycle(reader)]
+fn arguments<'a>(alloc: Global, tokens: Cursor<'a>) -> Parsed<'a, Expr>
+    ensures { Reads Arguments tokens.entry (λ x. expr_of x.0) (λ x. x.1) result }
+{
+    let Some(rest) = after(&tokens, Mark::OpenParenthesis) else {
+        return Ok(None);
+    };
+    let Some((first, rest)) = whole(alloc, rest)? else {
+        return Ok(None);
+    };
+    if let Some(rest) = after(&rest, Mark::CloseParenthesis) {
+        let tree = Expr::AlignDot(Box::new(alloc, first)?);
+        return Ok(Some((tree, rest)));
+    }
+    let Some(rest) = after(&rest, Mark::Comma) else {
+        return Ok(None);
+    };
+    let Some((second, rest)) = whole(alloc, rest)? else {
+        return Ok(None);
+    };
+    let Some(rest) = after(&rest, Mark::CloseParenthesis) else {
+        return Ok(None);
+    };
+    let tree = Expr::Align(Box::new(alloc, first)?, Box::new(alloc, second)?);
+    Ok(Some((tree, rest)))
+}
+
+/// A primary expression after any number of `! - ~`.
+#[cycle(reader)]
+fn unary<'a>(alloc: Global, tokens: Cursor<'a>) -> Parsed<'a, Expr>
+    ensures { Reads (Within 0) tokens.entry (λ x. expr_of x.0) (λ x. x.1) result }
+{
+    let Some((operator, rest)) = unary_ahead(&tokens) else {
+        return primary(alloc, tokens);
+    };
+    let Some((operand, rest)) = unary(alloc, rest)? else {
+        return Ok(None);
+    };
+    let tree = Expr::Unary(operator, Box::new(alloc, operand)?);
+    Ok(Some((tree, rest)))
+}
+
+/// Operators of the level above `below` between operands, from left to right.
+#[cycle(reader)]
+fn binary<'a>(alloc: Global, below: u8, tokens: Cursor<'a>) -> Parsed<'a, Expr>
+    requires { below < 9 }
+    ensures { Reads (Within (suc below)) tokens.entry (λ x. expr_of x.0) (λ x. x.1) result }
+{
+    let Some((mut tree, mut rest)) = operand(alloc, below, tokens)? else {
+        return Ok(None);
+    };
+    loop {
+        let Some((operator, more)) = binary_ahead(below, &rest) else {
+            return Ok(Some((tree, rest)));
+        };
+        let Some((right, behind)) = operand(alloc, below, more)? else {
+            return Ok(None);
+        };
+        tree = Expr::Binary(operator, Box::new(alloc, tree)?, Box::new(alloc, right)?);
+        rest = behind;
+    }
+}
+
+/// An expression of operators of this level and tighter ones.
+#[cycle(reader)]
+fn operand<'a>(alloc: Global, level: u8, tokens: Cursor<'a>) -> Parsed<'a, Expr>
+    requires { level ≤ 9 }
+    ensures { Reads (Within level) tokens.entry (λ x. expr_of x.0) (λ x. x.1) result }
+{
+    if level == 0 {
+        unary(alloc, tokens)
+    } else {
+        binary(alloc, level - 1, tokens)
+    }
+}
+
+/// An expression with its choices.
+#[cycle(reader)]
+fn whole<'a>(alloc: Global, tokens: Cursor<'a>) -> Parsed<'a, Expr>
+    ensures { Reads Whole tokens.entry (λ x. expr_of x.0) (λ x. x.1) result }
+{
+    let Some((test, rest)) = operand(alloc, LOOSEST, tokens)? else {
+        return Ok(None);
+    };
+    let Some(more) = after(&rest, Mark::Question) else {
+        return Ok(Some((test, rest)));
+    };
+    let Some((first, rest)) = whole(alloc, more)? else {
+        return Ok(None);
+    };
+    let Some(rest) = after(&rest, Mark::Colon) else {
+        return Ok(None);
+    };
+    let Some((second, rest)) = whole(alloc, rest)? else {
+        return Ok(None);
+    };
+    let branches = Branches {
+        test,
+        first,
+        second,
+    };
+    let tree = Expr::Choice(Box::new(alloc, branches)?);
+    Ok(Some((tree, rest)))
+}
+
+/// Reads the expression at the front of the tokens, and returns it with what follows it: the only one that can't go on
+/// there. `None` where there is none, which includes a number of 2^64 or more and a reserved word as a name. The
+/// operators are those of the GNU ld manual's "Expressions in Linker Scripts", in C's order.
+pub fn expr<'a>(alloc: Global, tokens: Cursor<'a>) -> Parsed<'a, Expr>
+    ensures { Reads Whole tokens.entry (λ x. expr_of x.0) (λ x. x.1) result }
+{
+    whole(alloc, tokens)
+}

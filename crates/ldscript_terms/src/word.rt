@@ -1,0 +1,75 @@
+//! The parts of a word, one after the other.
+
+ghost use Rattle.std.specs.Prelude.{◌≡◌, ◌↔◌, ◌<◌, ◌≤◌, ◌∷◌, [], IfOk, IfSome, IsTrue, List, MatchOption, drop, length};
+ghost use Rattle.std.specs.Option.{option_map};
+ghost use Rattle.ldscript_terms.specs.Matching.{exact_name};
+ghost use Rattle.ldscript_terms.specs.Parts.{IsPlace, Part, part_of};
+ghost use Rattle.ldscript_terms.specs.Spelling.{Spells};
+ghost use Rattle.ldscript_terms.specs.Trying.{BeginsWith, EndsHere, IsSpelled};
+
+use crate::front::front;
+use crate::part::CodePart;
+use std::alloc::{AllocError, Global};
+
+/// A word from a byte on.
+fn word_from(word: &[u8], at: usize) -> &[u8]
+    requires { at ≤ length word.now }
+    ensures { result.now ≡ drop at word.now }
+{
+    &word[at..]
+}
+
+/// The part that a word begins with, and what follows it; `None` where the word has ended, or spells no pattern.
+pub fn first_part(word: &[u8]) -> Option<(CodePart, &[u8])>
+    ensures value { MatchOption result (EndsHere word.now) (λ x. BeginsWith word.now (part_of word.now x.0) x.1.now) }
+    ensures within { IfSome result (λ x. IsPlace (length word.now) x.0 × (length x.1.now < length word.now)) }
+{
+    if word.is_empty() {
+        return None;
+    }
+    match front(word) {
+        Some(spelled) => Some((spelled.part, word_from(word, spelled.count))),
+        None => None,
+    }
+}
+
+/// Whether these are the same bytes.
+pub fn is_same(left: &[u8], right: &[u8]) -> bool
+    ensures { IsTrue result ↔ left.now ≡ right.now }
+{
+    left == right
+}
+
+/// Whether a word is `*` alone.
+pub fn is_star(word: &[u8]) -> bool
+    ensures { IsTrue result ↔ word.now ≡ 42 ∷ [] }
+{
+    matches!(word, [b'*'])
+}
+
+/// Whether a word spells a pattern.
+pub fn is_spelled(word: &[u8]) -> bool
+    ensures { IsTrue result ↔ IsSpelled word.now }
+{
+    let mut rest = word;
+    while let Some((_, more)) = first_part(rest) {
+        rest = more;
+    }
+    rest.is_empty()
+}
+
+/// The bytes of the pattern that a word spells, if it has bytes alone.
+pub fn exact_bytes(alloc: Global, word: &[u8]) -> Result<Option<Vec<u8>>, AllocError>
+    ensures { IfOk result (λ r. (ps : List Part) → Spells ps word.now → option_map (λ v. v.items) r ≡ exact_name ps) }
+{
+    let mut bytes = Vec::new(alloc);
+    let mut rest = word;
+    while let Some((part, more)) = first_part(rest) {
+        match part.byte() {
+            Some(b) => bytes.push(b)?,
+            None => return Ok(None),
+        }
+        rest = more;
+    }
+    Ok(Some(bytes))
+}

@@ -1,0 +1,6 @@
+use Rattle.std.proofs.Common.{◌≡◌, ◌≤◌, take}
+use Rattle.ldscript_tokens.specs.Modes.{line_feeds}
+use Rattle.ldscript_tokens.proofs.lexer.line_feeds.Given as goal
+
+abbrev pub invariant-loop-byte : goal.invariant-loop-byte
+invariant-loop-byte l = (l.count ≡ line_feeds (take l.byte-index l.bytes)) × (l.count ≤ l.byte-index)

@@ -1,0 +1,331 @@
+//! What stands at the front of a text.
+
+ghost use Rattle.std.specs.Prelude.{◌≡◌, ◌<◌, ◌≤◌, ◌+◌, true, length, drop, slice_index, IfSome, ◌==◌};
+ghost use Rattle.ldscript_tokens.specs.Bytes.{is_name_start, is_name_byte, is_octal_digit, is_decimal_digit, is_hex_digit};
+ghost use Rattle.ldscript_tokens.specs.Bytes.{is_text_byte, run_length};
+ghost use Rattle.ldscript_tokens.specs.Tokens.{front_of, IsAdvance, is_hex, digits_length, number_length, name_length};
+ghost use Rattle.ldscript_tokens.specs.Tokens.{name_front, number_front, text_front, star_slash, comment_front, mark_front};
+ghost use Rattle.ldscript_tokens.specs.Tokens.{expression_front, word_length, word_front, pattern_front, front};
+
+use super::bytes::{
+    byte_at, is_decimal_digit, is_graphic, is_hex_digit, is_name_byte, is_name_start,
+    is_octal_digit, is_space, is_text_byte, is_word_byte,
+};
+use super::marks::longest_mark;
+use super::token::{Mode, TokenKind};
+
+/// The name of what is left out, a token by itself.
+const DISCARD: &[u8] = b"/DISCARD/";
+
+/// A token at the front of a text. Places are counted from there.
+#[derive(Clone, Copy, Debug, PartialEq, Eq)]
+pub struct FrontToken {
+    /// What it is.
+    pub kind: TokenKind,
+    /// The index of its first byte; of a text in double quotes, of the first byte between them.
+    pub start: usize,
+    /// The index after its last byte, and at least `start`.
+    pub end: usize,
+}
+
+/// What stands at the front of a text. Places are counted from there.
+#[derive(Clone, Copy, Debug, PartialEq, Eq)]
+pub enum Ahead {
+    /// The end of the text.
+    Finished,
+    /// This number of bytes of white space or comment.
+    Space(usize),
+    /// A token, and how many bytes it takes with its quotes.
+    Found(FrontToken, usize),
+    /// Bytes that begin no token.
+    Unknown,
+}
+
+/// A token of the first `length` bytes.
+fn whole(kind: TokenKind, length: usize) -> Ahead
+    ensures { result ≡ Ahead.Found (record { kind = kind; start = 0; end = length }) length }
+{
+    Ahead::Found(
+        FrontToken {
+            kind,
+            start: 0,
+            end: length,
+        },
+        length,
+    )
+}
+
+/// How long a run of bytes of a name stands at the front.
+fn name_run(text: &[u8]) -> usize
+    ensures value { result ≡ run_length is_name_byte text.now }
+    ensures within { result ≤ length text.now }
+{
+    text.iter().take_while(|b| is_name_byte(**b)).count()
+}
+
+/// How long a run of hex digits stands at the front.
+fn hex_run(text: &[u8]) -> usize
+    ensures value { result ≡ run_length is_hex_digit text.now }
+    ensures within { result ≤ length text.now }
+{
+    text.iter().take_while(|b| is_hex_digit(**b)).count()
+}
+
+/// How long a run of octal digits stands at the front.
+fn octal_run(text: &[u8]) -> usize
+    ensures value { result ≡ run_length is_octal_digit text.now }
+    ensures within { result ≤ length text.now }
+{
+    text.iter().take_while(|b| is_octal_digit(**b)).count()
+}
+
+/// How long a run of decimal digits stands at the front.
+fn decimal_run(text: &[u8]) -> usize
+    ensures value { result ≡ run_length is_decimal_digit text.now }
+    ensures within { result ≤ length text.now }
+{
+    text.iter().take_while(|b| is_decimal_digit(**b)).count()
+}
+
+/// How long a run of bytes that may stand between quotes stands at the front.
+fn text_run(text: &[u8]) -> usize
+    ensures value { result ≡ run_length is_text_byte text.now }
+    ensures within { result ≤ length text.now }
+{
+    text.iter().take_while(|b| is_text_byte(**b)).count()
+}
+
+/// How long the name at the front is: no name begins with `.-`.
+fn name_length(text: &[u8]) -> usize
+    requires { 0 < length text.now }
+    ensures value { result ≡ name_length text.now }
+    ensures within { result ≤ length text.now }
+{
+    if text.len() > 1 && text[0] == b'.' && text[1] == b'-' {
+        1
+    } else {
+        name_run(text)
+    }
+}
+
+/// A name, where a byte stands that begins one.
+#[tactic(auto, unfolding(crate::specs::Tokens::name_front))]
+fn name_front(text: &[u8]) -> Ahead
+    requires { is_name_start (slice_index text.now 0) ≡ true }
+    ensures value { front_of text.now result ≡ name_front text.now }
+    ensures advance { IsAdvance (length text.now) result }
+{
+    whole(TokenKind::Name, name_length(text))
+}
+
+/// Whether `0x` or `0X` and a hex digit stand at the front.
+pub fn is_hex(text: &[u8]) -> bool
+    ensures value { result ≡ is_hex text.now }
+    ensures within { result ≡ true → 2 < length text.now }
+{
+    byte_at(text, 0) == b'0'
+        && matches!(byte_at(text, 1), b'x' | b'X')
+        && is_hex_digit(byte_at(text, 2))
+}
+
+/// How many bytes a number's digits take, with a `0x` before them.
+#[tactic(auto, unfolding(crate::specs::Tokens::digits_length))]
+pub fn digits_length(text: &[u8]) -> usize
+    ensures value { result ≡ digits_length text.now }
+    ensures within { result ≤ length text.now }
+    ensures hex { is_hex text.now ≡ true → 2 ≤ result }
+{
+    if is_hex(text) {
+        2 + hex_run(&text[2..])
+    } else if byte_at(text, 0) == b'0' {
+        octal_run(text)
+    } else {
+        decimal_run(text)
+    }
+}
+
+/// How many bytes a number takes with its suffix.
+fn number_length(text: &[u8]) -> usize
+    ensures value { result ≡ number_length text.now }
+    ensures within { result ≤ length text.now }
+{
+    let digits = digits_length(text);
+    if matches!(byte_at(text, digits), b'K' | b'M') {
+        digits + 1
+    } else {
+        digits
+    }
+}
+
+/// A number, where a digit stands: none that a byte of a name other than `-` follows.
+#[tactic(auto, unfolding(crate::specs::Tokens::number_front))]
+fn number_front(text: &[u8]) -> Ahead
+    requires { is_decimal_digit (slice_index text.now 0) ≡ true }
+    ensures value { front_of text.now result ≡ number_front text.now }
+    ensures advance { IsAdvance (length text.now) result }
+{
+    let length = number_length(text);
+    let after = byte_at(text, length);
+    if is_name_byte(after) && after != b'-' {
+        Ahead::Unknown
+    } else {
+        whole(TokenKind::Number, length)
+    }
+}
+
+/// A text in double quotes, where the first of them stands.
+#[tactic(auto, unfolding(crate::specs::Tokens::text_front))]
+fn text_front(text: &[u8]) -> Ahead
+    requires { 0 < length text.now }
+    ensures value { front_of text.now result ≡ text_front text.now }
+    ensures advance { IsAdvance (length text.now) result }
+{
+    let length = text_run(&text[1..]);
+    if byte_at(text, length + 1) == b'"' {
+        let content = FrontToken {
+            kind: TokenKind::Text,
+            start: 1,
+            end: length + 1,
+        };
+        Ahead::Found(content, length + 2)
+    } else {
+        Ahead::Unknown
+    }
+}
+
+/// How many bytes stand before the first `*/`.
+fn star_slash(text: &[u8]) -> Option<usize>
+    ensures value { result ≡ star_slash text.now }
+    ensures within { IfSome result (λ n. n + 2 ≤ length text.now) }
+{
+    for (i, b) in text.iter().enumerate() {
+        if *b == b'*' && byte_at(text, i + 1) == b'/' {
+            return Some(i);
+        }
+    }
+    None
+}
+
+/// A comment, where `/*` stands.
+#[tactic(auto, unfolding(crate::specs::Tokens::comment_front))]
+fn comment_front(text: &[u8]) -> Ahead
+    requires { 2 ≤ length text.now }
+    ensures value { front_of text.now result ≡ comment_front text.now }
+    ensures advance { IsAdvance (length text.now) result }
+{
+    match star_slash(&text[2..]) {
+        Some(n) => Ahead::Space(n + 4),
+        None => Ahead::Unknown,
+    }
+}
+
+/// A mark outside patterns.
+#[tactic(auto, unfolding(crate::specs::Tokens::mark_front))]
+fn mark_front(text: &[u8]) -> Ahead
+    requires { 0 < length text.now }
+    ensures value { front_of text.now result ≡ mark_front text.now }
+    ensures advance { IsAdvance (length text.now) result }
+{
+    match longest_mark(Mode::Expression, text) {
+        Some(ahead) => whole(TokenKind::Punctuation(ahead.mark), ahead.length),
+        None => Ahead::Unknown,
+    }
+}
+
+/// What stands at the front outside patterns, where it is no white space or comment.
+#[tactic(auto, unfolding(crate::specs::Tokens::expression_front))]
+fn expression_front(text: &[u8]) -> Ahead
+    requires { 0 < length text.now }
+    ensures value { front_of text.now result ≡ expression_front text.now }
+    ensures advance { IsAdvance (length text.now) result }
+{
+    let first = byte_at(text, 0);
+    if is_name_start(first) {
+        name_front(text)
+    } else if is_decimal_digit(first) {
+        number_front(text)
+    } else if first == b'"' {
+        text_front(text)
+    } else if text.starts_with(DISCARD) {
+        whole(TokenKind::Discard, DISCARD.len())
+    } else {
+        mark_front(text)
+    }
+}
+
+/// How many bytes the first byte or pair of a word takes, 0 where none stands.
+fn word_step(text: &[u8]) -> usize
+    ensures none { result ≡ 0 → word_length text.now ≡ 0 }
+    ensures some { 0 < result → word_length text.now ≡ result + word_length (drop result text.now) }
+    ensures within { result ≤ length text.now }
+{
+    if is_word_byte(byte_at(text, 0)) {
+        1
+    } else if byte_at(text, 0) == b'\\' && is_graphic(byte_at(text, 1)) {
+        2
+    } else {
+        0
+    }
+}
+
+/// How many bytes the word at the front takes, 0 where none stands.
+fn word_length(text: &[u8]) -> usize
+    ensures value { result ≡ word_length text.now }
+    ensures within { result ≤ length text.now }
+{
+    let mut length = 0;
+    loop {
+        let step = word_step(&text[length..]);
+        if step == 0 {
+            return length;
+        }
+        length += step;
+    }
+}
+
+/// A word.
+#[tactic(auto, unfolding(crate::specs::Tokens::word_front))]
+fn word_front(text: &[u8]) -> Ahead
+    ensures value { front_of text.now result ≡ word_front text.now }
+    ensures advance { IsAdvance (length text.now) result }
+{
+    match word_length(text) {
+        0 => Ahead::Unknown,
+        length => whole(TokenKind::Word, length),
+    }
+}
+
+/// What stands at the front in patterns, where it is no white space or comment.
+#[tactic(auto, unfolding(crate::specs::Tokens::pattern_front))]
+fn pattern_front(text: &[u8]) -> Ahead
+    requires { 0 < length text.now }
+    ensures value { front_of text.now result ≡ pattern_front text.now }
+    ensures advance { IsAdvance (length text.now) result }
+{
+    match longest_mark(Mode::Pattern, text) {
+        Some(ahead) => whole(TokenKind::Punctuation(ahead.mark), ahead.length),
+        None => word_front(text),
+    }
+}
+
+/// What stands at the front of a text that is read in a mode.
+#[tactic(auto, unfolding(crate::specs::Tokens::front))]
+pub fn front(mode: Mode, text: &[u8]) -> Ahead
+    ensures value { front_of text.now result ≡ front mode text.now }
+    ensures advance { IsAdvance (length text.now) result }
+{
+    if text.is_empty() {
+        return Ahead::Finished;
+    }
+    let first = byte_at(text, 0);
+    if is_space(first) {
+        Ahead::Space(1)
+    } else if first == b'/' && byte_at(text, 1) == b'*' {
+        comment_front(text)
+    } else {
+        match mode {
+            Mode::Expression => expression_front(text),
+            Mode::Pattern => pattern_front(text),
+        }
+    }
+}

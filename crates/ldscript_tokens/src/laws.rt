@@ -1,0 +1,11 @@
+//! What holds of the definitions.
+
+ghost use Rattle.std.specs.Prelude.{◌≡◌, ℕ, List};
+ghost use Rattle.ldscript_tokens.specs.Tokens.{Lexeme};
+ghost use Rattle.ldscript_tokens.specs.Modes.{IsCut};
+
+/// No text has two cuts.
+#[tactic(auto, using(crate::proofs::Cut::one_cut))]
+pub fn one_cut()
+    ensures { (text : List ℕ) (ls ms : List Lexeme) → IsCut text ls → IsCut text ms → ls ≡ ms }
+{}

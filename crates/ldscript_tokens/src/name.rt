@@ -1,0 +1,78 @@
+//! Names and words that are kept.
+
+ghost use Rattle.std.specs.Prelude.{◌≡◌, ◌≤◌, IfOk, length};
+ghost use Rattle.ldscript_tokens.specs.Names.{kept, IsKept};
+
+use std::alloc::{AllocError, Global};
+use std::marker::Model;
+
+/// The greatest length of a name that lies in its value itself, in bytes.
+const MAX_INLINE: usize = 14;
+
+/// Where the bytes of a name lie. Most names are short, and a script may have a million of them, so that a name takes
+/// no more than 16 bytes and none on the heap.
+#[derive(Drop)]
+enum NameBytes {
+    /// Here: this number of these bytes.
+    Inline(u8, [u8; MAX_INLINE]),
+    /// On the heap.
+    Heap(Box<Vec<u8>>),
+}
+
+/// Bytes that a script gives: a name, a word, or the text of a message.
+#[derive(Drop)]
+pub struct ScriptName {
+    bytes: NameBytes,
+}
+
+impl Model for ScriptName {
+    ghost use Rattle.std.specs.Prelude.{ℕ, List};
+    ghost use Rattle.ldscript_tokens.specs.Names.{kept, IsKept};
+
+    ghost Value = { List ℕ };
+
+    ghost view = { λ n. kept n.bytes };
+
+    ghost invariant = { λ n. IsKept n.bytes };
+}
+
+/// The bytes, in a value of their own.
+fn inline(bytes: &[u8]) -> NameBytes
+    requires { length bytes.now ≤ 14 }
+    ensures value { kept result ≡ bytes.now }
+    ensures fits { IsKept result }
+{
+    let mut kept = [0; MAX_INLINE];
+    kept[..bytes.len()].copy_from_slice(bytes);
+    NameBytes::Inline(bytes.len() as u8, kept)
+}
+
+impl ScriptName {
+    /// A copy of these bytes.
+    ///
+    /// # Errors
+    ///
+    /// Where memory runs out.
+    pub fn new(alloc: Global, bytes: &[u8]) -> Result<ScriptName, AllocError>
+        ensures { IfOk result (λ n. n ≡ bytes.now) }
+    {
+        if bytes.len() <= MAX_INLINE {
+            return Ok(ScriptName {
+                bytes: inline(bytes),
+            });
+        }
+        let bytes = Vec::from_slice(alloc, bytes)?;
+        let bytes = NameBytes::Heap(Box::new(alloc, bytes)?);
+        Ok(ScriptName { bytes })
+    }
+
+    /// The bytes.
+    pub fn as_bytes(&self) -> &[u8]
+        ensures { result.now ≡ self.now }
+    {
+        match &self.bytes {
+            NameBytes::Inline(length, bytes) => &bytes[..usize::from(*length)],
+            NameBytes::Heap(bytes) => bytes.as_slice(),
+        }
+    }
+}

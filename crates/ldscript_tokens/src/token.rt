@@ -1,0 +1,138 @@
+//! Tokens of a script, as they lie in its text.
+
+ghost use Rattle.std.specs.Prelude.{◌≡◌, length, slice_range};
+ghost use Rattle.ldscript_tokens.specs.Modes.{IsPlace};
+
+/// How the text is read where a token begins: as an expression, or as patterns of names.
+#[derive(Clone, Copy, Debug, PartialEq, Eq)]
+pub enum Mode {
+    /// Names, numbers, texts and operators.
+    Expression,
+    /// Words that may have pattern signs, as inside an output section.
+    Pattern,
+}
+
+/// The marks of the script language.
+#[derive(Clone, Copy, Debug, PartialEq, Eq)]
+pub enum Mark {
+    /// `(`
+    OpenParenthesis,
+    /// `)`
+    CloseParenthesis,
+    /// `{`
+    OpenBrace,
+    /// `}`
+    CloseBrace,
+    /// `;`
+    Semicolon,
+    /// `:`
+    Colon,
+    /// `,`
+    Comma,
+    /// `=`
+    Assign,
+    /// `+=`
+    AddAssign,
+    /// `!`
+    Not,
+    /// `-`
+    Minus,
+    /// `~`
+    Complement,
+    /// `*`
+    Star,
+    /// `/`
+    Slash,
+    /// `%`
+    Percent,
+    /// `+`
+    Plus,
+    /// `<<`
+    ShiftLeft,
+    /// `>>`
+    ShiftRight,
+    /// `<`
+    Less,
+    /// `<=`
+    LessOrEqual,
+    /// `>`
+    Greater,
+    /// `>=`
+    GreaterOrEqual,
+    /// `==`
+    Equal,
+    /// `!=`
+    NotEqual,
+    /// `&`
+    And,
+    /// `&&`
+    AndAnd,
+    /// `|`
+    Or,
+    /// `||`
+    OrOr,
+    /// `?`
+    Question,
+}
+
+/// What kind of token it is.
+#[derive(Clone, Copy, Debug, PartialEq, Eq)]
+pub enum TokenKind {
+    /// A name, or `.`.
+    Name,
+    /// A number with its suffix.
+    Number,
+    /// Bytes in double quotes.
+    Text,
+    /// `/DISCARD/` outside a pattern.
+    Discard,
+    /// A word in which pattern signs may stand.
+    Word,
+    /// A mark.
+    Punctuation(Mark),
+}
+
+/// A token by its place in a text. A text may have as many tokens as bytes, so it takes 16 bytes.
+#[derive(Clone, Copy, Debug, PartialEq, Eq)]
+pub struct CodeToken {
+    /// What it is.
+    pub kind: TokenKind,
+    /// The index of its first byte; of a text in double quotes, of the first byte between them.
+    pub start: u32,
+    /// The index after its last byte, and at least `start`.
+    pub end: u32,
+    /// The line in the text, from 1.
+    pub line: u32,
+}
+
+impl CodeToken {
+    /// The bytes of the token.
+    pub fn bytes<'a>(&self, text: &'a [u8]) -> &'a [u8]
+        requires { IsPlace (length text.now) self.now }
+        ensures { result.now ≡ slice_range text.now self.now.start self.now.end }
+    {
+        &text[self.start as usize..self.end as usize]
+    }
+}
+
+/// A stretch of an output section's body that is read as an expression.
+#[derive(Clone, Copy, Debug, PartialEq, Eq)]
+pub enum ExpressionStretch {
+    /// None.
+    Closed,
+    /// None yet, but a `(` right here begins one.
+    Awaited,
+    /// Up to and with the next `;`.
+    ToSemicolon,
+    /// Up to and with the `)` that closes the last of this number of open parentheses.
+    ToParenthesis(usize),
+}
+
+/// What the mode depends on: how many braces are open, and the stretch.
+#[derive(Clone, Copy, Debug, PartialEq, Eq)]
+pub struct LexState {
+    /// `{` less `}` so far; a `}` at 0 leaves it at 0.
+    pub depth: usize,
+    /// The stretch that is open here.
+    pub stretch: ExpressionStretch,
+}

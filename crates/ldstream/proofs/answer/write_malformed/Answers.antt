@@ -1,5 +1,0 @@
-use Rattle.ldstream.proofs.StreamWriting.{Writes-kept}
-use Rattle.ldstream.proofs.answer.write_malformed.Goals as goal
-
-pub returns-clause-text : goal.returns-clause-text
-returns-clause-text g c = Writes-kept _ _ _ _ _ c.in_ok-write_all.ensures.ok c.flush.ensures.bytes

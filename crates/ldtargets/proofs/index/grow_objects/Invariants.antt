@@ -1,9 +1,0 @@
-use Rattle.std.proofs.Common.{◌≡◌, ◌+◌, ◌-◌, ℕ, vec_len}
-use Rattle.ldtargets.specs.Index.{spots_at}
-use Rattle.ldtargets.proofs.index.grow_objects.Given as goal
-
-abbrev pub invariant-loop-alloc : goal.invariant-loop-alloc
-invariant-loop-alloc l = (o : ℕ) → spots_at l.objects.items o ≡ spots_at l.initial.objects.items o
-
-abbrev pub decreases-loop-alloc : goal.decreases-loop-alloc
-decreases-loop-alloc l = l.object + 1 - vec_len l.objects

@@ -1,9 +1,0 @@
-use Rattle.ldtargets.specs.Earlier.{good_link}
-use Rattle.ldtargets.proofs.Patching.{each_patch}
-use Rattle.ldtargets.proofs.law.patches_are_fields.Goals as goal
-
-pub returns : goal.returns
-returns c =
-    λ old l range a b h none profile placed.
-    each_patch old l range (c.sites_by_piece.ensures.same l.project l.layout placed)
-    (λ x among stays. (c.stayed_in_both.ensures.stayed old (good_link l) x).1 (among, stays)) profile a b none h

@@ -1,5 +1,0 @@
-use Rattle.ldterms.proofs.Reading.{only_pattern}
-use Rattle.ldterms.proofs.pattern.Pattern.read.Goals as goal
-
-pub returns : goal.returns
-returns c = only_pattern _ _ c.in_ok-form.ensures.spelled

@@ -1,8 +1,0 @@
--- Three numbers, each in its place.
-use Rattle.std.proofs.Common.{refl}
-use Rattle.ldmodel.specs.Lines.{hex}
-use Rattle.ldtext.proofs.map_line.section_numbers.Goals as goal
-
-pub returns : goal.returns
-unfolding hex
-returns c = rw (c.hex_digits-start.ensures, c.hex_digits-load.ensures, c.hex_digits-size.ensures) refl

@@ -1,7 +1,0 @@
-use Rattle.std.proofs.Common.{◌≡◌, ◌+◌, drop}
-use Rattle.std.specs.Option.{option_map}
-use Rattle.ldtokens.specs.Tokens.{star_slash}
-use Rattle.ldtokens.proofs.front.star_slash.Given as goal
-
-abbrev pub invariant-loop-i : goal.invariant-loop-i
-invariant-loop-i l = star_slash l.text ≡ option_map (λ n. n + l.i) (star_slash (drop l.i l.text))

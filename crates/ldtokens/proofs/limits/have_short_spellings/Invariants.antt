@@ -1,8 +1,0 @@
-use Rattle.std.proofs.Common.{take}
-use Rattle.std.specs.List.{All}
-use Rattle.ldtokens.specs.Tokens.{token_of}
-use Rattle.ldtokens.specs.Limits.{HasShortSpelling}
-use Rattle.ldtokens.proofs.limits.have_short_spellings.Given as goal
-
-abbrev pub invariant-loop-token : goal.invariant-loop-token
-invariant-loop-token l = All (λ t. HasShortSpelling (token_of l.text t)) (take l.token-index l.tokens)

@@ -1,8 +1,0 @@
-use Rattle.std.proofs.Common.{◌≡◌, ◌<◌, ◌^◌, drop}
-use Rattle.ldtokens.specs.Numbers.{value_in}
-use Rattle.ldtokens.proofs.Digits.{more_digits}
-use Rattle.ldtokens.proofs.number.value_in.Given as goal
-
-abbrev pub invariant-loop-digit : goal.invariant-loop-digit
-invariant-loop-digit l = (value_in l.base l.digits ≡ more_digits l.base l.value (drop l.digit-index l.digits))
-    × (l.value < 2 ^ 64)

@@ -1,9 +1,0 @@
--- What is listed, with what is still to be listed, is all.
-use Rattle.std.proofs.Common.{◌≡◌, ◌++◌, drop}
-use Rattle.ldtree.specs.Mentions.{in_items}
-use Rattle.ldtree.specs.Listed.{shown}
-use Rattle.ldtree.proofs.mention.note_items.Given as goal
-
-abbrev pub invariant-loop-item : goal.invariant-loop-item
-invariant-loop-item l = shown l.list.items ++ in_items
-    (drop l.item-index l.items) ≡ shown l.initial.list.items ++ in_items l.items

@@ -1,9 +1,0 @@
--- What is listed, with what is still to be listed, is all.
-use Rattle.std.proofs.Common.{◌≡◌, ◌++◌, drop}
-use Rattle.ldtree.specs.Mentions.{in_regions}
-use Rattle.ldtree.specs.Listed.{shown}
-use Rattle.ldtree.proofs.mention.note_regions.Given as goal
-
-abbrev pub invariant-loop-region : goal.invariant-loop-region
-invariant-loop-region l = shown l.list.items ++ in_regions
-    (drop l.region-index l.regions) ≡ shown l.initial.list.items ++ in_regions l.regions

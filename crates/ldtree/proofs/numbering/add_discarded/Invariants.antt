@@ -1,9 +1,0 @@
--- What is listed, with what is still to be listed, is all.
-use Rattle.std.proofs.Common.{◌≡◌, ◌++◌, drop}
-use Rattle.ldtree.specs.Numbering.{discarded_inputs}
-use Rattle.ldtree.specs.Numbered.{shown_inputs}
-use Rattle.ldtree.proofs.numbering.add_discarded.Given as goal
-
-abbrev pub invariant-loop-statement : goal.invariant-loop-statement
-invariant-loop-statement l = shown_inputs l.list.items ++ discarded_inputs
-    (drop l.statement-index l.inputs) ≡ shown_inputs l.initial.list.items ++ discarded_inputs l.inputs

@@ -1,8 +1,0 @@
--- What is listed, with what is still to be listed, is all.
-use Rattle.std.proofs.Common.{◌≡◌, ◌++◌, drop}
-use Rattle.ldtree.specs.Numbered.{shown_regions}
-use Rattle.ldtree.proofs.numbering.add_regions.Given as goal
-
-abbrev pub invariant-loop-region : goal.invariant-loop-region
-invariant-loop-region l = shown_regions l.list.items ++ (drop l.region-index l.these) ≡ shown_regions
-    l.initial.list.items ++ l.these

@@ -1,9 +1,0 @@
--- What is listed, with what is still to be listed, is all.
-use Rattle.std.proofs.Common.{◌≡◌, ◌++◌, drop}
-use Rattle.ldtree.specs.Numbering.{regions}
-use Rattle.ldtree.specs.Numbered.{shown_regions}
-use Rattle.ldtree.proofs.numbering.regions.Given as goal
-
-abbrev pub invariant-loop-statement : goal.invariant-loop-statement
-invariant-loop-statement l = shown_regions l.list.items ++ regions
-    (drop l.statement-index l.statements) ≡ shown_regions l.initial.list.items ++ regions l.statements

@@ -1,9 +1,0 @@
--- What is listed, with what is still to be listed, is all.
-use Rattle.std.proofs.Common.{◌≡◌, ◌++◌, drop}
-use Rattle.ldtree.specs.Numbering.{sections_in}
-use Rattle.ldtree.specs.Numbered.{shown_sections, shown_items}
-use Rattle.ldtree.proofs.numbering.sections_of_items.Given as goal
-
-abbrev pub invariant-loop-item : goal.invariant-loop-item
-invariant-loop-item l = shown_sections l.list.items ++ sections_in
-    (shown_items (drop l.item-index l.items)) ≡ shown_sections l.initial.list.items ++ sections_in (shown_items l.items)

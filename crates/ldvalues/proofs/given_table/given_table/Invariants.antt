@@ -1,6 +1,0 @@
-use Rattle.ldvalues.proofs.Giving.{Noted}
-use Rattle.ldvalues.proofs.given_table.given_table.Given as goal
-
--- the commands before this one are noted
-abbrev pub invariant-loop-at : goal.invariant-loop-at
-invariant-loop-at l = Noted l.naming l.values l.at-index l.table.items

@@ -1,6 +1,0 @@
-use Rattle.std.proofs.Common.{◌≡◌, map, string_bytes, take}
-use Rattle.clap.specs.Walk.{texts}
-use Rattle.ldwords.proofs.values.copies.Given as goal
-
-abbrev pub invariant-loop-name : goal.invariant-loop-name
-invariant-loop-name l = map string_bytes l.copies.items ≡ texts (take l.name-index l.names)

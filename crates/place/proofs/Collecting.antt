@@ -1,0 +1,82 @@
+-- Entries that are collected one by one and row by row.
+use Rattle.std.proofs.Common.{◌≡◌, ◌<◌, ◌≤◌, ◌+◌, ◌⊎◌, inl, inr, ℕ, suc, refl, sym, ap, ◌∙◌, arith, min, Vec, Global}
+use Rattle.std.proofs.Common.{List, [], ◌∷◌, ◌++◌, length, get_or, drop, map}
+use Rattle.std.proofs.Math.ListN.{drop_of_length-le}
+use Rattle.std.proofs.Math.Seq.{drop-cons}
+use Rattle.std.proofs.lemmas.Bool.{cases_lt}
+use Rattle.std.proofs.lemmas.List.{append_assoc}
+use Rattle.std.specs.List.{zip}
+use Rattle.ldmodel.specs.declared.rows.Piece.{Piece}
+use Rattle.place.specs.Entries.{all_entries, entry_of, row_entries}
+use Rattle.place.specs.declared.entry.Entry.{Entry}
+
+-- one more of a row
+pub row_more : (n k : ℕ) (row : List Piece) (starts : List ℕ) (xs all : List Entry) (x : Piece) (t : ℕ)
+    → k < length row → k < length starts → x ≡ get_or row k x → t ≡ get_or starts k t
+    → xs ++ row_entries n (drop k row) (drop k starts) ≡ all
+    → (xs ++ entry_of n (x, t) ∷ []) ++ row_entries n (drop (k + 1) row) (drop (k + 1) starts) ≡ all
+row_more n k row starts xs all x t h l e f before =
+    append_assoc xs (entry_of n (x, t) ∷ []) (row_entries n (drop (k + 1) row) (drop (k + 1) starts))
+    ∙ ap (λ l. xs ++ l) (sym split) ∙ before
+  where
+    next : (k + 1) ≡ suc k
+    next = omega arith
+
+    first : drop k row ≡ x ∷ drop (k + 1) row
+    first = drop-cons row k x h ∙ ap (λ y. y ∷ drop (suc k) row) (sym e) ∙ ap (λ j. x ∷ drop j row) (sym next)
+
+    second : drop k starts ≡ t ∷ drop (k + 1) starts
+    second = drop-cons starts k t l ∙ ap (λ y. y ∷ drop (suc k) starts) (sym f) ∙ ap (λ j. t ∷ drop j starts) (sym next)
+
+    split : row_entries n (drop k row) (drop k starts)
+        ≡ entry_of n (x, t) ∷ row_entries n (drop (k + 1) row) (drop (k + 1) starts)
+    split = ap (λ r. row_entries n r (drop k starts)) first ∙ ap (row_entries n (x ∷ drop (k + 1) row)) second
+
+zip_none : (row : List Piece) → zip {X = ℕ} row [] ≡ []
+zip_none [] = refl
+zip_none (x ∷ row) = refl
+
+-- all of a row
+pub row_whole : (n k : ℕ) (row : List Piece) (starts : List ℕ) (xs all : List Entry)
+    → k ≡ min (length row) (length starts) → xs ++ row_entries n (drop k row) (drop k starts) ≡ all → xs ≡ all
+row_whole n k row starts xs all end before =
+    sym (append_nil xs) ∙ ap (λ l. xs ++ l) (sym (none (cases_lt k (length row)))) ∙ before
+  where
+    append_nil : (xs : List Entry) → xs ++ [] ≡ xs
+    append_nil [] = refl
+    append_nil (x ∷ xs) = ap (λ l. x ∷ l) (append_nil xs)
+
+    none : (k < length row) ⊎ (length row ≤ k) → row_entries n (drop k row) (drop k starts) ≡ []
+    none (inr h) = ap (λ r. row_entries n r (drop k starts)) (drop_of_length-le row h)
+    none (inl l) =
+        let h : length starts ≤ k = omega arith in
+        ap (row_entries n (drop k row)) (drop_of_length-le starts h) ∙ ap (map (entry_of n)) (zip_none (drop k row))
+
+-- what is left after a row
+drop_at_most : (n : ℕ) (xs : List ℕ) → drop (min n (length xs)) xs ≡ drop n xs
+drop_at_most n xs = go (cases_lt n (length xs))
+  where
+    go : (n < length xs) ⊎ (length xs ≤ n) → drop (min n (length xs)) xs ≡ drop n xs
+    go (inl h) = let e : min n (length xs) ≡ n = omega arith in ap (λ k. drop k xs) e
+    go (inr h) =
+        let e : length xs ≤ min n (length xs) = omega arith in
+        drop_of_length-le xs e ∙ sym (drop_of_length-le xs h)
+
+-- one more row
+pub rows_more : (i : ℕ) (rows : List (Vec Piece Global)) (left : List ℕ) (xs all : List Entry)
+    (row : Vec Piece Global) → i < length rows → row ≡ get_or rows i row
+    → xs ++ all_entries i (drop i rows) left ≡ all
+    → (xs ++ row_entries i row.items left)
+    ++ all_entries (i + 1) (drop (i + 1) rows) (drop (min (length row.items) (length left)) left) ≡ all
+rows_more i rows left xs all row h e before =
+    append_assoc xs (row_entries i row.items left)
+    (all_entries (i + 1) (drop (i + 1) rows) (drop (min (length row.items) (length left)) left))
+    ∙ ap (λ l. xs ++ (row_entries i row.items left ++ all_entries (i + 1) (drop (i + 1) rows) l))
+    (drop_at_most (length row.items) left)
+    ∙ ap (λ r. xs ++ all_entries i r left) (sym first) ∙ before
+  where
+    next : (i + 1) ≡ suc i
+    next = omega arith
+
+    first : drop i rows ≡ row ∷ drop (i + 1) rows
+    first = drop-cons rows i row h ∙ ap (λ y. y ∷ drop (suc i) rows) (sym e) ∙ ap (λ j. row ∷ drop j rows) (sym next)

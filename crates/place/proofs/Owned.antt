@@ -1,0 +1,147 @@
+-- Each input section in the output is of an object of the project.
+use Rattle.std.proofs.Common.{◌≡◌, ◌∙◌, ◌<◌, ℕ, Bool, true, false, cond, not, sym, subst, refl, arith, ◌+◌}
+use Rattle.std.proofs.Common.{List, [], ◌∷◌, length, filter, flat_map}
+use Rattle.std.specs.List.{Contains, enumerate_from, list_any, range_with_len}
+use Rattle.std.proofs.lemmas.Bool.{eqb-false, true≢false}
+use Rattle.ldscript.specs.statements.Numbering.{InputStatementAt, input_statements, output_sections}
+use Rattle.ldmodel.specs.FileLayout.{Each}
+use Rattle.ldmodel.specs.Gathering.{candidates, is_out}
+use Rattle.ldmodel.specs.InputSections.{input_sections}
+use Rattle.ldmodel.specs.Live.{live}
+use Rattle.ldmodel.specs.Project.{NamedObject, Project}
+use Rattle.ldmodel.specs.Rows.{Piece, below, is_in_section, is_taken_by, piece_of, pieces_in, row, rows, sorted_pieces}
+use Rattle.ldmodel.specs.Rows.{taken}
+use Rattle.ldmodel.specs.Sections.{InputSection}
+use Rattle.ldmodel.specs.declared.sections.Part.{Part}
+use Rattle.ldmodel.specs.Sorting.{insert_by, sort_by}
+use Rattle.place.proofs.Lists.{each_filter, each_into_map}
+use Rattle.ldmodel_project.specs.Inputs.{shown_input, shown_inputs}
+use Rattle.ldmodel_project.specs.declared.input.InputObject.{InputObject}
+use Rattle.gather.specs.sections.OfObjects.{IsOfObject}
+use Rattle.place.specs.InPlace.{IsOwned, has_no_name}
+use Rattle.place.proofs.Members.{Comes, any_in, each_join, got, here, in_map, later}
+
+-- ---- lists
+
+each_always : {X : Type 0} (P : X → Type 0) → ((x : X) → P x) → (xs : List X) → Each P xs
+each_always P h [] = tt
+each_always P h (x ∷ xs) = (h x, each_always P h xs)
+
+each_flat : {X Y : Type 0} (P : Y → Type 0) (f : X → List Y) (xs : List X) → Each (λ x. Each P (f x)) xs
+    → Each P (flat_map f xs)
+each_flat P f [] h = tt
+each_flat P f (x ∷ xs) h = each_join P (f x) (flat_map f xs) h.0 (each_flat P f xs h.1)
+
+each_inserted : {X : Type 0} (P : X → Type 0) (less : X → X → Bool) (x : X) (xs : List X) → P x → Each P xs
+    → Each P (insert_by less x xs)
+each_inserted P less x [] h k = (h, tt)
+each_inserted P less x (y ∷ ys) h k = go (less y x) (each_inserted P less x ys h k.1)
+  where
+    go : (b : Bool) → Each P (insert_by less x ys) → Each P (cond b (y ∷ insert_by less x ys) (x ∷ y ∷ ys))
+    go true rest = (k.0, rest)
+    go false rest = (h, k)
+
+each_sorted : {X : Type 0} (P : X → Type 0) (less : X → X → Bool) (xs : List X) → Each P xs → Each P (sort_by less xs)
+unfolding sort_by
+each_sorted P less [] h = tt
+each_sorted P less (x ∷ xs) h = each_inserted P less x (sort_by less xs) h.0 (each_sorted P less xs h.1)
+
+each_numbered : {X : Type 0} (P : ℕ × X → Type 0) (n : ℕ) (xs : List X)
+    → ((i : ℕ) (x : X) → Contains xs x → P (i, x)) → Each P (enumerate_from n xs)
+each_numbered P n [] h = tt
+each_numbered P n (x ∷ xs) h = (h n x (here x xs), each_numbered P (n + 1) xs (λ i y c. h i y (later x xs y c)))
+
+each_member : {X : Type 0} (P : X → Type 0) (xs : List X) → ((x : X) → Contains xs x → P x) → Each P xs
+each_member P [] h = tt
+each_member P (x ∷ xs) h = (h x (here x xs), each_member P xs (λ y c. h y (later x xs y c)))
+
+-- ---- rows
+
+-- what holds of all input sections of a project holds of those in its rows
+module _ (p : Project) (Holds : List ℕ → Part → Type 0)
+    (of_all : Each (λ (x : InputSection). Holds x.object x.id.part) (input_sections p))
+    (in_order : (test : InputSection → Bool) × (live p ≡ filter test (candidates p))) where
+  abbrev OfInput : InputSection → Type 0
+  OfInput x = Holds x.object x.id.part
+
+  of_live : Each OfInput (live p)
+  of_live =
+      subst (Each OfInput) (sym in_order.1)
+      (each_filter OfInput in_order.0 (candidates p)
+      (each_filter OfInput (λ s. not (is_out p s)) (input_sections p) of_all))
+
+  abbrev OfPiece : Piece → Type 0
+  OfPiece x = Holds x.object x.part
+
+  of_statement : (n : ℕ) (i : InputStatementAt) → Each OfPiece (sorted_pieces p n i)
+  of_statement n i =
+      each_sorted OfPiece (below i.input.sort) (taken p n)
+      (each_into_map OfPiece (piece_of n) (filter (is_taken_by p n) (live p))
+      (each_filter OfInput (is_taken_by p n) (live p) of_live))
+
+  of_place : (k : ℕ) (i : ℕ × InputStatementAt) → Each OfPiece (pieces_in p k i)
+  of_place k i = go (is_in_section k i.1.place)
+    where
+      go : (b : Bool) → Each OfPiece (cond b (sorted_pieces p i.0 i.1) [])
+      go true = of_statement i.0 i.1
+      go false = tt
+
+  of_row : (k : ℕ) → Each OfPiece (row p k)
+  of_row k =
+      each_flat OfPiece (pieces_in p k) (enumerate_from 0 (input_statements p.script))
+      (each_always (λ (i : ℕ × InputStatementAt). Each OfPiece (pieces_in p k i)) (of_place k)
+      (enumerate_from 0 (input_statements p.script)))
+
+  pub of_rows : Each OfPiece (flat_map (λ (x : List Piece). x) (rows p))
+  unfolding rows
+  of_rows =
+      each_flat OfPiece (λ (x : List Piece). x) (rows p)
+      (each_into_map (Each OfPiece) (row p) (range_with_len 0 (length (output_sections p.script)))
+      (each_always (λ k. Each OfPiece (row p k)) of_row (range_with_len 0 (length (output_sections p.script)))))
+
+-- ---- input sections
+
+-- a part of an object of this name that is an input section of the project
+pub record IsInput (p : Project) (name : List ℕ) (part : Part) : Type 0 where
+  pub section : InputSection
+  pub among : Contains (input_sections p) section
+  pub object : section.object ≡ name
+  pub is : section.id.part ≡ part
+
+pub all_inputs : (p : Project) → (test : InputSection → Bool) × (live p ≡ filter test (candidates p))
+    → Each (λ (x : Piece). IsInput p x.object x.part) (flat_map (λ (row : List Piece). row) (rows p))
+all_inputs p in_order =
+    of_rows p (IsInput p)
+    (each_member (λ (x : InputSection). IsInput p x.object x.id.part) (input_sections p)
+    (λ x c. record { section = x; among = c; object = refl; is = refl })) in_order
+
+-- ---- objects with names
+
+module _ (p : Project) (inputs : List InputObject) (same : shown_inputs inputs ≡ p.objects)
+    (none : list_any has_no_name inputs ≡ false)
+    (of_objects : (s : InputSection) → Contains (input_sections p) s → IsOfObject p s) where
+  named : (o : NamedObject) → Contains p.objects o → 0 < length o.name
+  named o c = some (in_map shown_input inputs o (subst (λ l. Contains l o) (sym same) c))
+    where
+      some : Comes shown_input inputs o → 0 < length o.name
+      some k = subst (λ (x : NamedObject). 0 < length x.name) k.gives (go (has_no_name k.origin) refl)
+        where
+          go : (b : Bool) → has_no_name k.origin ≡ b → 0 < length k.origin.name.now
+          go true e = absurd (true≢false (sym (any_in has_no_name inputs k.origin k.among e) ∙ none))
+          go false e = let other = eqb-false (length k.origin.name.now) 0 e in omega (arith, other)
+
+  is_owned : (x : Piece) → IsInput p x.object x.part → IsOwned p x
+  is_owned x k =
+      let o = of_objects k.section k.among in
+      let among : Contains p.objects o.object = got p.objects k.section.id.object o.object o.at in
+      let is : o.object.name ≡ x.object = o.name ∙ k.object in
+      record {
+        object = o.object;
+        among = among;
+        is = is;
+        some = subst (λ (name : List ℕ). 0 < length name) is (named o.object among);
+      }
+
+  pub all_owned : (xs : List Piece) → Each (λ (x : Piece). IsInput p x.object x.part) xs → Each (IsOwned p) xs
+  all_owned [] h = tt
+  all_owned (x ∷ xs) h = (is_owned x h.0, all_owned xs h.1)

@@ -1,5 +1,0 @@
-use Rattle.place.proofs.Reporting.{stands_not_ready}
-use Rattle.place.proofs.fault.not_ready.Goals as goal
-
-pub returns-in-Some : goal.returns-in-Some
-returns-in-Some c = stands_not_ready c.args.script.now c.args.line c.in-Some.name c.args.name.now c.in-Some.ensures

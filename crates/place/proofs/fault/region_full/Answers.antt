@@ -1,7 +1,0 @@
-use Rattle.place.proofs.Reporting.{stands_full}
-use Rattle.place.proofs.fault.region_full.Goals as goal
-
-pub returns-in-Some-region_named : goal.returns-in-Some-region_named
-returns-in-Some-region_named c =
-    stands_full c.args.script.now c.in-Some.section c.in-Some-region_named.region c.args.section.now c.args.name.now
-    c.in-Some.ensures c.in-Some-region_named.ensures

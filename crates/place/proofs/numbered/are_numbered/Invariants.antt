@@ -1,0 +1,13 @@
+use Rattle.std.proofs.Common.{take, ◌≡◌, false, ◌==◌}
+use Rattle.elfobj.specs.Sections.{LinkedSection}
+use Rattle.ldmodel_laws.specs.Spread.{EachLater}
+use Rattle.ldmodel.specs.FileLayout.{Each}
+use Rattle.ldmodel_project.specs.declared.input.InputObject.{InputObject}
+use Rattle.place.proofs.numbered.are_numbered.Given as goal
+
+-- the sections of the objects so far have different numbers
+abbrev pub invariant-loop-input : goal.invariant-loop-input
+invariant-loop-input l =
+    Each (λ (o : InputObject).
+    EachLater (λ (x y : LinkedSection). (x.number.0 == y.number.0) ≡ false) o.object.now.sections)
+    (take l.input-index l.input-items)

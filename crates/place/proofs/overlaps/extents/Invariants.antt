@@ -1,7 +1,0 @@
--- Those of the sections so far.
-use Rattle.std.proofs.Common.{◌≡◌, take}
-use Rattle.place.specs.Found.{extents_in}
-use Rattle.place.proofs.overlaps.extents.Given as goal
-
-abbrev pub invariant-loop-section : goal.invariant-loop-section
-invariant-loop-section l = l.extents.items ≡ extents_in l.space (take l.section-index l.sections)

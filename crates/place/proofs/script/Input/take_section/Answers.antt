@@ -1,4 +1,0 @@
-use Rattle.place.proofs.script.Input.take_section.Goals as goal
-
-pub take-requires : goal.take-requires
-take-requires c = record { next = c.requires.next _ c.in-Some.ensures.there }

@@ -1,8 +1,0 @@
-use Rattle.std.proofs.Common.{subst, sym, ◌∙◌}
-use Rattle.place.proofs.Wholes.{ends_whole}
-use Rattle.place.proofs.whole.whole.Goals as goal
-use Rattle.place.specs.Places.{Ends}
-
-pub invariant_of-result : goal.invariant_of-result
-invariant_of-result g c =
-    subst Ends (c.parts-parts.ensures.sections ∙ sym c.in_ok-sections.ensures) (ends_whole _ c.parts-parts.ensures.ends)

@@ -1,0 +1,33 @@
+-- Layouts in which each input section stands once.
+use Rattle.std.specs.Prelude.{Bool, ◌≡◌, ◌<◌, ◌==◌, ℕ, List, Contains, flat_map, map, length}
+use Rattle.ldmodel.specs.FileLayout.{Each}
+use Rattle.ldmodel.specs.Layout.{Layout}
+use Rattle.ldmodel.specs.Project.{NamedObject, Project}
+use Rattle.ldmodel.specs.Rows.{Piece}
+use Rattle.ldmodel_laws.specs.PlacedOnce.{Differ}
+use Rattle.ldmodel_laws.specs.Spread.{EachLater, IsSpread, entries_in}
+use Rattle.ldmodel_project.specs.declared.input.InputObject.{InputObject}
+
+-- an object of the project has this name, which is not empty
+pub record IsObjectName (p : Project) (name : List ℕ) : Type 0 where
+  pub object : NamedObject
+  pub among : Contains p.objects object
+  pub is : object.name ≡ name
+  pub some : 0 < length name
+
+abbrev pub IsOwned : Project → Piece → Type 0
+IsOwned p x = IsObjectName p x.object
+
+-- the input sections in the output
+abbrev pub entries_of : Layout → List Piece
+entries_of s = flat_map (λ (row : List Piece). row) (map entries_in s.sections)
+
+-- each input section stands once, is of an object of the project and shares no address with another of its output
+-- section
+pub record AreInPlace (p : Project) (s : Layout) : Type 0 where
+  pub once : EachLater Differ (entries_of s)
+  pub owned : Each (IsOwned p) (entries_of s)
+  pub spread : Each IsSpread s.sections
+
+abbrev pub has_no_name : InputObject → Bool
+has_no_name x = length x.name.now == 0

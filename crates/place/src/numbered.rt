@@ -1,0 +1,25 @@
+//! Projects of objects whose sections have different numbers.
+
+ghost use Rattle.std.specs.Prelude.{◌≡◌, ◌==◌, false};
+ghost use Rattle.elfobj.specs.Sections.{LinkedSection};
+ghost use Rattle.ldmodel_laws.specs.PlacedOnce.{AreNumbered};
+ghost use Rattle.ldmodel_laws.specs.Spread.{EachLater};
+
+use elfobj::object::Object;
+use ldmodel_project::view::ProjectView;
+
+/// The sections of an object that was read have different numbers. The call does nothing.
+fn sections_differ(object: &Object)
+    ensures { EachLater (λ (x y : LinkedSection). (x.number.0 == y.number.0) ≡ false) object.now.sections }
+{
+    let _sections = object.sections();
+}
+
+/// The sections of each object of a project have different numbers. The call does nothing.
+pub fn are_numbered(project: &ProjectView<'_>)
+    ensures { AreNumbered project.now }
+{
+    for input in project.inputs() {
+        sections_differ(input.object);
+    }
+}

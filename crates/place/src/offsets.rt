@@ -1,0 +1,91 @@
+//! Where output sections begin in the file.
+
+ghost use Rattle.std.specs.Prelude.{◌≡◌, ◌∷◌, IfOk, List, drop, map};
+ghost use Rattle.std.specs.List.{AllZip};
+ghost use Rattle.ldmodel_laws.specs.ImageBytes.{AreNamed};
+ghost use Rattle.ldmodel.specs.Layout.{Layout};
+ghost use Rattle.ldmodel.specs.Lent.{AreSegments, placed_of};
+ghost use Rattle.ldmodel.specs.Segments as model;
+ghost use Rattle.place.specs.Offsets.{is_last, offset_at, offsets_in};
+ghost use Rattle.place.specs.Offsets.{IsOffset};
+
+use ldmodel_laws::segments::segments_by_neighbours;
+use ldmodel::laid::Placed;
+use ldmodel::memory::NoMemory;
+use ldmodel::segment::Segment;
+use std::alloc::{AllocError, Global};
+
+/// Where an output section of a segment begins in the file. Fails where it is past any file.
+fn offset_at(segment: &Segment, section: &Placed) -> Result<u128, NoMemory>
+    ensures { IfOk result (λ o. o ≡ offset_at segment.now section.now) }
+{
+    let from_start = section.start.saturating_sub(segment.start);
+    segment
+        .offset
+        .checked_add(u128::from(from_start))
+        .ok_or(AllocError)
+}
+
+/// Whether an output section is the last one of its segment: it ends where that does.
+fn is_last(segment: &Segment, section: &Placed) -> bool
+    ensures { result ≡ is_last segment.now section.now }
+{
+    let end = u128::from(section.start) + u128::from(section.size);
+    end.saturating_sub(u128::from(segment.start)) == u128::from(segment.memory_size)
+}
+
+/// Where an output section begins in the file, and the number of the segment that the next one is looked for in.
+#[derive(Clone, Copy)]
+struct Place {
+    offset: u128,
+    segment: usize,
+}
+
+/// Where an output section begins in the file, where the next segment to be looked at has this number. Fails where
+/// there is none, or where it is past any file.
+fn step(segments: &[Segment], number: usize, section: &Placed) -> Result<Place, NoMemory>
+    ensures { IfOk result (λ t. (qs : List Placed) → offsets_in (section.now ∷ qs) (drop number segments.now)
+        ≡ t.offset ∷ offsets_in qs (drop t.segment segments.now)) }
+{
+    if section.size == 0 {
+        return Ok(Place {
+            offset: 0,
+            segment: number,
+        });
+    }
+    match segments.get(number) {
+        None => Err(AllocError),
+        Some(segment) => {
+            let offset = offset_at(segment, section)?;
+            let last = is_last(segment, section);
+            Ok(Place {
+                offset,
+                segment: if last { number + 1 } else { number },
+            })
+        }
+    }
+}
+
+/// Where these output sections, which these segments are made of, begin in the file, each one of size 0 at 0.
+///
+/// # Errors
+///
+/// Where memory runs out, or where one begins past any file.
+pub(crate) fn offsets(
+    alloc: Global,
+    sections: &[Placed],
+    segments: &[Segment],
+) -> Result<Vec<u128>, NoMemory>
+    ensures { IfOk result (λ v. (s : Layout) → AreNamed s.sections → map placed_of s.sections ≡ sections.now
+        → AreSegments s.sections (model.segments s.sections) segments.now → AllZip (IsOffset s) s.sections v.items) }
+{
+    segments_by_neighbours();
+    let mut offsets = Vec::with_capacity(alloc, sections.len())?;
+    let mut number = 0;
+    for section in sections {
+        let step = step(segments, number, section)?;
+        offsets.push(step.offset)?;
+        number = step.segment;
+    }
+    Ok(offsets)
+}

@@ -1,0 +1,160 @@
+//! A table of where the input sections of a link stand.
+
+ghost use Rattle.std.specs.Prelude.{◌≡◌, IfOk, map};
+ghost use Rattle.std.specs.List.{list_any};
+ghost use Rattle.ldmodel.specs.Layout.{Layout};
+ghost use Rattle.ldmodel.specs.Project.{Project};
+ghost use Rattle.place.specs.Laying.{IsLaying};
+ghost use Rattle.ldmodel.specs.Rows as model;
+ghost use Rattle.ldmodel_project.specs.ByPlace.{rows_in};
+ghost use Rattle.place.specs.InPlace.{has_no_name};
+ghost use Rattle.place.specs.Columns.{AreOwners};
+ghost use Rattle.gather.specs.sections.SectionTable.{IsTableOf};
+
+use crate::collected::collect;
+use crate::entry::Entry;
+use crate::laying::Laying;
+use crate::numbered::are_numbered;
+use ldmodel_laws::gathering::{live_by_path, once_in_rows};
+use ldmodel_laws::layout::{nothing_meets, placed_are_rows};
+use ldmodel::laid::OutputIndex;
+use ldmodel::memory::NoMemory;
+use ldmodel::names::ObjectPlace;
+use ldmodel::rows::Piece;
+use ldmodel::sections::{Part, SectionKey};
+use ldmodel_project::input::InputObject;
+use ldmodel_project::view::ProjectView;
+use gather::sections::law::sections_of_objects;
+use gather::sections::section_table::{SectionId, SectionTable};
+use std::alloc::{AllocError, Global};
+
+/// Where an input section stands.
+#[derive(Clone, Copy, Debug, PartialEq, Eq)]
+pub struct PartPlace {
+    /// The address that it starts at.
+    pub start: u64,
+    /// How many bytes it takes in memory. For a common block other objects decide it too.
+    pub size: u64,
+    /// The output section that it stands in.
+    pub section: OutputIndex,
+}
+
+/// Where the input sections of a link stand: a column of its table.
+#[derive(Drop)]
+pub struct Starts {
+    /// The numbers of the input sections.
+    table: SectionTable,
+    /// For each number which of the places is its own; the number of places where none is.
+    owners: Vec<u32>,
+    /// The places of all input sections in the output, in the order of the rows.
+    places: Vec<PartPlace>,
+}
+
+/// Whether one of these objects has no name.
+fn has_unnamed(inputs: &[InputObject<'_>]) -> bool
+    ensures { result ≡ list_any has_no_name inputs.now }
+{
+    inputs.iter().any(|input| input.name.is_empty())
+}
+
+/// For each number of a table which entry is the first one of it; the number of entries where none is. Fails where
+/// memory runs out.
+fn owners(alloc: Global, table: &SectionTable, entries: &[Entry]) -> Result<Vec<u32>, NoMemory>
+    ensures { IfOk result (λ v. AreOwners table.now entries.now v.items) }
+{
+    let Ok(none) = u32::try_from(entries.len()) else {
+        // Unreachable: 2^32 input sections take 256 GiB
+        return Err(AllocError);
+    };
+    let mut owners = vec![in alloc; none; table.len() as usize]?;
+    for (number, entry) in entries.iter().enumerate() {
+        if let Some(id) = table.find(ObjectPlace(entry.object), entry.part) {
+            let at = id.0 as usize;
+            // each section stands in one row, once, but the contract does not say so
+            if owners[at] >= none {
+                owners[at] = number as u32;
+            }
+        }
+    }
+    Ok(owners)
+}
+
+/// The places of these input sections. Fails where memory runs out.
+fn places(alloc: Global, entries: &[Entry]) -> Result<Vec<PartPlace>, NoMemory>
+    ensures { IfOk result (λ v. v.items ≡ map (λ e. e.place) entries.now) }
+{
+    entries.iter().map(|entry| entry.place).collect(alloc)
+}
+
+impl Starts {
+    ghost use Rattle.place.specs.Starts.{AreStarts, IsPartPlace, part_in, place_in, place_under};
+
+    /// Where the input sections of these rows stand, by their numbers and their layout.
+    ///
+    /// # Errors
+    ///
+    /// Where memory runs out.
+    pub fn of(
+        alloc: Global,
+        project: &ProjectView<'_>,
+        table: SectionTable,
+        rows: &[Vec<Piece>],
+        laying: &Laying,
+    ) -> Result<Starts, NoMemory>
+        requires table { IsTableOf project.now table }
+        requires rows { rows_in project.now rows.now ≡ model.rows project.now }
+        ensures { IfOk result (λ t. (s : Layout) → IsLaying project.now s laying.now → AreStarts project.now s t) }
+    {
+        nothing_meets();
+        placed_are_rows();
+        once_in_rows();
+        live_by_path();
+        sections_of_objects();
+        are_numbered(project);
+        let inputs = project.inputs();
+        if has_unnamed(inputs) {
+            // Unreachable: the name of an object has 1 to 255 bytes, but the contract of a project does not say so
+            return Err(AllocError);
+        }
+        let entries = collect(alloc, rows, laying.placement.pieces())?;
+        let owners = owners(alloc, &table, &entries)?;
+        let places = places(alloc, &entries)?;
+        Ok(Starts {
+            table,
+            owners,
+            places,
+        })
+    }
+
+    /// The numbers of the input sections.
+    pub fn table(&self) -> &SectionTable
+        ensures { result.now ≡ self.now.table }
+    {
+        &self.table
+    }
+
+    /// Where the input section of a number stands, if it is in the output. The time is constant.
+    pub fn at(&self, id: SectionId) -> Option<PartPlace>
+        ensures { result ≡ place_under self.now id.0 }
+    {
+        let owner = self.owners.get(id.0 as usize)?;
+        self.places.get(*owner as usize).copied()
+    }
+
+    /// Where a part of the object of a number stands, if it is in the output.
+    fn part(&self, object: usize, part: Part) -> Option<PartPlace>
+        ensures { result ≡ part_in self.now object part }
+    {
+        let id = self.table.find(ObjectPlace(object), part)?;
+        self.at(id)
+    }
+
+    /// Where an input section stands, if it is in the output. For a section the time is constant, for a common block it
+    /// is logarithmic in the number of common blocks.
+    pub fn find(&self, section: SectionKey) -> Option<PartPlace>
+        ensures is { result ≡ place_in self.now section }
+        ensures place { (p : Project) (s : Layout) → AreStarts p s self.now → IsPartPlace p s section result }
+    {
+        self.part(section.object.0, section.part)
+    }
+}

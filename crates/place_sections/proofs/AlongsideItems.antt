@@ -1,0 +1,204 @@
+-- The statements of SECTIONS, and those of a script, go on alongside an earlier layout.
+use Rattle.std.proofs.Common.{◌≡◌, ℕ, ◌+◌, ◌≤◌, ◌<◌, List, [], ◌∷◌, ◌++◌, Ok, refl, sym, ap, subst, ◌∙◌, arith}
+use Rattle.std.proofs.Common.{false, get_or, length, map}
+use Rattle.std.proofs.Math.ListN.{get_or-map}
+use Rattle.std.proofs.lemmas.List.{append-nil, length-map}
+use Rattle.ldscript.specs.statements.Numbering.{CommonAt, common_commands, commons_in, item_commons, items_commons, top_commons}
+use Rattle.ldscript.specs.statements.declared.section.OutputSection.{OutputSection}
+use Rattle.ldscript.specs.statements.declared.statement.Command.{Command}
+use Rattle.ldscript.specs.statements.declared.statement.Command.TheVariants as top
+use Rattle.ldscript.specs.statements.declared.statement.Item.{Item}
+use Rattle.ldscript.specs.statements.declared.statement.ItemCommand.{ItemCommand}
+use Rattle.ldscript.specs.statements.declared.statement.ItemCommand.TheVariants as item
+use Rattle.ldscript.specs.statements.declared.statement.Statement.{Statement}
+use Rattle.ldmodel.specs.Chain.{and_then, run}
+use Rattle.ldmodel.specs.Layout.{Layout, noted}
+use Rattle.ldmodel.specs.Lent.{starts_of}
+use Rattle.ldmodel.specs.Placement.{item_command_step, item_step, next_row, section_step, statement_step}
+use Rattle.ldmodel.specs.Rows.{Piece}
+use Rattle.ldmodel.specs.declared.rows.Piece as rows
+use Rattle.ldmodel_laws.specs.Alike.{AreAlike, ItemsStayAlike, StatementsStayAlike, names_given}
+use Rattle.place_terms.specs.Earlier.{AreStartsOf}
+use Rattle.place_terms.specs.Keyed.{KeyedSection, section_of}
+use Rattle.place_terms.specs.Naming.{Naming, row_named}
+use Rattle.place_terms.specs.Wholes.{starts_in}
+use Rattle.place_sections.proofs.Alongside.{names_on}
+use Rattle.place_sections.proofs.Ending.{Chained, chained}
+use Rattle.place_sections.proofs.InParts.{in_parts, whole}
+use Rattle.place_sections.proofs.Onward.{items_on, leads_before, statements_on}
+use Rattle.place_sections.proofs.Taking.{count_is, grown, starts_are}
+use Rattle.place_sections.specs.Alongside.{IsAlongside, ItemsAlongside, ScriptAlongside, SectionAlongside}
+use Rattle.place_sections.specs.Inputs.{rows_of}
+use Rattle.place_sections.specs.Leads.{Leads}
+use Rattle.place_sections.specs.Parts.{after_sections, before_sections, if_sections, items_within}
+use Rattle.place_sections.specs.declared.script.Input.{Input}
+
+module _ (n : Naming) (i : Input) (script : List Statement) (s : Layout) (x : Item) (xs : List Item)
+    (a : ItemsAlongside n i script s (x ∷ xs)) where
+  first : Chained (item_step a.rows a.provided a.state x) (λ d. run (item_step a.rows a.provided) d xs) a.leads.layout
+  unfolding run
+  first =
+      chained (item_step a.rows a.provided a.state x) (λ d. run (item_step a.rows a.provided) d xs) a.leads.layout
+      a.leads.comes
+
+  alike : AreAlike (names_given (item_commons x.line x.command) ++ (names_given (items_commons xs) ++ a.names)) a.state
+      s
+  alike =
+      subst (λ z. AreAlike z a.state s) (names_on (item_commons x.line x.command) (items_commons xs) a.names) a.alike
+
+  -- the layouts stay alongside
+  pub items_go_on : ItemsStayAlike → (provided : List (List ℕ)) (t : Layout)
+      → item_step (rows_of n i) provided s x ≡ Ok t → length t.sections ≤ i.kept.first
+      → ItemsAlongside n i script t xs
+  items_go_on law provided t e l = record {
+    rows = a.rows;
+    same = a.same;
+    provided = a.provided;
+    names = a.names;
+    state = first.value;
+    alike = law i.kept.first a.rows (rows_of n i) a.provided provided (names_given (items_commons xs) ++ a.names) x
+        a.state s first.value t a.same alike first.first e l;
+    leads = record {
+      layout = a.leads.layout;
+      comes = first.second;
+      sections = a.leads.sections;
+      counts = a.leads.counts;
+      starts = a.leads.starts;
+      data_commands = a.leads.data_commands;
+      dots = a.leads.dots;
+      symbols = a.leads.symbols;
+      found = a.leads.found;
+      rises = a.leads.rises;
+    };
+  }
+
+  -- an output section goes on alongside
+  pub section_alongside : (sections : List KeyedSection) → s.sections ≡ map (section_of n) sections
+      → IsAlongside n i (noted s) sections x.line x.command
+  unfolding item_command_step
+  section_alongside sections is = by_command x.command refl
+    where
+      section_is : (o : OutputSection) → x.command ≡ item.Section o
+          → section_step a.provided (next_row a.rows a.state) (noted a.state) x.line o ≡ Ok first.value
+      section_is o e = sym (ap (item_command_step a.rows a.provided x.line (noted a.state)) e) ∙ first.first
+
+      by_command : (c : ItemCommand) → x.command ≡ c → IsAlongside n i (noted s) sections x.line c
+      by_command (item.Dot c) e = tt
+      by_command (item.Common c) e = tt
+      by_command (item.Discard inputs) e = tt
+      by_command (item.Section o) e = λ starts other below at.
+          let k : ℕ = length sections in
+          let row : List rows.Piece = get_or (map (λ v. v.items) i.rows.now) k [] in
+          let own : a.state.sections ≡ map (section_of n) sections = ap (λ (z : Layout). z.sections) (sym a.alike.same)
+          ∙ is in
+          let row_is : next_row a.rows a.state ≡ row_named n row =
+          ap (λ j. get_or a.rows j []) (ap length own ∙ length-map sections (section_of n))
+          ∙ (a.same k below ∙ get_or-map (row_named n) (map (λ v. v.items) i.rows.now) k []) in
+          let step : section_step a.provided (row_named n row) (noted a.state) x.line o ≡ Ok first.value =
+          ap (λ z. section_step a.provided z (noted a.state) x.line o) (sym row_is) ∙ section_is o e in
+          let l = leads_before script i.kept first.value a.leads.layout
+          (section_step a.provided (row_named n row) (noted a.state) x.line o)
+          (run (item_step a.rows a.provided) a.state (x ∷ xs))
+          (items_on a.rows a.provided xs first.value a.leads.layout first.second) step a.leads refl in
+          let g = grown n script i.kept a.provided row (noted a.state) x.line o sections own l in
+          let count = count_is n script i.kept a.provided row (noted a.state) x.line o sections own l (length starts)
+          at.counted in
+          let are = starts_are n script i.kept a.provided row (noted a.state) x.line o sections own l (length starts)
+          count in
+          subst (λ z. SectionAlongside z (noted s) x.line o starts)
+          (sym (get_or-map (row_named n) (map (λ v. v.items) i.rows.now) k [])) (record {
+            provided = a.provided;
+            names = names_given (items_commons xs) ++ a.names;
+            state = noted a.state;
+            alike = record {
+              same = ap noted alike.same;
+              symbols = (subst (λ z. AreAlike (names_given (item_commons x.line z)
+                  ++ (names_given (items_commons xs) ++ a.names)) a.state s) e alike).symbols;
+            };
+            after = l.layout;
+            comes = l.comes;
+            section = g.section;
+            added = g.added;
+            starts_are = sym are ∙ sym at.are;
+          })
+
+-- the commands before SECTIONS, in it and after it
+commons_first : (line : ℕ) (c : Command) (xs : List Statement)
+    → common_commands xs ≡ common_commands (before_sections xs)
+    ++ (items_commons (items_within xs) ++ common_commands (after_sections xs))
+    → common_commands (record { line = line; command = c } ∷ xs)
+    ≡ common_commands (if_sections c (λ items. []) (record { line = line; command = c } ∷ before_sections xs))
+    ++ (items_commons (if_sections c (λ items. items) (items_within xs))
+    ++ common_commands (if_sections c (λ items. xs) (after_sections xs)))
+commons_first line (top.Sections items) xs later = refl
+commons_first line (top.Entry name) xs later = later
+commons_first line (top.Memory regions) xs later = later
+commons_first line (top.Common c) xs later = ap (λ l. record { line = line; command = c } ∷ l) later
+
+commons_in_parts : (script : List Statement) → common_commands script
+    ≡ common_commands (before_sections script)
+    ++ (items_commons (items_within script) ++ common_commands (after_sections script))
+commons_in_parts [] = refl
+commons_in_parts (x ∷ xs) = commons_first x.line x.command xs (commons_in_parts xs)
+
+names_both : (cs ds : List CommonAt) → names_given (cs ++ ds) ≡ names_given cs ++ names_given ds
+names_both cs ds =
+    sym (append-nil (names_given (cs ++ ds)))
+    ∙ (names_on cs ds [] ∙ ap (λ l. names_given cs ++ l) (append-nil (names_given ds)))
+
+-- what goes on alongside a script goes on alongside its SECTIONS
+pub items_alongside : (n : Naming) (i : Input) (script script' : List Statement) (s t : Layout)
+    (statements : List Statement) (items : List Item) → StatementsStayAlike → script' ≡ script
+    → items ≡ items_within statements
+    → run (statement_step (rows_of n i) i.provided.now) s (before_sections statements) ≡ Ok t
+    → length t.sections ≤ i.kept.first
+    → ScriptAlongside n i script s statements → ItemsAlongside n i script' t items
+items_alongside n i script script' s t statements items law same_script same_items comes few a =
+    let before : List Statement = before_sections statements in
+    let within : List Item = items_within statements in
+    let after : List Statement = after_sections statements in
+    let left : List (List ℕ) = names_given (common_commands after) in
+    let goes : whole a.rows a.provided a.state before within after ≡ Ok a.leads.layout =
+    sym (in_parts a.rows a.provided statements a.state) ∙ a.leads.comes in
+    let h = chained (run (statement_step a.rows a.provided) a.state before) (λ u.
+    and_then (run (item_step a.rows a.provided) u within) (λ v. run (statement_step a.rows a.provided) v after))
+    a.leads.layout goes in
+    let k = chained (run (item_step a.rows a.provided) h.value within) (λ v.
+    run (statement_step a.rows a.provided) v after) a.leads.layout h.second in
+    let names : names_given (common_commands statements)
+    ≡ names_given (common_commands before) ++ (names_given (items_commons within) ++ left) =
+    ap names_given (commons_in_parts statements)
+    ∙ (names_both (common_commands before) (items_commons within ++ common_commands after)
+    ∙ ap (λ l. names_given (common_commands before) ++ l)
+    (names_both (items_commons within) (common_commands after))) in
+    subst (λ z. ItemsAlongside n i z t items) (sym same_script)
+    (subst (ItemsAlongside n i script t) (sym same_items) (record {
+      rows = a.rows;
+      same = a.same;
+      provided = a.provided;
+      names = left;
+      state = h.value;
+      alike = law i.kept.first a.rows (rows_of n i) a.provided i.provided.now
+          (names_given (items_commons within) ++ left)
+          before a.state s h.value t a.same (subst (λ z. AreAlike z a.state s) names a.alike) h.first comes few;
+      leads = leads_before script i.kept k.value a.leads.layout (run (item_step a.rows a.provided) h.value within)
+          (run (statement_step a.rows a.provided) a.state statements)
+          (statements_on a.rows a.provided after k.value a.leads.layout k.second) k.first a.leads refl;
+    }))
+
+-- where the next statement is an output section, an earlier layout goes on with it
+pub next_alongside : (n : Naming) (i : Input) (script : List Statement) (s : Layout) (x : Item) (xs : List Item)
+    (sections : List KeyedSection) → s.sections ≡ map (section_of n) sections
+    → (i.kept.same_provided ≡ false → 0 < i.kept.first → length sections ≤ i.kept.first
+    → ItemsAlongside n i script s (x ∷ xs)) → IsAlongside n i (noted s) sections x.line x.command
+next_alongside n i script s x xs sections is given = by_command x.command refl
+  where
+    by_command : (c : ItemCommand) → x.command ≡ c → IsAlongside n i (noted s) sections x.line c
+    by_command (item.Dot c) e = tt
+    by_command (item.Common c) e = tt
+    by_command (item.Discard inputs) e = tt
+    by_command (item.Section o) e =
+        λ starts other below at.
+        let a = given other (omega (arith, below)) (omega (arith, below)) in
+        subst (IsAlongside n i (noted s) sections x.line) e (section_alongside n i script s x xs a sections is) starts
+        other below at

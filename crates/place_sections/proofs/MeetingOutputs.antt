@@ -1,0 +1,44 @@
+-- A layout has the output sections of its script, in the order of the text.
+use Rattle.std.proofs.Common.{◌≡◌, ◌∙◌, sym, ap, ℕ, List, [], ◌∷◌, ◌++◌, map, append_assoc}
+use Rattle.std.proofs.lemmas.List.{append-nil, map-append}
+use Rattle.ldscript.specs.statements.Numbering.{OutputSectionAt, output_sections, regions}
+use Rattle.ldscript.specs.statements.declared.section.OutputSection.{OutputSection}
+use Rattle.ldscript.specs.statements.declared.statement.Region.{Region}
+use Rattle.ldmodel_laws.specs.Traces.{AddsSection, Trace, all_added, nothing_added, region_added, section_added}
+use Rattle.ldmodel.specs.Layout.{Layout, PlacedSection, nothing_placed}
+use Rattle.ldmodel.specs.Project.{Project}
+use Rattle.ldmodel.specs.SectionEnd.{placed_section}
+use Rattle.place_sections.specs.Meetings.{AreOutputs}
+
+-- the names of the output sections so far
+abbrev names : Layout → List (List ℕ)
+names s = map (λ (q : PlacedSection). q.name) s.sections
+
+abbrev names_of : List OutputSectionAt → List (List ℕ)
+names_of os = map (λ (o : OutputSectionAt). o.section.name) os
+
+-- an output section adds its own
+name_added : (s : Layout) (o : OutputSection) (t : Layout) → AddsSection s o t → names s ++ o.name ∷ [] ≡ names t
+unfolding placed_section
+name_added s o t h =
+    let name : PlacedSection → List ℕ = λ q. q.name in
+    ap (λ l. map name l ++ o.name ∷ []) (sym h.nothing.sections)
+    ∙ sym (map-append name h.last.layout.sections (placed_section o h.head h.last ∷ []))
+    ∙ ap names h.after
+
+-- the names so far, and those to come, are all
+names_traced : (s u : Layout) (rs : List Region) (os : List OutputSectionAt) → Trace s rs os u
+    → names s ++ names_of os ≡ names u
+names_traced s u [] [] all_added = append-nil (names s)
+names_traced s u rs os (nothing_added {t = t} h more) =
+    ap (λ l. map (λ (q : PlacedSection). q.name) l ++ names_of os) (sym h.sections) ∙ names_traced t u rs os more
+names_traced s u (r ∷ rs) os (region_added origin extent more) = names_traced _ u rs os more
+names_traced s u rs (o ∷ os) (section_added {t = t} h more) =
+    sym (append_assoc (names s) (o.section.name ∷ []) (names_of os))
+    ∙ ap (λ l. l ++ names_of os) (name_added s o.section t h)
+    ∙ names_traced t u rs os more
+
+-- the output sections of a layout
+pub outputs_are : (p : Project) (s : Layout)
+    → Trace nothing_placed (regions p.script) (output_sections p.script) s → AreOutputs p s.sections
+outputs_are p s trace = sym (names_traced nothing_placed s (regions p.script) (output_sections p.script) trace)

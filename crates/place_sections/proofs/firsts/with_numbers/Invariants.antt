@@ -1,0 +1,12 @@
+-- Those so far.
+use Rattle.std.proofs.Common.{◌≡◌, ℕ, ◌<◌, length, get_or}
+use Rattle.place_sections.specs.declared.extent.Extent.{Extent}
+use Rattle.place_sections.specs.declared.firsts.Numbered.{Numbered}
+use Rattle.place_sections.proofs.firsts.with_numbers.Given as goal
+
+abbrev pub invariant-loop-number : goal.invariant-loop-number
+invariant-loop-number l = record {
+  count : length l.numbered.items ≡ l.number;
+  each : (k : ℕ) (d : Numbered) (e : Extent) → k < l.number
+      → get_or l.numbered.items k d ≡ record { extent = get_or l.extents k e; number = k };
+}

@@ -1,0 +1,7 @@
+use Rattle.place_sections.proofs.script.Input.place_statement.Given as goal
+
+abbrev pub ghost-declare_all : goal.ghost-declare_all
+ghost-declare_all g a = g.naming
+
+abbrev pub ghost-common : goal.ghost-common
+ghost-common g a = g.naming

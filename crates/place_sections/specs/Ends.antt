@@ -1,0 +1,39 @@
+-- Ends of output sections, as the code comes to them.
+use Rattle.std.specs.Prelude.{ℕ, ◌+◌, List, [], map, Result}
+use Rattle.std.specs.Option.{option_and_then}
+use Rattle.ldscript.specs.statements.declared.section.OutputSection.{OutputSection}
+use Rattle.ldmodel.specs.Body.{Body}
+use Rattle.ldmodel.specs.Chain.{and_then}
+use Rattle.ldmodel.specs.Fault.{Fault}
+use Rattle.ldmodel.specs.Layout.{Layout, MemoryRegion, PlacedSection, address, nothing_placed, region_named}
+use Rattle.ldmodel.specs.SectionEnd.{load_region, with_room}
+use Rattle.place_terms.specs.Keyed.{piece_at, data_at}
+use Rattle.place_terms.specs.Naming.{Naming}
+use Rattle.place_terms.specs.SectionTable.{keyed_piece}
+use Rattle.place_sections.specs.State.{layout_of}
+use Rattle.place_sections.specs.declared.state.Done.{Done}
+use Rattle.place_sections.specs.declared.state.Here.{Here}
+
+-- a body in some layout, of which nothing is left to be placed; no end turns on where it starts or on what is left
+abbrev pub placed_body : Naming → Layout → Here → Body
+placed_body n s h = record {
+  layout = s;
+  start = 0;
+  rest = [];
+  pieces = map (piece_at n) (map keyed_piece h.pieces.items);
+  data_commands = map data_at h.data_commands.items;
+}
+
+abbrev pub ended_body : Naming → Here → Done → Body
+ended_body n h d = placed_body n (layout_of n h d) h
+
+-- the numbers of an output section turn on no other part of the layout than `.`
+abbrev pub body_alone : Naming → Here → Body
+body_alone n h = placed_body n (record nothing_placed { dot = h.dot }) h
+
+-- the load end of an output section for which the regions have room
+abbrev pub load_end : ℕ → OutputSection → List MemoryRegion → PlacedSection → Result ℕ Fault
+load_end line o regions q =
+    and_then (with_room (option_and_then (region_named regions) o.region) q.start q.size q) (λ _.
+    and_then (with_room (option_and_then (region_named regions) (load_region o.load)) q.load q.load_size q) (λ _.
+    address line (q.load + q.load_size)))

@@ -1,0 +1,29 @@
+-- An output section that is taken over from an earlier layout.
+use Rattle.std.specs.Prelude.{◌≡◌, ℕ, ◌+◌, List, [], ◌∷◌, ◌++◌, length, map, Some, slice_get, slice_index_or}
+use Rattle.ldscript.specs.statements.declared.section.OutputSection.{OutputSection}
+use Rattle.ldscript.specs.statements.declared.statement.Item.{Item}
+use Rattle.ldscript.specs.statements.declared.statement.ItemCommand.TheVariants.{Section}
+use Rattle.ldmodel.specs.SectionEnd.{freed_from, load_region}
+use Rattle.place_terms.specs.Earlier.{IsTaken, earlier_of}
+use Rattle.place_terms.specs.Keyed.{KeyedSection}
+use Rattle.place_sections.specs.declared.boundary.Boundary.{Boundary}
+use Rattle.place_sections.specs.declared.script.Input.{Input}
+use Rattle.place_sections.specs.declared.state.Done.{Done}
+
+-- the statement at a place is an output section
+pub record IsSection (items : List Item) (place : ℕ) (o : OutputSection) : Type 0 where
+  pub line : ℕ
+  pub there : slice_get items place ≡ Some (record { line = line; command = Section o })
+
+-- the output section at a boundary is taken over, with the data commands up to the next one, and its regions go on at
+-- its ends
+pub record Takes (i : Input) (items : List Item) (b next : Boundary) (old new : Done) : Type 0 where
+  pub output : OutputSection
+  pub at : IsSection items b.items output
+  pub section : KeyedSection
+  pub taken : IsTaken (earlier_of i.kept.earlier) old.sections.list
+      (slice_index_or (map (λ v. v.items) i.rows.now) (length old.sections.list) []) output next.data_commands section
+  pub pushed : new.sections.list ≡ old.sections.list ++ section ∷ []
+  pub regions : new.regions
+      ≡ freed_from (load_region output.load) (section.placed.load + section.placed.load_size)
+      (freed_from output.region (section.placed.start + section.placed.size) old.regions)

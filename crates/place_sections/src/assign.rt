@@ -1,0 +1,57 @@
+//! Assignments of symbols.
+
+ghost use Rattle.std.specs.Prelude.{◌≡◌};
+ghost use Rattle.ldmodel.specs.Assigning.{assigned, common_step};
+ghost use Rattle.place_terms.specs.Naming.{Naming};
+ghost use Rattle.place_sections.specs.State.{layout_of, Gives};
+
+use crate::state::{Done, Here};
+use crate::stop::Stop;
+use place_terms::provided::Provided;
+use ldscript::tree::{Assignment, Common};
+
+impl<'a> Here<'a> {
+    /// `NAME = e`.
+    fn assign(&mut self, done: &Done<'a>, line: u32, a: &'a Assignment) -> Result<(), Stop<'a>>
+        ghost naming: { Naming }
+        ensures gives { Gives (assigned (layout_of naming self.old done.now) line a.now)
+            (layout_of naming self.new done.now) result }
+        ensures script { self.new.symbols.script ≡ self.old.symbols.script }
+        ensures pieces { self.new.pieces.items ≡ self.old.pieces.items }
+        ensures data_commands { self.new.data_commands.items ≡ self.old.data_commands.items }
+        ensures anew { self.new.anew ≡ self.old.anew }
+    {
+        let value = self.formula(done, line, &a.value)?;
+        self.symbols.assign(a.name.as_bytes(), value)?;
+        Ok(())
+    }
+
+    /// An assignment of a symbol, a PROVIDE or an ASSERT.
+    #[tactic(auto, unfolding(ldmodel::specs::Assigning::common_step))]
+    pub fn common(
+        &mut self,
+        done: &Done<'a>,
+        provided: &Provided<'a>,
+        line: u32,
+        command: &'a Common,
+    ) -> Result<(), Stop<'a>>
+        ghost naming: { Naming }
+        ensures gives { Gives (common_step provided.now (layout_of naming self.old done.now) line command.now)
+            (layout_of naming self.new done.now) result }
+        ensures script { self.new.symbols.script ≡ self.old.symbols.script }
+        ensures pieces { self.new.pieces.items ≡ self.old.pieces.items }
+        ensures data_commands { self.new.data_commands.items ≡ self.old.data_commands.items }
+        ensures anew { self.new.anew ≡ self.old.anew }
+    {
+        match command {
+            Common::Assign(a) => self.assign(done, line, a),
+            Common::Provide(a) => match provided.is_in_force(a.name.as_bytes()) {
+                Some(true) => self.assign(done, line, a),
+                Some(false) => Ok(()),
+                // Unreachable: the name is one that the script gives a value
+                None => Err(Stop::NoMemory),
+            },
+            Common::Assert(_) => Ok(()),
+        }
+    }
+}

@@ -1,0 +1,284 @@
+//! The body of an output section.
+
+ghost use Rattle.std.specs.Prelude.{◌≤◌, ◌≡◌, ◌+◌, length, drop, OnErr, OnOk, IfSome};
+ghost use Rattle.ldscript.specs.terms.DotForms.{dot_form};
+ghost use Rattle.ldscript.specs.terms.Expressions.{expr_of};
+ghost use Rattle.ldmodel.specs.Body.{advanced, body_command_step, body_step, data_step, input_step, moved};
+ghost use Rattle.ldmodel.specs.Body.{piece_placed, piece_start, pieces_placed, set_to};
+ghost use Rattle.ldmodel.specs.Chain.{run};
+ghost use Rattle.place_terms.specs.Naming.{Naming, piece_named, row_named};
+ghost use Rattle.place_sections.specs.Alongside.{BodyAlongside, IfInput, StartAt, StartsThere};
+ghost use Rattle.place_sections.specs.Counted.{Counted, CountsAlong, Entered, StaysThere};
+ghost use Rattle.place_sections.specs.State.{body_of, Gives};
+
+use crate::state::{Frame, Here};
+use crate::stop::Stop;
+use ldmodel_laws::layout::steps_stay_alike;
+use ldmodel::rows::Piece;
+use place_terms::sections::{DataAt, PieceAt};
+use ldscript::tree::{BodyCommand, BodyStatement, DotCommand, DotForm, Expr, Formula, Width};
+
+impl<'d, 'a> Frame<'d, 'a> {
+    /// The next entry of the row takes its place, which starts there.
+    #[tactic(auto, unfolding(ldmodel::specs::Body::piece_placed))]
+    fn put_piece(
+        &self,
+        here: &mut Here<'a>,
+        line: u32,
+        piece: &'a Piece,
+        start: u64,
+    ) -> Result<(), Stop<'a>>
+        ghost naming: { Naming }
+        requires { start ≡ piece_start here.now.dot (piece_named naming piece.now) }
+        ensures gives { Gives
+            (piece_placed line (body_of naming here.old self.now) (piece_named naming piece.now)
+            (row_named naming (drop (length here.old.pieces.items + 1) self.now.row.now)))
+            (body_of naming here.new self.now) result }
+        ensures script { here.new.symbols.script ≡ here.old.symbols.script }
+        ensures inputs { here.new.inputs ≡ here.old.inputs }
+        ensures dot { OnOk result (here.new.dot ≡ start + piece.now.size) }
+        ensures one { OnOk result (length here.new.pieces.items ≡ length here.old.pieces.items + 1) }
+        ensures anew { here.new.anew ≡ here.old.anew }
+        ensures none { OnErr result (length here.new.pieces.items ≡ length here.old.pieces.items) }
+        ensures few { length here.old.pieces.items ≤ length here.new.pieces.items }
+        ensures no_more { length here.new.pieces.items ≤ length here.old.pieces.items + 1 }
+    {
+        let Some(end) = start.checked_add(piece.size) else {
+            return Err(Stop::PastAddressSpace { line });
+        };
+        here.pieces.push(PieceAt { start, piece })?;
+        here.dot = end;
+        Ok(())
+    }
+
+    /// The next entry of the row is placed anew.
+    #[tactic(auto, unfolding(ldmodel::specs::Body::piece_placed))]
+    fn place_piece(&self, here: &mut Here<'a>, line: u32, piece: &'a Piece) -> Result<(), Stop<'a>>
+        ghost naming: { Naming }
+        ensures gives { Gives
+            (piece_placed line (body_of naming here.old self.now) (piece_named naming piece.now)
+            (row_named naming (drop (length here.old.pieces.items + 1) self.now.row.now)))
+            (body_of naming here.new self.now) result }
+        ensures script { here.new.symbols.script ≡ here.old.symbols.script }
+        ensures one { OnOk result (length here.new.pieces.items ≡ length here.old.pieces.items + 1) }
+        ensures anew { CountsAlong here.old.anew here.new.anew (length here.old.pieces.items)
+            (length here.new.pieces.items) }
+        ensures few { length here.new.pieces.items ≤ length here.old.pieces.items + 1 }
+    {
+        let Some(start) = here.dot.checked_next_multiple_of(piece.alignment.max(1)) else {
+            return Err(Stop::PastAddressSpace { line });
+        };
+        self.put_piece(here, line, piece, start)?;
+        here.anew = here.anew.saturating_add(1);
+        Ok(())
+    }
+
+    /// The entries of an input statement are placed anew.
+    #[tactic(auto, unfolding(ldmodel::specs::Body::pieces_placed))]
+    fn place_pieces(&self, here: &mut Here<'a>, line: u32, number: u64) -> Result<(), Stop<'a>>
+        ghost naming: { Naming }
+        ensures gives { Gives
+            (pieces_placed line number (body_of naming here.old self.now)
+            (row_named naming (drop (length here.old.pieces.items) self.now.row.now)))
+            (body_of naming here.new self.now) result }
+        ensures entered { Entered here.old here.new self.now }
+    {
+        while here.pieces.len() < self.row.len() {
+            let piece = &self.row[here.pieces.len()];
+            if u64::from(piece.statement.0) != number {
+                break;
+            }
+            self.place_piece(here, line, piece)?;
+        }
+        Ok(())
+    }
+
+    /// The entries of an input statement stay where they were: the entries of the row start at these addresses.
+    #[tactic(auto, unfolding(ldmodel::specs::Body::pieces_placed))]
+    fn keep_pieces(
+        &self,
+        here: &mut Here<'a>,
+        line: u32,
+        number: u64,
+        starts: &[u64],
+    ) -> Result<(), Stop<'a>>
+        ghost naming: { Naming }
+        requires { StartAt number here.now.dot
+            (row_named naming (drop (length here.now.pieces.items) self.now.row.now))
+            (drop (length here.now.pieces.items) starts.now) }
+        ensures gives { Gives
+            (pieces_placed line number (body_of naming here.old self.now)
+            (row_named naming (drop (length here.old.pieces.items) self.now.row.now)))
+            (body_of naming here.new self.now) result }
+        ensures there { StaysThere here.old here.new self.now }
+        ensures anew { here.new.anew ≡ here.old.anew }
+    {
+        while here.pieces.len() < self.row.len() {
+            let place = here.pieces.len();
+            let piece = &self.row[place];
+            if u64::from(piece.statement.0) != number {
+                break;
+            }
+            let Some(start) = starts.get(place) else {
+                // Unreachable: the earlier row had as many entries
+                return Err(Stop::NoMemory);
+            };
+            self.put_piece(here, line, piece, *start)?;
+        }
+        Ok(())
+    }
+
+    /// An input statement.
+    fn place_input(&self, here: &mut Here<'a>, line: u32) -> Result<(), Stop<'a>>
+        ghost naming: { Naming }
+        requires { StartsThere naming here.now self.now }
+        ensures gives { Gives (input_step line (body_of naming here.old self.now)) (body_of naming here.new self.now)
+            result }
+        ensures counted { Counted here.old here.new self.now }
+    {
+        let number = here.inputs;
+        let Some(next) = number.checked_add(1) else {
+            // Unreachable: no script has 2^64 input statements
+            return Err(Stop::NoMemory);
+        };
+        match self.starts {
+            Some(starts) => self.keep_pieces(here, line, number, starts)?,
+            None => self.place_pieces(here, line, number)?,
+        }
+        here.inputs = next;
+        Ok(())
+    }
+
+    /// BYTE, SHORT, LONG or QUAD.
+    fn place_data(
+        &self,
+        here: &mut Here<'a>,
+        line: u32,
+        width: Width,
+        formula: &'a Formula,
+    ) -> Result<(), Stop<'a>>
+        ghost naming: { Naming }
+        ensures gives { Gives (data_step line (body_of naming here.old self.now) width formula.now)
+            (body_of naming here.new self.now) result }
+        ensures counted { Counted here.old here.new self.now }
+    {
+        let value = here.formula(self.done, line, formula)?;
+        let Some(end) = here.dot.checked_add(u64::from(width.byte_count())) else {
+            return Err(Stop::PastAddressSpace { line });
+        };
+        let start = here.dot;
+        here.data_commands.push(DataAt {
+            start,
+            width,
+            value,
+        })?;
+        here.dot = end;
+        Ok(())
+    }
+
+    /// `.` goes on to a number and some more.
+    fn go_to(&self, here: &mut Here<'a>, line: u32, from: u64, more: u64) -> Result<(), Stop<'a>>
+        ghost naming: { Naming }
+        ensures gives { Gives (moved line (body_of naming here.old self.now) (from + more))
+            (body_of naming here.new self.now) result }
+        ensures counted { Counted here.old here.new self.now }
+    {
+        let dot = here.dot;
+        let Some(to) = from.checked_add(more) else {
+            return Err(Stop::PastAddressSpace { line });
+        };
+        if to < dot {
+            return Err(Stop::MovedBack { line });
+        }
+        here.dot = to;
+        Ok(())
+    }
+
+    /// `. += e` and `. = . + e`.
+    fn advance(&self, here: &mut Here<'a>, line: u32, by: &'a Expr) -> Result<(), Stop<'a>>
+        ghost naming: { Naming }
+        ensures gives { Gives (advanced line (body_of naming here.old self.now) (expr_of by.now))
+            (body_of naming here.new self.now) result }
+        ensures counted { Counted here.old here.new self.now }
+    {
+        let more = here.number(self.done, line, by)?;
+        let from = here.dot;
+        self.go_to(here, line, from, more)?;
+        Ok(())
+    }
+
+    /// `. = e`.
+    fn set_dot(&self, here: &mut Here<'a>, line: u32, to: &'a Expr) -> Result<(), Stop<'a>>
+        ghost naming: { Naming }
+        ensures gives { Gives (set_to line (body_of naming here.old self.now) (dot_form (expr_of to.now)))
+            (body_of naming here.new self.now) result }
+        ensures counted { Counted here.old here.new self.now }
+    {
+        match to.dot_form() {
+            Some(DotForm::Advance(by)) => self.advance(here, line, by),
+            Some(DotForm::Align(_)) => {
+                let to = here.number(self.done, line, to)?;
+                self.go_to(here, line, to, 0)
+            }
+            Some(DotForm::Offset(by)) => {
+                let by = here.number(self.done, line, by)?;
+                self.go_to(here, line, self.start, by)
+            }
+            None => Ok(()),
+        }
+    }
+
+    #[tactic(auto, unfolding(ldmodel::specs::Body::body_command_step))]
+    fn place_command(
+        &self,
+        here: &mut Here<'a>,
+        line: u32,
+        command: &'a BodyCommand,
+    ) -> Result<(), Stop<'a>>
+        ghost naming: { Naming }
+        requires { IfInput command.now (StartsThere naming here.now self.now) }
+        ensures gives { Gives
+            (body_command_step self.now.provided.now line (body_of naming here.old self.now) command.now)
+            (body_of naming here.new self.now) result }
+        ensures counted { Counted here.old here.new self.now }
+    {
+        match command {
+            BodyCommand::Dot(DotCommand::Add(by)) => self.advance(here, line, by.expr()),
+            BodyCommand::Dot(DotCommand::Set(to)) => self.set_dot(here, line, to.expr()),
+            BodyCommand::Common(command) => here.common(self.done, self.provided, line, command),
+            BodyCommand::Data(width, formula) => self.place_data(here, line, *width, formula),
+            BodyCommand::Input(_) => self.place_input(here, line),
+        }
+    }
+
+    fn place_statement(
+        &self,
+        here: &mut Here<'a>,
+        statement: &'a BodyStatement,
+    ) -> Result<(), Stop<'a>>
+        ghost naming: { Naming }
+        requires { IfInput statement.now.command (StartsThere naming here.now self.now) }
+        ensures gives { Gives (body_step self.now.provided.now (body_of naming here.old self.now) statement.now)
+            (body_of naming here.new self.now) result }
+        ensures counted { Counted here.old here.new self.now }
+    {
+        here.dots.push(here.dot)?;
+        self.place_command(here, statement.line, &statement.command)
+    }
+
+    /// The statements of the body.
+    #[tactic(auto, unfolding(ldmodel::specs::Chain::run))]
+    pub fn place_body(&self, here: &mut Here<'a>, body: &'a [BodyStatement]) -> Result<(), Stop<'a>>
+        ghost naming: { Naming }
+        requires { IfSome self.now.starts (λ s. BodyAlongside s.now (body_of naming here.now self.now) body.now) }
+        ensures gives { Gives (run (body_step self.now.provided.now) (body_of naming here.old self.now) body.now)
+            (body_of naming here.new self.now) result }
+        ensures counted { Counted here.old here.new self.now }
+    {
+        steps_stay_alike();
+        for statement in body {
+            self.place_statement(here, statement)?;
+        }
+        Ok(())
+    }
+}

@@ -1,0 +1,85 @@
+//! Why a script has no layout.
+
+ghost use Rattle.std.specs.Prelude.{◌≡◌, IfSome, Some, slice_get};
+ghost use Rattle.ldmodel.specs.Fault.{NotReady, RegionFull};
+ghost use Rattle.ldmodel.specs.Mentioned.{mentioned_names};
+ghost use Rattle.place_sections.specs.Outcomes.{Reports};
+ghost use Rattle.place_sections.specs.State.{fault_of};
+ghost use Rattle.place_sections.specs.declared.stop.Stop.TheVariants.{NoMemory as OutOfMemory};
+ghost use Rattle.place_sections.specs.declared.fault.PlaceFault.TheVariants.{NoMemory};
+
+use crate::stop::Stop;
+use ldmodel::fault::{Fault, MentionIndex};
+use place_terms::mentioned::{mention_of, mentioned_names};
+use place_terms::named::{output_named, region_named};
+use ldscript::script::Script;
+use std::alloc::{AllocError, Global};
+
+/// Why a script has no layout.
+#[derive(Debug, Drop)]
+pub enum PlaceFault {
+    /// The first fault of the layout: `F4` to `F8`.
+    First(Fault),
+    /// The layout has no such fault, but output sections share addresses: all `F9`, then all `F10`.
+    Meeting(Vec<Fault>),
+    /// Out of memory.
+    NoMemory,
+}
+
+impl From<AllocError> for PlaceFault {
+    ghost use Rattle.std.specs.Prelude.{◌≡◌};
+    ghost use Rattle.place_sections.specs.declared.fault.PlaceFault.TheVariants.{NoMemory};
+
+    ghost from_gives = { λ _ e. e ≡ NoMemory };
+
+    fn from(_failed: AllocError) -> PlaceFault {
+        PlaceFault::NoMemory
+    }
+}
+
+/// A mention of a name in the script.
+fn mention(alloc: Global, script: &Script, name: &[u8]) -> Option<MentionIndex>
+    ensures { IfSome result (λ m. slice_get (mentioned_names script.now) m.0 ≡ Some name.now) }
+{
+    match mentioned_names(alloc, script.statements()) {
+        Ok(names) => mention_of(&names, name),
+        Err(_) => None,
+    }
+}
+
+fn not_ready(alloc: Global, script: &Script, line: u32, name: &[u8]) -> PlaceFault
+    ensures { Reports script.now (NotReady line name.now) result }
+{
+    match mention(alloc, script, name) {
+        Some(name) => PlaceFault::First(Fault::NotReady { line, name }),
+        None => PlaceFault::NoMemory,
+    }
+}
+
+fn region_full(script: &Script, section: &[u8], name: &[u8]) -> PlaceFault
+    ensures { Reports script.now (RegionFull section.now name.now) result }
+{
+    let Some(section) = output_named(script, section) else {
+        return PlaceFault::NoMemory;
+    };
+    match region_named(script, name) {
+        Some(region) => PlaceFault::First(Fault::RegionFull { section, region }),
+        None => PlaceFault::NoMemory,
+    }
+}
+
+/// The fault at which a layout stops.
+#[tactic(auto, using(crate::proofs::Reporting::stands_no_value, crate::proofs::Reporting::stands_moved_back, crate::proofs::Reporting::stands_past))]
+pub(crate) fn reported(alloc: Global, script: &Script, stop: Stop<'_>) -> PlaceFault
+    ensures fault { Reports script.now (fault_of stop.entry) result }
+    ensures memory { stop.entry ≡ OutOfMemory → result ≡ NoMemory }
+{
+    match stop {
+        Stop::NotReady { line, name } => not_ready(alloc, script, line, name),
+        Stop::NoValue { line } => PlaceFault::First(Fault::NoValue { line }),
+        Stop::MovedBack { line } => PlaceFault::First(Fault::MovedBack { line }),
+        Stop::RegionFull { section, region } => region_full(script, section, region),
+        Stop::PastAddressSpace { line } => PlaceFault::First(Fault::PastAddressSpace { line }),
+        Stop::NoMemory => PlaceFault::NoMemory,
+    }
+}

@@ -1,0 +1,238 @@
+//! The statements of SECTIONS.
+
+ghost use Rattle.std.specs.Prelude.{◌≡◌, ◌≤◌, ◌<◌, ◌+◌, [], map, slice_index_or, length, IfErr, IfOk, OnOk};
+ghost use Rattle.std.specs.Prelude.{IfNone, IfSome, false, true};
+ghost use Rattle.std.specs.Prelude.{if◌then◌else◌};
+ghost use Rattle.ldscript.specs.statements.Numbering.{sections_of};
+ghost use Rattle.ldmodel.specs.Chain.{run};
+ghost use Rattle.ldmodel.specs.Layout.{noted};
+ghost use Rattle.ldmodel.specs.Placement.{free_dot_step, item_command_step, item_step};
+ghost use Rattle.place_terms.specs.Earlier.{earlier_of, AreStartsOf};
+ghost use Rattle.place_terms.specs.Naming.{Naming};
+ghost use Rattle.place_terms.specs.Wholes.{counts_in, starts_in};
+ghost use Rattle.place_sections.specs.Alongside.{IsAlongside, ItemsAlongside};
+ghost use Rattle.place_sections.specs.Boundaries.{AreBoundaries, IsAt};
+ghost use Rattle.place_sections.specs.Counted.{Adds, CountsAlong, Resumes, entries, placed_from};
+ghost use Rattle.place_sections.specs.Earlier.{Earlier};
+ghost use Rattle.place_sections.specs.Inputs.{rows_of};
+ghost use Rattle.place_sections.specs.Next.{AreFirst, IsNext};
+ghost use Rattle.place_sections.specs.State.{layout_of, Gives};
+ghost use Rattle.place_sections.specs.declared.stop.Stop.TheVariants.{NoMemory};
+
+use crate::boundary::Boundary;
+use crate::script::Input;
+use crate::state::{Done, Here};
+use crate::stop::Stop;
+use ldmodel_laws::layout::steps_stay_alike;
+use ldmodel::rows::Piece;
+use ldscript::tree::{DotCommand, Item, ItemCommand};
+
+/// The row of the output section of a number.
+pub(crate) fn row_at(rows: &[Vec<Piece>], section: usize) -> &[Piece]
+    ensures { result.now ≡ slice_index_or (map (λ v. v.items) rows.now) section [] }
+{
+    match rows.get(section) {
+        Some(row) => row,
+        None => &[],
+    }
+}
+
+/// Whether a statement of SECTIONS is an output section.
+fn is_output(item: &Item) -> bool
+    ensures { length (sections_of item.now.line item.now.command) ≡ (if result then 1 else 0) }
+{
+    matches!(&item.command, ItemCommand::Section(_))
+}
+
+impl<'a> Here<'a> {
+    /// `. = e` and `. += e` outside output sections.
+    fn move_freely(
+        &mut self,
+        done: &Done<'a>,
+        line: u32,
+        command: &'a DotCommand,
+    ) -> Result<(), Stop<'a>>
+        ghost naming: { Naming }
+        ensures anew { self.new.anew ≡ self.old.anew }
+        ensures script { self.new.symbols.script ≡ self.old.symbols.script }
+        ensures gives { Gives (free_dot_step (layout_of naming self.old done.now) line command.now)
+            (layout_of naming self.new done.now) result }
+    {
+        match command {
+            DotCommand::Set(to) => {
+                self.dot = self.formula(done, line, to)?;
+                Ok(())
+            }
+            DotCommand::Add(by) => {
+                let by = self.formula(done, line, by)?;
+                self.dot = self.dot.wrapping_add(by);
+                Ok(())
+            }
+        }
+    }
+
+    /// Where the layout has come to, after this many statements of SECTIONS.
+    fn boundary(&self, done: &Done<'a>, items: usize) -> Boundary
+        ghost naming: { Naming }
+        ensures items { result.items ≡ items }
+        ensures at { IsAt result (layout_of naming self.now done.now) }
+    {
+        Boundary {
+            items,
+            dot: self.dot,
+            dots: self.dots.len(),
+            inputs: self.inputs,
+            symbols: self.symbols.len(),
+            data_commands: done.sections.data_count(),
+        }
+    }
+}
+
+impl<'i, 'a> Input<'i, 'a> {
+    /// Where the input sections of the next output section start, if its row is as it was in an earlier layout.
+    fn kept_starts(&self, done: &Done<'a>) -> Result<Option<&'a [u64]>, Stop<'a>>
+        ensures first { IfOk result (λ o. IfSome o (λ _. length done.now.sections.list < self.now.kept.first)) }
+        ensures past { IfOk result (λ o. IfNone o (self.now.kept.first ≤ length done.now.sections.list)) }
+        ensures other { IfOk result (λ o. IfSome o (λ _. self.now.kept.same_provided ≡ false)) }
+        ensures starts { IfOk result (λ o. IfSome o (λ s.
+            AreStartsOf self.now.kept.earlier (length done.now.sections.list)
+            (length (starts_in done.now.sections.list))
+            s.now)) }
+        ensures refused { IfErr result (λ f. f ≡ NoMemory) }
+    {
+        let number = done.sections.len();
+        if number >= self.kept.first {
+            return Ok(None);
+        }
+        if self.kept.same_provided {
+            // Unreachable: these are taken over
+            return Err(Stop::NoMemory);
+        }
+        match self.kept.earlier.starts_of(number, done.sections.count()) {
+            Some(starts) => Ok(Some(starts)),
+            // Unreachable: the earlier layout has this output section
+            None => Err(Stop::NoMemory),
+        }
+    }
+
+    #[tactic(auto, unfolding(ldmodel::specs::Placement::item_command_step), using(crate::proofs::Rows::next_row_is, crate::proofs::Counting::entries_more))]
+    fn place_command(
+        &self,
+        here: &mut Here<'a>,
+        done: &mut Done<'a>,
+        line: u32,
+        command: &'a ItemCommand,
+    ) -> Result<(), Stop<'a>>
+        ghost naming: { Naming }
+        requires next { IsNext done.now.sections.script (length done.now.sections.list) command.now }
+        requires kept { IsAlongside naming self.now (layout_of naming here.now done.now) done.now.sections.list line
+            command.now }
+        ensures script { here.new.symbols.script ≡ here.old.symbols.script }
+        ensures anew { here.new.anew ≤ here.old.anew + entries (length done.old.sections.list)
+            (map (λ v. v.items) self.now.rows.now) }
+        ensures left { OnOk result
+            (here.new.anew + entries (length done.new.sections.list) (map (λ v. v.items) self.now.rows.now)
+            ≤ here.old.anew + entries (length done.old.sections.list) (map (λ v. v.items) self.now.rows.now)) }
+        ensures resumed { OnOk result
+            (Resumes self.now here.old here.new done.old.sections.list done.new.sections.list) }
+        ensures added { OnOk result
+            (Adds self.now here.old here.new done.old.sections.list done.new.sections.list) }
+        ensures outputs { done.new.sections.script ≡ done.old.sections.script }
+        ensures gives { Gives
+            (item_command_step (rows_of naming self.now) self.now.provided.now line
+            (layout_of naming here.old done.old) command.now) (layout_of naming here.new done.new) result }
+    {
+        match command {
+            ItemCommand::Dot(command) => here.move_freely(done, line, command),
+            ItemCommand::Common(command) => here.common(done, self.provided, line, command),
+            ItemCommand::Section(output) => {
+                let starts = self.kept_starts(done)?;
+                let row = row_at(self.rows, done.sections.len());
+                let output = output.get();
+                here.place_section(self.alloc, done, self.provided, row, starts, line, output)
+            }
+            ItemCommand::Discard(inputs) => {
+                let Some(next) = here.inputs.checked_add(inputs.as_slice().len() as u64) else {
+                    // Unreachable: no script has 2^64 input statements
+                    return Err(Stop::NoMemory);
+                };
+                here.inputs = next;
+                Ok(())
+            }
+        }
+    }
+
+    /// A statement of SECTIONS.
+    fn place_item(
+        &self,
+        here: &mut Here<'a>,
+        done: &mut Done<'a>,
+        item: &'a Item,
+    ) -> Result<(), Stop<'a>>
+        ghost naming: { Naming }
+        requires next { IsNext done.now.sections.script (length done.now.sections.list) item.now.command }
+        requires kept { IsAlongside naming self.now (noted (layout_of naming here.now done.now))
+            done.now.sections.list item.now.line item.now.command }
+        ensures script { here.new.symbols.script ≡ here.old.symbols.script }
+        ensures anew { here.new.anew ≤ here.old.anew + entries (length done.old.sections.list)
+            (map (λ v. v.items) self.now.rows.now) }
+        ensures left { OnOk result
+            (here.new.anew + entries (length done.new.sections.list) (map (λ v. v.items) self.now.rows.now)
+            ≤ here.old.anew + entries (length done.old.sections.list) (map (λ v. v.items) self.now.rows.now)) }
+        ensures resumed { OnOk result
+            (Resumes self.now here.old here.new done.old.sections.list done.new.sections.list) }
+        ensures added { OnOk result
+            (Adds self.now here.old here.new done.old.sections.list done.new.sections.list) }
+        ensures outputs { done.new.sections.script ≡ done.old.sections.script }
+        ensures gives { Gives
+            (item_step (rows_of naming self.now) self.now.provided.now (layout_of naming here.old done.old) item.now)
+            (layout_of naming here.new done.new) result }
+    {
+        here.dots.push(here.dot)?;
+        self.place_command(here, done, item.line, &item.command)
+    }
+
+    /// The statements of SECTIONS, of which the first ones may be taken over. It gives where the layout had come to
+    /// before each output section, and after all.
+    pub fn place_items(
+        &self,
+        here: &mut Here<'a>,
+        done: &mut Done<'a>,
+        items: &'a [Item],
+    ) -> Result<Vec<Boundary>, Stop<'a>>
+        ghost naming: { Naming }
+        requires none { done.now.sections.list ≡ [] }
+        requires first { AreFirst done.now.sections.script items.now }
+        requires kept { done.now.sections.earlier ≡ earlier_of self.now.kept.earlier }
+        requires earlier { self.now.kept.same_provided ≡ true → 0 < self.now.kept.first
+            → Earlier naming self.now here.now.symbols.script (layout_of naming here.now done.now) items.now }
+        requires alongside { self.now.kept.same_provided ≡ false → 0 < self.now.kept.first
+            → ItemsAlongside naming self.now here.now.symbols.script (layout_of naming here.now done.now) items.now }
+        ensures script { here.new.symbols.script ≡ here.old.symbols.script }
+        ensures anew { here.new.anew ≤ here.old.anew + entries 0 (map (λ v. v.items) self.now.rows.now) }
+        ensures resumed { OnOk result (here.new.anew ≤ here.old.anew
+            + entries self.now.kept.first (map (λ v. v.items) self.now.rows.now)) }
+        ensures added { OnOk result (CountsAlong here.old.anew here.new.anew 0
+            (placed_from self.now.kept.first (counts_in done.new.sections.list))) }
+        ensures gives { Gives
+            (run (item_step (rows_of naming self.now) self.now.provided.now) (layout_of naming here.old done.old)
+            items.now) (layout_of naming here.new done.new) result }
+        ensures boundaries { IfOk result (λ bs.
+            AreBoundaries (rows_of naming self.now) self.now.provided.now (layout_of naming here.old done.old)
+            items.now bs.items) }
+        ensures many { IfOk result (λ bs. length bs.items ≡ length done.new.sections.list + 1) }
+    {
+        steps_stay_alike();
+        let resumed = self.resume(here, done, items)?;
+        let mut boundaries = resumed.boundaries;
+        for number in resumed.passed..items.len() {
+            let item = &items[number];
+            if is_output(item) {
+                boundaries.push(here.boundary(done, number))?;
+            }
+            self.place_item(here, done, item)?;
+        }
+        boundaries.push(here.boundary(done, items.len()))?;
+        Ok(boundaries)
+    }
+}

@@ -1,0 +1,34 @@
+//! Layout: where the output sections of a script, their input sections and its symbols stand. Takes the script, the
+//! rows, the PROVIDEs in force and perhaps an earlier placement; gives a `Placement`, or its first fault, or all that
+//! meet.
+//!
+//! - `place`, `placement`; `script` over `parts`: the statements before SECTIONS, in it and after it;
+//! - `items`, `assign`, `memory`, `section`, `head` (address, load address), `body` (`.`), `end` (size, regions);
+//! - `boundary`, `kept`, `taken`: what an earlier placement gives; `ready`, `state`, `stop`, `fault`, `whole`;
+//! - `overlaps` over `firsts`, `hull`, `extent`: output sections that meet, in memory or where they are loaded; `law`.
+#![tactic(auto)]
+
+mod assign;
+mod body;
+mod boundary;
+mod end;
+mod extent;
+pub mod fault;
+mod firsts;
+mod head;
+mod hull;
+mod items;
+mod kept;
+pub mod law;
+mod memory;
+pub mod overlaps;
+mod parts;
+pub mod place;
+pub mod placement;
+mod ready;
+mod script;
+mod section;
+mod state;
+mod stop;
+mod taken;
+mod whole;

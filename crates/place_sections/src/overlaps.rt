@@ -1,0 +1,159 @@
+//! The output sections that meet others.
+
+ghost use Rattle.std.specs.Prelude.{◌≡◌, ◌++◌, ◌≤◌, ℕ, IfOk, IsTrue, OnOk, length};
+ghost use Rattle.place_sections.specs.Extents.{cover};
+ghost use Rattle.place_sections.specs.Meetings.{AreOverlaps};
+ghost use Rattle.place_sections.specs.Firsts.{before};
+ghost use Rattle.place_sections.specs.Found.{extent_in, extents_in, fault_in, fault_with, met_before};
+
+use crate::extent::{Extent, are_ascending};
+use crate::firsts::firsts;
+use ldmodel::fault::Fault;
+use ldmodel::laid::{OutputIndex, Placed};
+use ldmodel::memory::NoMemory;
+use std::alloc::{AllocError, Global};
+
+/// Where output sections may share addresses.
+#[derive(Clone, Copy, Debug)]
+pub(crate) enum Space {
+    /// Where they stand in memory.
+    Memory,
+    /// Where they are loaded from.
+    Load,
+}
+
+impl Space {
+    fn extent(self, section: &Placed) -> Extent
+        ensures { result ≡ extent_in self section.now }
+    {
+        match self {
+            Space::Memory => Extent {
+                start: section.start,
+                size: section.size,
+            },
+            Space::Load => Extent {
+                start: section.load,
+                size: section.load_size,
+            },
+        }
+    }
+
+    fn fault(self, section: OutputIndex, earlier: OutputIndex) -> Fault
+        ensures { result ≡ fault_in self section earlier }
+    {
+        match self {
+            Space::Memory => Fault::AddressesMeet { section, earlier },
+            Space::Load => Fault::LoadAddressesMeet { section, earlier },
+        }
+    }
+}
+
+/// The addresses of output sections, in the order of the script.
+fn extents(alloc: Global, space: Space, sections: &[Placed]) -> Result<Vec<Extent>, NoMemory>
+    ensures { IfOk result (λ v. v.items ≡ extents_in space sections.now) }
+{
+    let mut extents = Vec::with_capacity(alloc, sections.len())?;
+    for section in sections {
+        extents.push(space.extent(section))?;
+    }
+    Ok(extents)
+}
+
+/// Whether each output section, in the order of the script, begins at or past the end of all before it, as most do;
+/// those without a byte do not count. Then no address is in two of them.
+fn are_in_order(space: Space, sections: &[Placed]) -> bool
+    ensures { IsTrue result → (address : ℕ) → cover address (extents_in space sections.now) ≤ 1 }
+{
+    let mut end = 0;
+    for section in sections {
+        let extent = space.extent(section);
+        if extent.size == 0 {
+            continue;
+        }
+        if u128::from(extent.start) < end {
+            return false;
+        }
+        end = extent.end();
+    }
+    true
+}
+
+/// The number of an output section. Fails past 2^32, where no number is left.
+fn number(k: usize) -> Result<OutputIndex, NoMemory>
+    ensures { IfOk result (λ x. x.0 ≡ k) }
+{
+    match u32::try_from(k) {
+        Ok(k) => Ok(OutputIndex(k)),
+        Err(_) => Err(AllocError),
+    }
+}
+
+/// The fault of a section, where the first that it meets is an earlier one.
+fn push_meeting(
+    faults: &mut Vec<Fault>,
+    space: Space,
+    section: usize,
+    first: Option<usize>,
+) -> Result<(), NoMemory>
+    ensures { OnOk result (faults.new.items ≡ faults.old.items ++ fault_with space section (before section first)) }
+{
+    let Some(met) = first else {
+        return Ok(());
+    };
+    if met >= section {
+        return Ok(());
+    }
+    let section = number(section)?;
+    let met = number(met)?;
+    faults.push(space.fault(section, met))?;
+    Ok(())
+}
+
+/// The faults of all that meet an earlier one.
+fn push_meetings(
+    alloc: Global,
+    faults: &mut Vec<Fault>,
+    space: Space,
+    extents: &[Extent],
+) -> Result<(), NoMemory>
+    ensures { OnOk result (faults.new.items ≡ faults.old.items ++ met_before space extents.now) }
+{
+    let firsts = firsts(alloc, extents)?;
+    for k in 0..extents.len() {
+        push_meeting(faults, space, k, firsts[k])?;
+    }
+    Ok(())
+}
+
+/// The overlaps in one space. Where no two output sections meet, as their order or a sort shows, there are none; where
+/// some do, the first that each meets is looked for in a tree of ranges. The time is at most that of a sort.
+fn push_overlaps(
+    alloc: Global,
+    faults: &mut Vec<Fault>,
+    space: Space,
+    sections: &[Placed],
+) -> Result<(), NoMemory>
+    ensures { OnOk result (faults.new.items ≡ faults.old.items ++ met_before space (extents_in space sections.now)) }
+{
+    if are_in_order(space, sections) {
+        return Ok(());
+    }
+    let extents = extents(alloc, space, sections)?;
+    let mut ascending = Vec::from_slice(alloc, &extents)?;
+    ascending.sort_unstable_by_key(|e| e.start);
+    if are_ascending(&ascending) {
+        return Ok(());
+    }
+    push_meetings(alloc, faults, space, &extents)
+}
+
+/// The overlaps of output sections: for each that shares an address with an earlier one a fault with the first such;
+/// then the same of load addresses. The time is that of a sort.
+pub fn overlaps(alloc: Global, sections: &[Placed]) -> Result<Vec<Fault>, NoMemory>
+    ensures { IfOk result (λ v. AreOverlaps sections.now v.items) }
+{
+    let mut faults = Vec::new(alloc);
+    push_overlaps(alloc, &mut faults, Space::Memory, sections)?;
+    push_overlaps(alloc, &mut faults, Space::Load, sections)?;
+    Ok(faults)
+}

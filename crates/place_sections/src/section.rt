@@ -1,0 +1,112 @@
+//! An output section.
+
+ghost use Rattle.std.specs.Prelude.{◌≡◌, ◌≤◌, ◌+◌, [], length, OnOk, IfErr, IfNone, IfSome};
+ghost use Rattle.ldmodel.specs.Body.{body_step};
+ghost use Rattle.ldmodel.specs.Chain.{run};
+ghost use Rattle.ldmodel.specs.Placement.{opened, section_step};
+ghost use Rattle.place_terms.specs.Naming.{Naming, row_named};
+ghost use Rattle.place_terms.specs.Outputs.{IsOutput};
+ghost use Rattle.place_sections.specs.Alongside.{BodyAlongside, SectionAlongside};
+ghost use Rattle.place_sections.specs.Counted.{CountsAlong, PlacesAnew};
+ghost use Rattle.place_sections.specs.Heads.{head_from};
+ghost use Rattle.place_sections.specs.State.{body_from, layout_of, Gives};
+ghost use Rattle.place_sections.specs.declared.stop.Stop.TheVariants.{NoMemory};
+
+use crate::head::Head;
+use crate::state::{Done, Frame, Here};
+use crate::stop::Stop;
+use ldmodel_laws::layout::steps_stay_alike;
+use ldmodel::rows::Piece;
+use place_terms::provided::Provided;
+use ldscript::tree::OutputSection;
+use std::alloc::Global;
+
+impl<'a> Here<'a> {
+    /// Begins to place an output section, of which this many input sections are expected. Fails where memory runs out.
+    fn open(&mut self, alloc: Global, start: u64, count: usize) -> Result<(), Stop<'a>>
+        ensures dot { OnOk result (self.new.dot ≡ start) }
+        ensures dots { OnOk result (self.new.dots.items ≡ self.old.dots.items) }
+        ensures inputs { OnOk result (self.new.inputs ≡ self.old.inputs) }
+        ensures symbols { self.new.symbols ≡ self.old.symbols }
+        ensures pieces { OnOk result (self.new.pieces.items ≡ []) }
+        ensures anew { self.new.anew ≡ self.old.anew }
+        ensures data_commands { OnOk result (self.new.data_commands.items ≡ []) }
+        ensures refused { IfErr result (λ f. f ≡ NoMemory) }
+    {
+        self.pieces = Vec::with_capacity(alloc, count)?;
+        self.dot = start;
+        self.data_commands.clear();
+        Ok(())
+    }
+
+    /// The body of a section with this head.
+    fn body(
+        &mut self,
+        alloc: Global,
+        done: &Done<'a>,
+        provided: &Provided<'a>,
+        row: &'a [Piece],
+        starts: Option<&'a [u64]>,
+        head: Head,
+        output: &'a OutputSection,
+    ) -> Result<(), Stop<'a>>
+        ghost naming: { Naming }
+        requires kept { IfSome starts (λ s.
+            BodyAlongside s.now
+            (opened (layout_of naming self.now done.now) (row_named naming row.now) (head_from head)) output.now.body) }
+        ensures script { self.new.symbols.script ≡ self.old.symbols.script }
+        ensures anew { self.new.anew ≤ self.old.anew + length row.now }
+        ensures none { IfSome starts.entry (λ s. self.new.anew ≡ self.old.anew) }
+        ensures all { OnOk result (IfNone starts.entry
+            (CountsAlong self.old.anew self.new.anew 0 (length self.new.pieces.items))) }
+        ensures gives { Gives
+            (run (body_step provided.now)
+            (opened (layout_of naming self.old done.now) (row_named naming row.now) (head_from head)) output.now.body)
+            (body_from naming self.new done.now head.start row.now) result }
+    {
+        let frame = Frame {
+            done,
+            provided,
+            row,
+            starts,
+            start: head.start,
+        };
+        self.open(alloc, head.start, row.len())?;
+        frame.place_body(self, output.body.as_slice())?;
+        Ok(())
+    }
+
+    /// An output section. Its input sections start at these addresses, where they stay in their places.
+    #[tactic(auto, unfolding(ldmodel::specs::Placement::section_step), using(crate::proofs::Ending::end_alone))]
+    pub fn place_section(
+        &mut self,
+        alloc: Global,
+        done: &mut Done<'a>,
+        provided: &Provided<'a>,
+        row: &'a [Piece],
+        starts: Option<&'a [u64]>,
+        line: u32,
+        output: &'a OutputSection,
+    ) -> Result<(), Stop<'a>>
+        ghost naming: { Naming }
+        requires next { IsOutput done.now.sections.script (length done.now.sections.list) output.now }
+        requires kept { IfSome starts (λ s.
+            SectionAlongside (row_named naming row.now) (layout_of naming self.now done.now) line output.now s.now) }
+        ensures script { self.new.symbols.script ≡ self.old.symbols.script }
+        ensures outputs { done.new.sections.script ≡ done.old.sections.script }
+        ensures anew { self.new.anew ≤ self.old.anew + length row.now }
+        ensures none { IfSome starts.entry (λ s. self.new.anew ≡ self.old.anew) }
+        ensures all { OnOk result (IfNone starts.entry
+            (PlacesAnew self.old self.new done.old.sections.list done.new.sections.list)) }
+        ensures one { OnOk result (length done.new.sections.list ≡ length done.old.sections.list + 1) }
+        ensures gives { Gives
+            (section_step provided.now (row_named naming row.now) (layout_of naming self.old done.old) line output.now)
+            (layout_of naming self.new done.new) result }
+    {
+        steps_stay_alike();
+        let head = self.head(done, row, line, output)?;
+        self.body(alloc, done, provided, row, starts, head, output)?;
+        self.end(alloc, done, line, output, head)?;
+        Ok(())
+    }
+}

@@ -1,0 +1,61 @@
+//! Why a layout stops.
+
+use std::alloc::{AllocError, AllocFailed};
+
+/// Why a layout stops, with names in place of their numbers.
+#[derive(Clone, Copy)]
+pub(crate) enum Stop<'a> {
+    /// An expression names what is not complete where it stands.
+    NotReady {
+        /// The line of the statement.
+        line: u32,
+        /// The name.
+        name: &'a [u8],
+    },
+    /// An expression has no value.
+    NoValue {
+        /// The line of the statement.
+        line: u32,
+    },
+    /// `.` goes back inside an output section.
+    MovedBack {
+        /// The line of the statement.
+        line: u32,
+    },
+    /// An output section does not lie in its memory region.
+    RegionFull {
+        /// The output section.
+        section: &'a [u8],
+        /// The region.
+        region: &'a [u8],
+    },
+    /// An address, an end or `.` is 2^64 or more.
+    PastAddressSpace {
+        /// The line of the statement.
+        line: u32,
+    },
+    /// Out of memory.
+    NoMemory,
+}
+
+impl<'a, T: Drop> From<AllocFailed<T>> for Stop<'a> {
+    ghost use Rattle.std.specs.Prelude.{◌≡◌};
+    ghost use Rattle.place_sections.specs.declared.stop.Stop.TheVariants.{NoMemory};
+
+    ghost from_gives = { λ _ e. e ≡ NoMemory };
+
+    fn from(_failed: AllocFailed<T>) -> Stop<'a> {
+        Stop::NoMemory
+    }
+}
+
+impl<'a> From<AllocError> for Stop<'a> {
+    ghost use Rattle.std.specs.Prelude.{◌≡◌};
+    ghost use Rattle.place_sections.specs.declared.stop.Stop.TheVariants.{NoMemory};
+
+    ghost from_gives = { λ _ e. e ≡ NoMemory };
+
+    fn from(_failed: AllocError) -> Stop<'a> {
+        Stop::NoMemory
+    }
+}

@@ -1,0 +1,262 @@
+-- What the code's table of output sections finds.
+use Rattle.std.proofs.Common.{◌≡◌, ◌≢◌, ℕ, zero, suc, ◌+◌, ◌<◌, List, [], ◌∷◌, ◌++◌, length, get_or, set, map}
+use Rattle.std.proofs.Common.{find, Bool, true, false, Option, Some, None, refl, sym, ap, subst, ◌∙◌, arith}
+use Rattle.std.specs.Prelude.{slice_get, bytes_eq}
+use Rattle.std.specs.List.{last_or}
+use Rattle.std.specs.Option.{option_map, option_and_then}
+use Rattle.std.proofs.Common.{append_assoc, replicate, length-append, ◌==◌}
+use Rattle.std.proofs.lemmas.List.{length-map, append-nil, get_or-set_other, map-append, get_or-replicate}
+use Rattle.std.proofs.lemmas.List.{length-replicate, length-set, get_or_at}
+use Rattle.std.proofs.Math.ListN.{get_or-append}
+use Rattle.std.proofs.lemmas.Bool.{eqb-true, eqb-false}
+use Rattle.std.proofs.lemmas.List.Elements.{filter-append, All-push}
+use Rattle.std.proofs.lemmas.Option.{get_or_from_slice_get, slice_get-map, slice_get_within}
+use Rattle.std.proofs.lemmas.Grind.{get_or-set_at}
+use Rattle.ldscript.specs.Script.{IsSound}
+use Rattle.ldscript.specs.statements.Given.{section_number, region_number}
+use Rattle.ldscript.specs.statements.declared.section.OutputSection.{OutputSection}
+use Rattle.ldscript.specs.statements.declared.statement.Statement.{Statement}
+use Rattle.ldmodel.specs.Layout.{PlacedSection}
+use Rattle.ldmodel.specs.SectionHead.{difference_in, difference_of, same_region}
+use Rattle.ldmodel.specs.declared.laid.Placed.{Placed}
+use Rattle.place_terms.proofs.Lists.{same_name, is_same_name}
+use Rattle.place_terms.proofs.Numbers.{sections_told, regions_told}
+use Rattle.place_terms.proofs.Ordered.{output_number}
+use Rattle.place_terms.specs.Earlier.{EarlierOutputs}
+use Rattle.place_terms.specs.Outputs.{IsOutput, Outputs}
+use Rattle.place_terms.proofs.Tabled.{found_under}
+use Rattle.place_terms.proofs.Counting.{data_grow, starts_grow}
+use Rattle.place_terms.specs.Wholes.{all_data_in, starts_in}
+use Rattle.place_terms.specs.Keyed.{KeyedSection, section_of}
+use Rattle.place_terms.specs.SectionTable.{both, keyed, keyed_taken, section_names, nameless, difference_by}
+use Rattle.place_terms.specs.SectionTable.{AreSectionsOf, Fits, IsKeptAt}
+use Rattle.place_terms.specs.Tables.{AreInOrder}
+use Rattle.place_terms.specs.declared.sections.Closed.{Closed}
+use Rattle.place_terms.specs.declared.earlier.Taken.{Taken}
+
+abbrev placed_under : List KeyedSection → List ℕ → Option Placed
+placed_under xs name =
+    option_map (λ (x : KeyedSection). x.placed) (find (λ (x : KeyedSection). bytes_eq x.name name) xs)
+
+-- what is found by name stands under the number of the name
+module _ (script : List Statement) (xs : List KeyedSection) (name : List ℕ)
+    (order : AreInOrder (section_number script) (section_names xs)) where
+  under : placed_under xs name
+      ≡ option_map (λ (x : KeyedSection). x.placed)
+      (option_and_then (λ k. slice_get xs k) (section_number script name))
+  under = ap (option_map (λ (x : KeyedSection). x.placed))
+      (found_under (λ (x : KeyedSection). x.name) (section_number script) (sections_told script) name xs order)
+
+  pub section_there : (k : ℕ) → section_number script name ≡ Some k
+      → option_map (λ (x : KeyedSection). x.placed) (find (λ (x : KeyedSection). bytes_eq x.name name) xs)
+      ≡ option_map (λ (x : KeyedSection). x.placed) (slice_get xs k)
+  section_there k n =
+      under ∙ ap (option_map (λ (x : KeyedSection). x.placed)) (ap (option_and_then (λ j. slice_get xs j)) n)
+
+  pub section_unknown : section_number script name ≡ None
+      → option_map (λ (x : KeyedSection). x.placed) (find (λ (x : KeyedSection). bytes_eq x.name name) xs) ≡ None
+  section_unknown n =
+      under ∙ ap (option_map (λ (x : KeyedSection). x.placed)) (ap (option_and_then (λ j. slice_get xs j)) n)
+
+-- those that were placed follow those that are taken over
+pub after_taken : (ts : List Taken) (xs : List Closed) (k j : ℕ) → k ≡ length ts + j
+    → slice_get (both ts xs) k ≡ option_map keyed (slice_get xs j)
+after_taken [] xs k j e =
+    let same : k ≡ j = omega (arith, e) in
+    ap (slice_get (map keyed xs)) same ∙ slice_get-map keyed xs j
+after_taken (t ∷ ts) xs zero j e = absurd (omega (arith, e))
+after_taken (t ∷ ts) xs (suc k) j e = after_taken ts xs k j (omega (arith, e))
+
+pub among_taken : (ts : List Taken) (xs : List Closed) (k : ℕ) (t : Taken) → k < length ts → t ≡ get_or ts k t
+    → slice_get (both ts xs) k ≡ Some (keyed_taken t)
+among_taken [] xs k t l e = absurd (omega (arith, l))
+among_taken (y ∷ ts) xs zero t l e = ap (λ x. Some (keyed_taken x)) (sym e)
+among_taken (y ∷ ts) xs (suc k) t l e = among_taken ts xs k t (omega (arith, l)) e
+
+-- an output section that has the name is the one of its number
+pub guessed_right : (number : List ℕ → Option ℕ) (ts : List Taken) (xs : List Closed) (j : ℕ) (r : Closed)
+    (name : List ℕ) → AreInOrder number (section_names (both ts xs)) → slice_get xs j ≡ Some r
+    → r.output.now.name ≡ name → number name ≡ Some (length ts + j)
+guessed_right number ts xs j r name o e same =
+    let k : ℕ = length ts + j in
+    let at : slice_get (both ts xs) k ≡ Some (keyed r) = after_taken ts xs k j refl ∙ ap (option_map keyed) e in
+    let names : get_or (section_names (both ts xs)) k [] ≡ r.output.now.name =
+    get_or_from_slice_get (section_names (both ts xs)) k r.output.now.name []
+    (slice_get-map (λ (x : KeyedSection). x.name) (both ts xs) k
+    ∙ ap (option_map (λ (x : KeyedSection). x.name)) at) in
+    let inside : k < length (both ts xs) = slice_get_within (both ts xs) k (keyed r) at in
+    ap number (sym (names ∙ same))
+    ∙ o k (omega (arith, inside, length-map (both ts xs) (λ (x : KeyedSection). x.name)))
+
+-- one more
+pub both_pushed : (ts : List Taken) (xs : List Closed) (x : Closed) → both ts (xs ++ x ∷ [])
+    ≡ both ts xs ++ keyed x ∷ []
+both_pushed ts xs x =
+    ap (λ l. map keyed_taken ts ++ l) (map-append keyed xs (x ∷ []))
+    ∙ sym (append_assoc (map keyed_taken ts) (map keyed xs) (keyed x ∷ []))
+
+pub none_there : {X : Type 0} (xs : List X) → length xs ≡ 0 → xs ≡ []
+none_there [] e = refl
+none_there (x ∷ xs) e = absurd (omega (arith, e))
+
+pub both_taken : (ts : List Taken) (xs : List Closed) (t : Taken) → xs ≡ [] → both (ts ++ t ∷ []) xs
+    ≡ both ts xs ++ keyed_taken t ∷ []
+both_taken ts xs t e = rw e
+    (append-nil (map keyed_taken (ts ++ t ∷ []))
+    ∙ (map-append keyed_taken ts (t ∷ [])
+    ∙ ap (λ l. l ++ keyed_taken t ∷ []) (sym (append-nil (map keyed_taken ts)))))
+
+pub no_sections : (script : List Statement) (ts : List Taken) (xs : List Closed) (ds : List ℕ) (n : ℕ) → ts ≡ []
+    → xs ≡ [] → ds ≡ replicate n 0 → AreSectionsOf script (both ts xs) ds 0 0 0
+unfolding difference_by difference_in
+no_sections script ts xs ds n a b c = rw (a, b, c) (record {
+  order = λ k l. absurd (omega arith);
+  differences_of = λ name k e l. get_or-replicate n k 0 0 (omega (arith, length-replicate {A = ℕ} n 0));
+  elsewhere_of = refl;
+  ends = λ k d l. absurd (omega arith);
+  counted = refl;
+  data_counted = refl;
+})
+
+last_or_push : {X : Type 0} (o : Option X) (xs : List X) (x : X) → last_or o (xs ++ x ∷ []) ≡ Some x
+last_or_push o [] x = refl
+last_or_push o (y ∷ ys) x = last_or_push (Some y) ys x
+
+-- one more output section counts for its own region alone
+difference_same : (xs : List KeyedSection) (x : KeyedSection) (region : Option (List ℕ)) → same_region x.region region
+    ≡ true → difference_by (xs ++ x ∷ []) region ≡ difference_of (section_of nameless x)
+unfolding difference_by difference_in
+difference_same xs x region e =
+    rw (
+      map-append (section_of nameless) xs (x ∷ []),
+      filter-append (λ (q : PlacedSection). same_region q.region region) (map (section_of nameless) xs)
+          (section_of nameless x ∷ []),
+      e,
+      last_or_push,
+    ) refl
+
+difference_other : (xs : List KeyedSection) (x : KeyedSection) (region : Option (List ℕ)) → same_region x.region region
+    ≡ false → difference_by (xs ++ x ∷ []) region ≡ difference_by xs region
+unfolding difference_by difference_in
+difference_other xs x region e =
+    rw (
+      map-append (section_of nameless) xs (x ∷ []),
+      filter-append (λ (q : PlacedSection). same_region q.region region) (map (section_of nameless) xs)
+          (section_of nameless x ∷ []),
+      e,
+      append-nil,
+    ) refl
+
+-- the number of the next one
+pub next_number : (script : List Statement) (e : EarlierOutputs) (xs : List KeyedSection) (v : Outputs)
+    (output : OutputSection) → record { script = script; earlier = e; list = xs } ≡ v → IsSound script
+    → IsOutput v.script (length v.list) output
+    → section_number script output.name ≡ Some (length xs)
+next_number script before xs v output e sound next =
+    output_number script (length xs) output sound
+    (subst (λ (w : Outputs). IsOutput w.script (length w.list) output) (sym e) next)
+
+kept_elsewhere : (script : List Statement) (n : ℕ) (region : Option (List ℕ)) → IsKeptAt script n region None
+    → region ≡ None
+kept_elsewhere script n None at = refl
+kept_elsewhere script n (Some name) at = absurd at
+
+record KeptIn (script : List Statement) (n : ℕ) (region : Option (List ℕ)) (j : ℕ) : Type 0 where
+  name : List ℕ
+  region_is : region ≡ Some name
+  number_is : region_number script name ≡ Some j
+  within : j < n
+
+kept_in : (script : List Statement) (n : ℕ) (region : Option (List ℕ)) (j : ℕ) → IsKeptAt script n region (Some j)
+    → KeptIn script n region j
+kept_in script n None j at = absurd at
+kept_in script n (Some name) j at = record { name = name; region_is = refl; number_is = at.0; within = at.1 }
+
+-- one more output section, the next one of the script
+module _ (script : List Statement) (xs : List KeyedSection) (x : KeyedSection) (ds : List ℕ) (elsewhere : ℕ)
+    (count more commands more_data : ℕ) (o : AreSectionsOf script xs ds elsewhere count commands)
+    (next : section_number script x.name ≡ Some (length xs)) (fits : Fits x) (grown : more ≡ count + length x.pieces)
+    (data_grown : more_data ≡ commands + length x.data_commands)
+  where
+    data_more : more_data ≡ length (all_data_in 0 (xs ++ x ∷ []))
+    data_more = data_grown ∙ (ap (λ n. n + length x.data_commands) o.data_counted ∙ sym (data_grow 0 xs x))
+
+    counted_more : more ≡ length (starts_in (xs ++ x ∷ []))
+    counted_more = grown ∙ (ap (λ n. n + length x.pieces) o.counted ∙ sym (starts_grow xs x))
+
+    order_more : AreInOrder (section_number script) (section_names (xs ++ x ∷ []))
+    order_more k l = rw names (go (k == length xs) refl)
+      where
+        names : section_names (xs ++ x ∷ []) ≡ section_names xs ++ x.name ∷ []
+        names = map-append (λ (y : KeyedSection). y.name) xs (x ∷ [])
+
+        long : length (section_names xs) ≡ length xs
+        long = length-map xs (λ (y : KeyedSection). y.name)
+
+        whole : length (section_names (xs ++ x ∷ [])) ≡ length xs + 1
+        whole = length-map (xs ++ x ∷ []) (λ (y : KeyedSection). y.name) ∙ length-append xs (x ∷ [])
+
+        go : (b : Bool) → (k == length xs) ≡ b → section_number script (get_or (section_names xs ++ x.name ∷ []) k [])
+            ≡ Some k
+        go true e =
+            let k_is : k ≡ length xs = eqb-true k (length xs) e in
+            let at : get_or (section_names xs ++ x.name ∷ []) k [] ≡ x.name =
+            get_or_at (section_names xs) x.name [] [] k (long ∙ sym k_is) in
+            ap (section_number script) at ∙ (next ∙ ap Some (sym k_is))
+        go false e =
+            let ne = eqb-false k (length xs) e in
+            let below : k < length (section_names xs) = omega (arith, whole, long, ne) in
+            ap (section_number script) (get_or-append (section_names xs) (x.name ∷ []) [] k below) ∙ o.order k below
+
+    -- a section that names no region
+    pub pushed_elsewhere : (n : ℕ) (p : Option ℕ) → n ≡ length ds → p ≡ None → IsKeptAt script n x.region p
+        → AreSectionsOf script (xs ++ x ∷ []) ds (difference_of (section_of nameless x)) more more_data
+    pushed_elsewhere n p long is at =
+        let none = kept_elsewhere script n x.region (subst (IsKeptAt script n x.region) is at) in record {
+          order = order_more;
+          differences_of = λ name k e l. o.differences_of name k e l
+              ∙ sym (difference_other xs x (Some name) (ap (λ r. same_region r (Some name)) none));
+          elsewhere_of = sym (difference_same xs x None (ap (λ r. same_region r None) none));
+          ends = All-push (λ (y : KeyedSection). Fits y) xs x o.ends fits;
+          counted = counted_more;
+          data_counted = data_more;
+        }
+
+    -- a section that names a region
+    named_in : (region : List ℕ) (j : ℕ) → x.region ≡ Some region → region_number script region ≡ Some j
+        → j < length ds
+        → AreSectionsOf script (xs ++ x ∷ []) (set ds j (difference_of
+        (section_of nameless x))) elsewhere more more_data
+    named_in region j some number l = record {
+      order = order_more;
+      differences_of = λ name k e h.
+          go name k e (omega (arith, h, length-set ds j (difference_of (section_of nameless x)))) (bytes_eq region name)
+          refl;
+      elsewhere_of = o.elsewhere_of ∙ sym (difference_other xs x None (ap (λ r. same_region r None) some));
+      ends = All-push (λ (y : KeyedSection). Fits y) xs x o.ends fits;
+      counted = counted_more;
+      data_counted = data_more;
+    }
+      where
+        go : (name : List ℕ) (k : ℕ) → region_number script name ≡ Some k → k < length ds → (b : Bool)
+            → bytes_eq region name ≡ b → get_or (set ds j (difference_of (section_of nameless x))) k 0
+            ≡ difference_by (xs ++ x ∷ []) (Some name)
+        go name k e h true same =
+            let n = same_name region name same in
+            let f = ap (region_number script) n in
+            let k_is : k ≡ j = cc in
+            get_or-set_at ds j k (difference_of (section_of nameless x)) 0 k_is l
+            ∙ sym (difference_same xs x (Some name) (ap (λ r. same_region r (Some name)) some ∙ same))
+        go name k e h false other =
+            let ne : k ≢ j = (λ s. let n = (regions_told script).apart region name j number (e ∙ ap Some s) in let y =
+            is_same_name region name n in let no : ⊥ = cc in no) in
+            get_or-set_other ds j k (difference_of (section_of nameless x)) 0 ne
+            ∙ (o.differences_of name k e h
+            ∙ sym (difference_other xs x (Some name) (ap (λ r. same_region r (Some name)) some ∙ other)))
+
+    pub pushed_in : (j n : ℕ) (p : Option ℕ) → n ≡ length ds → p ≡ Some j → IsKeptAt script n x.region p
+        → AreSectionsOf script (xs ++ x ∷ []) (set ds j (difference_of
+        (section_of nameless x))) elsewhere more more_data
+    pushed_in j n p long is at =
+        let k = kept_in script n x.region j (subst (IsKeptAt script n x.region) is at) in
+        named_in k.name j k.region_is k.number_is (subst (λ m. j < m) long k.within)

@@ -1,0 +1,7 @@
+-- None of the names before is this one.
+use Rattle.std.proofs.Common.{◌≡◌, ℕ, ◌<◌, Some, slice_get}
+use Rattle.place_terms.specs.Mentions.{shown_names}
+use Rattle.place_terms.proofs.mentioned.mention_of.Given as goal
+
+abbrev pub invariant-loop-k : goal.invariant-loop-k
+invariant-loop-k l = (j : ℕ) → j < l.k → slice_get (shown_names l.names) j ≡ Some l.name → ⊥

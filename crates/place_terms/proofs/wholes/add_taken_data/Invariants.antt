@@ -1,0 +1,10 @@
+use Rattle.std.proofs.Common.{◌≡◌, ◌++◌, drop, map}
+use Rattle.ldmodel.specs.Lent.{data_of}
+use Rattle.place_terms.specs.Keyed.{data_at_of}
+use Rattle.place_terms.specs.Wholes.{data_in}
+use Rattle.place_terms.proofs.wholes.add_taken_data.Given as goal
+
+abbrev pub invariant-loop-at : goal.invariant-loop-at
+invariant-loop-at l =
+    map data_of l.fn.list.items ++ data_in l.section.0 (map data_at_of l.commands)
+    ≡ map data_of l.list.items ++ data_in l.section.0 (map data_at_of (drop l.at-index l.commands))

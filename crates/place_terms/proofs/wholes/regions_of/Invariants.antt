@@ -1,0 +1,8 @@
+use Rattle.std.proofs.Common.{◌≡◌, ◌++◌, drop, map}
+use Rattle.ldmodel.specs.Lent.{region_of as numbers}
+use Rattle.place_terms.specs.RegionTable.{region_of}
+use Rattle.place_terms.proofs.wholes.regions_of.Given as goal
+
+abbrev pub invariant-loop-region : goal.invariant-loop-region
+invariant-loop-region l = map numbers (map region_of l.regions) ≡ l.list.items
+    ++ map numbers (map region_of (drop l.region-index l.regions))

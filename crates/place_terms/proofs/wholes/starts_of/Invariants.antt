@@ -1,0 +1,8 @@
+use Rattle.std.proofs.Common.{◌≡◌, ◌++◌, drop, map}
+use Rattle.place_terms.specs.SectionTable.{keyed}
+use Rattle.place_terms.specs.Wholes.{starts_in}
+use Rattle.place_terms.proofs.wholes.starts_of.Given as goal
+
+abbrev pub invariant-loop-section : goal.invariant-loop-section
+invariant-loop-section l = l.parts.starts.now ++ starts_in (map keyed l.parts.placed.now) ≡ l.list.items
+    ++ starts_in (map keyed (drop l.section-index l.parts.placed.now))

@@ -1,0 +1,99 @@
+//! The PROVIDEs that are in force.
+
+ghost use Rattle.std.specs.Prelude.{◌≡◌, [], IfOk, IfSome, slice_get, bytes_eq};
+ghost use Rattle.std.specs.List.{list_any};
+ghost use Rattle.std.specs.Option.{option_map_or};
+ghost use Rattle.ldscript.specs.statements.Numbered.{shown_commons};
+ghost use Rattle.place_terms.specs.ProvidedTable.{name_in, provided_names, Marks};
+
+use crate::commands::number_in;
+use ldmodel::script_symbol::CommonIndex;
+use ldscript::script::Script;
+use ldscript::tree::{Common, CommonAt};
+use std::alloc::{AllocError, Global};
+use std::marker::Model;
+
+/// The PROVIDEs of a script that are in force.
+#[derive(Drop)]
+pub struct Provided<'a> {
+    script: &'a Script,
+    numbers: &'a [CommonIndex],
+    in_force: Vec<bool>,
+}
+
+impl<'a> Model for Provided<'a> {
+    ghost use Rattle.std.specs.Prelude.{List, ℕ};
+
+    ghost Value = { List (List ℕ) };
+
+    ghost use Rattle.place_terms.specs.ProvidedTable.{provided_names, AreInForce};
+
+    ghost view = { λ p. provided_names p.script.now p.numbers.now };
+
+    ghost invariant = { λ p. AreInForce p.script.now p.in_force.items (provided_names p.script.now p.numbers.now) };
+}
+
+/// The name that a command of these gives a value; no bytes where it gives none.
+pub fn name_of<'a>(commands: &[CommonAt<'a>], number: CommonIndex) -> &'a [u8]
+    ensures { result.now ≡ name_in (shown_commons commands.now) number.0 }
+{
+    match commands.get(number.0 as usize) {
+        Some(at) => match at.command {
+            Common::Assign(assignment) | Common::Provide(assignment) => assignment.name.as_bytes(),
+            Common::Assert(_) => b"",
+        },
+        None => b"",
+    }
+}
+
+/// Notes that the PROVIDE of a name is in force.
+fn mark(script: &Script, in_force: &mut Vec<bool>, name: &[u8])
+    ensures { Marks script.now in_force.old.items in_force.new.items name.now }
+{
+    if let Some(place) = number_in(script, name) {
+        if place < in_force.len() {
+            in_force[place] = true;
+        }
+    }
+}
+
+impl<'a> Provided<'a> {
+    /// The PROVIDEs of these numbers.
+    pub fn new(
+        alloc: Global,
+        script: &'a Script,
+        numbers: &'a [CommonIndex],
+    ) -> Result<Provided<'a>, AllocError>
+        ensures { IfOk result (λ p. p ≡ provided_names script.now numbers.now) }
+    {
+        if numbers.is_empty() {
+            return Ok(Provided {
+                script,
+                numbers,
+                in_force: Vec::new(alloc),
+            });
+        }
+        let list = script.common_commands(alloc)?;
+        let mut in_force = vec![in alloc; false; list.len()]?;
+        for number in numbers {
+            let name = name_of(&list, *number);
+            mark(script, &mut in_force, name);
+        }
+        Ok(Provided {
+            script,
+            numbers,
+            in_force,
+        })
+    }
+
+    /// Whether the PROVIDE of a name is in force; `None` for a name that the script gives no value.
+    pub fn is_in_force(&self, name: &[u8]) -> Option<bool>
+        ensures { IfSome result (λ b. b ≡ list_any (bytes_eq name.now) self.now) }
+    {
+        if self.numbers.is_empty() {
+            return Some(false);
+        }
+        let number = number_in(self.script, name)?;
+        Some(*self.in_force.get(number)?)
+    }
+}

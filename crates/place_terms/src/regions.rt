@@ -1,0 +1,116 @@
+//! The memory regions that a script has declared so far.
+
+ghost use Rattle.std.specs.Prelude.{◌≡◌, [], ◌∷◌, ◌++◌, length, map, OnOk, Some, find, bytes_eq, option_map};
+ghost use Rattle.ldmodel.specs.Layout.{MemoryRegion, region_named};
+ghost use Rattle.ldmodel.specs.SectionEnd.{freed_from};
+ghost use Rattle.place_terms.specs.RegionTable.{region_of};
+
+use ldscript::script::Script;
+use std::alloc::{AllocError, Global};
+use std::marker::Model;
+
+/// A memory region.
+#[derive(Clone, Copy)]
+pub struct RegionState<'a> {
+    /// The name.
+    pub name: &'a [u8],
+    /// The first address.
+    pub origin: u64,
+    /// How many bytes it has.
+    pub extent: u64,
+    /// The next free address.
+    pub next: u64,
+}
+
+/// The memory regions that a script has declared so far, in the order of the text. A look-up takes the time of one in
+/// the script's table of names.
+#[derive(Drop)]
+pub struct Regions<'a> {
+    script: &'a Script,
+    list: Vec<RegionState<'a>>,
+}
+
+impl<'a> Model for Regions<'a> {
+    ghost use Rattle.std.specs.Prelude.{List, map};
+    ghost use Rattle.ldmodel.specs.Layout.{MemoryRegion};
+
+    ghost Value = { List MemoryRegion };
+
+    ghost use Rattle.ldscript.specs.statements.Given.{region_number};
+    ghost use Rattle.place_terms.specs.Tables.{AreInOrder};
+    ghost use Rattle.place_terms.specs.RegionTable.{region_of, region_names};
+
+    ghost view = { λ s. map region_of s.list.items };
+
+    ghost invariant = { λ s. AreInOrder (region_number s.script.now) (region_names (map region_of s.list.items)) };
+}
+
+impl<'a> Regions<'a> {
+    /// No region of this script.
+    pub fn new(alloc: Global, script: &'a Script) -> Regions<'a>
+        ensures { result ≡ [] }
+    {
+        Regions {
+            script,
+            list: Vec::new(alloc),
+        }
+    }
+
+    /// The region of a name.
+    #[tactic(auto, using(crate::proofs::Found::region_there, crate::proofs::Found::region_past, crate::proofs::Found::region_unknown))]
+    pub fn get(&self, name: &[u8]) -> Option<RegionState<'a>>
+        ensures { option_map region_of result ≡ region_named self.now name.now }
+    {
+        match self.script.region_number(name) {
+            Some(number) => {
+                if number < self.list.len() {
+                    Some(self.list[number])
+                } else {
+                    None
+                }
+            }
+            None => None,
+        }
+    }
+
+    /// Adds a region, whose next free address is where it begins.
+    ///
+    /// # Errors
+    ///
+    /// Where memory runs out.
+    pub fn push(&mut self, name: &'a [u8], origin: u64, extent: u64) -> Result<(), AllocError>
+        ensures pushed { OnOk result (self.new ≡ self.old
+            ++ record { name = name.now; origin = origin; extent = extent; next = origin } ∷ []) }
+    {
+        if self.script.region_number(name) != Some(self.list.len()) {
+            // Unreachable: a script declares each of its regions once, in the order of their numbers
+            return Err(AllocError);
+        }
+        self.list.push(RegionState {
+            name,
+            origin,
+            extent,
+            next: origin,
+        })?;
+        Ok(())
+    }
+
+    /// Sets the next free address of a region.
+    #[tactic(auto, using(crate::proofs::Found::freed_there, crate::proofs::Found::freed_past, crate::proofs::Found::freed_unknown, crate::proofs::Found::freed_in_order))]
+    pub fn free_from(&mut self, name: &[u8], next: u64)
+        ensures { self.new ≡ freed_from (Some name.now) next self.old }
+    {
+        if let Some(number) = self.script.region_number(name) {
+            if number < self.list.len() {
+                self.list[number].next = next;
+            }
+        }
+    }
+
+    /// All regions, in the order of the text.
+    pub fn as_slice(&self) -> &[RegionState<'a>]
+        ensures { map region_of result.now ≡ self.now }
+    {
+        &self.list
+    }
+}

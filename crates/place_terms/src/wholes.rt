@@ -1,0 +1,149 @@
+//! The parts of a layout that is whole, handed on.
+
+ghost use Rattle.std.specs.Prelude.{◌≡◌, ◌++◌, map, IfOk, OnOk};
+ghost use Rattle.ldmodel.specs.Lent.{data_of, region_of as region_numbers};
+ghost use Rattle.place_terms.specs.Keyed.{KeyedPiece, data_at_of};
+ghost use Rattle.place_terms.specs.RegionTable.{region_of};
+ghost use Rattle.place_terms.specs.SectionTable.{both, keyed, keyed_piece};
+ghost use Rattle.place_terms.specs.Wholes.{all_data_in, counts_in, data_in, placed_in, starts_in};
+
+use crate::regions::RegionState;
+use crate::sections::{DataAt, PieceAt, SectionParts};
+use ldmodel::laid::{OutputIndex, Placed, PlacedData, PlacedRegion};
+use std::alloc::{AllocError, Global};
+
+/// The numbers of the output sections.
+pub fn numbers_of(alloc: Global, parts: SectionParts<'_, '_>) -> Result<Vec<Placed>, AllocError>
+    ensures { IfOk result (λ v. v.items ≡ parts.entry.sections.now ++ placed_in (map keyed parts.entry.placed.now)) }
+{
+    let mut list = Vec::with_capacity(alloc, parts.sections.len() + parts.placed.len())?;
+    list.extend_from_slice(parts.sections)?;
+    for section in parts.placed {
+        list.push(section.placed)?;
+    }
+    Ok(list)
+}
+
+fn add_starts(list: &mut Vec<u64>, pieces: &[PieceAt<'_>]) -> Result<(), AllocError>
+    ensures { OnOk result (list.new.items ≡ list.old.items
+        ++ map (λ (x : KeyedPiece). x.start) (map keyed_piece pieces.now)) }
+{
+    for at in pieces {
+        list.push(at.start)?;
+    }
+    Ok(())
+}
+
+/// Where the input sections start, row by row, of which there are this many.
+pub fn starts_of(
+    alloc: Global,
+    count: usize,
+    parts: SectionParts<'_, '_>,
+) -> Result<Vec<u64>, AllocError>
+    ensures { IfOk result (λ v. v.items ≡ parts.entry.starts.now ++ starts_in (map keyed parts.entry.placed.now)) }
+{
+    let mut list = Vec::with_capacity(alloc, count)?;
+    list.extend_from_slice(parts.starts)?;
+    for section in parts.placed {
+        add_starts(&mut list, &section.pieces)?;
+    }
+    Ok(list)
+}
+
+/// How many input sections each output section has.
+pub fn counts_of(alloc: Global, parts: SectionParts<'_, '_>) -> Result<Vec<usize>, AllocError>
+    ensures { IfOk result (λ v. v.items ≡ parts.entry.counts.now ++ counts_in (map keyed parts.entry.placed.now)) }
+{
+    let mut list = Vec::with_capacity(alloc, parts.counts.len() + parts.placed.len())?;
+    list.extend_from_slice(parts.counts)?;
+    for section in parts.placed {
+        list.push(section.pieces.len())?;
+    }
+    Ok(list)
+}
+
+/// The number of an output section.
+fn index_of(number: usize) -> Result<OutputIndex, AllocError>
+    ensures { IfOk result (λ k. k.0 ≡ number) }
+{
+    match u32::try_from(number) {
+        Ok(number) => Ok(OutputIndex(number)),
+        // Unreachable: no script has 2^32 output sections
+        Err(_) => Err(AllocError),
+    }
+}
+
+fn add_data(
+    list: &mut Vec<PlacedData>,
+    section: OutputIndex,
+    commands: &[DataAt],
+) -> Result<(), AllocError>
+    ensures { OnOk result (map data_of list.new.items ≡ map data_of list.old.items ++ data_in section.0 commands.now) }
+{
+    for at in commands {
+        list.push(PlacedData {
+            section,
+            start: at.start,
+            width: at.width,
+            value: at.value,
+        })?;
+    }
+    Ok(())
+}
+
+fn add_taken_data(
+    list: &mut Vec<PlacedData>,
+    section: OutputIndex,
+    commands: &[PlacedData],
+) -> Result<(), AllocError>
+    ensures { OnOk result (map data_of list.new.items ≡ map data_of list.old.items
+        ++ data_in section.0 (map data_at_of commands.now)) }
+{
+    for at in commands {
+        list.push(PlacedData {
+            section,
+            start: at.start,
+            width: at.width,
+            value: at.value,
+        })?;
+    }
+    Ok(())
+}
+
+/// The data commands, section by section.
+pub fn data_commands_of(
+    alloc: Global,
+    parts: SectionParts<'_, '_>,
+) -> Result<Vec<PlacedData>, AllocError>
+    ensures { IfOk result (λ v.
+        map data_of v.items ≡ all_data_in 0 (both parts.entry.taken.now parts.entry.placed.now)) }
+{
+    let mut list = Vec::new(alloc);
+    let mut number: usize = 0;
+    for section in parts.taken {
+        add_taken_data(&mut list, index_of(number)?, section.data_commands)?;
+        number += 1;
+    }
+    for section in parts.placed {
+        add_data(&mut list, index_of(number)?, &section.data_commands)?;
+        number += 1;
+    }
+    Ok(list)
+}
+
+/// The numbers of the regions.
+pub fn regions_of(
+    alloc: Global,
+    regions: &[RegionState<'_>],
+) -> Result<Vec<PlacedRegion>, AllocError>
+    ensures { IfOk result (λ v. v.items ≡ map region_numbers (map region_of regions.now)) }
+{
+    let mut list = Vec::with_capacity(alloc, regions.len())?;
+    for region in regions {
+        list.push(PlacedRegion {
+            origin: region.origin,
+            extent: region.extent,
+        })?;
+    }
+    Ok(list)
+}

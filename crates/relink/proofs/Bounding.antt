@@ -1,0 +1,294 @@
+-- How much an edit between two links without faults counts.
+use Rattle.std.proofs.Common.{◌≡◌, ◌∙◌, ◌+◌, ◌-◌, ◌<◌, ◌≤◌, ◌^◌, ℕ, Bool, true, false, List, [], ◌∷◌, Option, Some, None}
+use Rattle.std.proofs.Common.{Global, Vec, ap, arith, inl, inr, refl, subst, sym}
+use Rattle.std.specs.Prelude.{◌&&◌, Err, IfSome, Ok, if◌then◌else◌, is_some, nat_lt, take}
+use Rattle.elfobj.specs.Counts.{Counts, capped}
+use Rattle.relink_kept.specs.First.{AreSameBefore, IsFirstChanged, IsNext}
+use Rattle.relink_kept.specs.Stays.{IsLastOf, LastState}
+use Rattle.ldmodel.specs.Edits.{Add, Change, Move, Remove, Replace, SetScript}
+use Rattle.ldmodel.specs.Fault.{Fault, ImageTooLong}
+use Rattle.ldmodel.specs.Layout.{Layout}
+use Rattle.ldmodel.specs.Link.{Link, layout, link, max_image_length, of_length}
+use Rattle.ldmodel.specs.Project.{Project}
+use Rattle.ldmodel.specs.Rows.{rows}
+use Rattle.ldmodel.specs.SectionHeaders.{image_length}
+use Rattle.ldmodel.specs.SessionWork.{IsWork, Rises, bytes_to_write, entries_from, entries_to_place, first_changed}
+use Rattle.ldmodel.specs.SessionWork.{objects_read, sites_to_evaluate}
+use Rattle.ldmodel.specs.Stayed.{GoodLink}
+use Rattle.ldmodel.specs.WorkBound.{bytes_stayed}
+use Rattle.symres.specs.decisions.Counted.{CountsNames}
+use Rattle.ldmodel_project.specs.Holding.{Holding, Listing, StandsAsNamed, TouchesOne, held}
+use Rattle.ldmodel_project.specs.Holding.{listing_of, next_listing, project_of}
+use Rattle.ldmodel_project.specs.Listing.{keys_of}
+use Rattle.ldmodel_project.specs.Next.{touched_key}
+use Rattle.ldmodel_project.specs.declared.staged.Staged.{Staged}
+use Rattle.ldscript.specs.statements.declared.statement.Statement.{Statement}
+use Rattle.relink_link.specs.Counted.{IsImageCount}
+use Rattle.relink_link.specs.Worked.{IsLinkWork}
+use Rattle.relink.specs.Answer.{is_good, shown}
+use Rattle.relink.specs.Last.{HasFollowed, IsCurrent, IsFrom, IsLast, lent, lent_with, origin_of}
+use Rattle.relink.specs.Work.{HasWorked, IsCounted, IsReadingWork, IsWholeWork}
+use Rattle.relink.specs.declared.answer.Answer.{Answer}
+use Rattle.relink.specs.declared.answer.Answer.TheVariants as answer
+use Rattle.relink.specs.declared.last.Effect.{Effect}
+use Rattle.relink.specs.declared.last.Followed.{Followed}
+use Rattle.relink.specs.declared.last.Followed.TheVariants.{Faulty, Good}
+use Rattle.relink.specs.declared.last.LastGood.{LastGood}
+use Rattle.relink.proofs.Lending.{IsEffect, IsFollowing, from_edit, is_last_of, none_of_last}
+use Rattle.relink.proofs.Succession.{is_next}
+use Rattle.relink.proofs.FirstChanged.{fewer, same_before}
+use Rattle.relink.proofs.Working.{AreSmall, ReadsObjects, read_alone, rises_by}
+
+-- ---- the counts of a link
+
+-- the counts of input sections, relocations and bytes stay
+pub record LinksNothing (old new : Counts) : Type 0 where
+  pub pieces : new.pieces ≡ old.pieces
+  pub fields : new.fields ≡ old.fields
+  pub bytes : new.bytes ≡ old.bytes
+
+pub names_link_nothing : (m0 m1 : Counts) (names : List (List ℕ)) → CountsNames m0 m1 names → LinksNothing m0 m1
+names_link_nothing m0 m1 names h = record {
+  pieces = ap (λ (m : Counts). m.pieces) h.1;
+  fields = ap (λ (m : Counts). m.fields) h.1;
+  bytes = ap (λ (m : Counts). m.bytes) h.1;
+}
+
+pub objects_link_nothing : (n : ℕ) (m0 m1 : Counts) → ReadsObjects n m0 m1 → LinksNothing m0 m1
+objects_link_nothing n m0 m1 r = record { pieces = r.pieces; fields = r.fields; bytes = r.bytes }
+
+-- what is counted before it is no part of it
+pub link_work_from : (old new : GoodLink) (x : LastState) (m0 m1 m2 : Counts) → LinksNothing m0 m1
+    → IsLinkWork old new x m1 m2 → IsLinkWork old new x m0 m2
+link_work_from old new x m0 m1 m2 none w = record {
+  first = w.first;
+  pieces = w.pieces ∙ ap (λ (n : ℕ). capped n (entries_from w.first (rows new.project))) none.pieces;
+  same = w.same;
+  changed = w.changed;
+  anew = w.anew;
+  image = record {
+    relocations = w.image.relocations ∙ ap (λ (n : ℕ). capped n (sites_to_evaluate old new)) none.fields;
+    patched = w.image.patched;
+    few = w.image.few;
+    bytes = w.image.bytes
+        ∙ ap (λ (n : ℕ). capped n
+        (w.image.patched + (image_length new.project new.layout - bytes_stayed old new))) none.bytes;
+  };
+}
+
+pub worked_from : (p : Project) (last : Option LastState) (m0 m1 m2 : Counts) (f : Followed) → LinksNothing m0 m1
+    → HasWorked p last m1 m2 f → HasWorked p last m0 m2 f
+worked_from p last m0 m1 m2 (Faulty t) none w = tt
+worked_from p last m0 m1 m2 (Good x m) none w = λ old y s is of_new laid.
+    link_work_from old (record { project = p; layout = s }) y m0 m1 m2 none (w old y s is of_new laid)
+
+-- ---- the link that is kept
+
+ok_of : (b : Bool) (e : List Fault) (s t : Layout) → (if b then Err e else Ok s) ≡ Ok t → s ≡ t
+ok_of true e s t h = absurd (cc)
+ok_of false e s t h = cc
+
+-- its layout is that of its project
+known_layout : (p : Project) (s t : Layout) → layout p ≡ of_length (image_length p s) s → layout p ≡ Ok t → s ≡ t
+known_layout p s t is laid =
+    ok_of (nat_lt max_image_length (image_length p s)) (ImageTooLong (image_length p s) ∷ []) s t (sym is ∙ laid)
+
+pub current_is : (l : Listing) (bytes : List ℕ) (x : LastGood) (p : Project) (s : Layout) (c : IsCurrent l bytes x)
+    → project_of l ≡ p → layout p ≡ Ok s → c.kept.old ≡ (let g : GoodLink = record { project = p; layout = s } in g)
+current_is l bytes x p s c is laid =
+    let link_of : Project → Layout → GoodLink = λ q t. record { project = q; layout = t } in
+    let same : c.kept.old.project ≡ p = c.project ∙ is in
+    let layout_is : c.kept.old.layout ≡ s =
+    known_layout c.kept.old.project c.kept.old.layout s c.kept.table.laying.layout (ap layout same ∙ laid) in
+    ap (λ (q : Project). link_of q c.kept.old.layout) same ∙ ap (link_of p) layout_is
+
+-- ---- an edit that leads to the same project
+
+-- a count that stayed
+stays_put : (n m most : ℕ) → m ≡ n → Rises n m most
+stays_put n m most e = record { onward = omega (arith, e); within = omega (arith, e) }
+
+not_zero : (bytes : List ℕ) (t : Answer) (k : Link) → is_good t ≡ false → shown bytes t ≡ k → k.status ≡ 0 → ⊥
+not_zero bytes (answer.Good m) k bad is zero = absurd (cc)
+not_zero bytes (answer.Faulty t) k bad is zero =
+    let one : 1 ≡ 0 = ap (λ (l : Link). l.status) is ∙ zero in
+    absurd (omega (arith, one))
+
+pub unchanged_work : (l : Listing) (bytes : List ℕ) (a : Answer) (last : Option LastGood) (p q : Project)
+    (change : Change) (m0 m1 : Counts) → project_of l ≡ p → q ≡ p → AreSmall m0
+    → ReadsObjects (objects_read change) m0 m1 → shown bytes a ≡ link p → IsLast l bytes a last
+    → IsWholeWork p change q m0 m1
+unchanged_work l bytes a last p q change m0 m1 is same small read answers kept = (
+  reading,
+  (λ s t zero zero_too laid laid_too. record {
+    objects = reading.objects;
+    names = reading.names;
+    pieces = stays_put m0.pieces m1.pieces _ read.pieces;
+    relocations = stays_put m0.fields m1.fields _ read.fields;
+    bytes = stays_put m0.bytes m1.bytes _ read.bytes;
+  }),
+  (λ s t zero zero_too laid laid_too. inl same),
+)
+  where
+    reading : IsReadingWork p change q m0 m1
+    reading = read_alone p change q m0 m1 small read
+
+-- ---- an edit that is linked over the last link
+
+no_script : (o : Option (List Statement)) (t : Option ℕ) → IfSome o (λ _. t ≡ None) → is_some t ≡ true → o ≡ None
+no_script None t one some = refl
+no_script (Some x) t one some =
+    let none : false ≡ true = sym (ap is_some one) ∙ some in
+    absurd (cc)
+
+-- an edit of the objects leaves the script
+abbrev pub LeavesScript : Change → Staged → Type 0
+LeavesScript (Add name at bytes) s = s.script ≡ None
+LeavesScript (Replace name bytes) s = s.script ≡ None
+LeavesScript (Move name to) s = s.script ≡ None
+LeavesScript (Remove name) s = s.script ≡ None
+LeavesScript (SetScript text) s = Unit {0}
+
+pub leaves_script : (h : Holding) (change : Change) (s : Staged) → TouchesOne s → StandsAsNamed change h.contents s
+    → LeavesScript change s
+leaves_script h (Add name at bytes) s one stands =
+    no_script s.script (touched_key s.objects.step) one stands.0.touches
+leaves_script h (Replace name bytes) s one stands =
+    no_script s.script (touched_key s.objects.step) one stands.touching.touches
+leaves_script h (Move name to) s one stands =
+    no_script s.script (touched_key s.objects.step) one stands.touching.touches
+leaves_script h (Remove name) s one stands =
+    no_script s.script (touched_key s.objects.step) one stands.touching.touches
+leaves_script h (SetScript text) s one stands = tt
+
+-- the input sections that are placed are no more than the bound says
+few_placed : (old new : GoodLink) (p : Project) (first : ℕ) → old.project ≡ p
+    → IsFirstChanged old.project new.project first
+    → entries_from first (rows new.project)
+    ≤ entries_from (first_changed (rows p) (rows new.project)) (rows new.project)
+few_placed old new p first is least =
+    least (first_changed (rows p) (rows new.project))
+    (ap (λ (r : Project). take (first_changed (rows p) (rows new.project)) (rows r)) is
+    ∙ same_before (rows p) (rows new.project))
+
+placed : (old new : GoodLink) (x : LastState) (p : Project) (change : Change) (s : Staged) (m0 m2 : Counts)
+    → old.project ≡ p → m0.pieces < 2 ^ 64 → (s.script ≡ None → IsNext old.project new.project x)
+    → LeavesScript change s → IsLinkWork old new x m0 m2
+    → Rises m0.pieces m2.pieces (entries_to_place change (rows p) (rows new.project))
+placed old new x p (Add name at bytes) s m0 m2 is small next leaves w =
+    rises_by m0.pieces m2.pieces _ _ small w.pieces
+    (few_placed old new p w.first is (w.changed (next leaves)))
+placed old new x p (Replace name bytes) s m0 m2 is small next leaves w =
+    rises_by m0.pieces m2.pieces _ _ small w.pieces
+    (few_placed old new p w.first is (w.changed (next leaves)))
+placed old new x p (Move name to) s m0 m2 is small next leaves w =
+    rises_by m0.pieces m2.pieces _ _ small w.pieces
+    (few_placed old new p w.first is (w.changed (next leaves)))
+placed old new x p (Remove name) s m0 m2 is small next leaves w =
+    rises_by m0.pieces m2.pieces _ _ small w.pieces
+    (few_placed old new p w.first is (w.changed (next leaves)))
+placed old new x p (SetScript text) s m0 m2 is small next leaves w =
+    rises_by m0.pieces m2.pieces _ _ small w.pieces (fewer (rows new.project) w.first)
+
+both_are : (a b : Bool) → a ≡ true → b ≡ true → (a && b) ≡ true
+both_are true b h k = k
+both_are false b h k = absurd (cc)
+
+pub whole_work : (h : Holding) (s : Staged) (same : Bool) (bytes new : List ℕ) (a : Answer) (e : Effect)
+    (last : Option LastGood) (from : Option (Vec (Option ℕ) Global)) (f : Followed) (change : Change)
+    (m0 m1 m2 : Counts) → IsFollowing h s same bytes a last e → shown bytes a ≡ link (held h)
+    → IsFrom last e.known e.gone (keys_of (next_listing h s).entries) from
+    → HasFollowed (next_listing h s) bytes new f
+    → HasWorked (project_of (next_listing h s)) (lent last from e.same_script h.contents.entries s.objects) m1 m2 f
+    → AreSmall m0 → ReadsObjects (objects_read change) m0 m1 → m2.objects ≡ m1.objects → LeavesScript change s
+    → IsReadingWork (held h) change (project_of (next_listing h s)) m0 m2
+    → IsWholeWork (held h) change (project_of (next_listing h s)) m0 m2
+whole_work h s same bytes new a e last from f change m0 m1 m2 given answers origins followed worked small read none
+    leaves reading = (
+      reading,
+      (λ t u zero zero_too laid laid_too.
+          (between a last from f e.known refl given.effect given.kept answers origins followed worked t u zero zero_too laid
+          laid_too).0),
+      (λ t u zero zero_too laid laid_too. inr
+          (between a last from f e.known refl given.effect given.kept answers origins followed worked t u zero zero_too laid
+          laid_too).1),
+    )
+  where
+    p : Project
+    p = held h
+
+    q : Project
+    q = project_of (next_listing h s)
+
+    next_of : (m : _) (x : LastGood) (v : Vec (Option ℕ) Global) (c : IsCurrent (listing_of h) bytes x)
+        → IsEffect h s same (answer.Good m) (Some x) e
+        → IsFrom (Some x) true e.gone (keys_of (next_listing h s).entries) (Some v) → s.script ≡ None
+        → IsNext c.kept.old.project q (lent_with x v.items e.same_script h.contents.entries s.objects)
+    next_of m x v c effect origins stays =
+        is_next c.kept.old.project q h.contents.entries (next_listing h s).entries s.objects.step
+        s.objects.places.after same (origin_of x.origins.items)
+        (lent_with x v.items e.same_script h.contents.entries s.objects) (ap (λ (r : Project). r.objects) c.project)
+        refl given.edit.found given.edit.keys given.edit.placed given.edit.arranged.place_after given.edit.named
+        given.edit.puts c.kept.since
+        (both_are x.same_script e.same_script c.script (effect.stays stays))
+        (from_edit h s same x e v effect.lost origins) refl
+
+    between : (b : Answer) (last : Option LastGood) (from : Option (Vec (Option ℕ) Global)) (f : Followed)
+        (known : Bool) → e.known ≡ known → IsEffect h s same b last e → IsLast (listing_of h) bytes b last
+        → shown bytes b ≡ link p
+        → IsFrom last known e.gone (keys_of (next_listing h s).entries) from
+        → HasFollowed (next_listing h s) bytes new f
+        → HasWorked q (lent last from e.same_script h.contents.entries s.objects) m1 m2 f → (t u : Layout)
+        → (link p).status ≡ 0 → (link q).status ≡ 0 → layout p ≡ Ok t → layout q ≡ Ok u
+        → IsWork (record { project = p; layout = t }) change (record { project = q; layout = u }) m0 m2
+        × IsCounted (record { project = p; layout = t }) change (record { project = q; layout = u }) m0 m2
+    between (answer.Faulty text) last from f known are effect kept answers origins followed worked = λ t u zero zero_too
+        laid laid_too. absurd (not_zero bytes (answer.Faulty text) (link p) refl answers zero)
+    between (answer.Good m) None from f known are effect kept answers origins followed worked = λ t u zero zero_too
+        laid laid_too. absurd kept
+    between (answer.Good m) (Some x) from (Faulty text) known are effect kept answers origins followed worked =
+        λ t u zero zero_too laid laid_too. (
+        let one : 0 ≡ 1 = sym zero_too ∙ ap (λ (k : Link). k.status) followed.0 in
+        absurd (omega (arith, one)))
+    between (answer.Good m) (Some x) None (Good y n) true are effect kept answers origins followed worked =
+        λ t u zero zero_too laid laid_too. absurd origins
+    between (answer.Good m) (Some x) None (Good y n) false are effect kept answers origins followed worked =
+        λ t u zero zero_too laid laid_too. (
+        let no : true ≡ false = sym (effect.current refl) ∙ are in
+        absurd (cc))
+    between (answer.Good m) (Some x) (Some v) (Good y n) false are effect kept answers origins followed worked =
+        λ t u zero zero_too laid laid_too. absurd origins
+    between (answer.Good m) (Some x) (Some v) (Good y n) true are effect kept answers origins followed worked =
+        λ t u zero zero_too laid laid_too. (
+        let state : LastState = lent_with x v.items e.same_script h.contents.entries s.objects in
+        let old : GoodLink = record { project = p; layout = t } in
+        let now : GoodLink = record { project = q; layout = u } in
+        let of_last : IsLastOf kept.kept.old q state =
+        is_last_of h s same bytes x v.items e.same_script kept.kept given.edit
+        (none_of_last h s same bytes (answer.Good m) x e kept given.edit effect are) effect.changed
+        (from_edit h s same x e v effect.lost origins) in
+        let work : IsLinkWork kept.kept.old now state m0 m2 =
+        link_work_from kept.kept.old now state m0 m1 m2 (objects_link_nothing (objects_read change) m0 m1 read)
+        (worked kept.kept.old state u refl of_last laid_too) in
+        let is : kept.kept.old ≡ old = current_is (listing_of h) bytes x p t kept refl laid in
+        let image : IsImageCount old now m0 m2 =
+        subst (λ (g : GoodLink). IsImageCount g now m0 m2) is work.image in
+        let written : image.patched + (image_length now.project now.layout - bytes_stayed old now)
+        ≤ bytes_to_write old now = omega (arith, image.few) in (
+          record {
+            objects = reading.objects;
+            names = reading.names;
+            pieces = placed kept.kept.old now state p change s m0 m2 kept.project small.pieces
+                (next_of m x v kept effect origins) leaves work;
+            relocations = rises_by m0.fields m2.fields _ (sites_to_evaluate old now) small.fields image.relocations
+                (omega arith);
+            bytes = rises_by m0.bytes m2.bytes _ (bytes_to_write old now) small.bytes image.bytes written;
+          },
+          record {
+            objects = none ∙ read.objects;
+            first = work.first;
+            same = subst (λ (g : GoodLink). AreSameBefore g.project q work.first) is work.same;
+            pieces = work.pieces;
+            image = image;
+          },
+        ))

@@ -1,0 +1,250 @@
+-- What is kept follows an edit, and goes back.
+use Rattle.std.proofs.Common.{◌≡◌, ◌∙◌, ◌≤◌, ℕ, List, [], ◌∷◌}
+use Rattle.std.proofs.Common.{Option, Some, None, length, map, suc}
+use Rattle.std.proofs.Common.{refl, ap, sym, subst, arith}
+use Rattle.std.specs.List.{AllZip}
+use Rattle.std.specs.Prelude.{IfSome, is_some, unwrap_or}
+use Rattle.std.proofs.lemmas.List.{length-map}
+use Rattle.elfobj.specs.Symbols.{NamedSymbol}
+use Rattle.gather.specs.ProjectMatches.{IsMatched}
+use Rattle.gather.specs.declared.matches.Matches.{Matches}
+use Rattle.ldmodel.specs.Names.{symbol_tables}
+use Rattle.ldmodel.specs.Project.{NamedObject, Project}
+use Rattle.symres.specs.decisions.Change.{CanGo, Table, changed_tables, reversed}
+use Rattle.symres.specs.decisions.Decisions.{AreKept}
+use Rattle.symres.specs.decisions.declared.change.ObjectAt.{ObjectAt}
+use Rattle.symres.specs.decisions.declared.change.ObjectChange.{ObjectChange}
+use Rattle.symres.specs.Naming.{NamingState}
+use Rattle.ldmodel_project.specs.Holding.{Holding, Listing, SameHolding, TouchesOne, held, listing_of, next_listing}
+use Rattle.ldmodel_project.specs.Listing.{Contents, Entry, found_under, keys_of, objects_of}
+use Rattle.ldmodel_project.specs.Next.{next_entries, touched_key}
+use Rattle.ldmodel_project.specs.Tables.{tables_under}
+use Rattle.ldmodel_project.specs.Touched.{IsAmong, IsArranged, untouched}
+use Rattle.ldmodel_project.specs.declared.staged.Staged.{Staged}
+use Rattle.ldmodel_project.specs.declared.staged.StagedObjects.{StagedObjects}
+use Rattle.ldscript.specs.statements.declared.statement.Statement.{Statement}
+use Rattle.relink.specs.Change.{IsChange, place_at}
+use Rattle.relink.specs.Kept.{IsKept}
+use Rattle.relink.specs.Matches.{IsMatchedOr, exchanged, gone_at, taken_at}
+use Rattle.relink.proofs.Exchanged.{MayStand, Stands, comes_some, exchanged_back, zip_put, zip_taken}
+use Rattle.relink.proofs.Lists.{zip_length}
+
+-- the tables under keys are those of the objects
+pub tables_of_objects : (es : List Entry) → symbol_tables (objects_of es) ≡ map (λ (t : Table). t.1) (tables_under es)
+tables_of_objects [] = refl
+tables_of_objects (e ∷ es) = ap (λ (l : List (List NamedSymbol)). e.named.object.symbols ∷ l) (tables_of_objects es)
+
+pub keys_of_tables : (es : List Entry) → map (λ (t : Table). t.0) (tables_under es) ≡ keys_of es
+keys_of_tables [] = refl
+keys_of_tables (e ∷ es) = ap (λ (l : List ℕ). e.key ∷ l) (keys_of_tables es)
+
+-- an edit that touches an object leaves the script
+same_script_of : (new : Option (List Statement)) (touched : Option ℕ) (key : ℕ) (old : List Statement)
+    → IfSome new (λ _. touched ≡ None) → touched ≡ Some key → unwrap_or new old ≡ old
+same_script_of None touched key old one e = refl
+same_script_of (Some x) touched key old one e = absurd (cc)
+
+pub same_script : (h : Holding) (s : Staged) (key : ℕ) → TouchesOne s → touched_key s.objects.step ≡ Some key
+    → (next_listing h s).script ≡ h.script
+same_script h s key one e = same_script_of s.script (touched_key s.objects.step) key h.script one e
+
+-- where the object stands among the matches, and where it may
+stands_out : (ts : List Table) (key : ℕ) (x : Option ObjectAt) (ms : List Matches) → length ts ≡ length ms
+    → CanGo ts key x
+    → Stands ms (place_at x)
+stands_out ts key None ms l g = tt
+stands_out ts key (Some y) ms l g = omega (arith, l, g.within)
+
+many_tables : (es : List Entry) → length (tables_under es) ≡ length (objects_of es)
+many_tables [] = refl
+many_tables (e ∷ es) = ap suc (many_tables es)
+
+pub stands : (h : Holding) (s : Staged) (key : ℕ) (c : ObjectChange) (a : NamingState) (ms : List Matches)
+    → IsChange h.contents.entries s.objects key c → IsKept (listing_of h) a ms → Stands ms (place_at c.out)
+stands h s key c a ms is kept =
+    stands_out (tables_under h.contents.entries) c.key.0 c.out ms
+    (many_tables h.contents.entries
+    ∙ zip_length (IsMatched h.script) (objects_of h.contents.entries) ms kept.matches)
+    is.fits.out
+
+-- the others, as many as the matches without what goes
+among_long : (key : ℕ) (place : Option ℕ) (es : List Entry) (q : ℕ) → IsAmong (Some key) (Some q) es
+    → q ≤ length (untouched (Some key) es)
+among_long key place es q h = h.0
+
+pub may_stand : (h : Holding) (s : Staged) (key : ℕ) (c : ObjectChange) (a : NamingState) (ms : List Matches)
+    → IsArranged h.contents.entries s.objects → touched_key s.objects.step ≡ Some key
+    → IsChange h.contents.entries s.objects key c → IsKept (listing_of h) a ms
+    → MayStand ms (place_at c.out) (place_at c.into)
+may_stand h s key c a ms arranged touched is kept =
+    subst (λ (q : Option ℕ). MayStand ms (place_at c.out) q) (sym is.after)
+    (stand_at s.objects.places.after
+    (subst (λ (t : Option ℕ). IsAmong t s.objects.places.after next) touched arranged.after))
+  where
+    next : List Entry
+    next = next_entries h.contents.entries s.objects
+
+    entries : List Entry
+    entries = h.contents.entries
+
+    others : untouched (Some key) next ≡ untouched (Some key) entries
+    others = subst (λ (t : Option ℕ). untouched t next ≡ untouched t entries) touched arranged.others
+
+    taken : AllZip (IsMatched h.script) (objects_of (untouched (Some key) entries)) (taken_at ms (place_at c.out))
+    taken =
+        subst (λ (p : Option ℕ). AllZip (IsMatched h.script) (objects_of (untouched (Some key) entries))
+        (taken_at ms p))
+        (sym is.before)
+        (zip_taken h.script key s.objects.places.before entries ms
+        (subst (λ (t : Option ℕ). IsAmong t s.objects.places.before entries) touched arranged.before) kept.matches)
+
+    stand_at : (q : Option ℕ) → IsAmong (Some key) q next → MayStand ms (place_at c.out) q
+    stand_at None i = tt
+    stand_at (Some q) i =
+        omega (
+          arith,
+          i.0,
+          ap (λ (l : List Entry). length l) others,
+          length-map (untouched (Some key) entries) (λ (e : Entry). e.named),
+          zip_length (IsMatched h.script) (objects_of (untouched (Some key) entries)) (taken_at ms (place_at c.out))
+              taken,
+        )
+
+-- what is kept after an edit of an object
+pub kept_after : (h : Holding) (s : Staged) (key : ℕ) (c : ObjectChange) (a b : NamingState) (ms : List Matches)
+    (coming : Option Matches) → IsArranged h.contents.entries s.objects → TouchesOne s
+    → touched_key s.objects.step ≡ Some key → IsChange h.contents.entries s.objects key c → IsKept (listing_of h) a ms
+    → b.kept.names.objects ≡ changed_tables a.kept.names.objects c → AreKept (next_listing h s).script b.kept
+    → IsMatchedOr (next_listing h s).script (found_under (next_entries h.contents.entries s.objects) key) coming
+    → IsKept (next_listing h s) b (exchanged ms (place_at c.out) (place_at c.into) coming)
+kept_after h s key c a b ms coming arranged one touched is kept objects names comes =
+    let entries : List Entry = h.contents.entries in
+    let next : List Entry = next_entries entries s.objects in
+    let script : List Statement = (next_listing h s).script in
+    let old : AllZip (IsMatched script) (objects_of entries) ms =
+    subst (λ (t : List Statement). AllZip (IsMatched t) (objects_of entries) ms) (sym (same_script h s key one touched))
+    kept.matches in
+    let taken = zip_taken script key s.objects.places.before entries ms
+    (subst (λ (t : Option ℕ). IsAmong t s.objects.places.before entries) touched arranged.before) old in
+    let others : untouched (Some key) next ≡ untouched (Some key) entries =
+    subst (λ (t : Option ℕ). untouched t next ≡ untouched t entries) touched arranged.others in
+    let put = zip_put script key s.objects.places.after next (taken_at ms s.objects.places.before) coming
+    (subst (λ (t : Option ℕ). IsAmong t s.objects.places.after next) touched arranged.after) is.there comes
+    (subst (λ (l : List Entry). AllZip (IsMatched script) (objects_of l) (taken_at ms s.objects.places.before))
+    (sym others) taken) in
+    record {
+      tables = objects ∙ (ap (λ (ts : List Table). changed_tables ts c) kept.tables ∙ is.tables);
+      names = names;
+      matches = subst (λ (p : Option ℕ). AllZip (IsMatched script) (objects_of next) (exchanged ms p (place_at c.into)
+          coming)) (sym is.before)
+          (subst (λ (q : Option ℕ). AllZip (IsMatched script) (objects_of next)
+          (exchanged ms s.objects.places.before q coming)) (sym is.after) put);
+    }
+
+-- a place for what comes, and what comes
+pub both_come : (h : Holding) (s : Staged) (key : ℕ) (c : ObjectChange) (coming : Option Matches)
+    → IsChange h.contents.entries s.objects key c
+    → IsMatchedOr (next_listing h s).script (found_under (next_entries h.contents.entries s.objects) key) coming
+    → is_some (place_at c.into) ≡ is_some coming
+both_come h s key c coming is comes =
+    ap is_some is.after
+    ∙ (is.there
+    ∙ comes_some (next_listing h s).script (found_under (next_entries h.contents.entries s.objects) key) coming comes)
+
+-- what comes, said of the next listing
+pub coming_of : (h : Holding) (s : Staged) (key : ℕ) (l : Listing) (c : ObjectChange) (coming : Option Matches)
+    → l ≡ next_listing h s → c.key.0 ≡ key → IsMatchedOr l.script (found_under l.entries c.key.0) coming
+    → IsMatchedOr (next_listing h s).script (found_under (next_entries h.contents.entries s.objects) key) coming
+coming_of h s key l c coming same is m =
+    subst (λ (k : ℕ). IsMatchedOr (next_listing h s).script (found_under (next_listing h s).entries k) coming) is
+    (subst (λ (x : Listing). IsMatchedOr x.script (found_under x.entries c.key.0) coming) same m)
+
+-- what is kept after the change back
+pub kept_back : (h : Holding) (s : Staged) (key : ℕ) (c : ObjectChange) (a b d : NamingState) (ms last : List Matches)
+    (coming : Option Matches) → IsArranged h.contents.entries s.objects → touched_key s.objects.step ≡ Some key
+    → IsChange h.contents.entries s.objects key c → IsKept (listing_of h) a ms
+    → b.kept.names.objects ≡ changed_tables a.kept.names.objects c
+    → d.kept.names.objects ≡ changed_tables b.kept.names.objects (reversed c) → AreKept h.script d.kept
+    → IsMatchedOr (next_listing h s).script (found_under (next_entries h.contents.entries s.objects) key) coming
+    → last ≡ exchanged (exchanged ms (place_at c.out) (place_at c.into) coming) (place_at c.into) (place_at c.out)
+    (gone_at ms (place_at c.out)) → IsKept (listing_of h) d last
+kept_back h s key c a b d ms last coming arranged touched is kept forth back names comes put =
+    let entries : List Entry = h.contents.entries in
+    let next : List Entry = next_entries entries s.objects in
+    let both = both_come h s key c coming is comes in
+    record {
+      tables = back
+          ∙ (ap (λ (ts : List Table). changed_tables ts (reversed c))
+          (forth ∙ (ap (λ (ts : List Table). changed_tables ts c) kept.tables ∙ is.tables))
+          ∙ is.back);
+      names = names;
+      matches = subst (λ (l : List Matches). AllZip (IsMatched h.script) (objects_of entries) l)
+          (sym (put ∙ exchanged_back ms (place_at c.out) (place_at c.into) coming (stands h s key c a ms is kept)
+          (may_stand h s key c a ms arranged touched is kept) both))
+          kept.matches;
+    }
+
+-- an edit that touches no object leaves the entries
+filter_all : (es : List Entry) → untouched None es ≡ es
+filter_all [] = refl
+filter_all (e ∷ es) = ap (λ (l : List Entry). e ∷ l) (filter_all es)
+
+pub entries_stay : (entries : List Entry) (s : StagedObjects) → IsArranged entries s → touched_key s.step ≡ None
+    → next_entries entries s ≡ entries
+entries_stay entries s arranged touched =
+    let next : List Entry = next_entries entries s in
+    sym (filter_all next)
+    ∙ (subst (λ (t : Option ℕ). untouched t next ≡ untouched t entries) touched arranged.others ∙ filter_all entries)
+
+-- what is kept after an edit of the script
+pub kept_scripted : (h : Holding) (s : Staged) (a b : NamingState) (ms all : List Matches)
+    → IsArranged h.contents.entries s.objects → touched_key s.objects.step ≡ None → IsKept (listing_of h) a ms
+    → b.kept.names ≡ a.kept.names → AreKept (next_listing h s).script b.kept
+    → AllZip (IsMatched (next_listing h s).script) (objects_of (next_listing h s).entries) all
+    → IsKept (next_listing h s) b all
+kept_scripted h s a b ms all arranged touched kept same names matched = record {
+  tables = ap (λ n. n.objects) same
+      ∙ (kept.tables ∙ ap tables_under (sym (entries_stay h.contents.entries s.objects arranged touched)));
+  names = names;
+  matches = matched;
+}
+
+-- and where the old script is decided for again
+pub kept_again : (h : Holding) (a d : NamingState) (ms : List Matches) → IsKept (listing_of h) a ms
+    → d.kept.names ≡ a.kept.names → AreKept h.script d.kept → IsKept (listing_of h) d ms
+kept_again h a d ms kept same names = record {
+  tables = ap (λ n. n.objects) same ∙ kept.tables;
+  names = names;
+  matches = kept.matches;
+}
+
+-- what is kept of no objects
+no_entries : (es : List Entry) → objects_of es ≡ [] → es ≡ []
+no_entries [] h = refl
+no_entries (e ∷ es) h = absurd (cc)
+
+pub kept_of_none : (l : Listing) (a : NamingState) → objects_of l.entries ≡ [] → a.kept.names.objects ≡ []
+    → AreKept l.script a.kept → IsKept l a []
+kept_of_none l a none objects names = record {
+  tables = objects ∙ ap tables_under (sym (no_entries l.entries none));
+  names = names;
+  matches = subst (λ (os : List NamedObject). AllZip (IsMatched l.script) os []) (sym none) tt;
+}
+
+-- what more room leaves
+pub same_held : (old new : Holding) → SameHolding old new → held new ≡ held old
+same_held old new same =
+    let project : List Entry → Holding → Project =
+    λ es h. record { objects = objects_of es; script = h.script; options = h.options } in
+    ap (λ (es : List Entry). project es new) (ap (λ (c : Contents). c.entries) same.contents.same)
+    ∙ ap (project old.contents.entries) same.rest
+
+-- names that no object declares may be forgotten
+pub kept_forgetting : (l : Listing) (a b : NamingState) (ms : List Matches)
+    → b.kept.names.objects ≡ a.kept.names.objects
+    → ((script : List Statement) → AreKept script a.kept → AreKept script b.kept) → IsKept l a ms → IsKept l b ms
+kept_forgetting l a b ms same names kept = record {
+  tables = same ∙ kept.tables;
+  names = names l.script kept.names;
+  matches = kept.matches;
+}

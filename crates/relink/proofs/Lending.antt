@@ -1,0 +1,304 @@
+-- The last link without faults beside a next project, and after an edit.
+use Rattle.std.proofs.Common.{◌≡◌, ℕ, Bool, true, false, List, Option, Some, None, Vec, Global, ap, map, refl, sym}
+use Rattle.std.proofs.Common.{◌∙◌, [], subst}
+use Rattle.std.specs.List.{position}
+use Rattle.std.specs.Option.{option_map}
+use Rattle.std.specs.Prelude.{◌&&◌, IfSome, is_some, nat_eq, unwrap_or}
+use Rattle.relink_kept.specs.Stays.{IsLastOf, IsReplaced}
+use Rattle.relink_kept.specs.Table.{IsTable}
+use Rattle.relink_kept.specs.Origins.{AreOrigins}
+use Rattle.ldmodel.specs.Edits.{unnamed}
+use Rattle.ldmodel.specs.Link.{link}
+use Rattle.ldmodel.specs.Project.{NamedObject, Project}
+use Rattle.gather.specs.declared.matches.Matches.{Matches}
+use Rattle.symres.specs.Naming.{NamingState}
+use Rattle.ldmodel_project.specs.Holding.{Holding, Listing, SameHolding, held, listing_of, next_listing, project_of}
+use Rattle.ldmodel_project.specs.Listing.{AreKeysDistinct, Contents, Entry, found_under, keys_of, objects_of}
+use Rattle.ldmodel_project.specs.Next.{CanStep, Fits, next_found, touched_key}
+use Rattle.ldmodel_project.specs.Order.{HasPlaces}
+use Rattle.ldmodel_project.specs.Touched.{IsArranged, place_in}
+use Rattle.ldmodel_project.specs.declared.staged.Staged.{Staged}
+use Rattle.ldmodel_project.specs.declared.staged.Step.{Step}
+use Rattle.ldmodel_project.specs.declared.staged.Step.TheVariants.{Put, Remove, Move, Stay}
+use Rattle.ldscript.specs.statements.declared.statement.Statement.{Statement}
+use Rattle.relink_link.specs.Ended.{HasLast, IsGoodEnd}
+use Rattle.relink.specs.Answer.{is_good, shown}
+use Rattle.relink.specs.Kept.{IsKept}
+use Rattle.relink.specs.Last.{HasFollowed, HasKept, IsAfterFault, IsCurrent, IsEndOf, IsFrom, IsLast, IsSince}
+use Rattle.relink.specs.Last.{Knows, PutsByName, PutsNoneOf, PutsSame, lent, lent_with, lost_key}
+use Rattle.relink.specs.Last.{origin_of, replaced_by, replaced_in, without}
+use Rattle.relink.specs.declared.answer.Answer.{Answer}
+use Rattle.relink.specs.declared.answer.Answer.TheVariants as answer
+use Rattle.relink.specs.declared.last.Effect.{Effect}
+use Rattle.relink.specs.declared.last.Followed.{Followed}
+use Rattle.relink.specs.declared.last.Followed.TheVariants.{Faulty, Good}
+use Rattle.relink.specs.declared.last.LastGood.{LastGood}
+use Rattle.relink.proofs.Putting.{found_counted}
+use Rattle.relink.proofs.Since.{next_put, origins_by_place, since_next, since_places, stands_there, under_key}
+
+pub same_listing : (old new : Holding) → SameHolding old new → listing_of old ≡ listing_of new
+same_listing old new same =
+    let listing : List Entry → Holding → Listing =
+    λ es h. record { entries = es; script = h.script; options = h.options } in
+    sym (ap (λ (es : List Entry). listing es new) (ap (λ (c : Contents). c.entries) same.contents.same)
+    ∙ ap (listing old.contents.entries) same.rest)
+
+-- what is known of a staged edit, which puts an object over the same one, or another
+pub record IsKnownEdit (h : Holding) (s : Staged) (same : Bool) : Type 0 where
+  pub found :
+      (key : ℕ) → found_under (next_listing h s).entries key ≡ next_found h.contents.entries s.objects.step key
+  pub keys : AreKeysDistinct (keys_of (next_listing h s).entries)
+  pub placed : (key : ℕ) → is_some (position (nat_eq key) (keys_of (next_listing h s).entries))
+      ≡ is_some (found_under (next_listing h s).entries key)
+  pub fits : Fits h.contents s.objects
+  pub arranged : IsArranged h.contents.entries s.objects
+  pub puts : same ≡ true → PutsSame h.contents.entries s.objects.step
+  pub other : same ≡ false → PutsNoneOf (objects_of h.contents.entries) s.objects.step
+  pub named : PutsByName h.contents.entries s.objects.step
+
+-- and of what it means to the last link
+pub record IsEffect (h : Holding) (s : Staged) (same : Bool) (a : Answer) (last : Option LastGood) (e : Effect)
+    : Type 0 where
+  pub current : is_good a ≡ true → e.known ≡ true
+  pub knows : is_good a ≡ false → e.known ≡ true → IfSome last (λ x. Knows x h.contents.entries s.objects.step)
+  pub lost : e.gone ≡ lost_key same s.objects.step
+  pub changed : e.same_script ≡ true → s.script ≡ None
+  pub stays : s.script ≡ None → e.same_script ≡ true
+
+-- what is known where an edit is linked over the last link
+pub record IsFollowing (h : Holding) (s : Staged) (same : Bool) (bytes : List ℕ) (a : Answer) (last : Option LastGood)
+    (e : Effect) : Type 0 where
+  pub edit : IsKnownEdit h s same
+  pub effect : IsEffect h s same a last e
+  pub kept : IsLast (listing_of h) bytes a last
+
+pub following : (before h : Holding) (s : Staged) (same : Bool) (bytes : List ℕ) (a : Answer) (last : Option LastGood)
+    (e : Effect) (l : Listing) (keys : List ℕ) → SameHolding before h → IsLast (listing_of before) bytes a last
+    → Fits h.contents s.objects → IsArranged h.contents.entries s.objects → l ≡ next_listing h s
+    → ((key : ℕ) → found_under l.entries key ≡ next_found h.contents.entries s.objects.step key)
+    → keys ≡ keys_of l.entries → AreKeysDistinct keys
+    → ((es : List Entry) (key : ℕ) → is_some (position (nat_eq key) (keys_of es)) ≡ is_some (found_under es key))
+    → (same ≡ true → PutsSame h.contents.entries s.objects.step)
+    → (same ≡ false → PutsNoneOf (objects_of h.contents.entries) s.objects.step)
+    → PutsByName h.contents.entries s.objects.step → (is_good a ≡ true → e.known ≡ true)
+    → (is_good a ≡ false → e.known ≡ true → IfSome last (λ x. Knows x h.contents.entries s.objects.step))
+    → e.gone ≡ lost_key same s.objects.step → (e.same_script ≡ true → s.script ≡ None)
+    → (s.script ≡ None → e.same_script ≡ true) → IsFollowing h s same bytes a last e
+following before h s same bytes a last e l keys more kept fits arranged is found are distinct placed puts other named
+    current knows lost changed stays = record {
+      edit = record {
+        found = λ key. sym (ap (λ (x : Listing). found_under x.entries key) is) ∙ found key;
+        keys = subst (λ (x : Listing). AreKeysDistinct (keys_of x.entries)) is (subst AreKeysDistinct are distinct);
+        placed = placed (next_listing h s).entries;
+        fits = fits;
+        arranged = arranged;
+        puts = puts;
+        other = other;
+        named = named;
+      };
+      effect = record { current = current; knows = knows; lost = lost; changed = changed; stays = stays };
+      kept = subst (λ (x : Listing). IsLast x bytes a last) (same_listing before h more) kept;
+    }
+
+abbrev pub kept_of : (l : Listing) (bytes : List ℕ) (a : Answer) (x : LastGood) → IsLast l bytes a (Some x)
+    → HasKept l bytes x
+kept_of l bytes (answer.Good m) x is = is.kept
+kept_of l bytes (answer.Faulty t) x is = is
+
+-- the object that is put, where it isn't the same one, is none of the last link
+pub none_of_last : (h : Holding) (s : Staged) (same : Bool) (bytes : List ℕ) (a : Answer) (x : LastGood) (e : Effect)
+    (is : IsLast (listing_of h) bytes a (Some x)) → IsKnownEdit h s same → IsEffect h s same a (Some x) e
+    → e.known ≡ true → same ≡ false
+    → PutsNoneOf (kept_of (listing_of h) bytes a x is).old.project.objects s.objects.step
+none_of_last h s same bytes (answer.Good m) x e is edit effect known other =
+    subst (λ (p : Project). PutsNoneOf p.objects s.objects.step) (sym is.project) (edit.other other)
+none_of_last h s same bytes (answer.Faulty t) x e is edit effect known other =
+    effect.knows refl known is.old.project.objects is.names is.since
+
+both_true : (a b : Bool) → (a && b) ≡ true → (a ≡ true) × (b ≡ true)
+both_true true b h = (refl, h)
+both_true false b h = absurd (cc)
+
+-- the object in whose place one comes is lent as it was
+replaced_right : (old : Project) (h : Holding) (s : Staged) (same : Bool) (origin : ℕ → Option ℕ)
+    → IsKnownEdit h s same → IsSince old.objects origin h.contents.entries
+    → IfSome (replaced_in origin h.contents.entries s.objects.step s.objects.places.after)
+    (IsReplaced old (project_of (next_listing h s)))
+replaced_right old h s same origin edit since =
+    by_step s.objects.step edit.found edit.arranged.place_after edit.fits.step
+  where
+    es : List Entry
+    es = h.contents.entries
+
+    next : List Entry
+    next = (next_listing h s).entries
+
+    by_step : (step : Step) → ((key : ℕ) → found_under next key ≡ next_found es step key)
+        → s.objects.places.after ≡ place_in (keys_of next) (touched_key step) → CanStep h.contents step
+        → IfSome (replaced_in origin es step s.objects.places.after) (IsReplaced old (project_of (next_listing h s)))
+    by_step (Put new named) found place can = at (origin new) (found_under es new) s.objects.places.after refl refl refl
+      where
+        at : (j : Option ℕ) (f : Option NamedObject) (a : Option ℕ) → origin new ≡ j → found_under es new ≡ f
+            → s.objects.places.after ≡ a
+            → IfSome (replaced_by j (option_map (λ (o : NamedObject). o.object) f) a)
+            (IsReplaced old (project_of (next_listing h s)))
+        at None f a oj of oa = tt
+        at (Some j) None a oj of oa = tt
+        at (Some j) (Some y) None oj of oa = tt
+        at (Some j) (Some y) (Some i) oj of oa = record {
+          before = y;
+          after = named;
+          old = since.same new j y of oj;
+          new = under_key next i new edit.keys (stands_there new (keys_of next) i (sym place ∙ oa))
+              ∙ (found new ∙ next_put es new named);
+          object = refl;
+          name = can.1 (found_counted es new y of) ∙ ap (λ (o : Option NamedObject). (unwrap_or o unnamed).name) of;
+        }
+    by_step (Remove removed) found place can = tt
+    by_step (Move moved) found place can = tt
+    by_step Stay found place can = tt
+
+-- what is lent is the last link, for the next project
+pub is_last_of : (h : Holding) (s : Staged) (same : Bool) (bytes : List ℕ) (x : LastGood) (from : List (Option ℕ))
+    (stays : Bool) (kept : HasKept (listing_of h) bytes x) → IsKnownEdit h s same
+    → (same ≡ false → PutsNoneOf kept.old.project.objects s.objects.step) → (stays ≡ true → s.script ≡ None)
+    → from ≡ map (without (origin_of x.origins.items) (lost_key same s.objects.step))
+    (keys_of (next_listing h s).entries)
+    → IsLastOf kept.old (project_of (next_listing h s)) (lent_with x from stays h.contents.entries s.objects)
+is_last_of h s same bytes x from stays kept edit none script is =
+    let p = project_of (next_listing h s) in
+    let es = (next_listing h s).entries in
+    let origin : ℕ → Option ℕ = origin_of x.origins.items in
+    let after : ℕ → Option ℕ = without origin (lost_key same s.objects.step) in
+    let since : IsSince kept.old.project.objects after es =
+    since_next kept.old.project.objects h.contents.entries es s.objects.step same origin after edit.found kept.since
+    edit.puts none (λ key. refl) in
+    record {
+      table = kept.table;
+      origins = subst (λ (from : List (Option ℕ)). AreOrigins kept.old.project p from) (sym is)
+          (origins_by_place kept.old.project p es after edit.keys refl since);
+      script = λ stay.
+          let both = both_true x.same_script stays stay in
+          kept.script both.0
+          ∙ ap (λ (o : Option (List Statement)). unwrap_or o h.script) (sym (script both.1));
+      replaced = replaced_right kept.old.project h s same origin edit kept.since;
+    }
+
+-- the origins of what is lent, by the edit
+pub from_edit : (h : Holding) (s : Staged) (same : Bool) (x : LastGood) (e : Effect) (v : Vec (Option ℕ) Global)
+    → e.gone ≡ lost_key same s.objects.step
+    → IsFrom (Some x) true e.gone (keys_of (next_listing h s).entries) (Some v)
+    → v.items ≡ map (without (origin_of x.origins.items) (lost_key same s.objects.step))
+    (keys_of (next_listing h s).entries)
+from_edit h s same x e v gone is =
+    is
+    ∙ ap (λ (lost : Option ℕ). map (without (origin_of x.origins.items) lost) (keys_of (next_listing h s).entries)) gone
+
+module _ (h : Holding) (s : Staged) (same : Bool) (bytes : List ℕ) (a : Answer) (e : Effect)
+    (edit : IsKnownEdit h s same) where
+  -- the last link, lent with its origins, is one whose image this is
+  pub last_lent : (last : Option LastGood) (known : Bool) (from : Option (Vec (Option ℕ) Global)) → e.known ≡ known
+      → IsLast (listing_of h) bytes a last → IsEffect h s same a last e
+      → IsFrom last known e.gone (keys_of (next_listing h s).entries) from
+      → IfSome (lent last from e.same_script h.contents.entries s.objects)
+      (HasLast (project_of (next_listing h s)) bytes)
+  last_lent None known from are is effect origins = tt
+  last_lent (Some x) known None are is effect origins = tt
+  last_lent (Some x) false (Some v) are is effect origins = absurd (origins)
+  last_lent (Some x) true (Some v) are is effect origins =
+      let kept = kept_of (listing_of h) bytes a x is in
+      record {
+        old = kept.old;
+        is = is_last_of h s same bytes x v.items e.same_script kept edit
+            (none_of_last h s same bytes a x e is edit effect are) effect.changed
+            (from_edit h s same x e v effect.lost origins);
+        image = kept.image;
+      }
+
+  -- it stays the last one after an edit to a link with faults
+  pub kept_after_fault : (last after : Option LastGood) (known : Bool) → e.known ≡ known
+      → IsLast (listing_of h) bytes a last → IsEffect h s same a last e
+      → IsAfterFault known e.gone e.same_script last after → IfSome after (HasKept (next_listing h s) bytes)
+  kept_after_fault last None known are is effect fault = tt
+  kept_after_fault last (Some y) false are is effect fault = absurd (fault)
+  kept_after_fault None (Some y) true are is effect fault = absurd (fault)
+  kept_after_fault (Some x) (Some y) true are is effect fault =
+      let kept = kept_of (listing_of h) bytes a x is in
+      record {
+        old = kept.old;
+        table = subst (λ g. IsTable kept.old g) (sym fault.0) kept.table;
+        names = subst (λ (ns : List _). map (λ v. v.items) ns
+            ≡ map (λ (o : NamedObject). o.name) kept.old.project.objects) (sym (ap (λ v. v.items) fault.1)) kept.names;
+        since = since_next kept.old.project.objects h.contents.entries (next_listing h s).entries s.objects.step same
+            (origin_of x.origins.items) (origin_of y.origins.items) edit.found kept.since edit.puts
+            (none_of_last h s same bytes a x e is edit effect are)
+            (λ key. fault.3 key ∙ ap (λ (lost : Option ℕ). without (origin_of x.origins.items) lost key) effect.lost);
+        script = λ stays.
+            let both = both_true x.same_script e.same_script (sym fault.2 ∙ stays) in
+            kept.script both.0
+            ∙ ap (λ (o : Option (List Statement)). unwrap_or o h.script) (sym (effect.changed both.1));
+        image = kept.image;
+      }
+
+-- what a link without faults leaves is the last one
+pub followed_good : (l : Listing) (p : Project) (keys : List ℕ) (bytes : List ℕ) (x : LastGood) (m : List ℕ)
+    → p ≡ project_of l → keys ≡ keys_of l.entries → AreKeysDistinct keys → IsGoodEnd p bytes x.good m
+    → map (λ v. v.items) x.names.items ≡ map (λ (o : NamedObject). o.name) p.objects
+    → HasPlaces keys x.origins.items
+    → ((key : ℕ) → is_some (position (nat_eq key) (keys_of l.entries)) ≡ is_some (found_under l.entries key))
+    → x.same_script ≡ true
+    → (link (project_of l) ≡ record { status = 0; image = bytes; map = m; faults = [] }) × IsCurrent l bytes x
+followed_good l p keys bytes x m is keys_are distinct end names places found script = (
+  sym (ap link is) ∙ end.link,
+  record {
+    kept = record {
+      old = record { project = p; layout = end.layout };
+      table = end.table;
+      names = names;
+      since = subst (λ (os : List NamedObject). IsSince os (origin_of x.origins.items) l.entries)
+          (sym (ap (λ (q : Project). q.objects) is))
+          (since_places l.entries x.origins.items (subst AreKeysDistinct keys_are distinct)
+          (subst (λ (ks : List ℕ). HasPlaces ks x.origins.items) keys_are places) found);
+      script = λ stays. ap (λ (q : Project). q.script) is;
+      image = end.image;
+    };
+    project = is;
+    script = script;
+  },
+)
+
+-- what is answered is the link, and the last one is kept
+pub ended : (l : Listing) (old new : List ℕ) (f : Followed) (e : Effect) (last after : Option LastGood) (a : Answer)
+    → HasFollowed l old new f → IsEndOf f e last after a
+    → ((later : Option LastGood) → IsAfterFault e.known e.gone e.same_script last later → IfSome later (HasKept l old))
+    → (shown new a ≡ link (project_of l)) × IsLast l new a after
+ended l old new (Faulty text) e last after a followed end kept = (
+  ap (shown new) end.0 ∙ sym followed.0,
+  subst (λ (b : Answer). IsLast l new b after) (sym end.0)
+      (subst (λ (bytes : List ℕ). IfSome after (HasKept l bytes)) (sym followed.1) (kept after end.1)),
+)
+ended l old new (Good x m) e last after a followed end kept = (
+  ap (shown new) end.0 ∙ sym followed.0,
+  subst (λ (b : Answer). IsLast l new b after) (sym end.0)
+      (subst (λ (o : Option LastGood). IsLast l new (answer.Good m) o) (sym end.1) followed.1),
+)
+
+-- so it is after an edit that is linked over the last link
+pub ended_after : (h : Holding) (s : Staged) (same : Bool) (bytes new : List ℕ) (a b : Answer) (e : Effect)
+    (last after : Option LastGood) (f : Followed) (later : Holding) (naming : NamingState) (ms : List Matches)
+    → IsFollowing h s same bytes a last e → HasFollowed (next_listing h s) bytes new f → IsEndOf f e last after b
+    → IsKept (next_listing h s) naming ms → listing_of later ≡ next_listing h s
+    → (shown new b ≡ link (held later)) × IsKept (listing_of later) naming ms × IsLast (listing_of later) new b after
+ended_after h s same bytes new a b e last after f later naming ms x followed end kept is =
+    let both = ended (next_listing h s) bytes new f e last after b followed end
+    (λ later. kept_after_fault h s same bytes a e x.edit last later e.known refl x.kept x.effect) in (
+      subst (λ (l : Listing). shown new b ≡ link (project_of l)) (sym is) both.0,
+      subst (λ (l : Listing). IsKept l naming ms) (sym is) kept,
+      subst (λ (l : Listing). IsLast l new b after) (sym is) both.1,
+    )
+
+-- where there was no last link, none is kept
+pub none_kept : (l : Listing) (bytes : List ℕ) (lost : Option ℕ) (same_script : Bool) (later : Option LastGood)
+    → IsAfterFault true lost same_script None later → IfSome later (HasKept l bytes)
+none_kept l bytes lost same_script None is = tt
+none_kept l bytes lost same_script (Some y) is = absurd (is)

@@ -1,0 +1,78 @@
+-- A project that follows the last link at once.
+use Rattle.std.proofs.Common.{◌≡◌, ◌∙◌, ℕ, zero, suc, Bool, true, false, List, [], ◌∷◌, Option, Some, None}
+use Rattle.std.proofs.Common.{ap, map, refl, subst, sym}
+use Rattle.std.specs.List.{position}
+use Rattle.std.specs.Prelude.{Contains, is_some, nat_eq, slice_get, slice_index_or}
+use Rattle.std.proofs.lemmas.Bool.{eq-eqb}
+use Rattle.relink_kept.specs.First.{HasReplaced, IsNext}
+use Rattle.relink_kept.specs.Stays.{LastState, ReplacedState}
+use Rattle.ldmodel.specs.Project.{NamedObject, Project}
+use Rattle.ldmodel_project.specs.Listing.{AreKeysDistinct, Entry, found_under, keys_of, objects_of}
+use Rattle.ldmodel_project.specs.Next.{next_found, put_under, touched_key}
+use Rattle.ldmodel_project.specs.Touched.{place_in}
+use Rattle.ldmodel_project.specs.declared.staged.Step.{Step}
+use Rattle.relink.proofs.Putting.{all_have, came, replaced_here}
+use Rattle.relink.proofs.Since.{from_none, key_at, other_head, put_touches, rest_distinct, some_same, stands_there}
+use Rattle.relink.proofs.Since.{under_key}
+use Rattle.relink.specs.Last.{IsSince, PutsByName, PutsSame, lost_key, replaced_in, without}
+
+-- a key stands at one place
+same_place : (key : ℕ) (keys : List ℕ) (i j : ℕ) → AreKeysDistinct keys → slice_get keys i ≡ Some key
+    → slice_get keys j ≡ Some key → i ≡ j
+same_place key [] i j distinct h k = absurd (cc)
+same_place key (x ∷ xs) zero zero distinct h k = refl
+same_place key (x ∷ xs) zero (suc j) distinct h k =
+    let apart : nat_eq key x ≡ false = other_head key x xs j distinct k in
+    let here : nat_eq key x ≡ true = eq-eqb key x (sym (some_same x key h)) in
+    let both : true ≡ false = sym here ∙ apart in
+    absurd (cc)
+same_place key (x ∷ xs) (suc i) zero distinct h k =
+    let apart : nat_eq key x ≡ false = other_head key x xs i distinct h in
+    let here : nat_eq key x ≡ true = eq-eqb key x (sym (some_same x key k)) in
+    let both : true ≡ false = sym here ∙ apart in
+    absurd (cc)
+same_place key (x ∷ xs) (suc i) (suc j) distinct h k =
+    ap suc (same_place key xs i j (rest_distinct x xs distinct) h k)
+
+-- which is the one that is found
+found_there : (key : ℕ) (keys : List ℕ) (i : ℕ) → AreKeysDistinct keys → slice_get keys i ≡ Some key
+    → is_some (position (nat_eq key) keys) ≡ true → position (nat_eq key) keys ≡ Some i
+found_there key keys i distinct h some = at (position (nat_eq key) keys) refl
+  where
+    at : (p : Option ℕ) → position (nat_eq key) keys ≡ p → position (nat_eq key) keys ≡ Some i
+    at None e =
+        let empty : false ≡ true = sym (ap is_some e) ∙ some in
+        absurd (cc)
+    at (Some j) e = e ∙ ap Some (same_place key keys j i distinct (stands_there key keys j e) h)
+
+-- the script is known to be the same, and each object that came in the place of one of its name is known
+pub is_next : (old new : Project) (es next : List Entry) (step : Step) (after : Option ℕ) (same : Bool)
+    (origin : ℕ → Option ℕ) (x : LastState) → old.objects ≡ objects_of es → new.objects ≡ objects_of next
+    → ((key : ℕ) → found_under next key ≡ next_found es step key) → AreKeysDistinct (keys_of next)
+    → ((key : ℕ) → is_some (position (nat_eq key) (keys_of next)) ≡ is_some (found_under next key))
+    → after ≡ place_in (keys_of next) (touched_key step) → PutsByName es step → (same ≡ true → PutsSame es step)
+    → IsSince old.objects origin es → x.same_script ≡ true
+    → x.from ≡ map (without origin (lost_key same step)) (keys_of next) → x.replaced ≡ replaced_in origin es step after
+    → IsNext old new x
+is_next old new es next step after same origin x were are found distinct placed place by_name puts since script from
+    replaced = record {
+      script = script;
+      known = λ i o y at none among name.
+          let there : slice_get (objects_of next) i ≡ Some o =
+          sym (ap (λ (os : List NamedObject). slice_get os i) are) ∙ at in
+          let key = key_at next i o there in
+          let here : found_under next key.0 ≡ Some o = sym (under_key next i key.0 distinct key.1) ∙ there in
+          let lost : without origin (lost_key same step) key.0 ≡ None =
+          sym (from_none (without origin (lost_key same step)) (keys_of next) i key.0 key.1)
+          ∙ (sym (ap (λ (l : List (Option ℕ)). slice_index_or l i None) from) ∙ none) in
+          let have = all_have es origin (subst (λ (os : List NamedObject). IsSince os origin es) were since) in
+          let put : put_under step key.0 ≡ Some o =
+          came es step same origin key.0 o puts have (sym (found key.0) ∙ here) lost in
+          let stands : after ≡ Some i =
+          place
+          ∙ (ap (place_in (keys_of next)) (put_touches step key.0 o put)
+          ∙ found_there key.0 (keys_of next) i distinct key.1 (placed key.0 ∙ ap is_some here)) in
+          subst (λ (r : Option ReplacedState). HasReplaced r i) (sym replaced)
+          (replaced_here es step origin key.0 i o y after put by_name have
+          (subst (λ (os : List NamedObject). Contains os y) were among) name stands);
+    }

@@ -1,0 +1,14 @@
+use Rattle.std.proofs.Common.{None, true}
+use Rattle.ldmodel_project.specs.Holding.{listing_of}
+use Rattle.relink.proofs.Lending.{ended, none_kept}
+use Rattle.relink.specs.declared.last.Effect.{Effect}
+use Rattle.relink.proofs.session.Session.new.Goals as goal
+
+pub invariant_of-result : goal.invariant_of-result
+invariant_of-result c =
+    let l = listing_of c.new-project.result in
+    let e : Effect = record { known = true; gone = None; same_script = true } in
+    let both = ended l c.new-canvas.result.bytes c.link_first.new.canvas.bytes c.in_ok-followed.followed e None
+    c.end-answer.new.last c.end-answer.result c.in_ok-followed.ensures.followed c.end-answer.ensures
+    (none_kept l c.new-canvas.result.bytes None true) in
+    (both.0, c.in_ok-kept.ensures, both.1)

@@ -1,0 +1,65 @@
+-- How much an edit may count, and what it counts.
+use Rattle.std.specs.Prelude.{◌≡◌, ◌≤◌, ◌⊎◌, ⊤, ℕ, List, Ok, Option, Some, length}
+use Rattle.elfobj.specs.Counts.{Counts, capped}
+use Rattle.relink_kept.specs.First.{AreSameBefore}
+use Rattle.relink_kept.specs.Stays.{IsLastOf, LastState}
+use Rattle.ldmodel.specs.Edits.{Change}
+use Rattle.ldmodel.specs.Layout.{Layout}
+use Rattle.ldmodel.specs.Link.{layout, link}
+use Rattle.ldmodel.specs.Names.{distinct}
+use Rattle.ldmodel.specs.Project.{Project}
+use Rattle.ldmodel.specs.Rows.{rows}
+use Rattle.ldmodel.specs.SessionWork.{IsSessionWork, Rises, entries_from, objects_read, touched_names}
+use Rattle.ldmodel.specs.Stayed.{GoodLink}
+use Rattle.relink_link.specs.Counted.{IsImageCount}
+use Rattle.relink_link.specs.Worked.{IsLinkWork}
+use Rattle.relink.specs.declared.last.Followed.{Followed}
+use Rattle.relink.specs.declared.last.Followed.TheVariants.{Faulty, Good}
+
+-- no object is read, and at most these names are decided, each once; no count falls
+pub record DecidesFew (old new : Counts) (most : List (List ℕ)) : Type 0 where
+  pub objects : new.objects ≡ old.objects
+  pub names : Rises old.names new.names (length (distinct most))
+  pub pieces : old.pieces ≤ new.pieces
+  pub fields : old.fields ≤ new.fields
+  pub bytes : old.bytes ≤ new.bytes
+
+-- a link over the last one places, evaluates and writes what it has to beside it, and counts exactly that
+abbrev pub HasWorked : Project → Option LastState → Counts → Counts → Followed → Type 0
+HasWorked p last before after (Faulty text) = ⊤
+HasWorked p last before after (Good x m) =
+    (old : GoodLink) (y : LastState) (s : Layout) → last ≡ Some y → IsLastOf old p y → layout p ≡ Ok s
+    → IsLinkWork old (record { project = p; layout = s }) y before after
+
+-- at most one object is read, and none but for an edit that brings one; and at most the names that the edit touches are
+-- decided, each once; no count falls
+pub record IsReadingWork (p : Project) (change : Change) (q : Project) (before after : Counts) : Type 0 where
+  pub objects : Rises before.objects after.objects (objects_read change)
+  pub names : Rises before.names after.names (length (touched_names p change q))
+  pub pieces : before.pieces ≤ after.pieces
+  pub fields : before.fields ≤ after.fields
+  pub bytes : before.bytes ≤ after.bytes
+
+-- what was worked out between two links without faults is counted: the object that an edit brings; the entries of the
+-- rows from the first one on that differs, or from an earlier one, before which no row differs either; and the fields
+-- and bytes of `IsImageCount`. Of names `IsReadingWork` says all
+pub record IsCounted (old : GoodLink) (change : Change) (new : GoodLink) (before after : Counts) : Type 0 where
+  pub objects : after.objects ≡ capped before.objects (objects_read change)
+  pub first : ℕ
+  pub same : AreSameBefore old.project new.project first
+  pub pieces : after.pieces ≡ capped before.pieces (entries_from first (rows new.project))
+  pub image : IsImageCount old new before after
+
+-- so it is, unless the edit leads to the project that is there, whose link is kept
+abbrev pub HasCounted : Project → Change → Project → Counts → Counts → Type 0
+HasCounted p change q before after =
+    (s t : Layout) → (link p).status ≡ 0 → (link q).status ≡ 0 → layout p ≡ Ok s → layout q ≡ Ok t
+    → (q ≡ p)
+    ⊎ IsCounted (record { project = p; layout = s }) change (record { project = q; layout = t }) before after
+
+-- objects are read and names decided as said above, whether a link has faults or not; and between two links without
+-- faults all five counts keep to the bound of an incremental linker, and are those of what was worked out
+abbrev pub IsWholeWork : Project → Change → Project → Counts → Counts → Type 0
+IsWholeWork p change q before after =
+    IsReadingWork p change q before after × IsSessionWork p change q before after
+    × HasCounted p change q before after

@@ -1,0 +1,79 @@
+//! What a session answers of its link.
+
+ghost use Rattle.std.specs.Prelude.{◌≡◌, ℕ, List};
+ghost use Rattle.ldmodel.specs.EditMeaning.{linked_of};
+ghost use Rattle.relink.specs.Answer.{is_good, shown};
+
+use emit::fields::canvas::Canvas;
+use ldmodel::edit::Linked;
+
+/// What a session answers of its link, beside the image, which a canvas holds.
+#[derive(Drop)]
+pub(crate) enum Answer {
+    /// The link has no faults: its map.
+    Good(Vec<u8>),
+    /// The link has faults: these lines.
+    Faulty(Vec<u8>),
+}
+
+impl Answer {
+    /// Whether the link has no faults.
+    pub(crate) fn is_good(&self) -> bool
+        ensures { result ≡ is_good self.now }
+    {
+        match self {
+            Answer::Good(_) => true,
+            Answer::Faulty(_) => false,
+        }
+    }
+
+    /// 0 where the link has no faults, else 1.
+    pub(crate) fn status(&self) -> u8
+        ensures { (bytes : List ℕ) → result ≡ (shown bytes self.now).status }
+    {
+        match self {
+            Answer::Good(_) => 0,
+            Answer::Faulty(_) => 1,
+        }
+    }
+
+    /// The image, which the canvas holds where there is one.
+    pub(crate) fn image<'a>(&self, canvas: &'a Canvas) -> &'a [u8]
+        ensures { result.now ≡ (shown canvas.now.bytes self.now).image }
+    {
+        match self {
+            Answer::Good(_) => canvas.bytes(),
+            Answer::Faulty(_) => &[],
+        }
+    }
+
+    /// The map.
+    pub(crate) fn map(&self) -> &[u8]
+        ensures { (bytes : List ℕ) → result.now ≡ (shown bytes self.now).map }
+    {
+        match self {
+            Answer::Good(map) => map,
+            Answer::Faulty(_) => &[],
+        }
+    }
+
+    /// The fault lines.
+    pub(crate) fn faults(&self) -> &[u8]
+        ensures { (bytes : List ℕ) → result.now ≡ (shown bytes self.now).faults }
+    {
+        match self {
+            Answer::Good(_) => &[],
+            Answer::Faulty(text) => text,
+        }
+    }
+
+    /// The status, and the length of the image.
+    pub(crate) fn summary(&self, canvas: &Canvas) -> Linked
+        ensures { result ≡ linked_of (shown canvas.now.bytes self.now) }
+    {
+        Linked {
+            status: self.status(),
+            length: self.image(canvas).len() as u64,
+        }
+    }
+}

@@ -1,0 +1,60 @@
+//! What a staged edit changes under the key of the object that it touches.
+
+ghost use Rattle.std.specs.Prelude.{◌≡◌, Some};
+ghost use Rattle.std.specs.Option.{option_copied};
+ghost use Rattle.ldmodel_project.specs.Holding.{next_listing};
+ghost use Rattle.ldmodel_project.specs.Next.{touched_key};
+ghost use Rattle.ldmodel_project.specs.Touched.{IsArranged};
+ghost use Rattle.relink.specs.Change.{IsChange, beside, place_at, shown_at};
+
+use elfobj::object::Object;
+use symres::decisions::change::{ObjectAt, ObjectChange, undone};
+use ldmodel::names::ObjectKey;
+use ldmodel_project::law::{found_where_placed, tables_follow};
+use ldmodel_project::project::{Next, Project};
+use ldmodel_project::staged::Staged;
+
+/// An object at a place, where there are both.
+fn object_at<'a>(place: Option<usize>, object: Option<&'a Object>) -> Option<ObjectAt<'a>>
+    ensures { shown_at result ≡ beside place (option_copied object.entry) }
+{
+    match place {
+        None => None,
+        Some(place) => match object {
+            None => None,
+            Some(object) => Some(ObjectAt { place, object }),
+        },
+    }
+}
+
+/// The place of an object, if there is one.
+pub(crate) fn place_of(at: Option<ObjectAt<'_>>) -> Option<usize>
+    ensures { result ≡ place_at at.entry }
+{
+    match at {
+        Some(at) => Some(at.place),
+        None => None,
+    }
+}
+
+/// What goes and what comes under the key of the object that an edit touches.
+pub(crate) fn object_change<'a>(
+    project: &'a Project,
+    next: &Next<'a>,
+    staged: &'a Staged,
+    key: ObjectKey,
+) -> ObjectChange<'a>
+    requires next { next.now ≡ next_listing project.now staged.now }
+    requires arranged { IsArranged project.now.contents.entries staged.now.objects }
+    requires touched { touched_key staged.now.objects.step ≡ Some key.0 }
+    ensures { IsChange project.now.contents.entries staged.now.objects key.0 result }
+{
+    tables_follow();
+    found_where_placed();
+    undone();
+    ObjectChange {
+        key,
+        out: object_at(staged.place_before(), project.object(key)),
+        into: object_at(staged.place_after(), next.object(key)),
+    }
+}

@@ -1,0 +1,364 @@
+//! The last link without faults, which outlives edits: what is kept of it, and which of its objects are still there.
+
+ghost use Rattle.std.specs.Prelude.{◌≡◌, ℕ, IfOk, IfSome, List, None, Some, false, map, slice_get, true};
+ghost use Rattle.std.specs.Option.{option_copied, option_map};
+ghost use Rattle.relink_kept.specs.Stays.{last_of, replaced_state};
+ghost use Rattle.ldmodel.specs.Project.{NamedObject};
+ghost use Rattle.ldmodel_project.specs.Listing.{keys_of};
+ghost use Rattle.relink.specs.Answer.{is_good};
+ghost use Rattle.relink.specs.Last.{IsAfterFault, IsEndOf, IsFrom, IsNamedAt, IsNoneOf, IsSince};
+ghost use Rattle.relink.specs.Last.{Knows, PutsNoneOf, changed_key, lent, lost_key, origin_of, replaced_by};
+ghost use Rattle.relink.specs.Last.{replaced_in, without};
+
+use crate::answer::Answer;
+use elfobj::object::Object;
+use relink_kept::good::Good;
+use relink_kept::stays::{Last, Replaced};
+use ldmodel::memory::NoMemory;
+use ldmodel::names::{ObjectKey, ObjectPlace};
+use ldmodel_project::named::NamedObject;
+use ldmodel_project::project::{Next, Project};
+use ldmodel_project::staged::Staged;
+use std::alloc::Global;
+
+/// What is kept of the last link without faults.
+#[derive(Drop)]
+pub(crate) struct LastGood {
+    /// The tables of that link.
+    pub good: Good,
+    /// At which place of that link each object stood that is still there with the same bytes, under the object's key.
+    pub origins: Vec<Option<usize>>,
+    /// The names of the objects of that link, by their places.
+    pub names: Vec<Vec<u8>>,
+    /// Whether the script is known to be the same still.
+    pub same_script: bool,
+}
+
+/// What an edit means to the last link without faults.
+#[derive(Clone, Copy)]
+pub(crate) struct Effect {
+    /// Whether the object that the edit puts, if it puts one, is known to be no object of that link.
+    pub known: bool,
+    /// The key whose object is no object of that link any more, if there is one.
+    pub gone: Option<usize>,
+    /// Whether the script stays.
+    pub same_script: bool,
+}
+
+/// What a link over the last one leads to.
+#[derive(Drop)]
+pub(crate) enum Followed {
+    /// These fault lines.
+    Faulty(Vec<u8>),
+    /// What is kept of the link, and its map.
+    Good(LastGood, Vec<u8>),
+}
+
+impl Followed {
+    /// Whether the link has no faults.
+    pub(crate) fn is_good(&self) -> bool {
+        match self {
+            Followed::Faulty(_) => false,
+            Followed::Good(..) => true,
+        }
+    }
+}
+
+/// Whether a name may stand at a place: it is another one, or this is the place where it may.
+fn is_allowed(is_same: bool, place: Option<usize>, at: usize) -> bool
+    ensures { result ≡ true → is_same ≡ true → place ≡ Some at }
+{
+    match place {
+        Some(place) if place == at => true,
+        _ => !is_same,
+    }
+}
+
+/// Whether each object of a name stands at this place, if any does.
+fn is_named_at(names: &[Vec<u8>], name: &[u8], place: Option<usize>) -> bool
+    ensures { result ≡ true → IsNamedAt (map (λ v. v.items) names.now) name.now place }
+{
+    for (at, other) in names.iter().enumerate() {
+        if !is_allowed(other.as_slice() == name, place, at) {
+            return false;
+        }
+    }
+    true
+}
+
+/// An object of the last link, and the place of the one that comes in its place, where there are both.
+fn replaced_at<'a>(
+    old: Option<usize>,
+    object: Option<&'a Object>,
+    new: Option<usize>,
+) -> Option<Replaced<'a>>
+    ensures { option_map replaced_state result ≡ replaced_by old (option_copied object.entry) new }
+{
+    match old {
+        None => None,
+        Some(old) => match object {
+            None => None,
+            Some(object) => match new {
+                None => None,
+                Some(new) => Some(Replaced {
+                    old: ObjectPlace(old),
+                    object,
+                    new: ObjectPlace(new),
+                }),
+            },
+        },
+    }
+}
+
+impl LastGood {
+    /// At which place of the last link the object under a key stood, if that link has it.
+    fn origin(&self, key: usize) -> Option<usize>
+        ensures { result ≡ origin_of self.now.origins.items key }
+    {
+        match self.origins.get(key) {
+            Some(place) => *place,
+            None => None,
+        }
+    }
+
+    /// Like `origin`, but none for the object under the key `gone`.
+    fn origin_unless(&self, gone: Option<usize>, key: usize) -> Option<usize>
+        ensures { result ≡ without (origin_of self.now.origins.items) gone key }
+    {
+        match gone {
+            Some(gone) if key == gone => None,
+            _ => self.origin(key),
+        }
+    }
+
+    /// The place in the last link of the object under a key, if that link has it and its bytes are other than those of
+    /// this object.
+    fn place_of_other(
+        &self,
+        project: &Project,
+        key: ObjectKey,
+        named: &NamedObject,
+    ) -> Option<usize>
+        ensures { IfSome result (λ j. (old : List NamedObject) (y : NamedObject)
+            → IsSince old (origin_of self.now.origins.items) project.now.contents.entries → slice_get old j ≡ Some y
+            → y.object.text ≡ named.now.object.text → ⊥) }
+    {
+        let place = self.origin(key.0)?;
+        let before = project.named(key)?;
+        if before.object().data() == named.object().data() {
+            return None;
+        }
+        Some(place)
+    }
+
+    /// Whether an object that is put under a key is known to be no object of the last link: it has another name than
+    /// each of those, or other bytes than the one in whose place it comes.
+    fn is_new(&self, project: &Project, key: ObjectKey, named: &NamedObject) -> bool
+        ensures { result ≡ true → (old : List NamedObject)
+            → map (λ v. v.items) self.now.names.items ≡ map (λ (o : NamedObject). o.name) old
+            → IsSince old (origin_of self.now.origins.items) project.now.contents.entries → IsNoneOf old named.now }
+    {
+        let place = self.place_of_other(project, key, named);
+        is_named_at(&self.names, named.name(), place)
+    }
+
+    /// Whether the object that an edit puts, if it puts one, is known to be no object of the last link.
+    fn knows(&self, project: &Project, staged: &Staged) -> bool
+        ensures { result ≡ true → (old : List NamedObject)
+            → map (λ v. v.items) self.now.names.items ≡ map (λ (o : NamedObject). o.name) old
+            → IsSince old (origin_of self.now.origins.items) project.now.contents.entries
+            → PutsNoneOf old staged.now.objects.step }
+    {
+        match staged.put() {
+            None => true,
+            Some((key, named)) => self.is_new(project, key, named),
+        }
+    }
+
+    /// The object of the last link in whose place an edit puts one, if it is still there.
+    fn replaced<'a>(&self, project: &'a Project, staged: &Staged) -> Option<Replaced<'a>>
+        ensures { option_map replaced_state result ≡ replaced_in (origin_of self.now.origins.items)
+            project.now.contents.entries staged.now.objects.step staged.now.objects.places.after }
+    {
+        match staged.put() {
+            None => None,
+            Some((key, _named)) => replaced_at(
+                self.origin(key.0),
+                project.object(key),
+                staged.place_after(),
+            ),
+        }
+    }
+
+    /// The origins of the objects of a next project, in their order; that which comes has none. Fails where memory runs
+    /// out.
+    fn origins_of(
+        &self,
+        alloc: Global,
+        next: &Next<'_>,
+        gone: Option<usize>,
+    ) -> Result<Vec<Option<usize>>, NoMemory>
+        ensures { IfOk result (λ v. v.items
+            ≡ map (without (origin_of self.now.origins.items) gone) (keys_of next.now.entries)) }
+    {
+        next.keys()
+            .iter()
+            .map(|key| self.origin_unless(gone, *key))
+            .collect(alloc)
+    }
+
+    /// Notes that the object under a key is no object of the last link any more, if there is a key.
+    fn forget(&mut self, key: Option<usize>)
+        ensures good { self.new.good ≡ self.old.good }
+        ensures names { self.new.names ≡ self.old.names }
+        ensures script { self.new.same_script ≡ self.old.same_script }
+        ensures origins { (k : ℕ) → origin_of self.new.origins.items k
+            ≡ without (origin_of self.old.origins.items) key k }
+    {
+        if let Some(key) = key {
+            if key < self.origins.len() {
+                self.origins[key] = None;
+            }
+        }
+    }
+}
+
+/// Whether there is a last link and the object that an edit puts, if it puts one, is known to be no object of it.
+fn is_known(last: &Option<LastGood>, project: &Project, staged: &Staged) -> bool
+    ensures { result ≡ true → IfSome last.now (λ x. Knows x project.now.contents.entries staged.now.objects.step) }
+{
+    match last {
+        None => false,
+        Some(last) => last.knows(project, staged),
+    }
+}
+
+/// The key that an edit puts an object under, or removes.
+fn changed_key(staged: &Staged) -> Option<usize>
+    ensures { result ≡ changed_key staged.now.objects.step }
+{
+    match staged.put() {
+        Some((key, _named)) => Some(key.0),
+        None => match staged.removed() {
+            Some(key) => Some(key.0),
+            None => None,
+        },
+    }
+}
+
+/// The key under which an object comes or goes; none where the same one comes.
+fn lost_key(staged: &Staged, same: bool) -> Option<usize>
+    ensures { result ≡ lost_key same staged.now.objects.step }
+{
+    if same { None } else { changed_key(staged) }
+}
+
+/// Whether an edit leaves the script.
+fn leaves_script(staged: &Staged) -> bool
+    ensures yes { result ≡ true → staged.now.script ≡ None }
+    ensures no { staged.now.script ≡ None → result ≡ true }
+{
+    match staged.new_script() {
+        None => true,
+        Some(_) => false,
+    }
+}
+
+/// What an edit means to the last link, where `same` says whether it puts an object over the same one. Where the answer
+/// has no faults, the last link is that of the project before the edit, and what comes is none of its objects; else the
+/// names of the objects of the last link are looked through.
+pub(crate) fn effect_of(
+    last: &Option<LastGood>,
+    answer: &Answer,
+    project: &Project,
+    staged: &Staged,
+    same: bool,
+) -> Effect
+    ensures current { is_good answer.now ≡ true → result.known ≡ true }
+    ensures knows { is_good answer.now ≡ false → result.known ≡ true
+        → IfSome last.now (λ x. Knows x project.now.contents.entries staged.now.objects.step) }
+    ensures gone { result.gone ≡ lost_key same staged.now.objects.step }
+    ensures changed { result.same_script ≡ true → staged.now.script ≡ None }
+    ensures stays { staged.now.script ≡ None → result.same_script ≡ true }
+{
+    Effect {
+        known: answer.is_good() || is_known(last, project, staged),
+        gone: lost_key(staged, same),
+        same_script: leaves_script(staged),
+    }
+}
+
+/// The origins of the objects of a next project in the last link, where that is known to have none of what comes.
+///
+/// # Errors
+///
+/// Where memory runs out.
+pub(crate) fn origins_for(
+    alloc: Global,
+    last: &Option<LastGood>,
+    effect: Effect,
+    next: &Next<'_>,
+) -> Result<Option<Vec<Option<usize>>>, NoMemory>
+    ensures { IfOk result (λ from. IsFrom last.now effect.known effect.gone (keys_of next.now.entries) from) }
+{
+    match last {
+        Some(last) if effect.known => Ok(Some(last.origins_of(alloc, next, effect.gone)?)),
+        _ => Ok(None),
+    }
+}
+
+/// The last link with these origins, lent to the next link.
+pub(crate) fn lend<'a>(
+    last: &'a Option<LastGood>,
+    from: &'a Option<Vec<Option<usize>>>,
+    effect: Effect,
+    project: &'a Project,
+    staged: &Staged,
+) -> Option<Last<'a>>
+    ensures { last_of result ≡ lent last.now from.now effect.same_script project.now.contents.entries
+        staged.now.objects }
+{
+    match last {
+        None => None,
+        Some(last) => match from {
+            None => None,
+            Some(from) => Some(Last {
+                good: &last.good,
+                from,
+                same_script: last.same_script && effect.same_script,
+                replaced: last.replaced(project, staged),
+            }),
+        },
+    }
+}
+
+/// Keeps the last link after an edit that led to a link with faults, without the origin of the object that came or
+/// went. Where the last link isn't known to be without the object that came, it is dropped.
+fn keep_after_fault(last: &mut Option<LastGood>, effect: Effect)
+    ensures { IsAfterFault effect.known effect.gone effect.same_script last.old last.new }
+{
+    if !effect.known {
+        *last = None;
+        return;
+    }
+    if let Some(last) = last {
+        last.forget(effect.gone);
+        last.same_script = last.same_script && effect.same_script;
+    }
+}
+
+/// What is answered of a link over the last one, which stays the last one where the link has faults.
+pub(crate) fn end(followed: Followed, last: &mut Option<LastGood>, effect: Effect) -> Answer
+    ensures { IsEndOf followed effect last.old last.new result }
+{
+    match followed {
+        Followed::Faulty(text) => {
+            keep_after_fault(last, effect);
+            Answer::Faulty(text)
+        }
+        Followed::Good(good, map) => {
+            *last = Some(good);
+            Answer::Good(map)
+        }
+    }
+}

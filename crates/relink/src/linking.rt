@@ -1,0 +1,149 @@
+//! A link over what a session keeps.
+
+ghost use Rattle.std.specs.Prelude.{◌≡◌, IfOk, IfSome, OnErr, OnOk, map};
+ghost use Rattle.gather.specs.ProjectMatches.{AreMatched};
+ghost use Rattle.relink_kept.specs.Stays.{last_of};
+ghost use Rattle.ldmodel.specs.Project.{NamedObject};
+ghost use Rattle.symres.specs.Naming.{IsNaming};
+ghost use Rattle.ldmodel_project.specs.Holding.{Listing, listing_of, project_of};
+ghost use Rattle.ldmodel_project.specs.Inputs.{shown_inputs};
+ghost use Rattle.ldmodel_project.specs.Listing.{AreKeysDistinct, keys_of};
+ghost use Rattle.relink.specs.Kept.{IsKept};
+ghost use Rattle.relink.specs.Last.{HasFollowed};
+ghost use Rattle.relink.specs.Work.{HasWorked};
+ghost use Rattle.relink_link.specs.Ended.{HasLast};
+ghost use Rattle.relink_link.specs.Reads.{ReadsNothing};
+
+use crate::last::{Followed, LastGood};
+use gather::matches::{Matches, lend_all};
+use emit::fields::canvas::Canvas;
+use relink_kept::stays::Last;
+use ldmodel::memory::NoMemory;
+use ldmodel::meter::Meter;
+use symres::naming::Naming;
+use ldmodel_project::input::InputObject;
+use ldmodel_project::law::found_where_placed;
+use ldmodel_project::order::places_of;
+use ldmodel_project::project::{Next, Project};
+use ldmodel_project::view::ProjectView;
+use relink_link::again::{Ended, relink};
+use std::alloc::Global;
+
+/// The names of these objects, in their order. Fails where memory runs out.
+fn names_of(alloc: Global, inputs: &[InputObject<'_>]) -> Result<Vec<Vec<u8>>, NoMemory>
+    ensures { IfOk result (λ v. map (λ n. n.items) v.items
+        ≡ map (λ (o : NamedObject). o.name) (shown_inputs inputs.now)) }
+{
+    let mut names = Vec::with_capacity(alloc, inputs.len())?;
+    for input in inputs {
+        names.push(Vec::from_slice(alloc, input.name)?)?;
+    }
+    Ok(names)
+}
+
+/// Links a project, whose objects have these keys, over what is kept of it. Fails where memory runs out: then the
+/// canvas is as it was.
+fn link_keyed(
+    alloc: Global,
+    project: &ProjectView<'_>,
+    keys: &[usize],
+    naming: &Naming,
+    matches: &[Matches],
+    last: Option<Last<'_>>,
+    canvas: &mut Canvas,
+    meter: &mut Meter,
+) -> Result<Followed, NoMemory>
+    requires distinct { AreKeysDistinct keys.now }
+    requires naming { IsNaming project.now naming.now }
+    requires matches { AreMatched project.now matches.now }
+    requires last { IfSome (last_of last) (HasLast project.now canvas.old.bytes) }
+    ensures followed { IfOk result (λ r. (l : Listing) → project.now ≡ project_of l → keys.now ≡ keys_of l.entries
+        → HasFollowed l canvas.old.bytes canvas.new.bytes r) }
+    ensures unchanged { OnErr result (canvas.new.bytes ≡ canvas.old.bytes) }
+    ensures reads { OnOk result (ReadsNothing meter.old meter.new) }
+    ensures worked { IfOk result (HasWorked project.now (last_of last.entry) meter.old meter.new) }
+{
+    found_where_placed();
+    let lent = lend_all(alloc, matches)?;
+    let origins = places_of(alloc, keys)?;
+    let names = names_of(alloc, project.inputs())?;
+    match relink(alloc, project, naming, &lent, last, canvas, meter) {
+        Err(refused) => Err(refused),
+        Ok(Ended::Faulty(text)) => Ok(Followed::Faulty(text)),
+        Ok(Ended::Good(good, map)) => Ok(Followed::Good(
+            LastGood {
+                good,
+                origins,
+                names,
+                same_script: true,
+            },
+            map,
+        )),
+    }
+}
+
+/// Links the next project over what is kept of it, and over the image of the last link without faults, if there is one.
+///
+/// # Errors
+///
+/// Where memory runs out. Then the canvas is as it was.
+pub(crate) fn link_next(
+    alloc: Global,
+    next: &Next<'_>,
+    naming: &Naming,
+    matches: &[Matches],
+    last: Option<Last<'_>>,
+    canvas: &mut Canvas,
+    meter: &mut Meter,
+) -> Result<Followed, NoMemory>
+    requires kept { IsKept next.now naming.now matches.now }
+    requires last { IfSome (last_of last) (HasLast (project_of next.now) canvas.old.bytes) }
+    ensures followed { IfOk result (HasFollowed next.now canvas.old.bytes canvas.new.bytes) }
+    ensures unchanged { OnErr result (canvas.new.bytes ≡ canvas.old.bytes) }
+    ensures reads { OnOk result (ReadsNothing meter.old meter.new) }
+    ensures worked { IfOk result (HasWorked (project_of next.now) (last_of last.entry) meter.old meter.new) }
+{
+    naming.names_kept();
+    let inputs = next.inputs(alloc)?;
+    let view = next.view(&inputs);
+    link_keyed(
+        alloc,
+        &view,
+        next.keys(),
+        naming,
+        matches,
+        last,
+        canvas,
+        meter,
+    )
+}
+
+/// Links a project over what is kept of it, where there is no link before it.
+///
+/// # Errors
+///
+/// Where memory runs out.
+pub(crate) fn link_first(
+    alloc: Global,
+    project: &Project,
+    naming: &Naming,
+    matches: &[Matches],
+    canvas: &mut Canvas,
+) -> Result<Followed, NoMemory>
+    requires kept { IsKept (listing_of project.now) naming.now matches.now }
+    ensures followed { IfOk result (HasFollowed (listing_of project.now) canvas.old.bytes canvas.new.bytes) }
+{
+    naming.names_kept();
+    let inputs = project.inputs(alloc)?;
+    let view = project.view(&inputs);
+    link_keyed(
+        alloc,
+        &view,
+        project.keys(),
+        naming,
+        matches,
+        None,
+        canvas,
+        &mut Meter::new(),
+    )
+}

@@ -1,0 +1,186 @@
+//! The linker of a session: it keeps objects, names, matches and the last link without faults.
+
+ghost use Rattle.std.specs.Prelude.{◌≡◌, [], IfOk, OnOk};
+ghost use Rattle.ldmodel.specs.EditMeaning.{change_of};
+ghost use Rattle.ldmodel.specs.Link.{link};
+ghost use Rattle.ldmodel.specs.Project.{empty_project};
+ghost use Rattle.ldmodel_project.specs.Holding.{held, listing_of};
+ghost use Rattle.relink.specs.Kept.{IsKept};
+ghost use Rattle.relink.specs.Work.{IsWholeWork};
+ghost use Rattle.relink_link.specs.Applied.{Applied};
+
+use crate::answer::Answer;
+use crate::keeping::Kept;
+use crate::last::{Effect, LastGood, effect_of, end, lend, origins_for};
+use crate::linking::link_first;
+use crate::unchanged::{is_unchanged, puts_same};
+use symres::decisions::law::{distinct_more, names_of_objects};
+use emit::fields::canvas::Canvas;
+use ldmodel::edit::{Edit, EditRefusal, Linked};
+use ldmodel::linker::Linker;
+use ldmodel::memory::NoMemory;
+use ldmodel::meter::Meter;
+use ldmodel::options::Options;
+use symres::naming::Naming;
+use ldmodel_project::law::found_where_placed;
+use ldmodel_project::project::Project;
+use std::alloc::Global;
+use std::hash::RandomState;
+use std::marker::Model;
+
+/// A linker that keeps what names stand for, which statements take the input sections of each object, and the last link
+/// without faults. An edit of an object reads at most that object, and decides its names alone. Where the link before
+/// it has no faults, input sections are placed only from the first output section on that changed, and the image is
+/// drawn over the last one, but for the input sections that stayed.
+#[derive(Drop)]
+pub struct Session {
+    alloc: Global,
+    project: Project,
+    kept: Kept,
+    // the last link without faults, whose image is on the canvas: the link of the project, where the answer has no
+    // faults
+    last: Option<LastGood>,
+    canvas: Canvas,
+    answer: Answer,
+}
+
+impl Model for Session {
+    ghost use Rattle.std.specs.Coded.{codes};
+    ghost use Rattle.std.specs.Prelude.{◌≡◌};
+    ghost use Rattle.ldscript.specs.statements.contracts.formula.Formula as formula;
+    ghost use Rattle.ldmodel.specs.Link.{link};
+    ghost use Rattle.ldmodel.specs.Project.{Project};
+    ghost use Rattle.ldmodel_project.specs.Holding.{held, listing_of};
+    ghost use Rattle.relink.specs.Answer.{shown};
+    ghost use Rattle.relink.specs.Kept.{IsKept};
+    ghost use Rattle.relink.specs.Last.{IsLast};
+
+    ghost Value = { Project };
+
+    ghost coded = { Prim.hlevel (codes, formula.the_row.coded) };
+
+    ghost view = { λ s. held s.project };
+
+    ghost invariant = { λ s. (shown s.canvas.bytes s.answer ≡ link (held s.project))
+        × IsKept (listing_of s.project) s.kept.naming s.kept.matches.items
+        × IsLast (listing_of s.project) s.canvas.bytes s.answer s.last };
+}
+
+/// What is kept of a project without objects. Fails where memory runs out.
+fn kept_of_none(alloc: Global, seed: RandomState, project: &Project) -> Result<Kept, NoMemory>
+    requires { (held project.now).objects ≡ [] }
+    ensures { IfOk result (λ k. IsKept (listing_of project.now) k.naming k.matches.items) }
+{
+    let naming = Naming::of(alloc, seed, &[], project.script(), &mut Meter::new())?;
+    Ok(Kept {
+        naming,
+        matches: Vec::new(alloc),
+    })
+}
+
+impl Session {
+    /// A linker that holds the link of the empty project. `seed` is for hash tables; no link depends on it.
+    ///
+    /// # Errors
+    ///
+    /// Where memory runs out.
+    pub fn new(alloc: Global, seed: RandomState, options: Options) -> Result<Session, NoMemory>
+        ensures { IfOk result (λ s. s ≡ empty_project options) }
+    {
+        let project = Project::new(alloc, options);
+        let kept = kept_of_none(alloc, seed, &project)?;
+        let mut canvas = Canvas::new(alloc);
+        let followed = link_first(alloc, &project, &kept.naming, &kept.matches, &mut canvas)?;
+        let mut last = None;
+        let effect = Effect {
+            known: true,
+            gone: None,
+            same_script: true,
+        };
+        let answer = end(followed, &mut last, effect);
+        Ok(Session {
+            alloc,
+            project,
+            kept,
+            last,
+            canvas,
+            answer,
+        })
+    }
+
+    /// Stages an edit, follows it, and only then takes the next project and its link over. An object in the place of
+    /// one of the same bytes changes nothing, and is answered from what is kept.
+    fn make(&mut self, edit: Edit<'_>, meter: &mut Meter) -> Result<Linked, EditRefusal>
+        ensures applied { Applied self.old (change_of edit.entry) self.new result }
+        ensures counted { OnOk result (IsWholeWork self.old (change_of edit.entry) self.new meter.old meter.new) }
+    {
+        names_of_objects();
+        distinct_more();
+        found_where_placed();
+        // so that the ranges of the counts are known
+        let _counts = (
+            meter.objects(),
+            meter.names(),
+            meter.pieces(),
+            meter.fields(),
+            meter.bytes(),
+        );
+        let staged = match self.project.stage(edit, meter) {
+            Err(refusal) => return Err(refusal),
+            Ok(staged) => staged,
+        };
+        let same = puts_same(&self.project, &staged);
+        if is_unchanged(&self.project, &staged, same) {
+            return Ok(self.answer.summary(&self.canvas));
+        }
+        let next = self.project.next(&staged);
+        let _keys = next.keys();
+        let effect = effect_of(&self.last, &self.answer, &self.project, &staged, same);
+        let from = match origins_for(self.alloc, &self.last, effect, &next) {
+            Err(_) => return Err(EditRefusal::NoMemory),
+            Ok(from) => from,
+        };
+        let last = lend(&self.last, &from, effect, &self.project, &staged);
+        match self.kept.follow(
+            self.alloc,
+            &self.project,
+            &staged,
+            last,
+            &mut self.canvas,
+            meter,
+        ) {
+            Err(_) => Err(EditRefusal::NoMemory),
+            Ok(followed) => {
+                self.project.commit(staged);
+                self.answer = end(followed, &mut self.last, effect);
+                Ok(self.answer.summary(&self.canvas))
+            }
+        }
+    }
+}
+
+impl Linker for Session {
+    ghost project = { λ s. s };
+
+    ghost bound = { IsWholeWork };
+
+    fn apply(&mut self, edit: Edit<'_>, meter: &mut Meter) -> Result<Linked, EditRefusal> {
+        self.make(edit, meter)
+    }
+
+    fn image(&self) -> &[u8] {
+        self.answer.image(&self.canvas)
+    }
+
+    fn map(&self) -> &[u8] {
+        self.answer.map()
+    }
+
+    fn faults(&self) -> &[u8] {
+        self.answer.faults()
+    }
+
+    fn status(&self) -> u8 {
+        self.answer.status()
+    }
+}

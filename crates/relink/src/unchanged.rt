@@ -1,0 +1,55 @@
+//! Edits that put an object over the same one.
+
+ghost use Rattle.std.specs.Prelude.{◌≡◌, false, true};
+ghost use Rattle.ldmodel_project.specs.Holding.{TouchesOne, held, next_listing, project_of};
+ghost use Rattle.ldmodel_project.specs.Listing.{objects_of};
+ghost use Rattle.ldmodel_project.specs.Next.{Fits};
+ghost use Rattle.ldmodel_project.specs.Touched.{IsArranged};
+ghost use Rattle.relink.specs.Last.{PutsByName, PutsNoneOf, PutsSame};
+
+use ldmodel_project::named::NamedObject;
+use ldmodel_project::project::Project;
+use ldmodel_project::staged::Staged;
+
+/// Whether two objects have one name and the same bytes.
+fn are_same(a: &NamedObject, b: &NamedObject) -> bool
+    ensures same { result ≡ true → a.now ≡ b.now }
+    ensures other { result ≡ false → b.now.name ≡ a.now.name → b.now.object.text ≡ a.now.object.text → ⊥ }
+{
+    if a.name() != b.name() {
+        return false;
+    }
+    a.object().data() == b.object().data()
+}
+
+/// Whether an edit puts an object over one of the same name and bytes. If not, what it puts is none of the objects that
+/// are there.
+pub(crate) fn puts_same(project: &Project, staged: &Staged) -> bool
+    requires fits { Fits project.now.contents staged.now.objects }
+    ensures same { result ≡ true → PutsSame project.now.contents.entries staged.now.objects.step }
+    ensures other { result ≡ false
+        → PutsNoneOf (objects_of project.now.contents.entries) staged.now.objects.step }
+    ensures named { PutsByName project.now.contents.entries staged.now.objects.step }
+{
+    let _keys = project.keys();
+    let _next = project.next(staged);
+    let Some((key, named)) = staged.put() else {
+        return false;
+    };
+    let Some(old) = project.named(key) else {
+        return false;
+    };
+    are_same(named, old)
+}
+
+/// Whether an edit that puts an object over the same one leaves it in its place: then it changes nothing.
+pub(crate) fn is_unchanged(project: &Project, staged: &Staged, same: bool) -> bool
+    requires fits { Fits project.now.contents staged.now.objects }
+    requires arranged { IsArranged project.now.contents.entries staged.now.objects }
+    requires one { TouchesOne staged.now }
+    requires same { same ≡ true → PutsSame project.now.contents.entries staged.now.objects.step }
+    ensures { result ≡ true → project_of (next_listing project.now staged.now) ≡ held project.now }
+{
+    let _next = project.next(staged);
+    same && staged.place_before() == staged.place_after()
+}

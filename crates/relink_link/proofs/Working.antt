@@ -1,0 +1,91 @@
+-- What a link over an earlier one counts.
+use Rattle.std.proofs.Common.{◌≡◌, ◌∙◌, ◌+◌, ◌-◌, ℕ, Bool, true, false, cond, List, [], ◌∷◌}
+use Rattle.std.proofs.Common.{ap, refl, subst, sym}
+use Rattle.std.specs.Prelude.{IfSome, IsSome, Option, None, Some, Ok, Err, nat_lt}
+use Rattle.elfobj.specs.Counts.{Counts, capped}
+use Rattle.elfobj.specs.Raised.{raised}
+use Rattle.elfobj.specs.declared.meter.Count.TheVariants as counts
+use Rattle.emit.specs.image.Stretches.{patch_bytes}
+use Rattle.relink_kept.specs.Stays.{IsLastOf, LastState, last_of}
+use Rattle.relink_kept.specs.declared.stays.Last.{Last}
+use Rattle.relink_kept.specs.declared.stays.Stays.{Stays}
+use Rattle.ldmodel_laws.specs.Untouched.{IsGood}
+use Rattle.ldmodel.specs.Fault.{Fault, ImageTooLong}
+use Rattle.ldmodel.specs.Layout.{Layout}
+use Rattle.ldmodel.specs.Link.{layout, max_image_length, of_length}
+use Rattle.ldmodel.specs.Project.{Project}
+use Rattle.ldmodel.specs.SectionHeaders.{image_length}
+use Rattle.ldmodel.specs.SessionWork.{sites_to_evaluate}
+use Rattle.ldmodel.specs.Stayed.{GoodLink}
+use Rattle.ldmodel.specs.WorkBound.{bytes_stayed}
+use Rattle.emit.specs.Beside.{new_link}
+use Rattle.emit.specs.declared.relocated.Relocated.{Relocated}
+use Rattle.relink_link.specs.Counted.{AreDrawn, AreEvaluated, ArePlaced, CountsFields, IsImageCount, IsWritten, bytes_spent}
+use Rattle.relink_link.specs.Worked.{IsLinkWork}
+
+-- ---- the image
+
+image_count : (old new : GoodLink) (r : Relocated) (m0 m1 m2 : Counts) → CountsFields old new r m0 m1
+    → m2 ≡ raised m1 counts.Bytes (bytes_spent old new r) → IsImageCount old new m0 m2
+image_count old new r m0 m1 m2 h e = record {
+  relocations = ap (λ (m : Counts). m.fields) e ∙ ap (λ (m : Counts). m.fields) h.counted;
+  patched = patch_bytes r.retargeted.items;
+  few = h.few;
+  bytes = ap (λ (m : Counts). m.bytes) e
+      ∙ ap (λ (n : ℕ). capped n (bytes_spent old new r)) (ap (λ (m : Counts). m.bytes) h.counted);
+}
+
+within_length : (b : Bool) (fs : List Fault) (s t : Layout) → cond b (Err fs) (Ok t) ≡ Ok s → t ≡ s
+within_length true fs s t h = cc
+within_length false fs s t h = cc
+
+-- the layout of a project is that of its link
+own_layout : (p : Project) (s t : Layout) → layout p ≡ of_length (image_length p t) t → layout p ≡ Ok s → t ≡ s
+own_layout p s t is e =
+    within_length (nat_lt max_image_length (image_length p t)) (ImageTooLong (image_length p t) ∷ []) s t (sym is ∙ e)
+
+some_last : (l : Option Last) (x : LastState) → last_of l ≡ Some x → IsSome l
+some_last None x e = absurd (let none : ⊥ = cc in none)
+some_last (Some l) x e = refl
+
+pub are_drawn : (p : Project) (t : Layout) (y : Stays) (r : Relocated) (m0 m1 m2 : Counts)
+    → layout p ≡ of_length (image_length p t) t → IsGood (new_link p t) → AreEvaluated p t y r m0 m1
+    → IsWritten p t y r m1 m2 → AreDrawn p (last_of y.last) m0 m2
+are_drawn p t y r m0 m1 m2 is good h w = record {
+  pieces = ap (λ (m : Counts). m.pieces) w.bytes.1 ∙ ap (λ (m : Counts). m.pieces) h.fields.1;
+  image = λ old x s e last laid.
+      subst (λ (z : Layout). IsImageCount old (new_link p z) m0 m2)
+      (own_layout p s t is laid)
+      (at_own old (subst (λ (z : Option LastState). IfSome z (IsLastOf old p)) (sym e) last) (some_last y.last x e)
+      last.table.good);
+}
+  where
+    at_own : (old : GoodLink) → IfSome (last_of y.last) (IsLastOf old p) → IsSome y.last → IsGood old
+        → IsImageCount old (new_link p t) m0 m2
+    at_own old last some old_good =
+        image_count old (new_link p t) r m0 m1 m2 (h.beside old last some old_good good) (w.beside old last some)
+
+-- ---- the link
+
+pub link_work : (p : Project) (last : Option LastState) (m0 m1 m2 : Counts) → ArePlaced p last m0 m1
+    → AreDrawn p last m1 m2 → (old : GoodLink) (x : LastState) (s : Layout) → last ≡ Some x → IsLastOf old p x
+    → layout p ≡ Ok s → IsLinkWork old (new_link p s) x m0 m2
+link_work p last m0 m1 m2 placed drawn old x s e is laid =
+    let image = drawn.image old x s e is laid in
+    let new = new_link p s in
+    record {
+      first = placed.first;
+      pieces = drawn.pieces ∙ ap (λ (m : Counts). m.pieces) placed.counted;
+      same = placed.same old x e is;
+      changed = placed.changed old x e is;
+      anew = placed.anew x e;
+      image = record {
+        relocations = image.relocations
+            ∙ ap (λ (n : ℕ). capped n (sites_to_evaluate old new)) (ap (λ (m : Counts). m.fields) placed.counted);
+        patched = image.patched;
+        few = image.few;
+        bytes = image.bytes
+            ∙ ap (λ (n : ℕ). capped n (image.patched + (image_length p s - bytes_stayed old new)))
+            (ap (λ (m : Counts). m.bytes) placed.counted);
+      };
+    }

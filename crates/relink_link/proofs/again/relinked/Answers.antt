@@ -1,0 +1,96 @@
+use Rattle.std.proofs.Common.{subst, sym}
+use Rattle.relink_kept.specs.Marks.{AreMarks}
+use Rattle.relink_kept.specs.SymbolTable.{AreSymbolValues}
+use Rattle.ldmodel.specs.Layout.{Layout}
+use Rattle.emit.specs.relocate.KnownLink.{AreNameValues}
+use Rattle.emit.specs.values.LinkView.{known_link}
+use Rattle.relink_link.specs.Lent.{project_of}
+use Rattle.relink_link.proofs.Beside.{has_old, one_placement}
+use Rattle.relink_link.proofs.Reading.{reads_then}
+use Rattle.relink_link.proofs.Stopping.{ends_well}
+use Rattle.relink_link.proofs.Working.{are_drawn, link_work}
+use Rattle.relink_link.proofs.again.relinked.Goals as goal
+
+pub laid-requires-clause-last : goal.laid-requires-clause-last
+laid-requires-clause-last c = has_old (project_of c.args.lent) _ _ c.requires.last
+
+pub valued-requires-clause-known : goal.valued-requires-clause-known
+valued-requires-clause-known c =
+    let s = c.in_ok-laying.ensures.good.layout in
+    let is = c.in_ok-laying.ensures.good.is in
+    record {
+      layout = s;
+      laying = is;
+      view = c.in_ok-view.ensures s (c.in_ok-given.ensures.values s is) (c.in_ok-starts.ensures s is);
+      rest = c.in_ok-table.ensures.rest;
+    }
+
+pub relocated-requires-clause-beside : goal.relocated-requires-clause-beside
+relocated-requires-clause-beside c =
+    λ s laying.
+    let p = project_of c.args.lent in
+    let h = c.in_ok-values.ensures.good.placed in
+    let k = h.known in
+    record {
+      starts = c.in_ok-starts.ensures s laying;
+      laying = laying;
+      last = has_old p _ _ c.requires.last;
+      marks = λ old last. subst (AreMarks old p s) (sym c.deref-4.ensures.value)
+          (c.in_ok-marks.ensures old s last
+          (subst (λ (z : Layout). AreSymbolValues p z c.in_ok-symbols.symbols)
+          (one_placement p k.layout s k.laying.placed laying.placed)
+          (c.in_ok-symbols.ensures k.layout h.naming k.view
+          (subst (AreNameValues (known_link p k.layout h.naming)) (sym c.deref-3.ensures.value) h.values.names))));
+    }
+
+pub relocated-requires-clause-symbols : goal.relocated-requires-clause-symbols
+relocated-requires-clause-symbols c =
+    λ s laying.
+    let p = project_of c.args.lent in
+    let h = c.in_ok-values.ensures.good.placed in
+    let k = h.known in
+    subst (λ (z : Layout). AreSymbolValues p z c.in_ok-symbols.symbols)
+    (one_placement p k.layout s k.laying.placed laying.placed)
+    (c.in_ok-symbols.ensures k.layout h.naming k.view
+    (subst (AreNameValues (known_link p k.layout h.naming)) (sym c.deref-3.ensures.value) h.values.names))
+
+pub returns-clause-ended : goal.returns-clause-ended
+returns-clause-ended c =
+    let p = project_of c.args.lent in
+    let all = c.in_ok-asserted.ensures.good in
+    let f = all.filled in
+    let h = f.short.placed in
+    let k = h.known in
+    let s = k.layout in
+    let same = c.in_ok-drawn.ensures.image s k.laying in
+    let valued = c.in_ok-values.ensures.good.placed in
+    let seen = valued.known in
+    record {
+      layout = s;
+      link = sym (ends_well p s _ _ same (c.in_ok-map.ensures s h.naming k.laying h.values) all.rest);
+      table = record {
+        good = f.good;
+        names = f.names;
+        rows = c.in_ok-table.ensures.gathering.rows;
+        laying = k.laying;
+        starts = c.in_ok-starts.ensures s k.laying;
+        symbols = subst (λ (z : Layout). AreSymbolValues p z c.in_ok-symbols.symbols)
+            (one_placement p seen.layout s seen.laying.placed k.laying.placed)
+            (c.in_ok-symbols.ensures seen.layout valued.naming seen.view
+            (subst (AreNameValues (known_link p seen.layout valued.naming)) (sym c.deref-3.ensures.value)
+            valued.values.names));
+      };
+      image = same;
+    }
+
+pub returns-clause-reads : goal.returns-clause-reads
+returns-clause-reads c =
+    reads_then _ _ _ (reads_then _ _ _ c.in_ok-laying.ensures.reads c.in_ok-fields.ensures.reads) c.in_ok-drawn.ensures.reads
+
+pub returns-clause-worked : goal.returns-clause-worked
+returns-clause-worked c =
+    let f = c.in_ok-asserted.ensures.good.filled in
+    let k = f.short.placed.known in
+    link_work (project_of c.args.lent) _ _ _ _ c.in_ok-laying.ensures.counted
+    (are_drawn (project_of c.args.lent) k.layout _ c.in_ok-fields.fields _ _ _ k.laying.layout f.good
+    (c.in_ok-fields.ensures.counted k.layout k.laying) (c.in_ok-drawn.ensures.counted k.layout k.laying))

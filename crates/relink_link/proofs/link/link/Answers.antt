@@ -1,0 +1,13 @@
+use Rattle.std.proofs.Common.{◌∙◌, ap, map, subst, sym}
+use Rattle.gather.specs.ProjectMatches.{AreMatched}
+use Rattle.relink_link.proofs.link.link.Goals as goal
+
+pub relink-requires-clause-naming : goal.relink-requires-clause-naming
+relink-requires-clause-naming c =
+    c.in_ok-naming.ensures.naming c.args.project.now (sym c.inputs.ensures.same) (sym c.script.ensures)
+
+pub relink-requires-clause-matches : goal.relink-requires-clause-matches
+relink-requires-clause-matches c =
+    subst (AreMatched c.args.project.now)
+    (sym c.deref.ensures.value ∙ (sym c.in_ok-lent.ensures ∙ ap (map (λ x. x.now)) (sym c.deref-2.ensures.value)))
+    c.in_ok-matches.ensures

@@ -1,0 +1,82 @@
+-- What the phases of a link count, beside an earlier one.
+use Rattle.std.specs.Prelude.{◌≡◌, ◌≤◌, ◌+◌, ◌-◌, ℕ, false, IfSome, IsSome, Option, Some, Ok, length}
+use Rattle.elfobj.specs.Counts.{Counts, capped}
+use Rattle.elfobj.specs.Raised.{raised}
+use Rattle.elfobj.specs.declared.meter.Count.TheVariants.{Bytes, Fields, Pieces}
+use Rattle.emit.specs.image.Stretches.{patch_bytes}
+use Rattle.relink_kept.specs.First.{AreSameBefore, IsFirstChanged, IsNext}
+use Rattle.relink_kept.specs.Stays.{IsLastOf, LastState, last_of}
+use Rattle.relink_kept.specs.declared.stays.Stays.{Stays}
+use Rattle.ldmodel_laws.specs.Untouched.{IsGood}
+use Rattle.place.specs.Laying.{IsLaying}
+use Rattle.ldmodel.specs.Layout.{Layout}
+use Rattle.ldmodel.specs.Link.{layout}
+use Rattle.ldmodel.specs.Project.{Project}
+use Rattle.ldmodel.specs.Rows.{rows}
+use Rattle.ldmodel.specs.SectionHeaders.{image_length}
+use Rattle.ldmodel.specs.SessionWork.{entries_from, sites_to_evaluate}
+use Rattle.ldmodel.specs.Stayed.{GoodLink, retargeted}
+use Rattle.ldmodel.specs.WorkBound.{bytes_stayed, retargeted_bytes, sites_outside}
+use Rattle.emit.specs.Beside.{new_link}
+use Rattle.emit.specs.declared.relocated.Relocated.{Relocated}
+
+-- only input sections are counted: the entries of the rows from this one on. No row before it differs, from those of
+-- the earlier link; where the project follows that at once, it is the first that does; and where the script is another,
+-- it is the first of all
+pub record ArePlaced (p : Project) (last : Option LastState) (before after : Counts) : Type 0 where
+  pub first : ℕ
+  pub counted : after ≡ raised before Pieces (entries_from first (rows p))
+  pub same : (old : GoodLink) (x : LastState) → last ≡ Some x → IsLastOf old p x → AreSameBefore old.project p first
+  pub changed :
+      (old : GoodLink) (x : LastState) → last ≡ Some x → IsLastOf old p x → IsNext old.project p x
+      → IsFirstChanged old.project p first
+  pub anew : (x : LastState) → last ≡ Some x → x.same_script ≡ false → first ≡ 0
+
+-- the fields of sites outside of what stayed, and of those in it whose symbol has another value; the patches are no
+-- more than the latter
+pub record CountsFields (old new : GoodLink) (r : Relocated) (before after : Counts) : Type 0 where
+  pub counted : after ≡ raised before Fields (length (sites_outside old new) + length (retargeted old new))
+  pub few : patch_bytes r.retargeted.items ≤ retargeted_bytes old new
+
+-- only fields are counted, and beside an earlier link these
+pub record AreEvaluated (p : Project) (s : Layout) (y : Stays) (r : Relocated) (before after : Counts) : Type 0 where
+  pub fields : (n : ℕ) × (after ≡ raised before Fields n)
+  pub beside :
+      (old : GoodLink) → IfSome (last_of y.last) (IsLastOf old p) → IsSome y.last → IsGood old
+      → IsGood (new_link p s) → CountsFields old (new_link p s) r before after
+
+-- so it is at the layout of these tables
+abbrev pub HasEvaluated : Project → Stays → Relocated → Counts → Counts → Type 0
+HasEvaluated p y r before after = (s : Layout) → IsLaying p s y.laying.now → AreEvaluated p s y r before after
+
+-- the bytes of the image outside of what stayed, and of the patches
+abbrev pub bytes_spent : GoodLink → GoodLink → Relocated → ℕ
+bytes_spent old new r =
+    patch_bytes r.retargeted.items + (image_length new.project new.layout - bytes_stayed old new)
+
+-- only bytes of the image are counted, and beside an earlier link these
+pub record IsWritten (p : Project) (s : Layout) (y : Stays) (r : Relocated) (before after : Counts) : Type 0 where
+  pub bytes : (n : ℕ) × (after ≡ raised before Bytes n)
+  pub beside :
+      (old : GoodLink) → IfSome (last_of y.last) (IsLastOf old p) → IsSome y.last
+      → after ≡ raised before Bytes (bytes_spent old (new_link p s) r)
+
+abbrev pub HasWritten : Project → Stays → Relocated → Counts → Counts → Type 0
+HasWritten p y r before after = (s : Layout) → IsLaying p s y.laying.now → IsWritten p s y r before after
+
+-- the fields of sites outside of what stayed, and of those in it whose symbol has another value; and the bytes outside
+-- of what stayed, with those of fields in it of symbols of another value
+pub record IsImageCount (old new : GoodLink) (before after : Counts) : Type 0 where
+  pub relocations : after.fields ≡ capped before.fields (sites_to_evaluate old new)
+  pub patched : ℕ
+  pub few : patched ≤ retargeted_bytes old new
+  pub bytes :
+      after.bytes
+      ≡ capped before.bytes (patched + (image_length new.project new.layout - bytes_stayed old new))
+
+-- no input section is counted, and of the image this
+pub record AreDrawn (p : Project) (last : Option LastState) (before after : Counts) : Type 0 where
+  pub pieces : after.pieces ≡ before.pieces
+  pub image :
+      (old : GoodLink) (x : LastState) (s : Layout) → last ≡ Some x → IsLastOf old p x → layout p ≡ Ok s
+      → IsImageCount old (new_link p s) before after

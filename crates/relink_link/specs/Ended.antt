@@ -1,0 +1,31 @@
+-- How a link over an earlier one ends.
+use Rattle.std.specs.Prelude.{◌≡◌, ℕ, List, []}
+use Rattle.ldmodel.specs.Image.{image}
+use Rattle.ldmodel.specs.Layout.{Layout}
+use Rattle.ldmodel.specs.Link.{link}
+use Rattle.ldmodel.specs.Project.{Project}
+use Rattle.ldmodel.specs.Stayed.{GoodLink}
+use Rattle.relink_kept.specs.Stays.{IsLastOf, LastState}
+use Rattle.relink_kept.specs.Table.{IsTable}
+use Rattle.relink_kept.specs.declared.good.Good.{Good}
+use Rattle.relink_link.specs.declared.again.Ended.{Ended}
+use Rattle.relink_link.specs.declared.again.Ended.TheVariants as ended
+
+-- the earlier link is one whose image this is
+pub record HasLast (new : Project) (bytes : List ℕ) (x : LastState) : Type 0 where
+  pub old : GoodLink
+  pub is : IsLastOf old new x
+  pub image : bytes ≡ image old.project old.layout
+
+-- a link without faults, whose image these bytes are
+pub record IsGoodEnd (p : Project) (bytes : List ℕ) (g : Good) (map : List ℕ) : Type 0 where
+  pub layout : Layout
+  pub link : link p ≡ record { status = 0; image = bytes; map = map; faults = [] }
+  pub table : IsTable (record { project = p; layout = layout }) g
+  pub image : bytes ≡ image p layout
+
+-- fault lines, where the bytes are as they were; or a link without faults
+abbrev pub HasEnded : Project → List ℕ → List ℕ → Ended → Type 0
+HasEnded p old new (ended.Faulty t) =
+    (link p ≡ record { status = 1; image = []; map = []; faults = t.items }) × (new ≡ old)
+HasEnded p old new (ended.Good g m) = IsGoodEnd p new g m.items

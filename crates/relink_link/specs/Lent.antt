@@ -1,0 +1,14 @@
+-- What is lent to the passes of a link.
+use Rattle.std.specs.Prelude.{map}
+use Rattle.gather.specs.ProjectMatches.{AreMatched}
+use Rattle.ldmodel.specs.Project.{Project}
+use Rattle.symres.specs.Naming.{IsNaming}
+use Rattle.relink_link.specs.declared.lent.Lent.{Lent}
+
+abbrev pub project_of : Lent → Project
+project_of l = l.project.now
+
+-- names that are decided and matches that are found, both of the project
+pub record IsLent (l : Lent) : Type 0 where
+  pub naming : IsNaming (project_of l) l.naming.now
+  pub matches : AreMatched (project_of l) (map (λ x. x.now) l.matches.now)

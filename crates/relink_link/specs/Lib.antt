@@ -1,0 +1,12 @@
+pub mod Applied
+pub mod Counted
+pub mod Ended
+pub mod Lent
+pub mod Phases
+pub mod Reads
+pub mod Worked
+pub mod Stops
+pub mod Unbounded
+pub mod Adding
+pub mod Answer
+pub mod Message

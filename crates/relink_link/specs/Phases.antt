@@ -1,0 +1,93 @@
+-- What is known of a link after each phase that follows its gathering.
+use Rattle.std.specs.Prelude.{◌≡◌, ◌≤◌, ℕ, IfSome, IsSome, List, [], is_some}
+use Rattle.std.specs.List.{All}
+use Rattle.emit.specs.image.Kept.{ArePatchesOf}
+use Rattle.emit.specs.image.Stretches.{EndsBy}
+use Rattle.relink_kept.specs.Marks.{AreMarks}
+use Rattle.relink_kept.specs.Stays.{IsLastOf, LastState, last_of, range_of}
+use Rattle.relink_kept.specs.declared.stays.Stays.{Stays}
+use Rattle.ldmodel_laws.specs.Untouched.{IsGood}
+use Rattle.place.specs.Laying.{IsLaying}
+use Rattle.place.specs.declared.laying.Laying.{Laying}
+use Rattle.ldmodel.specs.Assertions.{assertion_faults}
+use Rattle.ldmodel.specs.Edits.{AreNamesDistinct}
+use Rattle.ldmodel.specs.Image.{image}
+use Rattle.ldmodel.specs.Layout.{Layout}
+use Rattle.ldmodel.specs.Link as model
+use Rattle.ldmodel.specs.Link.{link, max_image_length, placed, unless}
+use Rattle.ldmodel.specs.Project.{Project}
+use Rattle.ldmodel.specs.SectionHeaders.{image_length}
+use Rattle.ldmodel.specs.Stayed.{GoodLink}
+use Rattle.symres.specs.Naming.{NamingState}
+use Rattle.emit.specs.Beside.{new_link}
+use Rattle.emit.specs.Runs.{AreRunsUnless}
+use Rattle.emit.specs.declared.relocated.Relocated.{Relocated}
+use Rattle.place.specs.Starts.{AreStarts}
+use Rattle.emit.specs.values.LinkView.{IsLinkView, known_link}
+use Rattle.emit.specs.values.Values.{AreValues}
+use Rattle.emit.specs.values.declared.link_view.LinkView.{LinkView}
+use Rattle.emit.specs.values.declared.values.Values.{Values}
+
+-- the earlier link is one without faults
+pub record HasOld (new : Project) (x : LastState) : Type 0 where
+  pub old : GoodLink
+  pub is : IsLastOf old new x
+
+-- a link whose parts have their places is known
+pub record IsKnown (p : Project) (a : NamingState) (l : Laying) (w : LinkView) : Type 0 where
+  pub layout : Layout
+  pub laying : IsLaying p layout l
+  pub view : IsLinkView (known_link p layout a) w
+  pub rest : link p ≡ placed p (model.layout p)
+
+-- and all names have their values
+pub record IsPlaced (p : Project) (l : Laying) (w : LinkView) (v : Values) : Type 0 where
+  pub naming : NamingState
+  pub known : IsKnown p naming l w
+  pub values : AreValues p known.layout naming v
+
+-- the image is not too long either
+pub record IsShort (p : Project) (l : Laying) (w : LinkView) (v : Values) : Type 0 where
+  pub placed : IsPlaced p l w v
+  pub length : image_length p placed.known.layout ≤ max_image_length
+  pub rest : link p ≡ model.relocated p placed.known.layout
+
+-- the tables of a link at a layout beside those of the earlier one, if there is one
+pub record AreBeside (p : Project) (s : Layout) (y : Stays) : Type 0 where
+  pub starts : AreStarts p s y.starts.now
+  pub laying : IsLaying p s y.laying.now
+  pub last : IfSome (last_of y.last) (HasOld p)
+  pub marks : (old : GoodLink) → IfSome (last_of y.last) (IsLastOf old p) → AreMarks old p s y.marks.now
+
+-- at the layout of these tables
+abbrev pub IsBeside : Project → Stays → Type 0
+IsBeside p y = (s : Layout) → IsLaying p s y.laying.now → AreBeside p s y
+
+-- patches of what stayed: they end within the image, and are those of each earlier link that this one may be
+pub record ArePatches (p : Project) (s : Layout) (y : Stays) (r : Relocated) : Type 0 where
+  pub ends : All (EndsBy (image_length p s)) r.retargeted.items
+  pub patches : (old : GoodLink) → IfSome (last_of y.last) (IsLastOf old p) → IsSome y.last
+      → ArePatchesOf old (new_link p s) r.retargeted.items
+
+-- all relocations have their fields, but those of what stayed
+pub record IsFilled (p : Project) (y : Stays) (v : Values) (r : Relocated) : Type 0 where
+  pub known_by : LinkView
+  pub short : IsShort p y.laying.now known_by v
+  pub names : AreNamesDistinct p.objects
+  pub beside : AreBeside p short.placed.known.layout y
+  pub fields :
+      AreRunsUnless (known_link p short.placed.known.layout short.placed.naming) (λ k. is_some (range_of y k))
+      r.patches.items r.ends.items
+  pub patches : ArePatches p short.placed.known.layout y r
+  pub good : IsGood (new_link p short.placed.known.layout)
+  pub rest : link p
+      ≡ unless (assertion_faults p short.placed.known.layout) (model.good p short.placed.known.layout)
+
+-- all assertions hold
+pub record IsFaultless (p : Project) (y : Stays) (v : Values) (r : Relocated) : Type 0 where
+  pub filled : IsFilled p y v r
+  pub rest : link p ≡ model.good p filled.short.placed.known.layout
+
+-- these bytes are the image at the layout of these tables
+abbrev pub IsImage : Project → Stays → List ℕ → Type 0
+IsImage p y bytes = (s : Layout) → IsLaying p s y.laying.now → bytes ≡ image p s

@@ -1,0 +1,133 @@
+//! A link over what is kept: names that are decided, matches that are found, and an earlier link, if there is one.
+
+ghost use Rattle.std.specs.Prelude.{◌≡◌, IfErr, IfOk, IfSome, OnErr, OnOk, map};
+ghost use Rattle.gather.specs.ProjectMatches.{AreMatched};
+ghost use Rattle.relink_kept.specs.Stays.{last_of};
+ghost use Rattle.ldmodel.specs.Link.{link};
+ghost use Rattle.symres.specs.Naming.{IsNaming};
+ghost use Rattle.relink_link.specs.Ended.{HasEnded, HasLast};
+ghost use Rattle.relink_link.specs.Lent.{IsLent, project_of};
+ghost use Rattle.relink_link.specs.Reads.{EndsReadingNothing, ReadsNothing};
+ghost use Rattle.relink_link.specs.Stops.{IsStop};
+ghost use Rattle.relink_link.specs.Worked.{HasWorked};
+
+use crate::lent::Lent;
+use crate::passes::{asserted, drawn, gathered, laid, named, relocated, valued};
+use crate::stop::Stop;
+use gather::gathering::Gathering;
+use gather::matches::Matches;
+use emit::fields::canvas::Canvas;
+use relink_kept::good::Good;
+use relink_kept::marks::marks_of;
+use relink_kept::stays::{Last, Stays};
+use relink_kept::symbol_table::symbol_values;
+use place::starts::Starts;
+use ldmodel::memory::NoMemory;
+use ldmodel::meter::Meter;
+use symres::naming::Naming;
+use emit::map::map_text;
+use ldmodel_project::view::ProjectView;
+use emit::values::given::GivenValues;
+use emit::values::link_view::LinkView;
+use std::alloc::{AllocError, Global};
+
+/// How a link over an earlier one ends.
+#[derive(Drop)]
+pub enum Ended {
+    /// The project has faults, and these are their lines.
+    Faulty(Vec<u8>),
+    /// It has none: what is kept of the link, and its map.
+    Good(Good, Vec<u8>),
+}
+
+/// The passes of a link over an earlier one, in their order.
+fn relinked(lent: Lent<'_, '_>, canvas: &mut Canvas, meter: &mut Meter) -> Result<Ended, Stop>
+    requires lent { IsLent lent }
+    requires last { IfSome (last_of lent.last) (HasLast (project_of lent) canvas.old.bytes) }
+    ensures ended { IfOk result (HasEnded (project_of lent.entry) canvas.old.bytes canvas.new.bytes) }
+    ensures stop { IfErr result (λ stop. IsStop (link (project_of lent.entry)) stop) }
+    ensures reads { OnOk result (ReadsNothing meter.old meter.new) }
+    ensures worked { IfOk result (HasWorked (project_of lent.entry) (last_of lent.entry.last) meter.old meter.new) }
+    ensures early { IfErr result (λ stop. EndsReadingNothing meter.old meter.new stop) }
+    ensures unchanged { OnErr result (canvas.new.bytes ≡ canvas.old.bytes) }
+{
+    // `&*project` and the like lend these for the time of the locals, as the borrow checker wants it
+    let Lent {
+        alloc,
+        project,
+        naming,
+        last,
+        ..
+    } = lent;
+    named(lent)?;
+    let Gathering { table, rows, .. } = gathered(lent)?;
+    let laying = laid(lent, &rows, meter)?;
+    let starts = Starts::of(alloc, project, table, &rows, &laying)?;
+    let given = GivenValues::of(alloc, &*project, &*naming, &laying)?;
+    let view = LinkView::new(alloc, &*project, &*naming, &starts, &given)?;
+    let values = valued(lent, &laying, &view, &given)?;
+    let symbols = symbol_values(alloc, project, &view, &values.names)?;
+    let marks = marks_of(alloc, project, last, &symbols)?;
+    let stays = Stays {
+        last,
+        starts: &starts,
+        laying: &laying,
+        marks: &marks,
+    };
+    let fields = relocated(lent, &stays, &view, &values, &symbols, meter)?;
+    asserted(lent, &stays, &values, &fields)?;
+    let map = map_text(alloc, project, &rows, &laying, &values)?;
+    // the last pass that may fail, since it changes the canvas
+    drawn(lent, canvas, &rows, &stays, &values, &fields, meter)?;
+    // what lends a table goes before the table is kept
+    drop(view);
+    let good = Good {
+        rows,
+        laying,
+        starts,
+        symbols,
+    };
+    Ok(Ended::Good(good, map))
+}
+
+/// Links a project over names that are decided, matches that are found, and an earlier link, if there is one, whose
+/// image the canvas holds. Where the project has no faults, the canvas then holds its image: of what stayed, only the
+/// fields are written whose symbols have other values. Where it has faults, the canvas is as it was.
+///
+/// The layout of the earlier link is resumed where its script was the same. Where the project has no faults, exactly
+/// this is counted: the input sections that are placed from the first row on that differs, the fields outside of what
+/// stayed and those in it whose symbols have other values, and the bytes of both.
+///
+/// # Errors
+///
+/// Where memory runs out. Then the canvas is as it was.
+pub fn relink(
+    alloc: Global,
+    project: &ProjectView<'_>,
+    naming: &Naming,
+    matches: &[&Matches],
+    last: Option<Last<'_>>,
+    canvas: &mut Canvas,
+    meter: &mut Meter,
+) -> Result<Ended, NoMemory>
+    requires naming { IsNaming project.now naming.now }
+    requires matches { AreMatched project.now (map (λ x. x.now) matches.now) }
+    requires last { IfSome (last_of last) (HasLast project.now canvas.old.bytes) }
+    ensures ended { IfOk result (HasEnded project.now canvas.old.bytes canvas.new.bytes) }
+    ensures reads { OnOk result (ReadsNothing meter.old meter.new) }
+    ensures worked { IfOk result (HasWorked project.now (last_of last.entry) meter.old meter.new) }
+    ensures unchanged { OnErr result (canvas.new.bytes ≡ canvas.old.bytes) }
+{
+    let lent = Lent {
+        alloc,
+        project,
+        naming,
+        matches,
+        last,
+    };
+    match relinked(lent, canvas, meter) {
+        Ok(ended) => Ok(ended),
+        Err(Stop::Faulty(lines)) => Ok(Ended::Faulty(lines)),
+        Err(Stop::NoMemory) => Err(AllocError),
+    }
+}

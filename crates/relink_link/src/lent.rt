@@ -1,0 +1,22 @@
+//! What is lent to the passes of a link.
+
+use gather::matches::Matches;
+use relink_kept::stays::Last;
+use symres::naming::Naming;
+use ldmodel_project::view::ProjectView;
+use std::alloc::Global;
+
+/// What each pass of a link is lent.
+#[derive(Clone, Copy)]
+pub(crate) struct Lent<'a, 'p> {
+    /// The allocator.
+    pub alloc: Global,
+    /// The project.
+    pub project: &'a ProjectView<'p>,
+    /// Its names, which are decided.
+    pub naming: &'a Naming,
+    /// The statements that take the sections of each of its objects.
+    pub matches: &'a [&'a Matches],
+    /// The earlier link, if there is one.
+    pub last: Option<Last<'a>>,
+}

@@ -1,0 +1,39 @@
+//! A link from scratch.
+
+ghost use Rattle.std.specs.Prelude.{◌≡◌, IfOk};
+ghost use Rattle.ldmodel.specs.Link.{link};
+
+use crate::again::{Ended, relink};
+use crate::output::Output;
+use gather::matches::{lend_all, match_all};
+use emit::fields::canvas::Canvas;
+use ldmodel::memory::NoMemory;
+use ldmodel::meter::Meter;
+use symres::naming::Naming;
+use ldmodel_project::view::ProjectView;
+use std::alloc::{AllocError, Global};
+use std::hash::RandomState;
+
+/// Links a project from scratch: over names and matches of its own, and no earlier link.
+///
+/// # Errors
+///
+/// Where memory runs out.
+pub(crate) fn link(
+    alloc: Global,
+    seed: RandomState,
+    project: &ProjectView<'_>,
+    meter: &mut Meter,
+) -> Result<Output, NoMemory>
+    ensures { IfOk result (λ o. o ≡ link project.now) }
+{
+    let naming = Naming::of(alloc, seed, project.inputs(), project.script(), meter)?;
+    let matches = match_all(alloc, project)?;
+    let lent = lend_all(alloc, &matches)?;
+    let mut image = Canvas::new(alloc);
+    match relink(alloc, project, &naming, &lent, None, &mut image, meter) {
+        Ok(Ended::Good(_kept, map)) => Ok(Output::good(alloc, image, map)),
+        Ok(Ended::Faulty(lines)) => Ok(Output::faulty(alloc, lines)),
+        Err(_) => Err(AllocError),
+    }
+}

@@ -1,7 +1,0 @@
-use Rattle.std.proofs.Common.{◌<◌, ℕ, get_or, Vec, Global}
-use Rattle.std.specs.Vec.{vec_capacity}
-use Rattle.symres.specs.declared.symbol.Numbered.{Numbered}
-use Rattle.symres.proofs.lists.find.Given as goal
-
-abbrev pub invariant-loop-at : goal.invariant-loop-at
-invariant-loop-at l = (k : ℕ) (d : Vec Numbered Global) → k < l.at → vec_capacity (get_or l.spare k d) < l.count

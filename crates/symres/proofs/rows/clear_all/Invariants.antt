@@ -1,6 +1,0 @@
-use Rattle.std.proofs.Common.{take}
-use Rattle.symres.specs.Steps.{ClearedWhere}
-use Rattle.symres.proofs.rows.clear_all.Given as goal
-
-abbrev pub invariant-loop-symbol : goal.invariant-loop-symbol
-invariant-loop-symbol l = ClearedWhere l.key (take l.symbol-index l.symbols) l.fn.table.items l.table.items

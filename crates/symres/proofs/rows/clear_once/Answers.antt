@@ -1,9 +1,0 @@
-use Rattle.std.proofs.Common.{◌∙◌, ap, sym}
-use Rattle.symres.specs.Steps.{ends_in}
-use Rattle.symres.proofs.Cleared.{gathered_stays}
-use Rattle.symres.proofs.rows.clear_once.Goals as goal
-
-pub returns-else-ends_in-clause-items : goal.returns-else-ends_in-clause-items
-returns-else-ends_in-clause-items c = λ g.
-    gathered_stays c.args.key c.args.row.now.items g
-    (ap (ends_in c.args.key) (sym c.deref.ensures.value) ∙ sym c.if-ends_in.ensures)

@@ -1,9 +1,0 @@
-use Rattle.std.proofs.Common.{rules, eqb, not}
-use Rattle.std.proofs.lemmas.Fn.{filter_same}
-use Rattle.symres.specs.declared.symbol.Declared.{Declared}
-use Rattle.symres.proofs.rows.drop_key.Goals as goal
-
-pub returns-clause-items : goal.returns-clause-items
-returns-clause-items c =
-    filter_same _ (λ (d : Declared). not (eqb d.entry.key c.args.key)) _ (λ x b f r.
-    search rules) _ _ c.retain.ensures.filtered

@@ -1,9 +1,0 @@
-use Rattle.std.proofs.Common.{◌∙◌, ap, sym}
-use Rattle.symres.specs.Steps.{ends_in}
-use Rattle.symres.proofs.Cleared.{as_it_was}
-use Rattle.symres.proofs.rows.gather_once.Goals as goal
-
-pub returns-else-not-ends_in : goal.returns-else-not-ends_in
-returns-else-not-ends_in c =
-    as_it_was c.args.key c.args.row.now
-    (ap (ends_in c.args.key) (sym c.deref.ensures.value) ∙ sym c.if-not-ends_in.ensures)

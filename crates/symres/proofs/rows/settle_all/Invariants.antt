@@ -1,7 +1,0 @@
-use Rattle.std.proofs.Common.{drop}
-use Rattle.symres.specs.Steps.{Settling}
-use Rattle.symres.proofs.rows.settle_all.Given as goal
-
-abbrev pub invariant-loop-symbol : goal.invariant-loop-symbol
-invariant-loop-symbol l = Settling l.places l.at l.key l.symbols (drop l.symbol-index l.symbols) l.fn.table.items
-    l.table.items

@@ -1,0 +1,250 @@
+//! Names that are defined twice.
+
+ghost use Rattle.std.specs.Prelude.{◌≡◌, ◌<◌, ◌++◌, ◌&&◌, ℕ, IfOk, List, None, OnOk, Some, length, map, slice_index_or};
+ghost use Rattle.std.specs.Prelude.{[], count_by, replicate, slice_set, unwrap_or};
+ghost use Rattle.elfobj.specs.Symbols.{NamedSymbol};
+ghost use Rattle.ldmodel.specs.Link.{duplicate_fault};
+ghost use Rattle.ldmodel.specs.NameFaults.{duplicates};
+ghost use Rattle.ldmodel.specs.Names.{Declaration, declaration, declarations_in, is_global, is_placed};
+ghost use Rattle.ldmodel.specs.Project.{Project};
+ghost use Rattle.ldmodel.specs.ScriptNames as script_names;
+ghost use Rattle.symres.specs.Decided.{case_at, HasCase};
+ghost use Rattle.symres.specs.Duplicates as definition;
+ghost use Rattle.symres.specs.Duplicates.{declared_by, faults_of, is_doubled, AreFound, Begins, IsDoubled, IsTableAt};
+ghost use Rattle.symres.specs.Naming.{IsNaming};
+ghost use Rattle.ldmodel_project.specs.ByPlace.{faults_in};
+ghost use Rattle.symres_table.specs.State.{AreDistinct};
+
+use crate::naming::Naming;
+use elfobj::object::Object;
+use elfobj::relocation::SymbolIndex;
+use elfobj::symbol::{Binding, Symbol, SymbolPlace};
+use ldmodel::fault::{Definer, Fault};
+use ldmodel::memory::NoMemory;
+use ldmodel::names::{Case, Entry, NameKey, ObjectPlace};
+use ldmodel_project::view::ProjectView;
+use ldscript::script::Script;
+use ldscript::tree::Given;
+use std::alloc::Global;
+
+/// Whether a symbol is a strong definition: global, and in a section or a number.
+fn is_strong(symbol: &Symbol) -> bool
+    ensures { result ≡ (is_global symbol.now.binding && is_placed symbol.now.place) }
+{
+    match (symbol.binding, symbol.place) {
+        (Binding::Global, SymbolPlace::Absolute | SymbolPlace::Section(_)) => true,
+        (Binding::Global, SymbolPlace::Undefined | SymbolPlace::Common)
+        | (Binding::Local | Binding::Weak, _) => false,
+    }
+}
+
+/// Whether the script assigns a name.
+fn is_assigned(script: &Script, name: &[u8]) -> bool
+    ensures { result ≡ script_names.is_assigned script.now name.now }
+{
+    match script.given(name) {
+        Some(Given::Assigned(_)) => true,
+        Some(Given::Provided(_)) | None => false,
+    }
+}
+
+/// No entries, for this number of keys.
+fn no_entries(alloc: Global, count: usize) -> Result<Vec<Option<Entry>>, NoMemory>
+    ensures { IfOk result (λ v. v.items ≡ replicate count None) }
+{
+    vec![in alloc; None; count]
+}
+
+/// The first definition of a name, by its key: this one, unless one was noted before. It is noted from then on.
+fn note_first(firsts: &mut Vec<Option<Entry>>, key: usize, entry: Entry) -> Entry
+    requires { key < length firsts.old.items }
+    ensures first { result ≡ unwrap_or (slice_index_or firsts.old.items key None) entry }
+    ensures noted { firsts.new.items ≡ slice_set firsts.old.items key (Some result) }
+{
+    let first = firsts[key].unwrap_or(entry);
+    firsts[key] = Some(first);
+    first
+}
+
+/// What defines a name before an entry does, where the first entry that defines the name is known.
+fn definer_before(is_assigned: bool, first: Entry, entry: Entry) -> Option<Definer>
+    ensures { result ≡ definition.definer_before is_assigned first entry }
+{
+    if is_assigned {
+        return Some(Definer::Script);
+    }
+    if first == entry {
+        return None;
+    }
+    Some(Definer::Object(ObjectPlace(first.key)))
+}
+
+/// Adds the fault of a definition, unless nothing defines the name before it.
+fn add_if_not_first(
+    script: &Script,
+    name: &[u8],
+    first: Entry,
+    entry: Entry,
+    faults: &mut Vec<Fault>,
+) -> Result<(), NoMemory>
+    ensures { OnOk result (faults.new.items ≡ faults.old.items ++ faults_of entry
+        (definition.definer_before (script_names.is_assigned script.now name.now) first entry)) }
+{
+    match definer_before(is_assigned(script, name), first, entry) {
+        None => Ok(()),
+        Some(first) => {
+            faults.push(Fault::DuplicateDefinition { entry, first })?;
+            Ok(())
+        }
+    }
+}
+
+impl Naming {
+    /// No two keys have one name.
+    fn names_differ(&self)
+        ensures { AreDistinct self.now.names }
+    {
+        let _names = self.decisions.listed();
+    }
+
+    /// Where no case is that of a name that is defined twice, no name of the project is defined twice. The call does
+    /// nothing.
+    fn none_doubled(&self, project: &ProjectView<'_>)
+        requires naming { IsNaming project.now self.now }
+        requires none { count_by is_doubled self.now.kept.cases ≡ 0 }
+        ensures { duplicates project.now ≡ [] }
+    {
+        self.decided_by_keys();
+        let _count = self.decisions.known();
+    }
+
+    /// Whether the name of a key is defined twice.
+    fn is_doubled(&self, key: NameKey) -> bool
+        ensures { result ≡ is_doubled (case_at self.now.cases key.0) }
+    {
+        match self.case_of(key) {
+            Some(Case::Duplicate) => true,
+            Some(
+                Case::Strong(_)
+                | Case::Script
+                | Case::Common { .. }
+                | Case::Weak(_)
+                | Case::Provided
+                | Case::Undefined,
+            )
+            | None => false,
+        }
+    }
+
+    /// The key of the name of a symbol, if the symbol is a strong definition of a name that is defined twice.
+    fn doubled_key(&self, place: usize, object: &Object, number: u32) -> Option<NameKey>
+        requires table { IsTableAt self.now.objects place object.now.symbols }
+        requires number { number < length object.now.symbols }
+        ensures key { (p : Project) (d : NamedSymbol) → IsNaming p self.now → IsDoubled p self.now.names
+            (declaration place (number, slice_index_or object.now.symbols number d)) result }
+        ensures within { (k : NameKey) → result ≡ Some k → k.0 < length self.now.cases }
+    {
+        if !is_strong(&object.symbols()[number as usize]) {
+            return None;
+        }
+        let key = self.key_of(place, SymbolIndex(number));
+        if !self.is_doubled(key) {
+            return None;
+        }
+        Some(key)
+    }
+
+    /// Adds the fault of a symbol, if it defines a name once more.
+    fn add_symbol(
+        &self,
+        script: &Script,
+        place: usize,
+        object: &Object,
+        number: u32,
+        firsts: &mut Vec<Option<Entry>>,
+        faults: &mut Vec<Fault>,
+    ) -> Result<(), NoMemory>
+        requires table { IsTableAt self.now.objects place object.now.symbols }
+        requires number { number < length object.now.symbols }
+        requires long { length firsts.old.items ≡ length self.now.cases }
+        ensures long { length firsts.new.items ≡ length firsts.old.items }
+        ensures found { OnOk result ((p : Project) (d : NamedSymbol) (ds : List Declaration)
+            → IsNaming p self.now → p.script ≡ script.now
+            → Begins p (ds ++ declared_by place number (slice_index_or object.now.symbols number d))
+            → AreFound p self.now.names ds firsts.old.items faults.old.items
+            → AreFound p self.now.names (ds ++ declared_by place number (slice_index_or object.now.symbols number d))
+            firsts.new.items faults.new.items) }
+    {
+        match self.doubled_key(place, object, number) {
+            None => Ok(()),
+            Some(key) => {
+                self.names_differ();
+                let entry = Entry {
+                    key: place,
+                    symbol: number,
+                };
+                let first = note_first(firsts, key.0, entry);
+                add_if_not_first(
+                    script,
+                    object.name_of(SymbolIndex(number)),
+                    first,
+                    entry,
+                    faults,
+                )
+            }
+        }
+    }
+
+    /// Adds the fault of each symbol of an object that defines a name once more, in the order of the symbol table.
+    fn add_symbols(
+        &self,
+        script: &Script,
+        place: usize,
+        object: &Object,
+        firsts: &mut Vec<Option<Entry>>,
+        faults: &mut Vec<Fault>,
+    ) -> Result<(), NoMemory>
+        requires table { IsTableAt self.now.objects place object.now.symbols }
+        requires long { length firsts.old.items ≡ length self.now.cases }
+        ensures long { length firsts.new.items ≡ length firsts.old.items }
+        ensures found { OnOk result ((p : Project) (ds : List Declaration) → IsNaming p self.now → p.script ≡ script.now
+            → Begins p (ds ++ declarations_in (place, object.now.symbols))
+            → AreFound p self.now.names ds firsts.old.items faults.old.items
+            → AreFound p self.now.names (ds ++ declarations_in (place, object.now.symbols)) firsts.new.items
+            faults.new.items) }
+    {
+        for number in 0..object.symbols().len() as u32 {
+            self.add_symbol(script, place, object, number, firsts, faults)?;
+        }
+        Ok(())
+    }
+
+    /// The faults of names that are defined twice: each strong definition after the first, in object order and then
+    /// symbol order; where the script assigns the name, each strong definition. Where no name is defined twice, no
+    /// symbol is looked at.
+    pub(crate) fn duplicates(
+        &self,
+        alloc: Global,
+        project: &ProjectView<'_>,
+    ) -> Result<Vec<Fault>, NoMemory>
+        requires { IsNaming project.now self.now }
+        ensures { IfOk result (λ fs. faults_in project.now fs.items ≡ map duplicate_fault (duplicates project.now)) }
+    {
+        if self.decisions.doubled() == 0 {
+            self.none_doubled(project);
+            return Ok(Vec::new(alloc));
+        }
+        let mut firsts = no_entries(alloc, self.limit())?;
+        let mut faults = Vec::new(alloc);
+        for (place, input) in project.inputs().iter().enumerate() {
+            self.add_symbols(
+                project.script(),
+                place,
+                input.object,
+                &mut firsts,
+                &mut faults,
+            )?;
+        }
+        Ok(faults)
+    }
+}

@@ -1,0 +1,75 @@
+//! The faults of names: names that are defined twice, and an entry symbol that nothing defines.
+
+ghost use Rattle.std.specs.Prelude.{◌≡◌, ◌++◌, IfOk, OnOk, is_some};
+ghost use Rattle.ldmodel.specs.Link.{name_faults};
+ghost use Rattle.ldmodel.specs.NameFaults.{undefined_entry};
+ghost use Rattle.symres.specs.Naming.{IsNaming};
+ghost use Rattle.symres.specs.Undefined.{faults_if, is_undefined};
+ghost use Rattle.ldmodel_project.specs.ByPlace.{faults_in};
+
+use crate::naming::Naming;
+use ldmodel::fault::Fault;
+use ldmodel::memory::NoMemory;
+use ldmodel::names::Case;
+use ldmodel_project::view::ProjectView;
+use std::alloc::Global;
+
+/// Whether a name stands for nothing, as nothing defines it.
+fn is_undefined(case: Case) -> bool
+    ensures { result ≡ is_undefined case }
+{
+    match case {
+        Case::Undefined => true,
+        Case::Strong(_)
+        | Case::Script
+        | Case::Common { .. }
+        | Case::Weak(_)
+        | Case::Provided
+        | Case::Duplicate => false,
+    }
+}
+
+impl Naming {
+    /// Whether there is an entry symbol, and nothing defines it.
+    fn is_entry_undefined(&self, project: &ProjectView<'_>) -> bool
+        requires { IsNaming project.now self.now }
+        ensures { result ≡ is_some (undefined_entry project.now) }
+    {
+        match project.entry_symbol() {
+            Some(name) => is_undefined(self.case_named(project.script(), name)),
+            None => false,
+        }
+    }
+
+    /// Adds the fault of the entry symbol, if there is one.
+    fn add_entry_fault(
+        &self,
+        project: &ProjectView<'_>,
+        faults: &mut Vec<Fault>,
+    ) -> Result<(), NoMemory>
+        requires { IsNaming project.now self.now }
+        ensures { OnOk result (faults.new.items
+            ≡ faults.old.items ++ faults_if (is_some (undefined_entry project.now))) }
+    {
+        if !self.is_entry_undefined(project) {
+            return Ok(());
+        }
+        faults.push(Fault::UndefinedEntry)?;
+        Ok(())
+    }
+
+    /// The faults of the names of a project, in object order and then symbol order: `F1`; then the fault of the entry
+    /// symbol, `F2`.
+    ///
+    /// # Errors
+    ///
+    /// Where memory runs out.
+    pub fn faults(&self, alloc: Global, project: &ProjectView<'_>) -> Result<Vec<Fault>, NoMemory>
+        requires { IsNaming project.now self.now }
+        ensures { IfOk result (λ fs. faults_in project.now fs.items ≡ name_faults project.now) }
+    {
+        let mut faults = self.duplicates(alloc, project)?;
+        self.add_entry_fault(project, &mut faults)?;
+        Ok(faults)
+    }
+}

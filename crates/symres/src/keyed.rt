@@ -1,0 +1,16 @@
+//! The keys of all symbols.
+
+ghost use Rattle.symres.specs.Keyed.{AreKeyed};
+
+use crate::naming::Naming;
+
+impl Naming {
+    /// Each symbol that isn't local has a key, that of its name, under which there is a case, and no two keys have one
+    /// name: a pass over the keys below `limit` meets what each name stands for, once. The call does nothing.
+    pub fn all_keyed(&self)
+        ensures { AreKeyed self.now }
+    {
+        let _count = self.decisions.known();
+        let _names = self.decisions.listed();
+    }
+}

@@ -1,0 +1,35 @@
+//! Cases with the places of objects for their keys.
+
+ghost use Rattle.std.specs.Prelude.{◌≡◌};
+ghost use Rattle.symres.specs.Placed.{place_case, place_entry};
+
+use ldmodel::names::{Case, Entry, ObjectKey};
+use ldmodel_project::order::Order;
+
+fn place_entry(order: &Order, entry: Entry) -> Entry
+    ensures { result ≡ place_entry order.now entry }
+{
+    Entry {
+        key: order.place_of(ObjectKey(entry.key)).unwrap_or(0),
+        symbol: entry.symbol,
+    }
+}
+
+/// A case, with the places of objects for their keys. The time is constant.
+pub fn place_case(order: &Order, case: Case) -> Case
+    ensures { result ≡ place_case order.now case }
+{
+    match case {
+        Case::Strong(entry) => Case::Strong(place_entry(order, entry)),
+        Case::Common { owner, size, align } => Case::Common {
+            owner: place_entry(order, owner),
+            size,
+            align,
+        },
+        Case::Weak(entry) => Case::Weak(place_entry(order, entry)),
+        Case::Script => Case::Script,
+        Case::Provided => Case::Provided,
+        Case::Undefined => Case::Undefined,
+        Case::Duplicate => Case::Duplicate,
+    }
+}

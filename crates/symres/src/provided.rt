@@ -1,0 +1,86 @@
+//! The PROVIDEs of a script that are in force.
+
+ghost use Rattle.std.specs.Prelude.{◌≡◌, IfOk, OnOk, map};
+ghost use Rattle.ldmodel.specs.HandedOver.{decision_of};
+ghost use Rattle.ldmodel.specs.Lent.{name_given_by};
+ghost use Rattle.ldmodel.specs.Names.{is_provided_case, provided};
+ghost use Rattle.ldmodel.specs.Project.{Project};
+ghost use Rattle.ldmodel.specs.declared.script_symbol.CommonIndex.{CommonIndex};
+ghost use Rattle.symres.specs.Naming.{IsNaming};
+ghost use Rattle.symres.specs.Provided.{in_force, AddsIfInForce};
+
+use crate::naming::Naming;
+use ldmodel::memory::NoMemory;
+use ldmodel::names::Case;
+use ldmodel::script_symbol::CommonIndex;
+use ldscript::script::Script;
+use ldscript::tree::Common;
+use std::alloc::{AllocError, Global};
+
+fn is_provided(case: Case) -> bool
+    ensures { result ≡ is_provided_case (decision_of (λ key. key) case) }
+{
+    match case {
+        Case::Provided => true,
+        Case::Strong(_)
+        | Case::Script
+        | Case::Common { .. }
+        | Case::Weak(_)
+        | Case::Undefined
+        | Case::Duplicate => false,
+    }
+}
+
+impl Naming {
+    /// Whether a command is a PROVIDE that is in force.
+    fn is_in_force(&self, script: &Script, command: &Common) -> bool
+        ensures { (p : Project) → IsNaming p self.now → p.script ≡ script.now → result ≡ in_force p command.now }
+    {
+        match command {
+            Common::Provide(assignment) => {
+                is_provided(self.case_named(script, assignment.name.as_bytes()))
+            }
+            Common::Assign(_) | Common::Assert(_) => false,
+        }
+    }
+
+    /// Adds the number of a command, if it is a PROVIDE that is in force.
+    fn add_if_in_force(
+        &self,
+        script: &Script,
+        number: usize,
+        command: &Common,
+        list: &mut Vec<CommonIndex>,
+    ) -> Result<(), NoMemory>
+        ensures { OnOk result ((p : Project) → IsNaming p self.now → p.script ≡ script.now
+            → AddsIfInForce p number command.now list.old.items list.new.items) }
+    {
+        if !self.is_in_force(script, command) {
+            return Ok(());
+        }
+        match u32::try_from(number) {
+            Ok(number) => {
+                list.push(CommonIndex(number))?;
+                Ok(())
+            }
+            Err(_) => Err(AllocError),
+        }
+    }
+
+    /// The PROVIDEs that are in force, in the order of the text. Their names are hashed and looked up.
+    ///
+    /// # Errors
+    ///
+    /// Where memory runs out, or where the script has more than 2^32 commands, which none that was read has.
+    pub fn provided(&self, alloc: Global, script: &Script) -> Result<Vec<CommonIndex>, NoMemory>
+        ensures { IfOk result (λ list. (p : Project) → IsNaming p self.now → p.script ≡ script.now
+            → map (λ (k : CommonIndex). name_given_by p.script k.0) list.items ≡ provided p) }
+    {
+        let commands = script.common_commands(alloc)?;
+        let mut list = Vec::new(alloc);
+        for (number, at) in commands.iter().enumerate() {
+            self.add_if_in_force(script, number, at.command, &mut list)?;
+        }
+        Ok(list)
+    }
+}

@@ -1,0 +1,37 @@
+-- The list of known names.
+use Rattle.std.proofs.Common.{◌≡◌, ◌∙◌, ◌<◌, ℕ, true, List, Option, length, get_or, ap, subst}
+use Rattle.std.specs.Prelude.{bytes_eq}
+use Rattle.std.proofs.lemmas.List.{get_or_default}
+use Rattle.std.proofs.lemmas.Map.Views.{Contains-from_lookup}
+use Rattle.std.proofs.lemmas.Slice.Eq.{bytes_eq-Decides}
+use Rattle.symres_table.specs.State.{HasName, IsListing, IsNamed}
+
+abbrev pub Listed : Type 0
+Listed = List ℕ × ℕ
+
+same_bytes : (x y : List ℕ) → bytes_eq x y ≡ true → x ≡ y
+same_bytes x y = (bytes_eq-Decides x y).0
+
+-- a key that has a name stands in the list
+pub record StandsIn (order : List Listed) (k : ℕ) : Type 0 where
+  pub at : ℕ
+  pub within : at < length order
+  pub is : (e : Listed) → (get_or order at e).1 ≡ k
+
+pub stands_in : (names : List (Option (List ℕ))) (order : List Listed) (k : ℕ) → IsListing names order
+    → HasName names k → StandsIn order k
+stands_in names order k l h =
+    let found = Contains-from_lookup {eq = bytes_eq} same_bytes h.0 k order (l.complete k h.0 h.1) in
+    record {
+      at = found.0;
+      within = found.1;
+      is = λ e. ap (λ (x : Listed). x.1) (get_or_default order found.0 e (h.0, k) found.1 ∙ found.2);
+    }
+
+-- a key that stands in the list has a name
+pub named_listed : (names : List (Option (List ℕ))) (order : List Listed) (i k : ℕ) (e : Listed)
+    → IsListing names order → i < length order → (get_or order i e).1 ≡ k → HasName names k
+named_listed names order i k e l h is = (
+  (get_or order i e).0,
+  subst (λ (n : ℕ). IsNamed names n (get_or order i e).0) is (l.sound i e h),
+)

@@ -1,0 +1,22 @@
+use Rattle.symres_decisions.proofs.Used.{used_ordered}
+use Rattle.symres_decisions.proofs.MakingRoom.{sound_ordered, whole_ordered}
+use Rattle.symres_decisions.proofs.decisions.Decisions.put_in_order.Goals as goal
+
+pub invariant_of-self : goal.invariant_of-self
+invariant_of-self c = (
+  whole_ordered c.self.inside.names c.sort_names.new.self c.self.inside.cases c.sort_names.ensures.same
+      c.self.invariant.0,
+  λ sure. c.in-Ok.ensures.sorted,
+  used_ordered c.self.inside.names c.sort_names.new.self c.self.inside.all_used c.sort_names.ensures.same
+      c.self.invariant.2,
+)
+
+pub returns-in-Ok-clause-kept : goal.returns-in-Ok-clause-kept
+returns-in-Ok-clause-kept c = λ script kept.
+    sound_ordered script c.self.inside.names c.sort_names.new.self c.self.inside.cases c.sort_names.ensures.same
+    (rw (← c.self.view_is) at kept)
+
+pub returns-in-Err-clause-kept : goal.returns-in-Err-clause-kept
+returns-in-Err-clause-kept c = λ script kept.
+    sound_ordered script c.self.inside.names c.sort_names.new.self c.self.inside.cases c.sort_names.ensures.same
+    (rw (← c.self.view_is) at kept)

@@ -1,0 +1,7 @@
+use Rattle.std.proofs.Common.{take}
+use Rattle.symres_decisions.specs.Room.{HaveEntries}
+use Rattle.symres_decisions.proofs.texts.have_entries.Given as goal
+
+-- the names of the symbols before this one have entries
+abbrev pub invariant-loop-number : goal.invariant-loop-number
+invariant-loop-number l = HaveEntries l.names.objects (take l.number l.object.symbols)

@@ -1,0 +1,39 @@
+-- What names stand for, as callers see it.
+use Rattle.std.specs.Prelude.{ℕ, ◌≡◌, ◌⊎◌, Bool, true, List, [], Option, Some}
+use Rattle.ldscript.specs.statements.declared.statement.Statement.{Statement}
+use Rattle.ldmodel.specs.HandedOver.{decision_of}
+use Rattle.ldmodel.specs.Names.{decided}
+use Rattle.ldmodel.specs.ScriptNames.{is_assigned, is_provided}
+use Rattle.ldmodel.specs.declared.names.Case.{Case}
+use Rattle.symres_table.specs.State.{State, HasName, IsInByteOrder, IsNamed, entries_of}
+use Rattle.symres_decisions.specs.Counted.{is_used}
+use Rattle.symres_decisions.specs.Decided.{AreCases, HasCase, case_at}
+
+-- the table of names, and the cases by their keys
+pub record DecisionsState : Type 0 where
+  pub names : State
+  pub cases : List (Option Case)
+
+-- each known name has a case, and nothing else has one
+pub record IsWhole (names : State) (cases : List (Option Case)) : Type 0 where
+  pub complete : (k : ℕ) → HasName names.names k → HasCase cases k
+  pub only : (k : ℕ) → HasCase cases k → HasName names.names k
+
+-- where this is noted, the names stand in byte order
+abbrev pub IsNoted : State → Bool → Type 0
+IsNoted names in_order = in_order ≡ true → IsInByteOrder names.order
+
+-- where this is noted, each known name has an entry
+abbrev pub AreUsedIf : State → Bool → Type 0
+AreUsedIf s used = used ≡ true → (k : ℕ) (name : List ℕ) → IsNamed s.names k name → is_used s.objects name ≡ true
+
+-- each case is what its name stands for over the entered objects and this script
+abbrev pub AreKept : List Statement → DecisionsState → Type 0
+AreKept script d = AreCases script d.names d.cases
+
+-- the case of a name: that of its key; or what the script alone makes of it, where it has no entries
+abbrev pub IsCaseNamed : List Statement → DecisionsState → List ℕ → Case → Type 0
+IsCaseNamed script d name c =
+    ((k : ℕ) × IsNamed d.names.names k name × (case_at d.cases k ≡ Some c))
+    ⊎ ((entries_of name d.names.objects ≡ [])
+    × (decision_of (λ key. key) c ≡ decided (is_assigned script name) (is_provided script name) []))

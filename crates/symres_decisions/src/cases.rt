@@ -1,0 +1,97 @@
+//! The cases of names by the keys of names, and how many of them are duplicates.
+
+ghost use Rattle.std.specs.Prelude.{◌≡◌, ◌<◌, ◌≤◌, ℕ, [], length, OnOk, slice_set, count_by, if◌then◌else◌};
+ghost use Rattle.symres_decisions.specs.Decided.{case_at, is_doubled};
+
+use elfobj::memory::NoMemory;
+use ldmodel::names::Case;
+use std::alloc::Global;
+use std::marker::Model;
+
+/// The case of each key that has one. How many are duplicates is known without a pass.
+#[derive(Drop)]
+pub struct Cases {
+    list: Vec<Option<Case>>,
+    doubled: usize,
+}
+
+impl Model for Cases {
+    ghost use Rattle.std.specs.Prelude.{◌≡◌, count_by, List, Option};
+    ghost use Rattle.ldmodel.specs.declared.names.Case.{Case};
+    ghost use Rattle.symres_decisions.specs.Decided.{is_doubled};
+
+    ghost Value = { List (Option Case) };
+
+    ghost view = { λ a. a.list.items };
+
+    ghost invariant = { λ a. a.doubled ≡ count_by is_doubled a.list.items };
+}
+
+/// 1 for a duplicate.
+fn count(case: Option<Case>) -> usize
+    ensures { result ≡ (if is_doubled case then 1 else 0) }
+{
+    match case {
+        Some(Case::Duplicate) => 1,
+        Some(
+            Case::Strong(_)
+            | Case::Script
+            | Case::Common { .. }
+            | Case::Weak(_)
+            | Case::Provided
+            | Case::Undefined,
+        )
+        | None => 0,
+    }
+}
+
+impl Cases {
+    pub fn new(alloc: Global) -> Cases
+        ensures { result ≡ [] }
+    {
+        Cases {
+            list: Vec::new(alloc),
+            doubled: 0,
+        }
+    }
+
+    pub fn len(&self) -> usize
+        ensures { result ≡ length self.now }
+    {
+        self.list.len()
+    }
+
+    /// How many are duplicates.
+    pub fn doubled(&self) -> usize
+        ensures { result ≡ count_by is_doubled self.now }
+    {
+        self.doubled
+    }
+
+    pub fn get(&self, key: usize) -> Option<Case>
+        ensures { result ≡ case_at self.now key }
+    {
+        self.list.get(key).copied().unwrap_or(None)
+    }
+
+    pub fn set(&mut self, key: usize, case: Option<Case>)
+        requires { key < length self.old }
+        ensures { self.new ≡ slice_set self.old key case }
+    {
+        let without = self.doubled - count(self.list[key]);
+        self.list[key] = case;
+        self.doubled = without + count(case);
+    }
+
+    /// Makes places for cases up to a key.
+    pub fn grow_to(&mut self, key: usize) -> Result<(), NoMemory>
+        ensures same { (k : ℕ) → case_at self.new k ≡ case_at self.old k }
+        ensures more { length self.old ≤ length self.new }
+        ensures ok { OnOk result (key < length self.new) }
+    {
+        while self.list.len() <= key {
+            self.list.push(None)?;
+        }
+        Ok(())
+    }
+}

@@ -1,0 +1,195 @@
+//! A change of one object, and the cases of the names that it touches.
+
+ghost use Rattle.std.specs.Prelude.{◌≡◌, ◌++◌, ℕ, List, false, length, true};
+ghost use Rattle.symres_decisions.specs.Change.{AreThere, changed_tables, declared_by, IsReadyFor, reversed, symbols_or};
+ghost use Rattle.symres_decisions.specs.Counted.{CountsNames};
+ghost use Rattle.symres_decisions.specs.Decided.{AreCases, case_at};
+ghost use Rattle.symres_decisions.specs.Decisions.{AreKept};
+ghost use Rattle.symres_decisions.specs.Room.{HaveEntries};
+ghost use Rattle.symres_decisions.specs.Texts.{AreDone, AreKnown, AreNoted, DecidedFor, HasPlaces, IsCleared, declares};
+ghost use Rattle.symres_table.specs.State.{AreDistinct, IsNamed};
+
+use crate::cases::Cases;
+use crate::change::{ObjectAt, ObjectChange, reverse};
+use crate::decisions::Decisions;
+use crate::exchange::{put_in, take_out};
+use crate::noted::note_keys;
+use crate::texts::{KeySource, clear_names, decide_names, have_entries};
+use elfobj::meter::Meter;
+use ldmodel::names::NameKey;
+use ldscript::script::Script;
+use symres_table::law::entered_again;
+use symres_table::names::Names;
+
+/// Clears the cases of the names that an object declares, if there is one.
+fn clear_names_of(names: &Names, at: Option<ObjectAt<'_>>, cases: &mut Cases)
+    requires place { AreThere names.now at }
+    requires distinct { AreDistinct names.now.names }
+    requires room { HasPlaces names.now.names cases.old }
+    ensures { IsCleared names.now.names (symbols_or at.entry) cases.old cases.new }
+{
+    match at {
+        Some(at) => clear_names(names, KeySource::Entered(at.place), at.object, cases),
+        None => {}
+    }
+}
+
+/// Whether each name has an entry that an object declared that went, if one went. `noted` are keys of them.
+fn are_gone_used(names: &Names, out: Option<ObjectAt<'_>>, noted: &[NameKey]) -> bool
+    requires known { AreKnown names.now.names (symbols_or out) }
+    requires noted { AreNoted names.now.names (symbols_or out) noted.now }
+    ensures { result ≡ true → HaveEntries names.now.objects (symbols_or out.entry) }
+{
+    match out {
+        Some(at) => have_entries(names, KeySource::Noted(noted), at.object),
+        None => true,
+    }
+}
+
+/// Whether each name has an entry that an object declares that came, if one came.
+fn are_come_used(names: &Names, into: Option<ObjectAt<'_>>) -> bool
+    requires { AreThere names.now into }
+    ensures { result ≡ true → HaveEntries names.now.objects (symbols_or into.entry) }
+{
+    match into {
+        Some(at) => have_entries(names, KeySource::Entered(at.place), at.object),
+        None => true,
+    }
+}
+
+/// Whether each known name has an entry after a change, if each had one before it. `noted` are keys of the names of what
+/// went.
+fn are_still_used(
+    all_used: bool,
+    names: &Names,
+    change: &ObjectChange<'_>,
+    noted: &[NameKey],
+) -> bool
+    requires known { AreKnown names.now.names (symbols_or change.now.out) }
+    requires noted { AreNoted names.now.names (symbols_or change.now.out) noted.now }
+    requires place { AreThere names.now change.now.into }
+    ensures before { result ≡ true → all_used ≡ true }
+    ensures gone { result ≡ true → HaveEntries names.now.objects (symbols_or change.now.out) }
+    ensures come { result ≡ true → HaveEntries names.now.objects (symbols_or change.now.into) }
+{
+    if !all_used {
+        return false;
+    }
+    if !are_gone_used(names, change.out, noted) {
+        return false;
+    }
+    are_come_used(names, change.into)
+}
+
+/// Decides the names that an object declared that went, if one went. `noted` are keys of them.
+fn decide_gone(
+    names: &Names,
+    script: &Script,
+    out: Option<ObjectAt<'_>>,
+    noted: &[NameKey],
+    cases: &mut Cases,
+    meter: &mut Meter,
+)
+    requires known { AreKnown names.now.names (symbols_or out) }
+    requires noted { AreNoted names.now.names (symbols_or out) noted.now }
+    requires distinct { AreDistinct names.now.names }
+    requires room { HasPlaces names.now.names cases.old }
+    ensures long { length cases.new ≡ length cases.old }
+    ensures decided { (seen : List (List ℕ)) → AreCases script.now names.now cases.old
+        → AreDone names.now.names cases.old seen
+        → DecidedFor script.now names.now cases.old cases.new meter.old meter.new seen (symbols_or out.entry) }
+{
+    let _names = meter.names();
+    match out {
+        Some(at) => decide_names(
+            names,
+            script,
+            KeySource::Noted(noted),
+            at.object,
+            cases,
+            meter,
+        ),
+        None => {}
+    }
+}
+
+/// Decides the names that an object declares that came, if one came.
+fn decide_come(
+    names: &Names,
+    script: &Script,
+    into: Option<ObjectAt<'_>>,
+    cases: &mut Cases,
+    meter: &mut Meter,
+)
+    requires place { AreThere names.now into }
+    requires distinct { AreDistinct names.now.names }
+    requires room { HasPlaces names.now.names cases.old }
+    ensures long { length cases.new ≡ length cases.old }
+    ensures decided { (seen : List (List ℕ)) → AreCases script.now names.now cases.old
+        → AreDone names.now.names cases.old seen
+        → DecidedFor script.now names.now cases.old cases.new meter.old meter.new seen (symbols_or into.entry) }
+{
+    let _names = meter.names();
+    match into {
+        Some(at) => decide_names(
+            names,
+            script,
+            KeySource::Entered(at.place),
+            at.object,
+            cases,
+            meter,
+        ),
+        None => {}
+    }
+}
+
+impl Decisions {
+    /// Makes a change that there is room for. Each name that the object declared or declares is decided anew, once. It
+    /// takes no memory.
+    pub fn change(&mut self, script: &Script, change: &ObjectChange<'_>, meter: &mut Meter)
+        requires ready { IsReadyFor self.old change.now }
+        requires kept { AreKept script.now self.old }
+        ensures objects { self.new.names.objects ≡ changed_tables self.old.names.objects change.now }
+        ensures names { self.new.names.names ≡ self.old.names.names }
+        ensures kept { AreKept script.now self.new }
+        ensures counted { CountsNames meter.old meter.new (declared_by change.now.out ++ declared_by change.now.into) }
+        ensures back { IsReadyFor self.new (reversed change.now) }
+        ensures frame { (k : ℕ) (name : List ℕ) → IsNamed self.old.names.names k name
+            → declares (symbols_or change.now.out) name ≡ false → declares (symbols_or change.now.into) name ≡ false
+            → case_at self.new.cases k ≡ case_at self.old.cases k }
+    {
+        entered_again();
+        let _known = self.names.known();
+        clear_names_of(&self.names, change.out, &mut self.cases);
+        note_keys(&self.names, change.out, &mut self.noted);
+        take_out(&mut self.names, change.key, change.out);
+        put_in(&mut self.names, change.key, change.into);
+        clear_names_of(&self.names, change.into, &mut self.cases);
+        decide_gone(
+            &self.names,
+            script,
+            change.out,
+            &self.noted,
+            &mut self.cases,
+            meter,
+        );
+        decide_come(&self.names, script, change.into, &mut self.cases, meter);
+        self.all_used = are_still_used(self.all_used, &self.names, change, &self.noted);
+    }
+
+    /// Makes the change back, after a change was made: the objects are as they were before it. It takes no memory.
+    pub fn undo(&mut self, script: &Script, change: &ObjectChange<'_>, meter: &mut Meter)
+        requires ready { IsReadyFor self.old (reversed change.now) }
+        requires kept { AreKept script.now self.old }
+        ensures objects { self.new.names.objects ≡ changed_tables self.old.names.objects (reversed change.now) }
+        ensures names { self.new.names.names ≡ self.old.names.names }
+        ensures kept { AreKept script.now self.new }
+        ensures counted { CountsNames meter.old meter.new (declared_by change.now.into ++ declared_by change.now.out) }
+        ensures again { IsReadyFor self.new change.now }
+        ensures frame { (k : ℕ) (name : List ℕ) → IsNamed self.old.names.names k name
+            → declares (symbols_or change.now.out) name ≡ false → declares (symbols_or change.now.into) name ≡ false
+            → case_at self.new.cases k ≡ case_at self.old.cases k }
+    {
+        self.change(script, &reverse(change), meter);
+    }
+}

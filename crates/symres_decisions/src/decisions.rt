@@ -1,0 +1,230 @@
+//! What the names of entered objects stand for.
+
+ghost use Rattle.std.specs.Prelude.{◌≡◌, ◌<◌, ℕ, List, [], Contains, IfOk, IfSome, IfNone, MatchOption, map};
+ghost use Rattle.std.specs.Prelude.{length, count_by};
+ghost use Rattle.std.specs.Prelude.{slice_get, true};
+ghost use Rattle.std.specs.Option.{option_map};
+ghost use Rattle.ldmodel.specs.HandedOver.{decision_of};
+ghost use Rattle.ldscript.specs.statements.declared.statement.Statement.{Statement};
+ghost use Rattle.symres_decisions.specs.Counted.{CountsNames, declared_names};
+ghost use Rattle.symres_decisions.specs.Decided.{case_at, decision_in, HasCase, is_doubled};
+ghost use Rattle.symres_decisions.specs.Decisions.{AreKept, IsCaseNamed};
+ghost use Rattle.symres_decisions.specs.Keyed.{AreApart, tables_of};
+ghost use Rattle.symres_table.specs.Known.{entry_spelled};
+ghost use Rattle.symres_table.specs.State.{entries_of, HasName, IsInByteOrder, IsListing, IsNameAt};
+ghost use Rattle.symres_table.specs.State.{IsNamed, IsSeenAt, object_key};
+ghost use Rattle.symres_table.specs.Tally.{declaration_of};
+
+use crate::all::{decide_all, places_for};
+use crate::cases::Cases;
+use crate::entered::enter_all;
+use crate::keyed::Keyed;
+use crate::single::given_case;
+use elfobj::relocation::SymbolIndex;
+use indexmap::map::Iter;
+use elfobj::memory::NoMemory;
+use elfobj::meter::Meter;
+use ldmodel::names::{Case, NameKey, ObjectKey};
+use ldscript::script::Script;
+use std::alloc::Global;
+use std::hash::RandomState;
+use std::marker::Model;
+use symres_table::names::Names;
+use symres_table::symbol::Declared;
+
+/// What the names of entered objects stand for, kept while objects change. Each known name has a case, those without
+/// entries too.
+#[derive(Drop)]
+pub struct Decisions {
+    pub(crate) names: Names,
+    pub(crate) cases: Cases,
+    // whether the names are known to stand in byte order
+    pub(crate) in_order: bool,
+    // whether each known name is known to have an entry
+    pub(crate) all_used: bool,
+    // room for the keys of the names of the object that goes at a change
+    pub(crate) noted: Vec<NameKey>,
+}
+
+impl Model for Decisions {
+    ghost use Rattle.symres_decisions.specs.Decisions.{AreUsedIf, DecisionsState, IsNoted, IsWhole};
+
+    ghost Value = { DecisionsState };
+
+    ghost view = { λ a. record { names = a.names; cases = a.cases } };
+
+    ghost invariant = { λ a. IsWhole a.names a.cases × IsNoted a.names a.in_order × AreUsedIf a.names a.all_used };
+}
+
+impl Decisions {
+    /// Decides the names of these objects, each once. No two objects have one key.
+    ///
+    /// # Errors
+    ///
+    /// Where memory runs out.
+    pub fn of(
+        alloc: Global,
+        seed: RandomState,
+        objects: &[Keyed<'_>],
+        script: &Script,
+        meter: &mut Meter,
+    ) -> Result<Decisions, NoMemory>
+        requires { AreApart objects.now }
+        ensures objects { IfOk result (λ d. d.names.objects ≡ tables_of objects.now) }
+        ensures kept { IfOk result (λ d. AreKept script.now d) }
+        ensures counted { IfOk result (λ d. CountsNames meter.old meter.new
+            (declared_names (tables_of objects.now))) }
+    {
+        let names = enter_all(alloc, seed, objects)?;
+        let mut cases = places_for(alloc, &names)?;
+        decide_all(&names, script, &mut cases, meter);
+        Ok(Decisions {
+            names,
+            cases,
+            in_order: true,
+            all_used: false,
+            noted: Vec::new(alloc),
+        })
+    }
+
+    /// Gives each known name the case that it has under another script. Those that have entries are decided and
+    /// counted, each once; what the others stand for the script alone says. It takes no memory.
+    pub fn redecide(&mut self, script: &Script, meter: &mut Meter)
+        ensures names { self.new.names ≡ self.old.names }
+        ensures kept { AreKept script.now self.new }
+        ensures counted { CountsNames meter.old meter.new (declared_names self.old.names.objects) }
+    {
+        decide_all(&self.names, script, &mut self.cases, meter);
+    }
+
+    /// How many objects are entered.
+    pub fn len(&self) -> usize
+        ensures { result ≡ length self.now.names.objects }
+    {
+        self.names.len()
+    }
+
+    /// One more than the greatest key of a name, at most: the cases fit a table of this length.
+    pub fn limit(&self) -> usize
+        ensures { result ≡ length self.now.cases }
+    {
+        self.cases.len()
+    }
+
+    /// How many names are defined twice.
+    pub fn doubled(&self) -> usize
+        ensures { result ≡ count_by is_doubled self.now.cases }
+    {
+        self.cases.doubled()
+    }
+
+    /// How many names are known. Each has a case, and what the entered objects declare is known.
+    pub fn known(&self) -> usize
+        ensures len { result ≡ length self.now.names.order }
+        ensures listing { IsListing self.now.names.names self.now.names.order }
+        ensures complete { (k : ℕ) → HasName self.now.names.names k → HasCase self.now.cases k }
+        ensures unknown { (name : List ℕ) → ((k : ℕ) → IsNamed self.now.names.names k name → ⊥)
+            → entries_of name self.now.names.objects ≡ [] }
+        ensures declared { (name : List ℕ) → Contains (declared_names self.now.names.objects) name
+            → (k : ℕ) × IsNamed self.now.names.names k name }
+        ensures seen { (place number : ℕ) → IsSeenAt self.now.names.objects place number
+            → (k : ℕ) × IsNameAt self.now.names.names self.now.names.objects place number k }
+    {
+        self.names.known()
+    }
+
+    /// What the name of a key stands for, if the key has one.
+    pub fn case_of(&self, name: NameKey) -> Option<Case>
+        ensures case { result ≡ case_at self.now.cases name.0 }
+        ensures complete { HasName self.now.names.names name.0 → HasCase self.now.cases name.0 }
+        ensures named { HasCase self.now.cases name.0 → HasName self.now.names.names name.0 }
+    {
+        self.cases.get(name.0)
+    }
+
+    /// What any name stands for: it is hashed and looked up.
+    pub fn case_named(&self, script: &Script, name: &[u8]) -> Case
+        ensures case { AreKept script.now self.now → decision_of (λ key. key) result
+            ≡ decision_in script.now self.now.names name.now }
+        ensures found { IsCaseNamed script.now self.now name.now result }
+    {
+        match self.names.key_named(name) {
+            Some(key) => self.cases.get(key.0).unwrap(),
+            None => given_case(script, name),
+        }
+    }
+
+    /// The key of a name, while it is known. It is hashed.
+    pub fn key_named(&self, name: &[u8]) -> Option<NameKey>
+        ensures { MatchOption result ((k : ℕ) → IsNamed self.now.names.names k name.now → ⊥) (λ k.
+            IsNamed self.now.names.names k.0 name.now) }
+    {
+        self.names.key_named(name)
+    }
+
+    /// The key of the name of a symbol that isn't local, of the object at a place among the entered ones, from 0. The
+    /// time is constant.
+    pub fn key_at(&self, place: usize, symbol: SymbolIndex) -> NameKey
+        requires { IsSeenAt self.now.names.objects place symbol.0 }
+        ensures name { IsNameAt self.now.names.names self.now.names.objects place symbol.0 result.0 }
+        ensures case { HasCase self.now.cases result.0 }
+    {
+        self.names.key_at(place, symbol)
+    }
+
+    /// The key of the object at a place among the entered ones, from 0. The time is constant.
+    pub fn object_at(&self, place: usize) -> Option<ObjectKey>
+        ensures { result ≡ option_map object_key (slice_get self.now.names.objects place) }
+    {
+        self.names.object_at(place)
+    }
+
+    /// The name of a key, while it is known.
+    pub fn name_of(&self, name: NameKey) -> Option<&[u8]>
+        ensures { MatchOption result ((bytes : List ℕ) → IsNamed self.now.names.names name.0 bytes → ⊥) (λ bytes.
+            IsNamed self.now.names.names name.0 bytes.now) }
+    {
+        self.names.name_of(name)
+    }
+
+    /// The entries of the name of a key, in object order and then symbol order.
+    pub fn entries(&self, name: NameKey) -> &[Declared]
+        ensures { (bytes : List ℕ) → IsNamed self.now.names.names name.0 bytes
+            → map (declaration_of bytes) result.now ≡ entries_of bytes self.now.names.objects }
+    {
+        self.names.entries(name)
+    }
+
+    /// Every known name once, with the number of its key, in no promised order. It takes no memory. The time is linear
+    /// in the number of names.
+    pub fn listed(&self) -> Iter<'_, Vec<u8>, usize>
+        ensures names { map entry_spelled result ≡ self.now.names.order }
+        ensures listing { IsListing self.now.names.names self.now.names.order }
+    {
+        self.names.listed()
+    }
+
+    /// Whether the names are known to stand in byte order. The time is constant.
+    pub fn is_in_order(&self) -> bool
+        ensures { result ≡ true → IsInByteOrder self.now.names.order }
+    {
+        self.in_order
+    }
+
+    /// Puts the names into byte order, so that listings after this need not be sorted. Where memory is refused they
+    /// stand as before. Where they stand so, the time is constant.
+    pub fn put_in_order(&mut self)
+        ensures names { self.new.names ≡ record self.old.names { order = self.new.names.order } }
+        ensures cases { self.new.cases ≡ self.old.cases }
+        ensures objects { self.new.names.objects ≡ self.old.names.objects }
+        ensures kept { (script : List Statement) → AreKept script self.old → AreKept script self.new }
+    {
+        if self.in_order {
+            return;
+        }
+        match self.names.sort_names() {
+            Ok(()) => self.in_order = true,
+            Err(_refused) => {}
+        }
+    }
+}

@@ -1,0 +1,55 @@
+//! What one name stands for.
+
+ghost use Rattle.std.specs.Prelude.{◌≡◌, ℕ, List, []};
+ghost use Rattle.elfobj.specs.Raised.{raised};
+ghost use Rattle.elfobj.specs.declared.meter.Count.TheVariants as counts;
+ghost use Rattle.ldmodel.specs.HandedOver.{decision_of};
+ghost use Rattle.ldmodel.specs.Names.{decided};
+ghost use Rattle.ldmodel.specs.ScriptNames.{is_assigned, is_assignment, is_provided};
+ghost use Rattle.symres_decisions.specs.Decided.{IsCase};
+ghost use Rattle.symres_decisions.specs.Counted.{uses};
+ghost use Rattle.symres_table.specs.State.{HasName, IsNamed};
+
+use elfobj::meter::Meter;
+use ldmodel::names::{Case, NameKey};
+use ldscript::script::Script;
+use ldscript::statements::given::Given;
+use symres_table::names::Names;
+
+fn is_assigned(given: Option<Given>) -> bool
+    ensures { result ≡ is_assignment given }
+{
+    match given {
+        Some(Given::Assigned(_)) => true,
+        Some(Given::Provided(_)) | None => false,
+    }
+}
+
+/// What the script alone makes of a name.
+pub fn given_case(script: &Script, name: &[u8]) -> Case
+    ensures { decision_of (λ key. key) result
+        ≡ decided (is_assigned script.now name.now) (is_provided script.now name.now) [] }
+{
+    if is_assigned(script.given(name)) {
+        Case::Script
+    } else {
+        Case::Undefined
+    }
+}
+
+/// What the name of a key stands for. It is decided and counted if it has entries; else the script alone says it.
+pub fn case_for(names: &Names, script: &Script, key: NameKey, meter: &mut Meter) -> Case
+    requires { HasName names.now.names key.0 }
+    ensures case { IsCase script.now names.now key.0 result }
+    ensures counted { (name : List ℕ) → IsNamed names.now.names key.0 name → meter.new
+        ≡ raised meter.old counts.Names (uses names.now.objects name) }
+{
+    let _names = meter.names();
+    if names.entries(key).len() > 0 {
+        return *names.decide_key(script, key, meter).case();
+    }
+    match names.name_of(key) {
+        Some(name) => given_case(script, name),
+        None => unreachable!(),
+    }
+}

@@ -1,0 +1,13 @@
+use Rattle.std.proofs.Common.{take}
+use Rattle.symres_table.specs.Known.{AddsNames}
+use Rattle.symres_table.specs.Spelled.{AreOf, SpellsSeen}
+use Rattle.symres_table.specs.State.{KeepsNames}
+use Rattle.symres_table.proofs.lists.number_new.Given as goal
+
+abbrev pub invariant-loop-number : goal.invariant-loop-number
+invariant-loop-number l = record {
+  spelled : SpellsSeen l.known.slots l.list.items (take l.number l.object.symbols);
+  of : AreOf l.known.slots l.object.symbols l.list.items;
+  kept : KeepsNames l.fn.known.slots l.known.slots;
+  added : AddsNames l.fn.known l.known;
+}

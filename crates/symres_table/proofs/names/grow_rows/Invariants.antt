@@ -1,0 +1,11 @@
+use Rattle.std.proofs.Common.{◌<◌, length, take}
+use Rattle.std.specs.List.{All}
+use Rattle.symres_table.specs.declared.symbol.Numbered.{Numbered}
+use Rattle.symres_table.specs.Objects.{GrowsRoom}
+use Rattle.symres_table.proofs.names.grow_rows.Given as goal
+
+abbrev pub invariant-loop-symbol : goal.invariant-loop-symbol
+invariant-loop-symbol l = record {
+  grow : GrowsRoom l.fn.objects l.objects;
+  within : All (λ (s : Numbered). s.name < length l.objects.room) (take l.symbol-index l.symbols);
+}

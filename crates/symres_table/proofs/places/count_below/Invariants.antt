@@ -1,0 +1,14 @@
+use Rattle.std.proofs.Common.{◌<◌, ◌≤◌, ◌-◌, ℕ, length, get_or}
+use Rattle.symres_table.specs.declared.places.PlacedKey.{PlacedKey}
+use Rattle.symres_table.proofs.places.count_below.Given as goal
+
+abbrev pub invariant-loop-low : goal.invariant-loop-low
+invariant-loop-low l = record {
+  ordered : l.low ≤ l.high;
+  within : l.high ≤ length l.places;
+  below : (k : ℕ) (d : PlacedKey) → k < l.low → (get_or l.places k d).key < l.key;
+  rest : (k : ℕ) (d : PlacedKey) → l.high ≤ k → k < length l.places → l.key ≤ (get_or l.places k d).key;
+}
+
+abbrev pub decreases-loop-low : goal.decreases-loop-low
+decreases-loop-low l = l.high - l.low

@@ -1,0 +1,12 @@
+use Rattle.std.proofs.Common.{◌≡◌, ◌<◌, ◌≤◌, ℕ, length, get_or}
+use Rattle.symres_table.specs.declared.places.PlacedKey.{PlacedKey}
+use Rattle.symres_table.specs.Places.{down}
+use Rattle.symres_table.proofs.places.move_down.Given as goal
+
+abbrev pub invariant-loop-place : goal.invariant-loop-place
+invariant-loop-place l = record {
+  done : (k : ℕ) (d : PlacedKey) → k < l.place-index → ((get_or l.places k d).key ≡ (get_or l.fn.places k d).key)
+      × ((get_or l.places k d).at ≡ down l.at (get_or l.fn.places k d).at);
+  left : (k : ℕ) (d : PlacedKey) → l.place-index ≤ k → k < length l.places
+      → get_or l.places k d ≡ get_or l.fn.places k d;
+}

@@ -1,0 +1,24 @@
+use Rattle.std.proofs.Common.{◌≡◌, take, subst, sym}
+use Rattle.std.proofs.lemmas.List.{take_more, take_all}
+use Rattle.symres_table.specs.Steps.{ClearedWhere}
+use Rattle.symres_table.proofs.Cleared.{cleared_start}
+use Rattle.symres_table.proofs.Naming.{nothing}
+use Rattle.symres_table.proofs.rows.clear_all.Goals as goal
+
+pub loop-symbol-init : goal.loop-symbol-init
+loop-symbol-init c = cleared_start _ _
+
+pub loop-symbol-preserved : goal.loop-symbol-preserved
+loop-symbol-preserved c =
+    let i = c.loop-symbol.symbol-index in
+    let ss = c.args.symbols.now in
+    subst (λ xs. ClearedWhere c.args.key xs c.args.table.now.items c.clear_visible.new.table.items)
+    (sym (take_more ss i nothing c.loop-symbol-test.true))
+    (c.clear_visible.ensures (take i ss) c.args.table.now.items c.loop-symbol.invariant)
+
+pub returns : goal.returns
+returns c =
+    let all : take c.loop-symbol.symbol-index c.args.symbols.now ≡ c.args.symbols.now =
+    take_all _ c.args.symbols.now c.loop-symbol-test.false in
+    subst (λ ss. ClearedWhere c.args.key ss c.args.table.now.items c.loop-symbol.table.items) all
+    c.loop-symbol.invariant

@@ -1,0 +1,14 @@
+use Rattle.std.proofs.Common.{◌≡◌, ◌<◌, ◌≤◌, ℕ, length, get_or, false}
+use Rattle.symres_table.specs.declared.symbol.Declared.{Declared}
+use Rattle.symres_table.specs.Numbers.{before}
+use Rattle.symres_table.proofs.rows.place_for.Given as goal
+
+abbrev pub invariant-loop-number : goal.invariant-loop-number
+invariant-loop-number l = record {
+  within : l.number ≤ length l.row;
+  behind : (k : ℕ) (d : Declared) → l.number ≤ k → k < length l.row → before l.places l.at l.key (get_or l.row k d)
+      ≡ false;
+}
+
+abbrev pub decreases-loop-number : goal.decreases-loop-number
+decreases-loop-number l = l.number

@@ -1,0 +1,12 @@
+use Rattle.std.proofs.Common.{drop, List, Vec, Global}
+use Rattle.symres_table.specs.declared.symbol.Declared.{Declared}
+use Rattle.symres_table.specs.Numbers.{KeepsRoom}
+use Rattle.symres_table.specs.Steps.{Holds}
+use Rattle.symres_table.proofs.rows.release_all.Given as goal
+
+abbrev pub invariant-loop-symbol : goal.invariant-loop-symbol
+invariant-loop-symbol l = record {
+  held : (was : List (Vec Declared Global)) → Holds l.symbols was l.fn.table.items
+      → Holds (drop l.symbol-index l.symbols) was l.table.items;
+  room : KeepsRoom l.fn.table.items l.table.items;
+}

@@ -1,0 +1,7 @@
+use Rattle.std.proofs.Common.{drop}
+use Rattle.symres_table.specs.Steps.{Settling}
+use Rattle.symres_table.proofs.rows.settle_all.Given as goal
+
+abbrev pub invariant-loop-symbol : goal.invariant-loop-symbol
+invariant-loop-symbol l = Settling l.places l.at l.key l.symbols (drop l.symbol-index l.symbols) l.fn.table.items
+    l.table.items

@@ -1,0 +1,12 @@
+use Rattle.std.proofs.Common.{◌≡◌, ◌<◌, ◌≤◌, ℕ, length, get_or, eqb, true}
+use Rattle.symres_table.specs.declared.symbol.Declared.{Declared}
+use Rattle.symres_table.proofs.rows.start_of_own.Given as goal
+
+abbrev pub invariant-loop-start : goal.invariant-loop-start
+invariant-loop-start l = record {
+  within : l.start ≤ length l.row;
+  own : (k : ℕ) (d : Declared) → l.start ≤ k → k < length l.row → eqb (get_or l.row k d).entry.key l.key ≡ true;
+}
+
+abbrev pub decreases-loop-start : goal.decreases-loop-start
+decreases-loop-start l = l.start

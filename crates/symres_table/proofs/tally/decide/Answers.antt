@@ -1,0 +1,12 @@
+use Rattle.std.proofs.Common.{◌∙◌, ap, sym, map, take}
+use Rattle.std.proofs.lemmas.List.{take_more, map-append}
+use Rattle.symres_table.specs.Tally.{declaration_of, tally_of}
+use Rattle.symres_table.proofs.tally.decide.Goals as goal
+
+pub loop-entry-preserved : goal.loop-entry-preserved
+loop-entry-preserved c = λ name.
+    let i = c.loop-entry.entry-index in
+    let ds = c.args.declared.now in
+    c.add.ensures name (map (declaration_of name) (take i ds)) (c.loop-entry.invariant name)
+    ∙ ap tally_of (sym (ap (map (declaration_of name)) (take_more ds i _ c.loop-entry-test.true)
+    ∙ map-append (declaration_of name) (take i ds) _))

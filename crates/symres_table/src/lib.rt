@@ -1,0 +1,22 @@
+//! Names: which definition each name stands for, over all entered objects and the script. Takes objects under keys;
+//! gives decisions, each counted.
+//!
+//! - `names`: the table, and what it is asked; `tally`: a decision, in one pass over the entries of a name;
+//! - `known` with `hashing`: names and their numbers; `objects`, `rows`, `places`: entries by object, by name and by
+//!   place;
+//! - `lists` with `hints`, `repeats`, `symbol`: the symbols of an object that is entered, and where their names are
+//!   likely to stand; `law`: what can be entered again.
+#![tactic(auto)]
+
+mod hashing;
+mod hints;
+mod known;
+pub mod law;
+mod lists;
+pub mod names;
+mod objects;
+mod places;
+mod repeats;
+mod rows;
+pub mod symbol;
+mod tally;

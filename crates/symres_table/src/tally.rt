@@ -1,0 +1,148 @@
+//! What a name stands for, by one pass over its entries.
+
+ghost use Rattle.std.specs.Prelude.{◌≡◌, ℕ, List, [], ◌∷◌, ◌++◌, map, true};
+ghost use Rattle.ldmodel.specs.HandedOver.{decision_of};
+ghost use Rattle.ldmodel.specs.Names.{Declaration, decided, is_placed};
+ghost use Rattle.ldmodel.specs.ScriptNames.{is_assignment, is_provision};
+ghost use Rattle.symres_table.specs.declared.symbol.Declared.{Declared};
+
+use crate::symbol::Declared;
+use elfobj::symbol::{Binding, SymbolPlace};
+use ldmodel::names::{Case, Entry};
+use ldscript::tree::Given;
+
+/// What a pass over entries keeps.
+#[derive(Clone, Copy, Debug)]
+struct Tally {
+    /// Whether two or more are strong.
+    several: bool,
+    strong: Option<Entry>,
+    common: Option<Entry>,
+    size: u64,
+    alignment: u64,
+    weak: Option<Entry>,
+    undefined: bool,
+}
+
+impl Tally {
+    ghost use Rattle.symres_table.specs.Tally.{declaration_of, tally_of};
+
+    fn new() -> Tally
+        ensures { result ≡ tally_of [] }
+    {
+        Tally {
+            several: false,
+            strong: None,
+            common: None,
+            size: 0,
+            alignment: 0,
+            weak: None,
+            undefined: false,
+        }
+    }
+
+    /// Adds an entry that stands after those seen so far.
+    fn add(&mut self, declared: &Declared)
+        ensures { (name : List ℕ) (seen : List Declaration) → self.old ≡ tally_of seen → self.new
+            ≡ tally_of (seen ++ declaration_of name declared.now ∷ []) }
+    {
+        match declared.symbol.place {
+            SymbolPlace::Undefined => self.undefined = true,
+            SymbolPlace::Common => {
+                self.size = self.size.max(declared.symbol.size);
+                self.alignment = self.alignment.max(declared.symbol.value);
+                if self.common.is_none() {
+                    self.common = Some(declared.entry);
+                }
+            }
+            SymbolPlace::Absolute | SymbolPlace::Section(_) => self.add_definition(declared),
+        }
+    }
+
+    /// Counts a definition that isn't common.
+    fn add_definition(&mut self, declared: &Declared)
+        requires { is_placed declared.now.symbol.place ≡ true }
+        ensures { (name : List ℕ) (seen : List Declaration) → self.old ≡ tally_of seen → self.new
+            ≡ tally_of (seen ++ declaration_of name declared.now ∷ []) }
+    {
+        match declared.symbol.binding {
+            Binding::Global => {
+                self.several = self.strong.is_some();
+                if self.strong.is_none() {
+                    self.strong = Some(declared.entry);
+                }
+            }
+            Binding::Weak => {
+                if self.weak.is_none() {
+                    self.weak = Some(declared.entry);
+                }
+            }
+            Binding::Local => {}
+        }
+    }
+
+    /// What the entries seen say, where the script gives the name so.
+    #[tactic(auto, unfolding(ldmodel::specs::Names::decided))]
+    fn case(&self, given: Option<Given>) -> Case
+        ensures { (seen : List Declaration) → self.now ≡ tally_of seen → decision_of (λ key. key) result
+            ≡ decided (is_assignment given) (is_provision given) seen }
+    {
+        let assigned = is_assigned(given);
+        if self.several || (self.strong.is_some() && assigned) {
+            return Case::Duplicate;
+        }
+        if let Some(entry) = self.strong {
+            return Case::Strong(entry);
+        }
+        if assigned {
+            return Case::Script;
+        }
+        if let Some(owner) = self.common {
+            return Case::Common {
+                owner,
+                size: self.size,
+                align: self.alignment,
+            };
+        }
+        if let Some(entry) = self.weak {
+            return Case::Weak(entry);
+        }
+        if is_provided(given) && self.undefined {
+            Case::Provided
+        } else {
+            Case::Undefined
+        }
+    }
+}
+
+fn is_assigned(given: Option<Given>) -> bool
+    ensures { result ≡ is_assignment given }
+{
+    match given {
+        Some(Given::Assigned(_)) => true,
+        Some(Given::Provided(_)) | None => false,
+    }
+}
+
+fn is_provided(given: Option<Given>) -> bool
+    ensures { result ≡ is_provision given }
+{
+    match given {
+        Some(Given::Provided(_)) => true,
+        Some(Given::Assigned(_)) | None => false,
+    }
+}
+
+ghost use Rattle.symres_table.specs.Tally.{declaration_of};
+
+/// What a name stands for by its entries, in object order and then symbol order, and by what the script gives.
+pub fn decide(given: Option<Given>, declared: &[Declared]) -> Case
+    ensures { (name : List ℕ) → decision_of (λ key. key) result
+        ≡ decided (is_assignment given) (is_provision given) (map (declaration_of name) declared.now) }
+{
+    let mut tally = Tally::new();
+    for entry in declared {
+        tally.add(entry);
+    }
+    tally.case(given)
+}
