@@ -45,7 +45,7 @@ test-client: ## the tests of the client's programs, over the program that `make 
 soak-client: ## runs ldi-watch over 2,000 rounds of random rewrites, and judges every image: half an hour
 	@/usr/bin/python3 -m client.tests.soak 2000
 
-fmt: ## lays out every crate, and prints what changed, what crates.txt names without need, and ways past a face
+fmt: ## lays out every crate; prints what changed, needless names in crates.txt, and ways past a face
 	@tools/fmt
 	@tools/unnamed
 	@tools/faces
