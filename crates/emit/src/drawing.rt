@@ -35,15 +35,15 @@ use emit_image::law::{drawing_is_image, drawing_stands, joined_is_whole, placeme
 use emit_image::redraw::redraw;
 use emit_image::section::{Drawing, ImagePart, ImagePiece};
 use emit_image::tail::{TailPart, TailParts};
-use ldmodel_laws::segments::sections_in_file;
-use ldmodel_laws::stayed::stayed_in_both;
-use place::laying::Laying;
-use place::starts::Starts;
-use ldmodel::memory::NoMemory;
-use ldmodel::rows::Piece;
-use ldmodel_project::view::ProjectView;
 use emit_relocate::earlier::Earlier;
 use emit_values::values::Values;
+use ldmodel::memory::NoMemory;
+use ldmodel::rows::Piece;
+use ldmodel_laws::segments::sections_in_file;
+use ldmodel_laws::stayed::stayed_in_both;
+use ldmodel_project::view::ProjectView;
+use place::laying::Laying;
+use place::starts::Starts;
 use std::alloc::Global;
 
 /// A part of the tail, lent.

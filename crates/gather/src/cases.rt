@@ -8,9 +8,9 @@ ghost use Rattle.symres.specs.Naming.{IsNaming};
 use elfobj::object::Object;
 use elfobj::relocation::SymbolIndex;
 use ldmodel::names::Case;
+use ldmodel_project::view::ProjectView;
 use symres::declaring::declares;
 use symres::naming::Naming;
-use ldmodel_project::view::ProjectView;
 
 /// What the name of a symbol of the object at a place stands for; nothing for a local symbol, which has no name. The
 /// time is constant.

@@ -19,8 +19,8 @@ use elfobj::relocation::Relocation;
 use elfobj::section::SectionIndex;
 use ldmodel::memory::NoMemory;
 use ldmodel::sections::Part;
-use symres::naming::Naming;
 use ldmodel_project::view::ProjectView;
+use symres::naming::Naming;
 
 /// Adds the number of a section, if there is one.
 fn add_number(targets: &mut Vec<usize>, number: Option<usize>) -> Result<(), NoMemory>

@@ -30,9 +30,17 @@ fn add_object(alloc: Global) -> Result<Edit<'static>, AllocError> {
 }
 
 /// A linker answers two edits, and then with the map.
-fn check_linker<L: Linker>(rt: &impl Abort, alloc: Global, linker: &mut L) -> Result<(), AllocError> {
+fn check_linker<L: Linker>(
+    rt: &impl Abort,
+    alloc: Global,
+    linker: &mut L,
+) -> Result<(), AllocError> {
     let mut meter = Meter::new();
-    assert!(rt; linker.apply(Edit::Script { text: SCRIPT }, &mut meter).is_ok());
+    assert!(rt;
+        linker
+            .apply(Edit::Script { text: SCRIPT }, &mut meter)
+            .is_ok()
+    );
     assert!(rt; linker.apply(add_object(alloc)?, &mut meter).is_ok());
     assert_eq!(rt; linker.status(), 0);
     assert_eq!(rt; linker.map(), MAP);
@@ -44,8 +52,16 @@ fn check_linker<L: Linker>(rt: &impl Abort, alloc: Global, linker: &mut L) -> Re
 fn linkers_link(rt: HostRuntime) -> Result<(), Fail> {
     let alloc = rt.alloc();
     let seed = RandomState::new(&rt)?;
-    check_linker(&rt, alloc, &mut Session::new(alloc, seed, Options::default())?)?;
-    check_linker(&rt, alloc, &mut Plain::new(alloc, seed, Options::default())?)?;
+    check_linker(
+        &rt,
+        alloc,
+        &mut Session::new(alloc, seed, Options::default())?,
+    )?;
+    check_linker(
+        &rt,
+        alloc,
+        &mut Plain::new(alloc, seed, Options::default())?,
+    )?;
     Ok(())
 }
 
