@@ -16,7 +16,7 @@ use Rattle.emit_image.specs.declared.section.ImageSection.{ImageSection}
 use Rattle.ldmodel_laws.specs.ImageBytes.{AreNamed}
 use Rattle.place.proofs.Walking.{in_file_are}
 use Rattle.place.specs.Offsets.{IsOffset}
-use Rattle.ldmodel.specs.FileLayout.{IsFileLayout}
+use Rattle.ldmodel_laws.specs.FileLayout.{IsFileLayout}
 use Rattle.ldmodel.specs.Layout.{Layout, PlacedSection}
 use Rattle.ldmodel.specs.Lent.{placed_of}
 use Rattle.ldmodel.specs.Project.{Project}

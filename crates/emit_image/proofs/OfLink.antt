@@ -6,8 +6,9 @@ use Rattle.std.specs.List.{All, AllZip, find}
 use Rattle.std.proofs.lemmas.Bool.Decides.{nat_tests}
 use Rattle.std.proofs.lemmas.List.FromFn.{fill_by_all}
 use Rattle.byteorder.specs.Endian.{little_bytes}
-use Rattle.ldmodel.specs.Image.{byte_at, byte_past_headers, covers, covering_data, covering_piece, fill_byte, headers}
-use Rattle.ldmodel.specs.Image.{output_byte, part_byte, section_at, tail_at}
+use Rattle.ldmodel.specs.Image.{byte_at, byte_past_headers, covers, covering_data, covering_piece, fill_byte}
+use Rattle.ldmodel.specs.Image.{file_headers}
+use Rattle.ldmodel.specs.Image.{output_byte, part_byte, file_section_at, tail_at}
 use Rattle.ldmodel.specs.Image as image
 use Rattle.ldmodel.specs.Layout.{Layout, PlacedPiece, PlacedSection}
 use Rattle.ldmodel.specs.Layout as layout
@@ -175,7 +176,7 @@ module _ (p : Project) (s : Layout) where
   past o (Some x) None w z c d e = elim c [ ]
 
   sections-both : (d : Drawing) → IsDrawingOf p s d → (o : ℕ)
-      → Both (IsImageSection p s) (covers_section o) (section_at s o) (find (covers_section o) d.sections.now)
+      → Both (IsImageSection p s) (covers_section o) (file_section_at s o) (find (covers_section o) d.sections.now)
   sections-both d h o =
       let found = find-zip (IsImageSection p s) (λ (x : SectionInFile). covers x.offset x.section.size o)
       (covers_section o) (λ x y r. rw (r.offset, r.size) refl) (loaded s) d.sections.now h.sections in
@@ -196,7 +197,7 @@ module _ (p : Project) (s : Layout) where
       → (drawing_spot d o).byte ≡ byte_at p s o
   unfolding drawing_spot byte_at
   drawing-same d h o e =
-      go (nat_lt o (length d.headers.now)) (nat_lt o (length (headers p s)))
+      go (nat_lt o (length d.headers.now)) (nat_lt o (length (file_headers p s)))
       (ap (λ (bs : List ℕ). nat_lt o (length bs)) h.headers) e
     where
       there : Spot
@@ -206,9 +207,9 @@ module _ (p : Project) (s : Layout) where
       own = record { byte = slice_index d.headers.now o; stays = false }
 
       go : (b c : Bool) → b ≡ c → (cond b own there).stays ≡ false → (cond b own there).byte
-          ≡ cond c (slice_index (headers p s) o) (byte_past_headers p s o (section_at s o) (tail_at p s o))
+          ≡ cond c (slice_index (file_headers p s) o) (byte_past_headers p s o (file_section_at s o) (tail_at p s o))
       go true true f e = ap (λ (bs : List ℕ). slice_index bs o) h.headers
-      go false false f e = past o (section_at s o) (find (covers_section o) d.sections.now) (tail_at p s o)
+      go false false f e = past o (file_section_at s o) (find (covers_section o) d.sections.now) (tail_at p s o)
           (find (covers_part o) d.tail.now) (sections-both d h o) (parts-both d h o) e
       go true false f e = cc
       go false true f e = cc

@@ -47,7 +47,7 @@ abbrev pub loaded : Layout → List SectionInFile
 loaded s = filter (λ (x : SectionInFile). has_file_bytes x.section) (in_file (segments s.sections))
 
 pub record IsDrawingOf (p : Project) (s : Layout) (d : Drawing) : Type 0 where
-  pub headers : d.headers.now ≡ image.headers p s
+  pub headers : d.headers.now ≡ image.file_headers p s
   pub sections : AllZip (IsImageSection p s) (loaded s) d.sections.now
   pub tail : AllZip IsImagePart (headings.tail p s) d.tail.now
 

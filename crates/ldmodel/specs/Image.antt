@@ -23,8 +23,8 @@ abbrev pub covers : ℕ → ℕ → ℕ → Bool
 covers start size x = nat_le start x && nat_lt x (start + size)
 
 -- the ELF header and the program headers
-unfoldable pub headers : Project → Layout → List ℕ
-headers p s =
+unfoldable pub file_headers : Project → Layout → List ℕ
+file_headers p s =
     let gs : List Segment = segments s.sections in
     elf_header (number_or_0 (entry_point p s)) (length gs)
     ((header_part p s).offset) (header_count s) (header_names_number s)
@@ -91,8 +91,8 @@ abbrev pub output_byte : Project → Layout → PlacedSection → ℕ → ℕ
 output_byte p s q at = byte_among p s q at (covering_piece q at) (covering_data q at)
 
 -- the output section whose file bytes lie at an offset
-abbrev pub section_at : Layout → ℕ → Option SectionInFile
-section_at s o =
+abbrev pub file_section_at : Layout → ℕ → Option SectionInFile
+file_section_at s o =
     find (λ (x : SectionInFile). has_file_bytes x.section && covers x.offset x.section.size o)
     (in_file (segments s.sections))
 
@@ -108,8 +108,8 @@ byte_past_headers p s o None None = 0
 -- byte o of the image
 unfoldable pub byte_at : Project → Layout → ℕ → ℕ
 byte_at p s o =
-    if nat_lt o (length (headers p s)) then slice_index (headers p s) o
-    else byte_past_headers p s o (section_at s o) (tail_at p s o)
+    if nat_lt o (length (file_headers p s)) then slice_index (file_headers p s) o
+    else byte_past_headers p s o (file_section_at s o) (tail_at p s o)
 
 -- the bytes 0, 1, .. up to the length
 unfoldable pub image : Project → Layout → List ℕ

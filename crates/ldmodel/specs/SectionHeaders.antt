@@ -11,7 +11,7 @@ use Rattle.elfobj.specs.file.declared.constants.TheConstants.{SHF_ALLOC, SHF_EXE
 use Rattle.ldmodel.specs.Layout.{Layout, PlacedSection}
 use Rattle.ldmodel.specs.Project.{Project}
 use Rattle.ldmodel.specs.Segments.{Segment, segments, loaded_end, file_offset, has_file_bytes}
-use Rattle.ldmodel.specs.Tail.{string_table, name_offset, symbol_table, symbol_name_table}
+use Rattle.ldmodel.specs.Tail.{string_table, name_offset, output_symbol_table, symbol_name_table}
 
 -- Elf64_Shdr, 64 bytes, in the order of its fields
 pub record SectionHeader : Type 0 where
@@ -60,7 +60,8 @@ part_at offset bytes = record { offset = offset; bytes = bytes }
 
 unfoldable pub tables : Project → Layout → Tables
 tables p s =
-    let symbols : FilePart = part_at (next_multiple_of (loaded_end (segments s.sections)) 8) (symbol_table p s) in
+    let symbols : FilePart =
+      part_at (next_multiple_of (loaded_end (segments s.sections)) 8) (output_symbol_table p s) in
     let symbol_names : FilePart = part_at (end_of_part symbols) (symbol_name_table p s) in
     record {
       symbols = symbols;

@@ -7,7 +7,7 @@ use Rattle.std.specs.Prelude.{not, ◌&&◌, ◌==◌, nat_lt, nat_le, bytes_eq,
 use Rattle.std.specs.Option.{option_map_or}
 use Rattle.std.specs.Bool.{beq}
 use Rattle.ldmodel.specs.Layout.{PlacedSection}
-use Rattle.ldmodel.specs.SectionHead.{difference_of}
+use Rattle.ldmodel.specs.Placement.{difference_of}
 
 -- the size of a page
 abbrev pub page_size : ℕ
@@ -36,14 +36,14 @@ pub record Group : Type 0 where
   pub first : PlacedSection
   pub others : List PlacedSection
 
-abbrev pub sections_in : Group → List PlacedSection
-sections_in g = g.first ∷ g.others
+abbrev pub group_sections : Group → List PlacedSection
+group_sections g = g.first ∷ g.others
 
 -- a section before the groups of those after it
 abbrev pub with_front : PlacedSection → List Group → List Group
 with_front q [] = record { first = q; others = [] } ∷ []
 with_front q (g ∷ gs) =
-    if shares_segment q g.first then record { first = q; others = sections_in g } ∷ gs
+    if shares_segment q g.first then record { first = q; others = group_sections g } ∷ gs
     else (record { first = q; others = [] } ∷ g ∷ gs)
 
 -- neighbours that share a segment stand in one group
@@ -57,11 +57,11 @@ pub record Segment : Type 0 where
   pub group : Group
 
 -- p_vaddr and p_paddr: the addresses of the first section
-abbrev pub start_of : Segment → ℕ
-start_of g = g.group.first.start
+abbrev pub segment_start : Segment → ℕ
+segment_start g = g.group.first.start
 
-abbrev pub load_of : Segment → ℕ
-load_of g = g.group.first.load
+abbrev pub segment_load : Segment → ℕ
+segment_load g = g.group.first.load
 
 -- the end of a section, counted from the segment's start
 abbrev pub reach : Group → PlacedSection → ℕ
@@ -69,11 +69,11 @@ reach g q = end_of q - g.first.start
 
 -- p_filesz: up to the end of the last section with file bytes, 0 without one
 abbrev pub file_size : Group → ℕ
-file_size g = fold (λ n (q : PlacedSection). if has_file_bytes q then reach g q else n) 0 (sections_in g)
+file_size g = fold (λ n (q : PlacedSection). if has_file_bytes q then reach g q else n) 0 (group_sections g)
 
 -- p_memsz: up to the end of the last section
 abbrev pub memory_size : Group → ℕ
-memory_size g = fold (λ n (q : PlacedSection). reach g q) 0 (sections_in g)
+memory_size g = fold (λ n (q : PlacedSection). reach g q) 0 (group_sections g)
 
 -- the least number not below an end that is congruent to an address modulo the page size
 abbrev pub congruent : ℕ → ℕ → ℕ
@@ -112,11 +112,11 @@ pub record SectionInFile : Type 0 where
   pub section : PlacedSection
 
 abbrev pub in_segment : Segment → PlacedSection → SectionInFile
-in_segment g q = record { offset = g.offset + (q.start - start_of g); section = q }
+in_segment g q = record { offset = g.offset + (q.start - segment_start g); section = q }
 
 -- the output sections of nonzero size in the file
 abbrev pub in_file : List Segment → List SectionInFile
-in_file gs = flat_map (λ (g : Segment). map (in_segment g) (sections_in g.group)) gs
+in_file gs = flat_map (λ (g : Segment). map (in_segment g) (group_sections g.group)) gs
 
 -- where an output section begins in the file; 0 where its size is 0
 abbrev pub file_offset : List Segment → PlacedSection → ℕ

@@ -69,15 +69,15 @@ pub record GoodLink : Type 0 where
   pub project : Project
   pub layout : Layout
 
-abbrev pub pieces_in : GoodLink → List LinkedPiece
-pieces_in l = linked_pieces l.project l.layout
+abbrev pub link_pieces : GoodLink → List LinkedPiece
+link_pieces l = linked_pieces l.project l.layout
 
 -- an input section of the new link that the old one has too
 abbrev pub has_stayed : GoodLink → LinkedPiece → Bool
-has_stayed old x = list_any (same_piece x) (pieces_in old)
+has_stayed old x = list_any (same_piece x) (link_pieces old)
 
 unfoldable pub stayed : GoodLink → GoodLink → List LinkedPiece
-stayed old new = filter (has_stayed old) (pieces_in new)
+stayed old new = filter (has_stayed old) (link_pieces new)
 
 abbrev pub sites_in_section : NamedObject → LinkedPiece → Option LinkedSection → List Site
 sites_in_section o x None = []
@@ -93,12 +93,12 @@ abbrev pub sites_in : Project → LinkedPiece → List Site
 sites_in p x = sites_in_part p x x.part
 
 -- the value of a site's symbol in a link; a link without faults has one for each site
-abbrev pub value_in : GoodLink → Site → ℕ
-value_in l t = number_or_0 (site_value l.project l.layout t)
+abbrev pub site_value_in : GoodLink → Site → ℕ
+site_value_in l t = number_or_0 (site_value l.project l.layout t)
 
 -- the site's symbol has another value
 abbrev pub is_moved : GoodLink → GoodLink → Site → Bool
-is_moved old new t = not (value_in old t == value_in new t)
+is_moved old new t = not (site_value_in old t == site_value_in new t)
 
 -- the sites in input sections that stayed whose symbol has another value
 unfoldable pub retargeted : GoodLink → GoodLink → List Site

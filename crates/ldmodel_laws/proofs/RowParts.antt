@@ -14,9 +14,9 @@ use Rattle.ldscript.specs.statements.declared.section.BodyStatement.{BodyStateme
 use Rattle.ldscript.specs.statements.declared.statement.Item.{Item}
 use Rattle.ldscript.specs.statements.declared.statement.ItemCommand.{ItemCommand}
 use Rattle.ldscript.specs.statements.declared.statement.ItemCommand.TheVariants as item
-use Rattle.ldmodel.specs.Body.{Body, piece_placed, pieces_placed}
+use Rattle.ldmodel.specs.Placement.{Body, piece_placed, pieces_placed}
 use Rattle.ldmodel.specs.Chain.{and_then}
-use Rattle.ldmodel.specs.FileLayout.{Each}
+use Rattle.ldmodel.specs.Each.{Each}
 use Rattle.ldmodel.specs.Layout.{PlacedPiece}
 use Rattle.ldmodel.specs.Rows.{Piece, is_in_section}
 use Rattle.ldmodel_laws.specs.Placed.{PieceTo}

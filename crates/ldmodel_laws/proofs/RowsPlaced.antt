@@ -16,13 +16,13 @@ use Rattle.ldscript.specs.statements.declared.statement.Item.{Item}
 use Rattle.ldscript.specs.statements.declared.statement.ItemCommand.{ItemCommand}
 use Rattle.ldscript.specs.statements.declared.statement.ItemCommand.TheVariants as item
 use Rattle.ldscript.specs.statements.declared.statement.Statement.{Statement}
-use Rattle.ldmodel.specs.Body.{Body, body_step, body_command_step, pieces_placed}
-use Rattle.ldmodel.specs.FileLayout.{Each}
+use Rattle.ldmodel.specs.Placement.{Body, body_step, body_command_step, pieces_placed}
+use Rattle.ldmodel.specs.Each.{Each}
 use Rattle.ldmodel.specs.Layout.{Layout, PlacedSection, noted, nothing_placed}
 use Rattle.ldmodel.specs.Placement.{command_step, item_command_step, item_step, next_row, opened, placement}
 use Rattle.ldmodel.specs.Placement.{region_step, statement_step}
 use Rattle.ldmodel.specs.Rows.{Piece}
-use Rattle.ldmodel.specs.SectionEnd.{placed_section}
+use Rattle.ldmodel.specs.Placement.{placed_section}
 use Rattle.ldmodel_laws.specs.Placed.{past_inputs}
 use Rattle.ldmodel_laws.specs.Spread.{entries_in}
 use Rattle.ldmodel_laws.proofs.Effects.{came, run_by, Kept, kept_same, Quiet, still, renamed, onward, added, named_kept}

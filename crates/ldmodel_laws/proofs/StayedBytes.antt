@@ -6,13 +6,13 @@ use Rattle.std.specs.Prelude.{sum_by}
 use Rattle.std.specs.List.{Contains}
 use Rattle.std.proofs.lemmas.Bool.Decides.{nat_tests}
 use Rattle.std.proofs.lemmas.List.Sums.{sum_by-append, sum_by-cons}
-use Rattle.ldmodel.specs.FileLayout.{Each}
+use Rattle.ldmodel.specs.Each.{Each}
 use Rattle.ldmodel.specs.Layout.{PlacedPiece, PlacedSection}
 use Rattle.ldmodel.specs.SectionHeaders.{image_length}
 use Rattle.ldmodel.specs.Segments.{SectionInFile, Segment, file_offset, has_file_bytes, headers_end, in_file}
 use Rattle.ldmodel.specs.Segments.{loaded_end}
 use Rattle.ldmodel.specs.Segments.{nonempty, segments}
-use Rattle.ldmodel.specs.Stayed.{FileRange, GoodLink, LinkedPiece, has_stayed, linked_piece, linked_pieces, pieces_in}
+use Rattle.ldmodel.specs.Stayed.{FileRange, GoodLink, LinkedPiece, has_stayed, linked_piece, linked_pieces, link_pieces}
 use Rattle.ldmodel.specs.Stayed.{range_in, stayed}
 use Rattle.ldmodel.specs.WorkBound.{bytes_stayed}
 use Rattle.ldmodel_laws.specs.FileOrder.{AreInFileOrder, end_in_file, with_file_bytes}
@@ -185,7 +185,7 @@ module _ (l : GoodLink) (good : IsGood l) where
   abbrev range_length : LinkedPiece → ℕ
   range_length x = x.range.length
 
-  all_ranges : sum_by range_length (pieces_in l)
+  all_ranges : sum_by range_length (link_pieces l)
       ≡ sum_by (λ (q : PlacedSection). sum_by (λ (u : PlacedPiece).
       (range_in (segments l.layout.sections) q u).length) q.pieces) l.layout.sections
   unfolding linked_pieces
@@ -208,7 +208,7 @@ module _ (l : GoodLink) (good : IsGood l) where
           ∙ sym (sum_by-cons (λ (r : PlacedSection). sum_by (λ (u : PlacedPiece).
           (range_in (segments l.layout.sections) r u).length) r.pieces) q qs)
 
-  pub bytes_in_image : sum_by range_length (pieces_in l) ≤ image_length l.project l.layout
+  pub bytes_in_image : sum_by range_length (link_pieces l) ≤ image_length l.project l.layout
   bytes_in_image =
       let all = all_ranges in
       let sections = sum_below (λ (q : PlacedSection). sum_by (λ (u : PlacedPiece).
@@ -221,6 +221,6 @@ module _ (l : GoodLink) (good : IsGood l) where
 pub stayed_in_image : (old new : GoodLink) → IsGood new → bytes_stayed old new ≤ image_length new.project new.layout
 unfolding stayed
 stayed_in_image old new good =
-    let kept = sum_kept (λ (x : LinkedPiece). x.range.length) (has_stayed old) (pieces_in new) in
+    let kept = sum_kept (λ (x : LinkedPiece). x.range.length) (has_stayed old) (link_pieces new) in
     let all = bytes_in_image new good in
     omega (arith, kept, all)

@@ -25,9 +25,10 @@ use Rattle.ldscript.specs.statements.declared.statement.ItemCommand.{ItemCommand
 use Rattle.ldscript.specs.statements.declared.statement.ItemCommand.TheVariants as item
 use Rattle.ldscript.specs.statements.declared.statement.Region.{Region}
 use Rattle.ldscript.specs.statements.declared.statement.Statement.{Statement}
-use Rattle.ldmodel.specs.Assigning.{common_step}
-use Rattle.ldmodel.specs.Body.{Body, advanced, body_command_step, body_step, data_step, dot_step, moved, piece_placed}
-use Rattle.ldmodel.specs.Body.{pieces_placed, set_to, with_data, with_dot}
+use Rattle.ldmodel.specs.Placement.{common_step}
+use Rattle.ldmodel.specs.Placement.{Body, advanced, body_command_step, body_step, data_step, dot_step, moved_on}
+use Rattle.ldmodel.specs.Placement.{piece_placed}
+use Rattle.ldmodel.specs.Placement.{pieces_placed, set_to, with_data, with_dot}
 use Rattle.ldmodel.specs.Chain.{and_then, run}
 use Rattle.ldmodel.specs.Fault.{Fault, MovedBack, PastAddressSpace}
 use Rattle.ldmodel.specs.Layout.{Layout, address, noted, nothing_placed, number}
@@ -68,7 +69,7 @@ none_to : (b c : Body) → ◌≡◌ {A = Result Body Fault} (Ok b) (Ok c) → B
 none_to b c e = subst (BodyEffects b) (given_is b c e) no_effect
 
 -- ---- the statements of a body
-moved_does : (line : ℕ) (b : Body) (to : ℕ) (c : Body) → moved line b to ≡ Ok c → BodyEffects b c
+moved_does : (line : ℕ) (b : Body) (to : ℕ) (c : Body) → moved_on line b to ≡ Ok c → BodyEffects b c
 moved_does line b to c e = go (nat_lt to b.layout.dot) refl e
   where
     go : (t : Bool) → nat_lt to b.layout.dot ≡ t
@@ -82,16 +83,16 @@ moved_does line b to c e = go (nat_lt to b.layout.dot) refl e
 
 advanced_does : (line : ℕ) (b : Body) (e : Expr) (c : Body) → advanced line b e ≡ Ok c → BodyEffects b c
 advanced_does line b e c h =
-    let k = came (number b.layout line e) (λ x. moved line b (b.layout.dot + x)) c h in
+    let k = came (number b.layout line e) (λ x. moved_on line b (b.layout.dot + x)) c h in
     moved_does line b (b.layout.dot + k.value) c k.gives
 
 set_does : (line : ℕ) (b : Body) (f : Option DotForm) (c : Body) → set_to line b f ≡ Ok c → BodyEffects b c
 set_does line b (Some (Advance e)) c h = advanced_does line b e c h
 set_does line b (Some (Align e)) c h =
-    let k = came (number b.layout line (expression.AlignDot e)) (λ x. moved line b x) c h in
+    let k = came (number b.layout line (expression.AlignDot e)) (λ x. moved_on line b x) c h in
     moved_does line b k.value c k.gives
 set_does line b (Some (Offset e)) c h =
-    let k = came (number b.layout line e) (λ x. moved line b (b.start + x)) c h in
+    let k = came (number b.layout line e) (λ x. moved_on line b (b.start + x)) c h in
     moved_does line b (b.start + k.value) c k.gives
 set_does line b None c h = none_to b c h
 

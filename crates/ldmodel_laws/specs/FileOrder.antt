@@ -1,6 +1,6 @@
 -- How the output sections with file bytes lie in the image.
 use Rattle.std.specs.Prelude.{ℕ, ◌+◌, ◌≤◌, List, length, filter}
-use Rattle.ldmodel.specs.FileLayout.{Each}
+use Rattle.ldmodel.specs.Each.{Each}
 use Rattle.ldmodel.specs.Segments.{Segment, SectionInFile, in_file, has_file_bytes, headers_end, loaded_end}
 use Rattle.ldmodel_laws.specs.Spread.{EachLater}
 

@@ -1,3 +1,5 @@
+pub mod FileLayout
+pub mod Gaps
 pub mod FirstMatches
 pub mod Placed
 pub mod Renumbering

@@ -6,9 +6,9 @@ ghost use Rattle.ldscript.specs.statements.Numbering.{common_commands, output_se
 ghost use Rattle.ldscript.specs.statements.declared.section.BodyStatement.{BodyStatement};
 ghost use Rattle.ldscript.specs.statements.declared.statement.Item.{Item};
 ghost use Rattle.ldscript.specs.statements.declared.statement.Statement.{Statement};
-ghost use Rattle.ldmodel.specs.Body.{Body, body_step};
+ghost use Rattle.ldmodel.specs.Placement.{Body, body_step};
 ghost use Rattle.ldmodel.specs.Fault.{Fault};
-ghost use Rattle.ldmodel.specs.FileLayout.{Each};
+ghost use Rattle.ldmodel.specs.Each.{Each};
 ghost use Rattle.ldmodel.specs.Layout.{Layout, nothing_placed};
 ghost use Rattle.ldmodel.specs.Placement.{item_step, placement};
 ghost use Rattle.ldmodel.specs.Project.{Project};

@@ -13,17 +13,17 @@ use Rattle.ldscript.specs.statements.declared.statement.ItemCommand.TheVariants 
 use Rattle.ldscript.specs.statements.declared.statement.Region.{Region}
 use Rattle.ldscript.specs.statements.declared.statement.Statement.{Statement}
 use Rattle.ldmodel.specs.Arithmetic.{plus_modulo}
-use Rattle.ldmodel.specs.Body.{Body, body_step}
+use Rattle.ldmodel.specs.Placement.{Body, body_step}
 use Rattle.ldmodel.specs.Chain.{run}
 use Rattle.ldmodel.specs.Layout.{Layout, PlacedSection, address, nothing_placed, noted, number}
 use Rattle.ldmodel.specs.Placement.{command_step, free_dot_step, item_command_step, item_step, next_row, opened}
 use Rattle.ldmodel.specs.Placement.{placement, region_step, section_step, statement_step, with_region}
 use Rattle.ldmodel.specs.Rows.{Piece}
-use Rattle.ldmodel.specs.SectionEnd.{find_region, load_region, placed_section, section_end, with_room, with_section}
-use Rattle.ldmodel.specs.SectionHead.{Head, head_of}
+use Rattle.ldmodel.specs.Placement.{find_region, load_region, placed_section, section_end, with_room, with_section}
+use Rattle.ldmodel.specs.Placement.{Head, head_of}
 use Rattle.place_sections.proofs.Ending.{chained}
 use Rattle.place_sections.proofs.Grows.{body_grows, common_keeps, given_is}
-use Rattle.ldmodel.specs.Body.{Body}
+use Rattle.ldmodel.specs.Placement.{Body}
 
 abbrev names_of : List PlacedSection → List (List ℕ)
 names_of sections = map (λ (q : PlacedSection). q.name) sections

@@ -3,8 +3,8 @@
 ghost use Rattle.std.specs.Prelude.{◌+◌, ◌++◌, [], ◌∷◌, length, OnOk, ◌≡◌, ◌==◌, ◌&&◌, ◌||◌, if◌then◌else◌, not};
 ghost use Rattle.std.specs.Option.{option_copied, option_and_then};
 ghost use Rattle.ldmodel.specs.Layout.{region_named};
-ghost use Rattle.ldmodel.specs.SectionEnd.{freed_from, has_file_bytes, has_flag, is_within};
-ghost use Rattle.ldmodel.specs.SectionEnd.{load_region, placed_section, section_end, with_room};
+ghost use Rattle.ldmodel.specs.Placement.{freed_from, body_has_file_bytes, has_flag, is_within};
+ghost use Rattle.ldmodel.specs.Placement.{load_region, placed_section, section_end, with_room};
 ghost use Rattle.place_terms.specs.Keyed.{KeyedSection, section_of};
 ghost use Rattle.place_terms.specs.Naming.{Naming};
 ghost use Rattle.place_terms.specs.Outputs.{IsOutput};
@@ -126,7 +126,7 @@ fn size_if(condition: bool, size: u64) -> u64
 impl<'a> Here<'a> {
     fn has_file_bytes(&self) -> bool
         ghost naming: { Naming }
-        ensures { result ≡ has_file_bytes (body_alone naming self.now) }
+        ensures { result ≡ body_has_file_bytes (body_alone naming self.now) }
     {
         !self.data_commands.is_empty() || any_in_file(&self.pieces)
     }
@@ -141,7 +141,7 @@ impl<'a> Here<'a> {
     }
 
     /// An output section after its body, with what has been placed in it.
-    #[tactic(auto, unfolding(ldmodel::specs::SectionEnd::placed_section))]
+    #[tactic(auto, unfolding(ldmodel::specs::Placement::placed_section))]
     fn close(&mut self, alloc: Global, output: &'a OutputSection, head: Head) -> Closed<'a>
         ghost naming: { Naming }
         ensures value { section_of naming (keyed result)

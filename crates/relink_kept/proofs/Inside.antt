@@ -4,7 +4,7 @@ use Rattle.std.proofs.Common.{length, map, refl, sym, ap, ◌∙◌, subst, arit
 use Rattle.std.specs.Int.{next_multiple_of}
 use Rattle.std.specs.List.{Contains}
 use Rattle.std.proofs.lemmas.Bool.{eqb-false, ne_eqb}
-use Rattle.ldmodel.specs.FileLayout.{Each}
+use Rattle.ldmodel.specs.Each.{Each}
 use Rattle.ldmodel.specs.Layout.{Layout, PlacedPiece, PlacedSection}
 use Rattle.ldmodel.specs.Link.{max_image_length}
 use Rattle.ldmodel.specs.Project.{Project}
