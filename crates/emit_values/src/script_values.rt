@@ -11,12 +11,13 @@ ghost use Rattle.place.specs.terms.SymbolTable.{AreValuesOf};
 ghost use Rattle.place.specs.terms.Tables.{symbol_number};
 ghost use Rattle.emit_values.specs.ScriptValues.{AreScriptValues, value_in};
 
+use ldmodel::impossible::impossible;
 use ldmodel::memory::NoMemory;
 use ldmodel::script_symbol::CommonIndex;
 use ldscript::script::Script;
 use ldscript::tree::{Common, CommonAt, Given};
 use place::sections::placement::Placement;
-use std::alloc::{AllocError, Global};
+use std::alloc::Global;
 
 /// The values that a script gives names, under the numbers of its commands.
 #[derive(Drop)]
@@ -67,11 +68,12 @@ fn note_value(
         → AreValuesOf script.now values.new.items (xs ++ record { name = name.now; value = value } ∷ [])) }
 {
     let Some(number) = command_number(script, name) else {
-        // Unreachable: each name of a layout is one that its script gives a value
-        return Err(AllocError);
+        // Each name of a layout is one that its script gives a value
+        return Err(impossible());
     };
     if number >= values.len() {
-        return Err(AllocError);
+        // There is a place for each command
+        return Err(impossible());
     }
     match values[number] {
         None => {

@@ -14,11 +14,11 @@ ghost use Rattle.std.specs.Prelude.{◌≡◌};
 ghost use Rattle.ldi.specs.Exit.{exit_status};
 
 use crate::linking::{FileNames, link_files};
-use ldmodel::options::Options;
 use ldi_stream::Status;
 use ldi_stream::fault::RunFault;
 use ldi_words::call::Call;
 use ldi_words::{USAGE, words};
+use relink::Options;
 use std::hash::RandomState;
 use std::process::ExitCode;
 use std::{env, io};
