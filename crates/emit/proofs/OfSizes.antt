@@ -11,7 +11,7 @@ use Rattle.ldmodel.specs.Each.{Each}
 use Rattle.ldmodel.specs.Gathering.{candidates}
 use Rattle.ldmodel.specs.Image.{object_named, section_numbered}
 use Rattle.ldmodel.specs.InputSections.{block_at, block_of, common_block, common_blocks, input_sections, is_same_entry}
-use Rattle.ldmodel.specs.InputSections.{linked_input, inputs_of}
+use Rattle.ldmodel.specs.InputSections.{linked_input, object_inputs}
 use Rattle.ldmodel.specs.Live.{live}
 use Rattle.ldmodel.specs.NameFaults.{object_name}
 use Rattle.ldmodel.specs.Names.{Common, Decision, Duplicate, Entry, Provided, Script, Strong, Undefined, Weak}
@@ -107,8 +107,8 @@ module _ (p : Project) (distinct : AreNamesDistinct p.objects) (numbered : AreNu
   inputs_sized : Each AlwaysSized (input_sections p)
   unfolding input_sections
   inputs_sized =
-      each_flat AlwaysSized (λ (o : ℕ × NamedObject). inputs_of p o.0 o.1) (enumerate_from 0 p.objects)
-      (each_where (λ (o : ℕ × NamedObject). Each AlwaysSized (inputs_of p o.0 o.1)) (enumerate_from 0 p.objects)
+      each_flat AlwaysSized (λ (o : ℕ × NamedObject). object_inputs p o.0 o.1) (enumerate_from 0 p.objects)
+      (each_where (λ (o : ℕ × NamedObject). Each AlwaysSized (object_inputs p o.0 o.1)) (enumerate_from 0 p.objects)
       (λ k o e. each_join AlwaysSized (map (linked_input o.0 o.1) o.1.object.sections) (common_blocks p o.0 o.1)
       (each_into_map AlwaysSized (linked_input o.0 o.1) o.1.object.sections
       (each_where (λ x. AlwaysSized (linked_input o.0 o.1 x)) o.1.object.sections

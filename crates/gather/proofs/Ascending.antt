@@ -11,7 +11,7 @@ use Rattle.elfobj.specs.Sections.{LinkedSection, section_of}
 use Rattle.elfobj.specs.Symbols.{NamedSymbol}
 use Rattle.elfobj.specs.file.declared.section.Section.{Section}
 use Rattle.ldmodel.specs.InputSections.{block_at, block_of, common_block, common_blocks, input_sections, is_same_entry}
-use Rattle.ldmodel.specs.InputSections.{linked_input, inputs_of}
+use Rattle.ldmodel.specs.InputSections.{linked_input, object_inputs}
 use Rattle.ldmodel.specs.Names.{Decision, Entry, Strong, Script, Common, Weak, Provided, Undefined, Duplicate, decision}
 use Rattle.ldmodel.specs.Project.{NamedObject, Project}
 use Rattle.ldmodel.specs.Sections.{InputSection, SectionId}
@@ -190,7 +190,7 @@ module _ (p : Project) (i : ℕ) (o : NamedObject) where
           )
 
   abbrev of_object : List SectionId
-  of_object = ids (inputs_of p i o)
+  of_object = ids (object_inputs p i o)
 
   split : of_object ≡ ids (map (linked_input i o) o.object.sections) ++ found 0 o.object.symbols
   split = map-append (λ (s : InputSection). s.id) (map (linked_input i o) o.object.sections) (common_blocks p i o)
@@ -213,20 +213,20 @@ module _ (p : Project) (i : ℕ) (o : NamedObject) where
 
 module _ (p : Project) where
   abbrev of_all : ℕ → List NamedObject → List SectionId
-  of_all n os = ids (flat_map (λ (o : ℕ × NamedObject). inputs_of p o.0 o.1) (enumerate_from n os))
+  of_all n os = ids (flat_map (λ (o : ℕ × NamedObject). object_inputs p o.0 o.1) (enumerate_from n os))
 
-  parts : (n : ℕ) (o : NamedObject) (os : List NamedObject) → of_all n (o ∷ os) ≡ ids (inputs_of p n o)
+  parts : (n : ℕ) (o : NamedObject) (os : List NamedObject) → of_all n (o ∷ os) ≡ ids (object_inputs p n o)
       ++ of_all (n + 1) os
   parts n o os =
-      ap ids (flat_map-cons (λ (o : ℕ × NamedObject). inputs_of p o.0 o.1) (n, o) (enumerate_from (n + 1) os))
-      ∙ map-append (λ (s : InputSection). s.id) (inputs_of p n o)
-      (flat_map (λ (o : ℕ × NamedObject). inputs_of p o.0 o.1) (enumerate_from (n + 1) os))
+      ap ids (flat_map-cons (λ (o : ℕ × NamedObject). object_inputs p o.0 o.1) (n, o) (enumerate_from (n + 1) os))
+      ∙ map-append (λ (s : InputSection). s.id) (object_inputs p n o)
+      (flat_map (λ (o : ℕ × NamedObject). object_inputs p o.0 o.1) (enumerate_from (n + 1) os))
 
   from_object : (n : ℕ) (os : List NamedObject) → Each (λ x. n ≤ x.object) (of_all n os)
   from_object n [] = tt
   from_object n (o ∷ os) = subst (Each (λ x. n ≤ x.object)) (sym (parts n o os))
-      (each_append (λ x. n ≤ x.object) (ids (inputs_of p n o)) (of_all (n + 1) os)
-      (each_weaker (λ x. x.object ≡ n) (λ x. n ≤ x.object) (λ x h. omega (arith, h)) (ids (inputs_of p n o))
+      (each_append (λ x. n ≤ x.object) (ids (object_inputs p n o)) (of_all (n + 1) os)
+      (each_weaker (λ x. x.object ≡ n) (λ x. n ≤ x.object) (λ x h. omega (arith, h)) (ids (object_inputs p n o))
       (of_this p n o))
       (each_weaker (λ x. n + 1 ≤ x.object) (λ x. n ≤ x.object) (λ x h. omega (arith, h)) (of_all (n + 1) os)
       (from_object (n + 1) os)))
@@ -238,7 +238,7 @@ module _ (p : Project) where
   all_ascend n [] h = tt
   all_ascend n (o ∷ os) h = subst Ascend (sym (parts n o os))
       (ascend_append (λ x. x.object ≡ n) (λ y. n + 1 ≤ y.object) (λ x y a b. inl (omega (arith, a, b)))
-      (ids (inputs_of p n o)) (of_all (n + 1) os)
+      (ids (object_inputs p n o)) (of_all (n + 1) os)
       (object_ascends p n o
       (All-head (λ (o : NamedObject).
       AllPairs (λ (s t : Section). s.number.0 < t.number.0) (map section_of o.object.sections)) o os h))

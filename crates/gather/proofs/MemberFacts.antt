@@ -11,7 +11,7 @@ use Rattle.std.proofs.lemmas.Option.{get_or_from_slice_get, slice_get_within}
 use Rattle.elfobj.specs.Sections.{LinkedSection}
 use Rattle.ldmodel.specs.FirstMatch.{first_match}
 use Rattle.ldmodel.specs.HandedOver.{section_id}
-use Rattle.ldmodel.specs.InputSections.{common_blocks, input_sections, linked_input, inputs_of}
+use Rattle.ldmodel.specs.InputSections.{common_blocks, input_sections, linked_input, object_inputs}
 use Rattle.ldmodel.specs.Project.{NamedObject, Project}
 use Rattle.ldmodel.specs.Sections.{InputSection}
 use Rattle.ldmodel.specs.declared.rows.InputIndex.{InputIndex}
@@ -124,7 +124,7 @@ module _ (p : Project) (keys : Keys) (i : ℕ) (o : NamedObject) (m : Member) (r
       ap (λ number. at_names number (keys.naming.object m.key.0) (number_of m.common)) r.number
       ∙ ap (λ name. at_names i name (number_of m.common)) r.name ∙ ap (at_names i o.name) r.common
 
-  member_is : member_facts keys m ≡ map (facts p) (inputs_of p i o)
+  member_is : member_facts keys m ≡ map (facts p) (object_inputs p i o)
   member_is =
       ap (λ l. l ++ map (block_facts keys m) m.blocks.now)
       (ap (λ d. beside keys m d.sections (map number_of m.matches.now)) r.object
@@ -136,16 +136,17 @@ module _ (p : Project) (keys : Keys) (i : ℕ) (o : NamedObject) (m : Member) (r
 
 all_facts : (p : Project) (keys : Keys) (os : List (ℕ × NamedObject)) (ms : List Member)
     → AllZip (λ (o : ℕ × NamedObject) m. IsMember p keys o.0 o.1 m) os ms
-    → flat_map (member_facts keys) ms ≡ map (facts p) (flat_map (λ (o : ℕ × NamedObject). inputs_of p o.0 o.1) os)
+    → flat_map (member_facts keys) ms ≡ map (facts p) (flat_map (λ (o : ℕ × NamedObject). object_inputs p o.0 o.1) os)
 all_facts p keys [] [] h = refl
 all_facts p keys [] (m ∷ ms) h = absurd h
 all_facts p keys (o ∷ os) [] h = absurd h
 all_facts p keys (o ∷ os) (m ∷ ms) h =
     flat_map-cons (member_facts keys) m ms
     ∙ ap (λ l. l ++ flat_map (member_facts keys) ms) (member_is p keys o.0 o.1 m h.0)
-    ∙ ap (λ l. map (facts p) (inputs_of p o.0 o.1) ++ l) (all_facts p keys os ms h.1)
-    ∙ sym (map-append (facts p) (inputs_of p o.0 o.1) (flat_map (λ (o : ℕ × NamedObject). inputs_of p o.0 o.1) os))
-    ∙ ap (map (facts p)) (sym (flat_map-cons (λ (o : ℕ × NamedObject). inputs_of p o.0 o.1) o os))
+    ∙ ap (λ l. map (facts p) (object_inputs p o.0 o.1) ++ l) (all_facts p keys os ms h.1)
+    ∙ sym (map-append (facts p) (object_inputs p o.0 o.1) (flat_map (λ
+      (o : ℕ × NamedObject). object_inputs p o.0 o.1) os))
+    ∙ ap (map (facts p)) (sym (flat_map-cons (λ (o : ℕ × NamedObject). object_inputs p o.0 o.1) o os))
 
 names_hold : (p : Project) (keys : Keys) (xs : List Gathered) (ss : List InputSection) → map (shown_facts keys) xs
     ≡ map (facts p) ss

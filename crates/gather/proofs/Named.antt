@@ -16,7 +16,7 @@ use Rattle.ldmodel.specs.FaultCode.{fault_of, name_of_part, section_at}
 use Rattle.ldmodel.specs.Gathering.{candidates}
 use Rattle.ldmodel.specs.HandedOver.{section_id}
 use Rattle.ldmodel.specs.InputSections.{block_at, block_of, common_block, common_blocks, input_sections, is_same_entry}
-use Rattle.ldmodel.specs.InputSections.{linked_input, inputs_of}
+use Rattle.ldmodel.specs.InputSections.{linked_input, object_inputs}
 use Rattle.ldmodel.specs.Link.{gathering_faults}
 use Rattle.ldmodel.specs.Live.{live, orphans}
 use Rattle.ldmodel.specs.NameFaults.{object_name}
@@ -88,8 +88,8 @@ module _ (p : Project) (up : AscendingSections p) where
   pub all_found : All (IsFound p) (input_sections p)
   unfolding input_sections
   all_found =
-      all_flat_map (IsFound p) (λ (o : ℕ × NamedObject). inputs_of p o.0 o.1) (enumerate_from 0 p.objects)
-      (all_numbered (λ (o : ℕ × NamedObject). All (IsFound p) (inputs_of p o.0 o.1)) p.objects (λ i o e.
+      all_flat_map (IsFound p) (λ (o : ℕ × NamedObject). object_inputs p o.0 o.1) (enumerate_from 0 p.objects)
+      (all_numbered (λ (o : ℕ × NamedObject). All (IsFound p) (object_inputs p o.0 o.1)) p.objects (λ i o e.
       All-append (IsFound p) (map (linked_input i o) o.object.sections) (common_blocks p i o) (linked_found i o e)
       (blocks_found i o e)))
 

@@ -12,7 +12,7 @@ use Rattle.std.specs.List.Sorted.{IsPermutation}
 use Rattle.std.specs.Option.{option_map}
 use Rattle.std.specs.Prelude.{IsSome, nat_lt}
 use Rattle.elfobj.specs.Sections.{LinkedSection}
-use Rattle.ldmodel.specs.InputSections.{common_blocks, linked_input, inputs_of}
+use Rattle.ldmodel.specs.InputSections.{common_blocks, linked_input, object_inputs}
 use Rattle.ldmodel.specs.Project.{NamedObject, Project}
 use Rattle.ldmodel.specs.Sections.{InputSection}
 use Rattle.ldmodel.specs.declared.sections.Part.{Part}
@@ -166,7 +166,7 @@ module _ (t : SectionTable) (p : Project) (linked : AreLinkedCounted p t.objects
       (has_place (is_ranked (n, true, x.0)) t.blocks.items (n, true, x.0)
       (Contains-permutation ranks t.blocks.items (n, true, x.0) same h) (alike (n, true, x.0)))
 
-  of_object : (i : ℕ) (o : NamedObject) → slice_get p.objects i ≡ Some o → All Numbered (inputs_of p i o)
+  of_object : (i : ℕ) (o : NamedObject) → slice_get p.objects i ≡ Some o → All Numbered (object_inputs p i o)
   of_object i o at =
       All-append Numbered (map (linked_input i o) o.object.sections) (common_blocks p i o)
       (of_linked i o at o.object.sections (λ x c. c))

@@ -10,7 +10,7 @@ use Rattle.elfobj.specs.Object.{object_of}
 use Rattle.elfobj.specs.Refusal.{object_refusal}
 use Rattle.elfobj.specs.RefusalNumber as object
 use Rattle.elfobj.specs.declared.refusal.ObjectRefusal.{ObjectRefusal}
-use Rattle.ldscript.specs.RefusalNumber as script
+use Rattle.ldscript.specs.RefusalNumber.{script_refusal_number}
 use Rattle.ldscript.specs.Script.{IsScript, IsRefusal}
 use Rattle.ldscript.specs.declared.refusal.ScriptRefusal.{ScriptRefusal}
 use Rattle.ldscript.specs.declared.refusal.ScriptRefusal.TheVariants as reader
@@ -52,7 +52,7 @@ edit_refusal_number NoMemory = 7
 -- for an object or a script the reader's own number, else 0
 abbrev pub inner_number : Refusal → ℕ
 inner_number (NotAnObject why) = object.refusal_number why
-inner_number (NotAScript why) = script.refusal_number why
+inner_number (NotAScript why) = script_refusal_number why
 inner_number _ = 0
 
 abbrev pub has_name : List ℕ → NamedObject → Bool

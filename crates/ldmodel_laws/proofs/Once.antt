@@ -11,7 +11,7 @@ use Rattle.ldmodel.specs.Edits.{AreNamesDistinct, has_name}
 use Rattle.ldmodel.specs.Each.{Each}
 use Rattle.ldmodel.specs.Gathering.{candidates, is_out}
 use Rattle.ldmodel.specs.InputSections.{block_at, block_of, common_block, common_blocks, input_sections, is_same_entry}
-use Rattle.ldmodel.specs.InputSections.{linked_input, inputs_of}
+use Rattle.ldmodel.specs.InputSections.{linked_input, object_inputs}
 use Rattle.ldmodel.specs.Live.{live}
 use Rattle.ldmodel.specs.Names.{Decision, Strong, Script, Common, Weak, Provided, Undefined, Duplicate, decision}
 use Rattle.ldmodel.specs.Project.{NamedObject, Project}
@@ -239,7 +239,7 @@ module _ (p : Project) (i : ℕ) (o : NamedObject) where
       ∙ ap (λ m. is_same_part (InTable k.origin.number) m) b.1)
 
   own_apart : EachLater (λ (x y : LinkedSection). (x.number.0 == y.number.0) ≡ false) o.object.sections
-      → EachLater Apart (inputs_of p i o)
+      → EachLater Apart (object_inputs p i o)
   own_apart h =
       later_both Apart (map (linked_input i o) o.object.sections) (common_blocks p i o)
       (tables_apart o.object.sections h) blocks_apart
@@ -262,7 +262,7 @@ module _ (p : Project) (i : ℕ) (o : NamedObject) where
   block_named e Undefined s k = absurd (let none : ⊥ = cc in none)
   block_named e Duplicate s k = absurd (let none : ⊥ = cc in none)
 
-  own_name : (s : InputSection) → Contains (inputs_of p i o) s → s.object ≡ o.name
+  own_name : (s : InputSection) → Contains (object_inputs p i o) s → s.object ≡ o.name
   own_name s c =
       ⊎_elim (λ d. let k = in_map (linked_input i o) o.object.sections s d in
       ap (λ (u : InputSection). u.object) (sym k.gives))
@@ -309,8 +309,8 @@ module _ (p : Project) (names : AreNamesDistinct p.objects) (numbers : AreNumber
   all_apart : EachLater Apart (input_sections p)
   unfolding input_sections
   all_apart =
-      later_flat_map Apart (λ (o : ℕ × NamedObject). inputs_of p o.0 o.1) (enumerate_from 0 p.objects)
-      (each_member (λ (o : ℕ × NamedObject). EachLater Apart (inputs_of p o.0 o.1)) (enumerate_from 0 p.objects)
+      later_flat_map Apart (λ (o : ℕ × NamedObject). object_inputs p o.0 o.1) (enumerate_from 0 p.objects)
+      (each_member (λ (o : ℕ × NamedObject). EachLater Apart (object_inputs p o.0 o.1)) (enumerate_from 0 p.objects)
       (λ o c. own_apart p o.0 o.1
       (member_of (λ (a : ℕ × NamedObject).
       EachLater (λ (x y : LinkedSection). (x.number.0 == y.number.0) ≡ false) a.1.object.sections)
@@ -319,7 +319,7 @@ module _ (p : Project) (names : AreNamesDistinct p.objects) (numbers : AreNumber
       EachLater (λ (x y : LinkedSection). (x.number.0 == y.number.0) ≡ false) a.object.sections) 0 p.objects
       numbers) c)))
       (later_imply (λ (a b : ℕ × NamedObject). bytes_eq a.1.name b.1.name ≡ false) (λ a b. (u v : InputSection)
-      → Contains (inputs_of p a.0 a.1) u → Contains (inputs_of p b.0 b.1) v → Apart u v)
+      → Contains (object_inputs p a.0 a.1) u → Contains (object_inputs p b.0 b.1) v → Apart u v)
       (λ a b e u v c d. ap (λ t. t && is_same_part u.id.part v.id.part)
       (ap (λ n. bytes_eq n v.object) (own_name p a.0 a.1 u c)
       ∙ ap (λ n. bytes_eq a.1.name n) (own_name p b.0 b.1 v d) ∙ e))

@@ -5,7 +5,7 @@ use Rattle.std.specs.List.{enumerate_from}
 use Rattle.std.proofs.lemmas.List.{map-append}
 use Rattle.std.proofs.lemmas.Bool.{eqb-true}
 use Rattle.ldscript.specs.statements.Numbering.{InputStatementAt, inputs_of, inputs_in, item_inputs, inputs_from, discarded_inputs}
-use Rattle.ldscript.specs.statements.Numbering.{sections_of}
+use Rattle.ldscript.specs.statements.Numbering.{item_sections}
 use Rattle.ldscript.specs.statements.declared.input.InputStatement.{InputStatement}
 use Rattle.ldscript.specs.statements.declared.place.InputPlace.TheVariants.{InSection}
 use Rattle.ldscript.specs.statements.declared.section.BodyCommand.{BodyCommand}
@@ -179,4 +179,4 @@ module _ (of : ℕ → InputStatementAt → List Piece) (mark : (n : ℕ) (i : I
   stands_later k j l [] = tt
   stands_later k j l (i ∷ is) =
       each_append (StandsIn j false) (item_inputs k i.command) _ (stands_item k j l i.command)
-      (stands_later (k + length (sections_of i.line i.command)) j (omega (arith, l)) is)
+      (stands_later (k + length (item_sections i.line i.command)) j (omega (arith, l)) is)

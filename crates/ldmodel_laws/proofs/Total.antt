@@ -13,7 +13,7 @@ use Rattle.ldscript.specs.tokens.Limits.{IsTokens}
 use Rattle.ldscript.specs.statements.Dots.{has_misplaced_dot}
 use Rattle.ldscript.specs.statements.Mentions.{HasClash}
 use Rattle.ldscript.specs.statements.declared.statement.Statement.{Statement}
-use Rattle.ldscript.specs.RefusalNumber as scripts
+use Rattle.ldscript.specs.RefusalNumber.{script_refusal_number}
 use Rattle.ldscript.specs.Script.{IsTree, IsScript, IsRefusal}
 use Rattle.ldscript.specs.declared.refusal.ScriptRefusal.{ScriptRefusal}
 use Rattle.ldscript.specs.declared.refusal.ScriptRefusal.TheVariants as reader
@@ -199,7 +199,7 @@ small_object bytes why.FieldBounds e = omega arith
 small_object bytes why.FieldOverlap e = omega arith
 small_object bytes why.NoMemory e = absurd (never_memory bytes e)
 
-small_script : (w : ScriptRefusal) → w ≢ reader.NoMemory → scripts.refusal_number w ≤ 5
+small_script : (w : ScriptRefusal) → w ≢ reader.NoMemory → script_refusal_number w ≤ 5
 small_script reader.NotTokens n = omega arith
 small_script reader.NotAScript n = omega arith
 small_script reader.Repeated n = omega arith
@@ -225,7 +225,8 @@ pub inner_of_object : (p : Project) (c : Change) (w : ObjectRefusal) → After p
 inner_of_object p c w (inl e) = absurd (subst IsEarly e (is_early p c))
 inner_of_object p c w (inr h) = late_object p c w h.1
 
-late_script : (p : Project) (c : Change) (w : ScriptRefusal) → Refuses p c (NotAScript w) → scripts.refusal_number w ≤ 5
+late_script : (p : Project) (c : Change) (w : ScriptRefusal) → Refuses p c (NotAScript w)
+    → script_refusal_number w ≤ 5
 late_script p (Add name at bytes) w h = absurd (let e = h.2 in let none : ⊥ = cc in none)
 late_script p (Replace name bytes) w h = absurd (let e = h.2 in let none : ⊥ = cc in none)
 late_script p (Move name to) w h = absurd h
@@ -234,6 +235,6 @@ late_script p (SetScript text) w h = let same : w ≡ h.0 = (let e = h.3 in cc) 
     small_script w (λ e. h.1 (sym same ∙ e))
 
 pub inner_of_script : (p : Project) (c : Change) (w : ScriptRefusal) → After p c (Err (NotAScript w))
-    → scripts.refusal_number w ≤ 5
+    → script_refusal_number w ≤ 5
 inner_of_script p c w (inl e) = absurd (subst IsEarly e (is_early p c))
 inner_of_script p c w (inr h) = late_script p c w h.1

@@ -7,7 +7,7 @@ use Rattle.ldscript.specs.terms.DotForms.{DotForm, Advance, Align, Offset, dot_f
 use Rattle.ldscript.specs.terms.Expressions as expression
 use Rattle.ldscript.specs.terms.Expressions.{Expr}
 use Rattle.ldscript.specs.statements.Numbering.{OutputSectionAt, items, items_of, output_sections, regions, regions_in}
-use Rattle.ldscript.specs.statements.Numbering.{sections_in, sections_of}
+use Rattle.ldscript.specs.statements.Numbering.{sections_in, item_sections}
 use Rattle.ldscript.specs.statements.Widths.{byte_count}
 use Rattle.ldscript.specs.statements.declared.common.Common.{Common}
 use Rattle.ldscript.specs.statements.declared.common.DotCommand.{DotCommand}
@@ -241,12 +241,12 @@ regions_traced (r ∷ ms) s t u rs os e k =
 sections_append : (xs ys : List Item) → sections_in (xs ++ ys) ≡ sections_in xs ++ sections_in ys
 sections_append [] ys = refl
 sections_append (x ∷ xs) ys =
-    ap (λ l. sections_of x.line x.command ++ l) (sections_append xs ys)
-    ∙ sym (append_assoc (sections_of x.line x.command) (sections_in xs) (sections_in ys))
+    ap (λ l. item_sections x.line x.command ++ l) (sections_append xs ys)
+    ∙ sym (append_assoc (item_sections x.line x.command) (sections_in xs) (sections_in ys))
 
 module _ (rows : List (List Piece)) (provided : List (List ℕ)) where
   item_traced : (line : ℕ) (s : Layout) (c : ItemCommand) (t u : Layout) (rs : List Region) (os : List OutputSectionAt)
-      → item_command_step rows provided line s c ≡ Ok t → Trace t rs os u → Trace s rs (sections_of line c ++ os) u
+      → item_command_step rows provided line s c ≡ Ok t → Trace t rs os u → Trace s rs (item_sections line c ++ os) u
   unfolding item_command_step
   item_traced line s (item.Dot c) t u rs os e k = nothing_added (free_dot_adds s line c t e) k
   item_traced line s (item.Common c) t u rs os e k =
@@ -264,7 +264,7 @@ module _ (rows : List (List Piece)) (provided : List (List ℕ)) where
   items_traced [] s t u rs os e k = subst (λ (v : Layout). Trace v rs os u) (sym (given_is s t e)) k
   items_traced (i ∷ is) s t u rs os e k =
       let one = came (item_step rows provided s i) (λ v. run (item_step rows provided) v is) t e in
-      subst (λ l. Trace s rs l u) (sym (append_assoc (sections_of i.line i.command) (sections_in is) os))
+      subst (λ l. Trace s rs l u) (sym (append_assoc (item_sections i.line i.command) (sections_in is) os))
       (nothing_added {t = noted s} (record { sections = refl; regions = refl })
       (item_traced i.line (noted s) i.command one.value u rs (sections_in is ++ os) one.is
       (items_traced is one.value t u rs os one.gives k)))

@@ -3,7 +3,7 @@
 ghost use Rattle.std.specs.Prelude.{◌≡◌, ◌≤◌, Err, Ok, Result};
 ghost use Rattle.elfobj.specs.RefusalNumber as object;
 ghost use Rattle.elfobj.specs.declared.refusal.ObjectRefusal.{ObjectRefusal};
-ghost use Rattle.ldscript.specs.RefusalNumber as script;
+ghost use Rattle.ldscript.specs.RefusalNumber.{script_refusal_number};
 ghost use Rattle.ldscript.specs.declared.refusal.ScriptRefusal.{ScriptRefusal};
 ghost use Rattle.ldmodel.specs.Edits.{After, AreNamesDistinct, Change, NotAScript, NotAnObject, Refusal};
 ghost use Rattle.ldmodel.specs.Edits.{edit_refusal_number};
@@ -43,5 +43,5 @@ pub fn memory_is_no_outcome()
     ensures object { (p : Project) (c : Change) (w : ObjectRefusal) → After p c (Err (NotAnObject w))
         → object.refusal_number w ≤ 13 }
     ensures script { (p : Project) (c : Change) (w : ScriptRefusal) → After p c (Err (NotAScript w))
-        → script.refusal_number w ≤ 5 }
+        → script_refusal_number w ≤ 5 }
 {}

@@ -15,7 +15,8 @@ use Rattle.ldscript_terms.specs.Grammar.{Point, AsksRegion, AsksSection, Aligns,
 use Rattle.ldscript_terms.specs.Grammar.{Sign, Other, terminal_of, Begins, BeginsUnary, BeginsBinary, BeginsNamed, Primary}
 use Rattle.ldscript_terms.specs.Grammar.{Arguments, Within, Whole, Spells, number, dot, name, group, of_region, of_section}
 use Rattle.ldscript_terms.specs.Grammar.{align, one_argument, two_arguments, primary, unary, operand, binary, operators}
-use Rattle.ldscript_terms.specs.Grammar.{choice, IsLooser, IsNoOperator, StopsAt, Stops, Reading}
+use Rattle.ldscript_terms.specs.Grammar.{choice}
+use Rattle.ldscript_terms.specs.Reading.{IsLooser, IsNoOperator, StopsAt, Stops, Reading}
 
 -- the tokens don't begin with this terminal
 abbrev pub Lacks : List Lexeme → Terminal → Type 0

@@ -2,7 +2,7 @@
 
 ghost use Rattle.std.specs.Prelude.{◌≤◌, ◌≡◌, ◌+◌, length, drop, OnErr, OnOk, IfSome};
 ghost use Rattle.ldscript.specs.terms.DotForms.{dot_form};
-ghost use Rattle.ldscript.specs.terms.Expressions.{expr_of};
+ghost use Rattle.ldscript.specs.terms.CodeTerms.{expr_of};
 ghost use Rattle.ldmodel.specs.Placement.{advanced, body_command_step, body_step, data_step, input_step, moved_on};
 ghost use Rattle.ldmodel.specs.Placement.{piece_placed, piece_start, pieces_placed, set_to};
 ghost use Rattle.ldmodel.specs.Chain.{run};
