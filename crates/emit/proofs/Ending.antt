@@ -11,8 +11,7 @@ use Rattle.ldmodel_laws.specs.Traces.{data_added, BodyEffects, no_effect, effect
 use Rattle.ldmodel_laws.specs.Traces.{nothing_added, region_added, section_added}
 use Rattle.ldmodel.specs.Placement.{Body}
 use Rattle.ldmodel.specs.Layout.{Layout, PlacedPiece, PlacedSection, nothing_placed}
-use Rattle.ldmodel.specs.Placement.{opened}
-use Rattle.ldmodel.specs.Placement.{placed_section}
+use Rattle.ldmodel.specs.Placement.{opened, placed_section}
 
 -- an input section ends at an address
 abbrev pub EndsBelow : PlacedPiece → Type 0

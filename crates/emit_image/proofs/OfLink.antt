@@ -6,10 +6,12 @@ use Rattle.std.specs.List.{All, AllZip, find}
 use Rattle.std.proofs.lemmas.Bool.Decides.{nat_tests}
 use Rattle.std.proofs.lemmas.List.FromFn.{fill_by_all}
 use Rattle.byteorder.specs.Endian.{little_bytes}
-use Rattle.ldmodel.specs.Image.{byte_at, byte_past_headers, covers, covering_data, covering_piece, fill_byte}
-use Rattle.ldmodel.specs.Image.{file_headers}
-use Rattle.ldmodel.specs.Image.{output_byte, part_byte, file_section_at, tail_at}
+use Rattle.ldmodel.specs.Image.{byte_at, covers, covering_data, covering_piece, file_headers, file_section_at}
+use Rattle.ldmodel.specs.Image.{fill_byte, tail_at}
 use Rattle.ldmodel.specs.Image as image
+use Rattle.ldmodel_laws.specs.ByteCases.{byte_past_headers, output_byte, part_byte}
+use Rattle.ldmodel_laws.specs.ByteCases as cases
+use Rattle.ldmodel_laws.proofs.ByteCases.{by_cases}
 use Rattle.ldmodel.specs.Layout.{Layout, PlacedPiece, PlacedSection}
 use Rattle.ldmodel.specs.Layout as layout
 use Rattle.ldmodel.specs.Project.{Project}
@@ -128,7 +130,7 @@ module _ (p : Project) (s : Layout) where
         ∙ ap (λ (ns : List ℕ). fill_byte x.section.fill (at - last_end at x.section.start ns)) same-ends
 
     piece-same : (at : ℕ) (u : PlacedPiece) (v : ImagePiece) → IsImagePiece p s u v → v.stays ≡ false
-        → covers_piece at v ≡ true → piece_byte at v ≡ image.piece_byte p s at u
+        → covers_piece at v ≡ true → piece_byte at v ≡ cases.piece_byte p s at u
     piece-same at u v r e c =
         let low : v.start ≤ at = covers-low v.start v.size at c in
         let high : at < v.start + v.size = covers-high v.start v.size at c in
@@ -142,7 +144,7 @@ module _ (p : Project) (s : Layout) where
 
     among : (at : ℕ) (u : Option PlacedPiece) (v : Option ImagePiece) (w : Option layout.PlacedData)
         (z : Option PlacedData) → Both (IsImagePiece p s) (covers_piece at) u v → Both IsImageData (covers_data at) w z
-        → (spot_among y at v z).stays ≡ false → (spot_among y at v z).byte ≡ image.byte_among p s x.section at u w
+        → (spot_among y at v z).stays ≡ false → (spot_among y at v z).byte ≡ cases.byte_among p s x.section at u w
     among at u v w z (both r t) d e = piece-same at _ _ r e t
     among at u v w z neither (both r t) e = data-same at _ _ r
     among at u v w z neither neither e = gap-same at
@@ -195,10 +197,10 @@ module _ (p : Project) (s : Layout) where
   -- a byte of the image
   pub drawing-same : (d : Drawing) → IsDrawingOf p s d → (o : ℕ) → (drawing_spot d o).stays ≡ false
       → (drawing_spot d o).byte ≡ byte_at p s o
-  unfolding drawing_spot byte_at
+  unfolding drawing_spot
   drawing-same d h o e =
       go (nat_lt o (length d.headers.now)) (nat_lt o (length (file_headers p s)))
-      (ap (λ (bs : List ℕ). nat_lt o (length bs)) h.headers) e
+      (ap (λ (bs : List ℕ). nat_lt o (length bs)) h.headers) e ∙ sym (by_cases p s o)
     where
       there : Spot
       there = spot_past_headers o (find (covers_section o) d.sections.now) (find (covers_part o) d.tail.now)

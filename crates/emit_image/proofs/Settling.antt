@@ -16,8 +16,7 @@ use Rattle.ldmodel_laws.specs.Traces.{nothing_added, region_added, section_added
 use Rattle.ldmodel.specs.Placement.{Body}
 use Rattle.ldmodel.specs.Each.{Each}
 use Rattle.ldmodel.specs.Layout.{Layout, PlacedData, PlacedPiece, PlacedSection, nothing_placed}
-use Rattle.ldmodel.specs.Placement.{opened}
-use Rattle.ldmodel.specs.Placement.{placed_section}
+use Rattle.ldmodel.specs.Placement.{opened, placed_section}
 use Rattle.ldmodel.specs.Segments.{end_of, nonempty}
 use Rattle.emit_image.specs.InMemory.{DataInOrder, IsInMemory, PiecesInOrder}
 

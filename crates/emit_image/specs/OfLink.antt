@@ -4,7 +4,8 @@ use Rattle.std.specs.List.{All, AllZip}
 use Rattle.byteorder.specs.Endian.{little_bytes}
 use Rattle.emit_fields.specs.Patches.{patched_byte}
 use Rattle.ldmodel.specs.Image as image
-use Rattle.ldmodel.specs.Image.{fill_byte, part_byte}
+use Rattle.ldmodel.specs.Image.{fill_byte}
+use Rattle.ldmodel_laws.specs.ByteCases.{part_byte}
 use Rattle.ldmodel.specs.Layout.{Layout, PlacedPiece}
 use Rattle.ldmodel.specs.Layout as layout
 use Rattle.ldmodel.specs.Project.{Project}

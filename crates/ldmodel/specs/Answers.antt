@@ -4,8 +4,7 @@ use Rattle.std.specs.Prelude.{◌≡◌, ℕ, ◌⊎◌, List, [], ◌∷◌, �
 use Rattle.ldmodel.specs.Commands.{Command, Edit, Ask, Query, Image, Map, Faults, AreCommands, IsBad, spelling}
 use Rattle.ldmodel.specs.Project.{Project}
 use Rattle.ldmodel.specs.Edits.{Change, Add, Replace, Move, Remove, SetScript, After, Refusal, NoMemory}
-use Rattle.ldmodel.specs.Edits.{edit_refusal_number}
-use Rattle.ldmodel.specs.Edits.{inner_number}
+use Rattle.ldmodel.specs.Edits.{edit_refusal_number, inner_number}
 use Rattle.ldmodel.specs.Link.{Link, link}
 
 -- a word, two numbers and a line feed

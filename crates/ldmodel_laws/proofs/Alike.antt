@@ -24,10 +24,9 @@ use Rattle.ldscript.specs.statements.declared.section.BodyCommand.{BodyCommand}
 use Rattle.ldscript.specs.statements.declared.section.BodyCommand.TheVariants as body
 use Rattle.ldscript.specs.statements.declared.section.BodyStatement.{BodyStatement}
 use Rattle.ldscript.specs.statements.declared.section.Width.{Width}
-use Rattle.ldmodel.specs.Placement.{assigned, common_step}
-use Rattle.ldmodel.specs.Placement.{Body, piece_placed, piece_start, pieces_placed, input_step, with_dot, with_data}
-use Rattle.ldmodel.specs.Placement.{data_step}
-use Rattle.ldmodel.specs.Placement.{moved_on, advanced, set_to, dot_step, body_command_step, body_step}
+use Rattle.ldmodel.specs.Placement.{assigned, common_step, Body, piece_placed, piece_start, pieces_placed, input_step}
+use Rattle.ldmodel.specs.Placement.{with_dot, with_data, data_step, moved_on, advanced, set_to, dot_step}
+use Rattle.ldmodel.specs.Placement.{body_command_step, body_step}
 use Rattle.ldmodel.specs.Chain.{and_then}
 use Rattle.ldmodel.specs.Fault.{Fault, MovedBack}
 use Rattle.ldmodel.specs.Layout.{Layout, ScriptSymbol, address, noted, number, scope_of, script_value, symbol_named}

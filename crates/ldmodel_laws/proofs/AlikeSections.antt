@@ -15,16 +15,14 @@ use Rattle.ldscript.specs.statements.declared.statement.Item.{Item}
 use Rattle.ldscript.specs.statements.declared.statement.ItemCommand.{ItemCommand}
 use Rattle.ldscript.specs.statements.declared.statement.ItemCommand.TheVariants as item
 use Rattle.ldmodel.specs.Arithmetic.{plus_modulo}
-use Rattle.ldmodel.specs.Placement.{common_step}
-use Rattle.ldmodel.specs.Placement.{Body, body_step}
+use Rattle.ldmodel.specs.Placement.{common_step, Body, body_step}
 use Rattle.ldmodel.specs.Chain.{and_then, run}
 use Rattle.ldmodel.specs.Fault.{Fault}
 use Rattle.ldmodel.specs.Layout.{Layout, PlacedSection, ScriptSymbol, address, noted, number}
 use Rattle.ldmodel.specs.Placement.{free_dot_step, item_command_step, item_step, next_row, opened, section_step}
 use Rattle.ldmodel.specs.Rows.{Piece}
 use Rattle.ldmodel.specs.Placement.{find_region, load_region, placed_section, section_end, with_room, with_section}
-use Rattle.ldmodel.specs.Placement.{Given, Head, first_free, given, given_alignment, given_load, head_of}
-use Rattle.ldmodel.specs.Placement.{load_address}
+use Rattle.ldmodel.specs.Placement.{Given, Head, first_free, given, given_alignment, given_load, head_of, load_address}
 use Rattle.ldmodel.specs.Placement.{number_if_given, section_start, widest}
 use Rattle.ldmodel_laws.specs.Alike.{AreAlike, AreBodiesAlike, AreSameBefore, AreSymbolsAlike, given_names, names_given}
 use Rattle.ldmodel_laws.specs.Alike.{with_symbols}

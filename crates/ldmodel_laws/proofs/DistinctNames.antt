@@ -10,8 +10,7 @@ use Rattle.std.proofs.lemmas.List.Sums.{sum_by-cons, sum_by-insert, sum_by-remov
 use Rattle.ldmodel.specs.Project.{Project, NamedObject}
 use Rattle.ldmodel.specs.Edits.{Change, Add, Replace, Move, Remove, SetScript, Refusal, InUse, has_name, place_of}
 use Rattle.ldmodel.specs.Edits.{is_in_use, AreNamesDistinct, early_refusal, new_object, unnamed, replaced, moved}
-use Rattle.ldmodel.specs.Edits.{removed}
-use Rattle.ldmodel.specs.Edits.{After}
+use Rattle.ldmodel.specs.Edits.{removed, After}
 
 -- 1 where the test passes
 abbrev one_if : Bool → ℕ

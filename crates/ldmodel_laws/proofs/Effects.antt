@@ -19,10 +19,8 @@ use Rattle.ldscript.specs.statements.declared.section.OutputSection.{OutputSecti
 use Rattle.ldscript.specs.statements.declared.section.Width.{Width}
 use Rattle.ldscript.specs.statements.declared.section.Width.TheVariants.{Byte, Short, Long, Quad}
 use Rattle.ldscript.specs.statements.declared.statement.Region.{Region}
-use Rattle.ldmodel.specs.Placement.{assigned, common_step}
-use Rattle.ldmodel.specs.Placement.{Body, piece_placed, pieces_placed, body_command_step, with_dot, with_data}
-use Rattle.ldmodel.specs.Placement.{data_step}
-use Rattle.ldmodel.specs.Placement.{moved_on, advanced, set_to, dot_step, body_step}
+use Rattle.ldmodel.specs.Placement.{assigned, common_step, Body, piece_placed, pieces_placed, body_command_step}
+use Rattle.ldmodel.specs.Placement.{with_dot, with_data, data_step, moved_on, advanced, set_to, dot_step, body_step}
 use Rattle.ldmodel.specs.Chain.{and_then, run}
 use Rattle.ldmodel.specs.Fault.{Fault, MovedBack, PastAddressSpace}
 use Rattle.ldmodel.specs.Layout.{Layout, PlacedSection, address, number, with_symbol}

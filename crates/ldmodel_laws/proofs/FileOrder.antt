@@ -9,8 +9,7 @@ use Rattle.ldmodel_laws.specs.FileLayout.{Neighbours, IsTogether, Shares}
 use Rattle.ldmodel.specs.Layout.{PlacedSection}
 use Rattle.ldmodel.specs.Segments.{Group, Segment, SectionInFile, in_file, in_segment, has_file_bytes, headers_end}
 use Rattle.ldmodel.specs.Segments.{segment_start, end_of, reach, file_size, file_end, segments, group_sections, groups}
-use Rattle.ldmodel.specs.Segments.{begun}
-use Rattle.ldmodel.specs.Segments.{begun_from, nonempty}
+use Rattle.ldmodel.specs.Segments.{begun, begun_from, nonempty}
 use Rattle.ldmodel_laws.specs.FileOrder.{with_file_bytes, end_in_file, AreInFileOrder}
 use Rattle.ldmodel_laws.specs.Spread.{EachLater}
 use Rattle.ldmodel_laws.proofs.Grouped.{is_grouping}

@@ -13,7 +13,8 @@ use Rattle.elfobj.specs.declared.relocation.Relocation.{Relocation}
 use Rattle.emit_fields.specs.Patches as patches
 use Rattle.emit_fields.specs.Patches.{patched_byte, patch_end}
 use Rattle.emit_fields.specs.declared.patch.Patch.{Patch}
-use Rattle.ldmodel.specs.Image.{byte_at, object_named, part_byte, section_byte, section_numbered}
+use Rattle.ldmodel.specs.Image.{byte_at, object_named, section_numbered}
+use Rattle.ldmodel_laws.specs.ByteCases.{part_byte, section_byte}
 use Rattle.ldmodel.specs.Layout.{Layout, PlacedPiece, PlacedSection}
 use Rattle.ldmodel.specs.Project.{NamedObject, Project}
 use Rattle.ldmodel.specs.Relocations.{Site, fields_of, is_evaluated, patch_of, site_field, sites_at}

@@ -31,6 +31,7 @@ pub mod Traced
 pub mod Total
 pub mod Courses
 pub mod Finding
+pub mod ByteCases
 pub mod PieceBytes
 pub mod Untouched
 pub mod InImage

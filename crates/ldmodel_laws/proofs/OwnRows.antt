@@ -4,8 +4,7 @@ use Rattle.std.proofs.Common.{map, Ok, refl, sym, ap, ◌∙◌, arith, append-n
 use Rattle.std.specs.List.{range_with_len}
 use Rattle.std.proofs.lemmas.Bool.{eq-eqb, eqb-true}
 use Rattle.ldscript.specs.statements.Numbering.{InputStatementAt, items, inputs_in, item_inputs, inputs_from}
-use Rattle.ldscript.specs.statements.Numbering.{item_sections}
-use Rattle.ldscript.specs.statements.Numbering.{sections_in}
+use Rattle.ldscript.specs.statements.Numbering.{item_sections, sections_in}
 use Rattle.ldscript.specs.statements.declared.place.InputPlace.TheVariants.{InSection}
 use Rattle.ldscript.specs.statements.declared.statement.Item.{Item}
 use Rattle.ldscript.specs.statements.declared.statement.ItemCommand.{ItemCommand}

@@ -8,19 +8,18 @@ use Rattle.std.proofs.lemmas.Bool.{true≢false, false≢true, lt-ltb, le-leb, l
 use Rattle.std.proofs.lemmas.Slice.Eq.{bytes_eq-Decides}
 use Rattle.ldmodel.specs.Each.{Each}
 use Rattle.ldmodel.specs.Headers.{elf_header, program_header, program_headers, ascending}
-use Rattle.ldmodel.specs.Image.{byte_at, byte_past_headers, covering_data, covering_piece, covers, file_headers}
-use Rattle.ldmodel.specs.Image.{output_byte}
-use Rattle.ldmodel.specs.Image.{part_byte, file_section_at, tail_at, byte_among}
+use Rattle.ldmodel.specs.Image.{byte_at, covering_data, covering_piece, covers, file_headers, file_section_at, tail_at}
 use Rattle.ldmodel.specs.Layout.{Layout, PlacedPiece, PlacedSection}
 use Rattle.ldmodel.specs.Project.{Project}
 use Rattle.ldmodel.specs.Segments.{Group, Segment, SectionInFile, file_offset, groups, has_file_bytes, headers_end}
 use Rattle.ldmodel.specs.Segments.{in_file, in_segment, loaded_end, begun, begun_from, file_end, nonempty}
-use Rattle.ldmodel.specs.Segments.{group_sections}
-use Rattle.ldmodel.specs.Segments.{segments}
+use Rattle.ldmodel.specs.Segments.{group_sections, segments}
 use Rattle.ldmodel.specs.Sorting.{insert_by, sort_by}
+use Rattle.ldmodel_laws.specs.ByteCases.{byte_among, byte_past_headers, output_byte, part_byte}
 use Rattle.ldmodel_laws.specs.FileOrder.{AreInFileOrder, end_in_file}
 use Rattle.ldmodel_laws.specs.ImageBytes.{AreNamed, offset_in_file}
 use Rattle.ldmodel_laws.specs.Spread.{EachLater, IsSpread, piece_end}
+use Rattle.ldmodel_laws.proofs.ByteCases.{by_cases}
 use Rattle.ldmodel_laws.proofs.FileOrder.{files_in_order}
 use Rattle.ldmodel_laws.proofs.Finding.{Comes, NotBoth, each_member, find_filter, find_only, in_map, later_imply, member_of}
 use Rattle.ldmodel_laws.proofs.Grouped.{is_grouping}
@@ -284,9 +283,9 @@ module _ (p : Project) (s : Layout) (q : PlacedSection) (x : PlacedPiece) (i : �
       among (covering x.start x.piece.size (x.start + i) (omega arith) (omega (arith, low)))
 
   pub byte_of_piece : byte_at p s at ≡ part_byte p s x.piece.object x.piece.part x.start i
-  unfolding byte_at
   byte_of_piece =
-      ap (λ b. cond b (slice_index (file_headers p s) at) (byte_past_headers p s at (file_section_at s at)
+      by_cases p s at
+      ∙ ap (λ b. cond b (slice_index (file_headers p s) at) (byte_past_headers p s at (file_section_at s at)
         (tail_at p s at)))
       not_header
       ∙ ap (λ m. byte_past_headers p s at m (tail_at p s at)) section_found

@@ -18,8 +18,7 @@ use Rattle.ldmodel.specs.Layout.{Layout, noted, nothing_placed}
 use Rattle.ldmodel.specs.Placement.{command_step, item_command_step, item_step, opened, placement, region_step}
 use Rattle.ldmodel.specs.Placement.{section_step, statement_step, next_row}
 use Rattle.ldmodel.specs.Rows.{Piece, piece_alignment}
-use Rattle.ldmodel.specs.Placement.{section_end}
-use Rattle.ldmodel.specs.Placement.{Head, head_of}
+use Rattle.ldmodel.specs.Placement.{section_end, Head, head_of}
 use Rattle.ldmodel_laws.specs.Placed.{Pieces, none, other, one_more, PieceFails, first, after_one, InputsTo, past_inputs}
 use Rattle.ldmodel_laws.specs.Placed.{SectionTo}
 use Rattle.ldmodel_laws.specs.Placed.{BodyCommandTo, BodyCommandAt, BodyTo, BodyAt, SectionAt, in_head, in_body, at_end}

@@ -4,8 +4,8 @@ use Rattle.std.proofs.Common.{flat_map, Ok, refl, sym, ap, ◌∙◌, subst, ari
 use Rattle.std.specs.List.{enumerate_from}
 use Rattle.std.proofs.lemmas.List.{map-append}
 use Rattle.std.proofs.lemmas.Bool.{eqb-true}
-use Rattle.ldscript.specs.statements.Numbering.{InputStatementAt, inputs_of, inputs_in, item_inputs, inputs_from, discarded_inputs}
-use Rattle.ldscript.specs.statements.Numbering.{item_sections}
+use Rattle.ldscript.specs.statements.Numbering.{InputStatementAt, inputs_of, inputs_in, item_inputs, inputs_from}
+use Rattle.ldscript.specs.statements.Numbering.{discarded_inputs, item_sections}
 use Rattle.ldscript.specs.statements.declared.input.InputStatement.{InputStatement}
 use Rattle.ldscript.specs.statements.declared.place.InputPlace.TheVariants.{InSection}
 use Rattle.ldscript.specs.statements.declared.section.BodyCommand.{BodyCommand}

@@ -25,10 +25,8 @@ use Rattle.ldscript.specs.statements.declared.statement.ItemCommand.{ItemCommand
 use Rattle.ldscript.specs.statements.declared.statement.ItemCommand.TheVariants as item
 use Rattle.ldscript.specs.statements.declared.statement.Region.{Region}
 use Rattle.ldscript.specs.statements.declared.statement.Statement.{Statement}
-use Rattle.ldmodel.specs.Placement.{common_step}
-use Rattle.ldmodel.specs.Placement.{Body, advanced, body_command_step, body_step, data_step, dot_step, moved_on}
-use Rattle.ldmodel.specs.Placement.{piece_placed}
-use Rattle.ldmodel.specs.Placement.{pieces_placed, set_to, with_data, with_dot}
+use Rattle.ldmodel.specs.Placement.{common_step, Body, advanced, body_command_step, body_step, data_step, dot_step}
+use Rattle.ldmodel.specs.Placement.{moved_on, piece_placed, pieces_placed, set_to, with_data, with_dot}
 use Rattle.ldmodel.specs.Chain.{and_then, run}
 use Rattle.ldmodel.specs.Fault.{Fault, MovedBack, PastAddressSpace}
 use Rattle.ldmodel.specs.Layout.{Layout, address, noted, nothing_placed, number}

@@ -17,18 +17,17 @@ use Rattle.emit_fields.specs.Patches as patches
 use Rattle.emit_fields.specs.Patches.{patched_byte, patch_end}
 use Rattle.emit_fields.specs.declared.patch.Patch.{Patch}
 use Rattle.ldmodel.specs.Each.{Each}
-use Rattle.ldmodel.specs.Image.{byte_at, object_byte, object_named, part_byte, section_byte, section_numbered}
+use Rattle.ldmodel.specs.Image.{byte_at, object_named, section_numbered}
+use Rattle.ldmodel_laws.specs.ByteCases.{object_byte, part_byte, section_byte}
 use Rattle.ldmodel.specs.Layout.{Layout, PlacedPiece, PlacedSection}
 use Rattle.ldmodel.specs.Project.{NamedObject, Project}
 use Rattle.ldmodel.specs.Relocations.{Site, site_field_with, is_evaluated, patch_of, site_field, site_symbol}
-use Rattle.ldmodel.specs.Relocations.{site_value}
-use Rattle.ldmodel.specs.Relocations.{sites_at}
+use Rattle.ldmodel.specs.Relocations.{site_value, sites_at}
 use Rattle.ldmodel.specs.Sections.{is_same_part}
 use Rattle.ldmodel.specs.Segments.{Segment, file_offset, has_file_bytes, segments}
 use Rattle.ldmodel.specs.Stayed.{FileRange, GoodLink, LinkedPiece, has_stayed, is_moved, linked_piece, linked_pieces}
 use Rattle.ldmodel.specs.Stayed.{link_pieces, range_in, retargeted, same_piece, sites_in, sites_in_part}
-use Rattle.ldmodel.specs.Stayed.{sites_in_section}
-use Rattle.ldmodel.specs.Stayed.{stayed, text_of, site_value_in}
+use Rattle.ldmodel.specs.Stayed.{sites_in_section, stayed, text_of, site_value_in}
 use Rattle.ldmodel.specs.SymbolValues.{SymbolValue, Number, NotDefined, NotInOutput, number_or_0}
 use Rattle.ldmodel.specs.Targets.{referenced_value, target_number, target_of}
 use Rattle.ldmodel.specs.declared.sections.Part.{Part}

@@ -8,8 +8,7 @@ use Rattle.ldmodel.specs.Placement.{Body, with_data, with_dot}
 use Rattle.ldmodel.specs.Layout.{Layout, noted, with_symbol}
 use Rattle.ldmodel.specs.Placement.{opened, with_region}
 use Rattle.ldmodel.specs.Rows.{Piece, piece_alignment}
-use Rattle.ldmodel.specs.Placement.{placed_section, with_section}
-use Rattle.ldmodel.specs.Placement.{Head}
+use Rattle.ldmodel.specs.Placement.{placed_section, with_section, Head}
 use Rattle.ldmodel_laws.specs.Placed.{IsLeastMultiple, with_piece}
 
 -- what a statement of a body does: `.` before it is kept, an input statement is counted, a symbol is given a value, `.`

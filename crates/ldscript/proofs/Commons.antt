@@ -7,8 +7,7 @@ use Rattle.ldscript_tokens.specs.declared.token.Mode.{Mode}
 use Rattle.ldscript_terms.specs.Expressions.{Expr}
 use Rattle.ldscript.specs.Steps.{◌▸◌, mark, name_in, string}
 use Rattle.ldscript.specs.Grammar.{ended, dot_set_to, dot_change, assign, provided_name, provided_assignment, provide}
-use Rattle.ldscript.specs.Grammar.{asserted}
-use Rattle.ldscript.specs.Grammar.{assertion, common}
+use Rattle.ldscript.specs.Grammar.{asserted, assertion, common}
 use Rattle.ldscript.specs.Readings.{NoneAt}
 use Rattle.ldscript_statements.specs.declared.common.Common.TheVariants as commons
 use Rattle.ldscript_statements.specs.declared.common.DotCommand.TheVariants.{Set, Add}

@@ -15,8 +15,7 @@ use Rattle.ldscript_terms.specs.Reading.{Stops, StopsAt}
 use Rattle.ldscript.specs.Steps.{Rule, ◌▸◌, token, mark, word_in, key, is_name_spelling, is_name_in, name_in, name}
 use Rattle.ldscript.specs.Steps.{string, expression}
 use Rattle.ldscript.specs.Grammar.{ended, dot_set_to, add_to, dot_change, dot_command, assign, provided_name}
-use Rattle.ldscript.specs.Grammar.{provided_assignment}
-use Rattle.ldscript.specs.Grammar.{provide, asserted, assertion, common, in_parentheses}
+use Rattle.ldscript.specs.Grammar.{provided_assignment, provide, asserted, assertion, common, in_parentheses}
 use Rattle.ldscript_statements.specs.declared.common.Assignment.{Assignment}
 use Rattle.ldscript_statements.specs.declared.common.Assertion.{Assertion}
 use Rattle.ldscript_statements.specs.declared.common.Common.TheVariants as commons

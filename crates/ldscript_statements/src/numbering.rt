@@ -3,10 +3,10 @@
 ghost use Rattle.std.specs.Prelude.{◌≡◌, ◌≤◌, [], ◌∷◌, OnOk, IfOk, length};
 ghost use Rattle.std.specs.Option.{option_copied};
 ghost use Rattle.ldscript_statements.specs.Numbering.{items, items_of, item_sections, sections_in, output_sections};
-ghost use Rattle.ldscript_statements.specs.Numbering.{inputs_of};
-ghost use Rattle.ldscript_statements.specs.Numbering.{inputs_in, discarded_inputs, item_inputs, inputs_from, input_statements};
-ghost use Rattle.ldscript_statements.specs.Numbering.{commons_of, commons_in, item_commons, items_commons, top_commons};
-ghost use Rattle.ldscript_statements.specs.Numbering.{common_commands, regions, regions_in, entry_of};
+ghost use Rattle.ldscript_statements.specs.Numbering.{inputs_of, inputs_in, discarded_inputs, item_inputs, inputs_from};
+ghost use Rattle.ldscript_statements.specs.Numbering.{input_statements, commons_of, commons_in, item_commons};
+ghost use Rattle.ldscript_statements.specs.Numbering.{items_commons, top_commons, common_commands, regions, regions_in};
+ghost use Rattle.ldscript_statements.specs.Numbering.{entry_of};
 ghost use Rattle.ldscript_statements.specs.Numbered.{AddsItems, AddsSections, AddsInputs, AddsCommons, AddsRegions, shown_items};
 ghost use Rattle.ldscript_statements.specs.Numbered.{shown_sections, shown_inputs, shown_commons, shown_regions};
 

@@ -10,10 +10,10 @@ use Rattle.ldscript_terms.specs.declared.operator.BinaryOperator.{BinaryOperator
 use Rattle.ldscript_terms.specs.declared.expression.RegionQuery.{RegionQuery}
 use Rattle.ldscript_terms.specs.declared.expression.SectionQuery.{SectionQuery}
 use Rattle.ldscript_terms.specs.Expressions.{Expr}
-use Rattle.ldscript_terms.specs.Grammar.{AsksRegion, AsksSection, Aligns, Free, Reserved, Worded, Sign, terminal_of, Begins}
-use Rattle.ldscript_terms.specs.Grammar.{BeginsUnary, BeginsBinary, BeginsNamed, Primary, Arguments, Within, Whole, Spells}
-use Rattle.ldscript_terms.specs.Grammar.{number, dot, name, group, of_region, of_section, align, one_argument, two_arguments}
-use Rattle.ldscript_terms.specs.Grammar.{primary, unary, operators, choice}
+use Rattle.ldscript_terms.specs.Grammar.{AsksRegion, AsksSection, Aligns, Free, Reserved, Worded, Sign, terminal_of}
+use Rattle.ldscript_terms.specs.Grammar.{Begins, BeginsUnary, BeginsBinary, BeginsNamed, Primary, Arguments, Within}
+use Rattle.ldscript_terms.specs.Grammar.{Whole, Spells, number, dot, name, group, of_region, of_section, align}
+use Rattle.ldscript_terms.specs.Grammar.{one_argument, two_arguments, primary, unary, operators, choice}
 use Rattle.ldscript_terms.specs.Reading.{Stops, Reading, NoReading, Reads}
 use Rattle.ldscript_terms.proofs.Readings.{Lacks, begins_same, Shape, primary_shape, primary_begins_no_unary, primary_reading}
 use Rattle.ldscript_terms.proofs.Readings.{align_reading, unary_same, binary_same, level_tail, tail_stops, Tail, done, longer}

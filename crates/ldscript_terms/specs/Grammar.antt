@@ -7,8 +7,7 @@
 --   within 0  = primary | unary operator, within 0
 --   within n  = within n-1 | within n, operator of level n, within n-1          for n from 1 to 9
 --   whole     = within 9 | within 9 "?" whole ":" whole
-use Rattle.std.specs.Prelude.{◌≡◌, ℕ, suc, ◌^◌, ◌<◌, List, ◌∷◌, Some, if◌then◌else◌, codes}
-use Rattle.std.specs.Prelude.{bytes_eq}
+use Rattle.std.specs.Prelude.{◌≡◌, ℕ, suc, ◌^◌, ◌<◌, List, ◌∷◌, Some, if◌then◌else◌, codes, bytes_eq}
 use Rattle.ldscript_tokens.specs.Tokens as token
 use Rattle.ldscript_tokens.specs.Tokens.{Token, Lexeme}
 use Rattle.ldscript_tokens.specs.Numbers.{number_value}

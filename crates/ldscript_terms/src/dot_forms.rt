@@ -2,8 +2,7 @@
 
 ghost use Rattle.std.specs.Prelude.{◌≡◌};
 ghost use Rattle.ldscript_terms.specs.DotForms.{dot_form};
-ghost use Rattle.ldscript_terms.specs.CodeTerms.{maybe_form_of};
-ghost use Rattle.ldscript_terms.specs.CodeTerms.{expr_of};
+ghost use Rattle.ldscript_terms.specs.CodeTerms.{maybe_form_of, expr_of};
 
 use crate::expression::Expr;
 use crate::operator::BinaryOperator;

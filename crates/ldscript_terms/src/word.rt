@@ -2,8 +2,7 @@
 
 ghost use Rattle.std.specs.Prelude.{◌≡◌, ◌↔◌, ◌<◌, ◌≤◌, ◌∷◌, [], IfOk, IfSome, IsTrue, List, MatchOption, drop, length};
 ghost use Rattle.std.specs.Option.{option_map};
-ghost use Rattle.ldscript_terms.specs.CodeTerms.{exact_name};
-ghost use Rattle.ldscript_terms.specs.CodeTerms.{IsPlace, part_of};
+ghost use Rattle.ldscript_terms.specs.CodeTerms.{exact_name, IsPlace, part_of};
 ghost use Rattle.ldscript_terms.specs.Parts.{Part};
 ghost use Rattle.ldscript_terms.specs.Spelling.{SpellsPattern};
 ghost use Rattle.ldscript_terms.specs.Trying.{BeginsWith, EndsHere, IsSpelled};

@@ -1,6 +1,6 @@
 -- In which mode each token of a script is read, and the cut of a whole text.
-use Rattle.std.specs.Prelude.{◌≡◌, ℕ, ◌+◌, ◌-◌, List, [], ◌∷◌, take, drop, count_by, Bool, ◌==◌, if◌then◌else◌}
-use Rattle.std.specs.Prelude.{codes, bytes_eq}
+use Rattle.std.specs.Prelude.{◌≡◌, ℕ, ◌+◌, ◌-◌, List, [], ◌∷◌, take, drop, count_by, Bool, ◌==◌, if◌then◌else◌, codes}
+use Rattle.std.specs.Prelude.{bytes_eq}
 use Rattle.std.specs.List.{list_any}
 use Rattle.ldscript_tokens.specs.Tokens.{Token, Lexeme, lexeme, Word, Punctuation, End, Blank, Begins, front}
 use Rattle.ldscript_tokens.specs.declared.token.Mode.{Mode}

@@ -4,8 +4,8 @@
 use Rattle.std.specs.Prelude.{ℕ, ◌+◌, List, [], ◌∷◌, take, drop, length, slice_index, Option, Some, None, Bool, not}
 use Rattle.std.specs.Prelude.{◌&&◌, ◌||◌, ◌==◌, if◌then◌else◌, codes, bytes_eq}
 use Rattle.std.specs.Option.{option_map}
-use Rattle.ldscript_tokens.specs.Bytes.{is_space, is_name_start, is_name_byte, is_decimal_digit, is_octal_digit, is_hex_digit}
-use Rattle.ldscript_tokens.specs.Bytes.{is_word_byte, is_escapable, is_text_byte, run_length}
+use Rattle.ldscript_tokens.specs.Bytes.{is_space, is_name_start, is_name_byte, is_decimal_digit, is_octal_digit}
+use Rattle.ldscript_tokens.specs.Bytes.{is_hex_digit, is_word_byte, is_escapable, is_text_byte, run_length}
 use Rattle.ldscript_tokens.specs.Marks.{MarkRow, longest_mark}
 use Rattle.ldscript_tokens.specs.declared.token.Mode.{Mode}
 use Rattle.ldscript_tokens.specs.declared.token.Mode.TheVariants.{Expression, Pattern}

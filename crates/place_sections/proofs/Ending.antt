@@ -8,8 +8,7 @@ use Rattle.ldmodel.specs.Fault.{Fault}
 use Rattle.ldmodel.specs.Arithmetic.{is_address}
 use Rattle.ldmodel.specs.Fault.{PastAddressSpace}
 use Rattle.ldmodel.specs.Layout.{PlacedSection, address, region_named}
-use Rattle.ldmodel.specs.Placement.{placed_section, section_end, with_section, with_room, load_region}
-use Rattle.ldmodel.specs.Placement.{Head}
+use Rattle.ldmodel.specs.Placement.{placed_section, section_end, with_section, with_room, load_region, Head}
 use Rattle.place_terms.specs.Keyed.{KeyedSection, section_of}
 use Rattle.place_terms.specs.Naming.{Naming}
 use Rattle.place_terms.specs.Outputs.{Outputs}

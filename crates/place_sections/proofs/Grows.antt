@@ -17,9 +17,8 @@ use Rattle.ldscript.specs.statements.declared.common.DotCommand.TheVariants.{Set
 use Rattle.ldscript.specs.statements.declared.section.BodyCommand.{BodyCommand}
 use Rattle.ldscript.specs.statements.declared.section.BodyCommand.TheVariants as body
 use Rattle.ldscript.specs.statements.declared.section.BodyStatement.{BodyStatement}
-use Rattle.ldmodel.specs.Placement.{assigned, common_step}
-use Rattle.ldmodel.specs.Placement.{Body, advanced, body_command_step, body_step, input_step, moved_on}
-use Rattle.ldmodel.specs.Placement.{piece_placed, piece_start, pieces_placed, set_to, with_data, with_dot}
+use Rattle.ldmodel.specs.Placement.{assigned, common_step, Body, advanced, body_command_step, body_step, input_step}
+use Rattle.ldmodel.specs.Placement.{moved_on, piece_placed, piece_start, pieces_placed, set_to, with_data, with_dot}
 use Rattle.ldmodel.specs.Chain.{and_then, run}
 use Rattle.ldmodel.specs.Fault.{Fault, MovedBack}
 use Rattle.ldmodel.specs.Layout.{Layout, address, PlacedPiece, number, noted, with_symbol}

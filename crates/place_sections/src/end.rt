@@ -3,8 +3,8 @@
 ghost use Rattle.std.specs.Prelude.{◌+◌, ◌++◌, [], ◌∷◌, length, OnOk, ◌≡◌, ◌==◌, ◌&&◌, ◌||◌, if◌then◌else◌, not};
 ghost use Rattle.std.specs.Option.{option_copied, option_and_then};
 ghost use Rattle.ldmodel.specs.Layout.{region_named};
-ghost use Rattle.ldmodel.specs.Placement.{freed_from, body_has_file_bytes, has_flag, is_within};
-ghost use Rattle.ldmodel.specs.Placement.{load_region, placed_section, section_end, with_room};
+ghost use Rattle.ldmodel.specs.Placement.{freed_from, body_has_file_bytes, has_flag, is_within, load_region};
+ghost use Rattle.ldmodel.specs.Placement.{placed_section, section_end, with_room};
 ghost use Rattle.place_terms.specs.Keyed.{KeyedSection, section_of};
 ghost use Rattle.place_terms.specs.Naming.{Naming};
 ghost use Rattle.place_terms.specs.Outputs.{IsOutput};

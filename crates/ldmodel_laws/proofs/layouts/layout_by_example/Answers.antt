@@ -3,8 +3,7 @@ use Rattle.std.proofs.Common.{refl}
 use Rattle.ldscript.specs.terms.Grammar.{word_of}
 use Rattle.emit_fields.specs.Fields.{field_of}
 use Rattle.ldmodel.specs.Assertions.{assertion_faults}
-use Rattle.ldmodel.specs.Placement.{common_step}
-use Rattle.ldmodel.specs.Placement.{body_command_step, piece_placed, pieces_placed}
+use Rattle.ldmodel.specs.Placement.{common_step, body_command_step, piece_placed, pieces_placed}
 use Rattle.ldmodel.specs.Chain.{run}
 use Rattle.ldmodel.specs.Commands.{line}
 use Rattle.ldmodel.specs.FaultCode.{fault_of}
@@ -29,8 +28,8 @@ use Rattle.ldmodel.specs.Reach.{reached}
 use Rattle.ldmodel.specs.Relocations.{relocation_faults, site_field, sites}
 use Rattle.ldmodel.specs.Rows.{rows}
 use Rattle.ldmodel.specs.ScriptNames.{assigned_names, provided_names}
-use Rattle.ldmodel.specs.Placement.{placed_section, section_end}
-use Rattle.ldmodel.specs.Placement.{difference_in, given, head_of, load_address, section_start}
+use Rattle.ldmodel.specs.Placement.{placed_section, section_end, difference_in, given, head_of, load_address}
+use Rattle.ldmodel.specs.Placement.{section_start}
 use Rattle.ldmodel.specs.SectionHeaders.{header_name_table, header_part, image_length, section_headers, tables}
 use Rattle.ldmodel.specs.Segments.{groups, segments}
 use Rattle.ldmodel.specs.Sorting.{sort_by}
