@@ -24,7 +24,7 @@ ghost use Rattle.emit_values.specs.LinkView.{known_link};
 ghost use Rattle.emit.specs.Drawable.{AreOutputs, HasOutputs, IsDrawable, IsDrawableAt};
 ghost use Rattle.emit.specs.Kept.{AreKept, HaveStayed, IsSound};
 
-use crate::output::{Output, outputs};
+use crate::output::{OutputDrawing, outputs};
 use crate::parts::drawing_parts;
 use crate::pieces::image_pieces;
 use crate::relocated::Relocated;
@@ -78,7 +78,7 @@ fn draw_outputs(
     laying: &Laying,
     starts: &Starts,
     values: &Values<'_>,
-    outputs: &[Output<'_>],
+    outputs: &[OutputDrawing<'_>],
     patches: &[Patch],
     meter: &mut Meter,
 ) -> Result<(), NoMemory>

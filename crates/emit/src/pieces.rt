@@ -85,6 +85,7 @@ fn section_piece<'a>(
         → IsSectionPiece l o x size start y) }
 {
     let section = section_at(object, index);
+    // so that what an object says of its sections is known
     let _sections = object.sections();
     let _relocations = object.relocations(index);
     let bytes = object.section_bytes(index);
@@ -117,6 +118,7 @@ fn drawn_piece<'a>(
         → IsPlacedAt project.now l.layout (piece_in project.now piece.now) start w
         → IsDrawnPiece l.project l.layout w y) }
 {
+    // so that what a project says of its objects is known
     let _inputs = project.inputs();
     let key = piece.section.object;
     match piece.section.part {
@@ -127,6 +129,7 @@ fn drawn_piece<'a>(
             Some(object) => match object.section_at(number) {
                 None => Ok(zeros(piece.size, start)),
                 Some(index) => {
+                    // so that what an object says of its sections is known
                     let _sections = object.sections();
                     section_piece(relocated, firsts, key, object, index, piece.size, start)
                 }

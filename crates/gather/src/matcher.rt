@@ -83,6 +83,7 @@ impl<'a> Matcher<'a> {
     pub fn first_match(&self, file: &[u8], section: &[u8]) -> Option<InputIndex>
         ensures { number_of result ≡ first_match self.now file.now section.now }
     {
+        // so that what a script says of its statements is known
         let _script = self.script;
         self.words.first_taker(&mut [], file, section)
     }
@@ -103,6 +104,7 @@ impl<'a> Matcher<'a> {
     ) -> Result<Vec<Option<InputIndex>>, NoMemory>
         ensures { IfOk result (λ found. map number_of found.items ≡ matches_of self.now file.now object.now.sections) }
     {
+        // so that what a script says of its statements is known
         let _script = self.script;
         matches_by(alloc, &self.words, file, object)
     }

@@ -29,6 +29,8 @@ mod link_tests;
 mod linking;
 mod session;
 #[cfg(test)]
+mod surface_tests;
+#[cfg(test)]
 mod testing;
 #[cfg(test)]
 mod tests;

@@ -3,11 +3,12 @@
 //!
 //! - `edit`, `options`, `linker`: edits, their answers and limits; options; the trait of linkers;
 //! - `names`, `sections`, `rows`, `laid`, `segment`, `target`, `fault`, `script_symbol`: what layers hand one another;
-//! - `impossible`: the error of a case that cannot come up.
+//! - `given`: what a script makes of a name; `impossible`: the error of a case that cannot come up.
 #![tactic(auto)]
 
 pub mod edit;
 pub mod fault;
+pub mod given;
 pub mod laid;
 pub mod impossible;
 pub mod linker;

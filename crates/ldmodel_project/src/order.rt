@@ -96,6 +96,7 @@ impl Order {
         ensures value { result.now ≡ self.now }
         ensures distinct { AreKeysDistinct self.now }
     {
+        // so that the invariant of the field is known
         let _places = &self.places;
         &self.keys
     }

@@ -329,6 +329,7 @@ impl<'a> Sections<'a> {
         ensures taken { OnOk result
             (IsWithTaken self.old.earlier self.old.list row.now output.now data_end self.new.list) }
     {
+        // so that what a script says of its statements is known
         let _statements = self.script.statements();
         // Fails only where memory runs out: the first ones are taken over, and the earlier layout has them
         if !self.list.is_empty() {

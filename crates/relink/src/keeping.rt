@@ -36,7 +36,7 @@ use std::alloc::Global;
 
 /// What names stand for, under the keys of the objects, and which statements take the input sections of each object.
 #[derive(Drop)]
-pub(crate) struct Kept {
+pub(crate) struct LinkTables {
     pub(crate) naming: Naming,
     pub(crate) matches: Vec<Matches>,
 }
@@ -69,7 +69,7 @@ fn put_in_order_if(naming: &mut Naming, is_good: bool)
     }
 }
 
-impl Kept {
+impl LinkTables {
     /// Takes all memory that a change of one object needs. Fails where memory runs out: then what is kept is of the
     /// same objects.
     fn make_room(
