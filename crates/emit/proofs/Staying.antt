@@ -10,7 +10,7 @@ use Rattle.emit_image.specs.declared.section.ImagePiece.{ImagePiece}
 use Rattle.emit_image.specs.declared.section.ImageSection.{ImageSection}
 use Rattle.ldmodel.specs.Layout.{Layout, PlacedPiece, PlacedSection}
 use Rattle.ldmodel.specs.Project.{Project}
-use Rattle.ldmodel.specs.Segments.{SectionInFile, has_file_bytes, in_file, nonempty, segments}
+use Rattle.ldmodel.specs.Segments.{SectionInFile, in_file, nonempty, segments}
 use Rattle.ldmodel.specs.Stayed.{GoodLink, LinkedPiece, has_stayed, linked_piece, link_pieces}
 use Rattle.ldmodel.specs.declared.sections.SectionKey.{SectionKey}
 use Rattle.symres.specs.Naming.{NamingState}
@@ -62,7 +62,7 @@ in_layout laws s x c =
     filtered (λ (q : PlacedSection). not (q.size == 0)) s.sections x.section
     (subst (λ qs. Contains qs x.section) (laws.all s.sections)
     (mapped (λ (y : SectionInFile). y.section) (in_file (segments s.sections)) x
-    (filtered (λ (y : SectionInFile). has_file_bytes y.section) (in_file (segments s.sections)) x c)))
+    (filtered (λ (y : SectionInFile). y.section.has_file_bytes) (in_file (segments s.sections)) x c)))
 
 -- nothing stays where no key does
 pub none_stays : (p : Project) (s : Layout) (stays : SectionKey → Bool) (ys : List ImageSection)

@@ -10,11 +10,11 @@ use Rattle.std.proofs.lemmas.Bool.Decides.{nat_tests}
 use Rattle.ldmodel_laws.specs.FileLayout.{BeginFrom, IsTogether, Neighbours, Shares}
 use Rattle.ldmodel.specs.Each.{Each}
 use Rattle.ldmodel.specs.Layout.{PlacedSection}
-use Rattle.ldmodel.specs.Segments.{SectionInFile, Segment, end_of, file_end, has_file_bytes, in_file, in_segment}
+use Rattle.ldmodel.specs.Segments.{SectionInFile, Segment, end_of, file_end, in_file, in_segment}
 use Rattle.ldmodel.specs.Segments.{group_sections, shares_segment, segment_start}
 
 abbrev is_loaded : SectionInFile → Bool
-is_loaded x = has_file_bytes x.section
+is_loaded x = x.section.has_file_bytes
 
 abbrev file_end_of : SectionInFile → ℕ
 file_end_of x = x.offset + x.section.size
@@ -50,7 +50,7 @@ ended-some : (end offset n : ℕ) → 0 < n → ended end offset n ≡ offset + 
 ended-some end offset n h = grind (arith, nat_tests)
 
 abbrev reached : ℕ → ℕ → PlacedSection → ℕ
-reached start n q = cond (has_file_bytes q) (end_of q - start) n
+reached start n q = cond q.has_file_bytes (end_of q - start) n
 
 record Walk (end offset start n : ℕ) (qs : List PlacedSection) : Type 0 where
   order : InFile (ended end offset n)
@@ -63,7 +63,7 @@ walk : (end offset start low n : ℕ) (qs : List PlacedSection) → start ≤ lo
     → ended end offset n ≤ offset + (low - start) → Chain low qs → All Full qs → Walk end offset start n qs
 walk end offset start low n [] a b c f = record { order = tt; last = refl }
 walk end offset start low n (q ∷ qs) a b c f =
-    (let done = claims (has_file_bytes q) (λ low' m i j k l. walk end offset start low' m qs i j k l) in
+    (let done = claims q.has_file_bytes (λ low' m i j k l. walk end offset start low' m qs i j k l) in
     record { order = done.0; last = done.1 })
   where
     full : 0 < q.size

@@ -16,7 +16,7 @@ use Rattle.ldmodel.specs.Layout.{Layout, PlacedPiece, PlacedSection}
 use Rattle.ldmodel.specs.Project.{Project}
 use Rattle.ldmodel.specs.Relocations.{Site, site_field}
 use Rattle.ldmodel.specs.SectionHeaders.{image_length}
-use Rattle.ldmodel.specs.Segments.{SectionInFile, Segment, file_offset, has_file_bytes, in_file, nonempty, segments}
+use Rattle.ldmodel.specs.Segments.{SectionInFile, Segment, file_offset, in_file, nonempty, segments}
 use Rattle.ldmodel.specs.Stayed.{FileRange, GoodLink, LinkedPiece, has_stayed, linked_piece, link_pieces, range_in}
 use Rattle.ldmodel.specs.Stayed.{retargeted, sites_in, stayed}
 use Rattle.ldmodel.specs.declared.laid.PlacedData.{PlacedData}
@@ -81,7 +81,7 @@ full_size n k h = grind (arith, nat_tests)
 
 -- an output section with file bytes
 pub record InLayout (s : Layout) (x : SectionInFile) : Type 0 where
-  pub bytes : has_file_bytes x.section ≡ true
+  pub bytes : x.section.has_file_bytes ≡ true
   pub there : Contains s.sections x.section
   pub offset : file_offset (segments s.sections) x.section ≡ x.offset
 
@@ -89,7 +89,7 @@ pub in_layout : Laws → (l : GoodLink) → IsGood l → (x : SectionInFile) →
     → InLayout l.layout x
 in_layout laws l good x c =
     let s : Layout = l.layout in
-    let k = filter_member (λ (y : SectionInFile). has_file_bytes y.section) (in_file (segments s.sections)) x c in
+    let k = filter_member (λ (y : SectionInFile). y.section.has_file_bytes) (in_file (segments s.sections)) x c in
     record {
       bytes = k.1;
       there = (filter_member (λ (q : PlacedSection). not (q.size == 0)) s.sections x.section
@@ -99,7 +99,7 @@ in_layout laws l good x c =
     }
 
 -- an input section that isn't empty, in an output section with file bytes, has its bytes in the file
-pub full_range : (gs : List Segment) (q : PlacedSection) (u : PlacedPiece) (k : ℕ) → has_file_bytes q ≡ true
+pub full_range : (gs : List Segment) (q : PlacedSection) (u : PlacedPiece) (k : ℕ) → q.has_file_bytes ≡ true
     → k < u.piece.size
     → range_in gs q u ≡ record { offset = file_offset gs q + (u.start - q.start); length = u.piece.size }
 full_range gs q u k e l =

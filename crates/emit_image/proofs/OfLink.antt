@@ -16,7 +16,7 @@ use Rattle.ldmodel.specs.Layout.{Layout, PlacedPiece, PlacedSection}
 use Rattle.ldmodel.specs.Layout as layout
 use Rattle.ldmodel.specs.Project.{Project}
 use Rattle.ldmodel.specs.SectionHeaders.{FilePart, end_of_part, image_length, tail}
-use Rattle.ldmodel.specs.Segments.{SectionInFile, segments, in_file, has_file_bytes}
+use Rattle.ldmodel.specs.Segments.{SectionInFile, segments, in_file}
 use Rattle.ldmodel.specs.declared.laid.PlacedData.{PlacedData}
 use Rattle.ldscript.specs.statements.Widths.{byte_count}
 use Rattle.ldscript.specs.statements.declared.section.Width.{Width}
@@ -183,7 +183,7 @@ module _ (p : Project) (s : Layout) where
       let found = find-zip (IsImageSection p s) (λ (x : SectionInFile). covers x.offset x.section.size o)
       (covers_section o) (λ x y r. rw (r.offset, r.size) refl) (loaded s) d.sections.now h.sections in
       subst (λ u. Both (IsImageSection p s) (covers_section o) u (find (covers_section o) d.sections.now))
-      (sym (find-filter (λ (x : SectionInFile). has_file_bytes x.section) (λ (x : SectionInFile).
+      (sym (find-filter (λ (x : SectionInFile). x.section.has_file_bytes) (λ (x : SectionInFile).
       covers x.offset x.section.size o) (in_file (segments s.sections)))) found
 
   parts-both : (d : Drawing) → IsDrawingOf p s d → (o : ℕ)

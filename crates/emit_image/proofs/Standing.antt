@@ -16,7 +16,7 @@ use Rattle.ldmodel.specs.Layout as layout
 use Rattle.ldmodel.specs.Project.{Project}
 use Rattle.ldmodel.specs.SectionHeaders.{FilePart, end_of_part, header_count, header_names_number, header_part}
 use Rattle.ldmodel.specs.SectionHeaders.{image_length, tables, tail}
-use Rattle.ldmodel.specs.Segments.{SectionInFile, Segment, end_of, has_file_bytes, headers_end, in_file, in_segment}
+use Rattle.ldmodel.specs.Segments.{SectionInFile, Segment, end_of, headers_end, in_file, in_segment}
 use Rattle.ldmodel.specs.Segments.{loaded_end, nonempty, group_sections, segments, segment_start}
 use Rattle.ldmodel.specs.SymbolValues.{entry_point, number_or_0}
 use Rattle.ldmodel.specs.Sorting.{insert_by, sort_by}
@@ -268,7 +268,7 @@ stands p s d layout-is h m f e =
     all-unmapped IsInMemory (λ (x : SectionInFile). x.section) (in_file gs)
     (subst (All IsInMemory) (sym (all-sections gs ∙ parts)) m) in
     let there : All (λ (x : SectionInFile). IsInMemory x.section) (loaded s) =
-    all-full (λ (x : SectionInFile). has_file_bytes x.section) (λ (x : SectionInFile).
+    all-full (λ (x : SectionInFile). x.section.has_file_bytes) (λ (x : SectionInFile).
     IsInMemory x.section) (in_file gs) (λ i x l t. placed i x l) in
     let front : length d.headers.now ≡ headers_end (length gs) = ap length h.headers ∙ headers-long p s in
     let past = parts-end (loaded_end gs) (tail p s) (tail-order p s) in

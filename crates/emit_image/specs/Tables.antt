@@ -78,7 +78,7 @@ header_names_of sections =
 abbrev pub section_header_of : List (List ℕ) → ℕ × TableSection → SectionHeader
 section_header_of names x = record {
   name = name_offset names x.0;
-  type = if not (x.1.placed.load_size == 0) then SHT_PROGBITS else SHT_NOBITS;
+  type = if x.1.placed.has_file_bytes then SHT_PROGBITS else SHT_NOBITS;
   flags = flags_of x.1.placed;
   address = x.1.placed.start;
   offset = x.1.offset;

@@ -17,7 +17,7 @@ use Rattle.ldmodel.specs.Fault.{Fault}
 use Rattle.ldmodel.specs.Layout.{Layout, PlacedPiece, PlacedSection}
 use Rattle.ldmodel.specs.Project.{NamedObject, Project}
 use Rattle.ldmodel.specs.Relocations.{Site, patch_of, site_field, sites}
-use Rattle.ldmodel.specs.Segments.{file_offset, has_file_bytes, segments}
+use Rattle.ldmodel.specs.Segments.{file_offset, segments}
 use Rattle.ldmodel.specs.Stayed.{FileRange as FileBytes, GoodLink, LinkedPiece, has_stayed, is_moved, linked_piece}
 use Rattle.ldmodel.specs.Stayed.{linked_pieces, link_pieces, retargeted, sites_in, stayed, site_value_in}
 use Rattle.ldmodel.specs.SymbolValues.{number_or_0}
@@ -153,7 +153,7 @@ range_whole p s x c some =
     in
     let mapped = in_mapped (linked_piece p (segments s.sections) found.origin) found.origin.pieces x found.gives in
     whole found.origin mapped.source
-    (has_file_bytes found.origin && not (mapped.source.piece.size == 0))
+    (found.origin.has_file_bytes && not (mapped.source.piece.size == 0))
     (ap (λ (y : LinkedPiece). y.range.length) mapped.gives) (ap (λ (y : LinkedPiece). y.size) mapped.gives)
   where
     whole : (q : PlacedSection) (z : PlacedPiece) (b : Bool)

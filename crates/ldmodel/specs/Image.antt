@@ -15,7 +15,7 @@ use Rattle.ldmodel.specs.Layout.{Layout, PlacedPiece, PlacedData, PlacedSection}
 use Rattle.ldmodel.specs.Project.{NamedObject, Project}
 use Rattle.ldmodel.specs.Relocations.{fields_of}
 use Rattle.ldmodel.specs.SectionHeaders.{FilePart, header_part, header_count, header_names_number, tail, image_length}
-use Rattle.ldmodel.specs.Segments.{Segment, SectionInFile, segments, in_file, has_file_bytes}
+use Rattle.ldmodel.specs.Segments.{Segment, SectionInFile, segments, in_file}
 use Rattle.ldmodel.specs.SymbolValues.{entry_point, number_or_0}
 use Rattle.ldmodel.specs.declared.sections.Part.{Part}
 use Rattle.ldmodel.specs.declared.sections.Part.TheVariants.{InTable, InCommon}
@@ -119,7 +119,7 @@ placed_byte p s q at =
 -- the output section whose file bytes lie at an offset
 abbrev pub file_section_at : Layout → ℕ → Option SectionInFile
 file_section_at s o =
-    find (λ (x : SectionInFile). has_file_bytes x.section && covers x.offset x.section.size o)
+    find (λ (x : SectionInFile). x.section.has_file_bytes && covers x.offset x.section.size o)
     (in_file (segments s.sections))
 
 -- the part of the tail that lies there

@@ -24,6 +24,7 @@ placed_of q = record {
   start = q.start;
   size = q.size;
   load = q.load;
+  has_file_bytes = q.has_file_bytes;
   load_size = q.load_size;
   alignment = q.alignment;
   writable = q.writable;

@@ -264,19 +264,20 @@ is_empty x = x.piece.size == 0
 abbrev pub is_in_file : PlacedPiece → Bool
 is_in_file x = not (is_nobits x.piece.kind) && not (is_empty x)
 
--- an output section has file bytes if it has a data command or such an input section
-abbrev pub body_has_file_bytes : Body → Bool
-body_has_file_bytes b = not (length b.data_commands == 0) || list_any is_in_file b.pieces
+-- a data command is in a body, or such an input section
+abbrev pub has_contents : Body → Bool
+has_contents b = not (length b.data_commands == 0) || list_any is_in_file b.pieces
 
 -- an input section of nonzero size has a flag
 abbrev pub has_flag : ℕ → Body → Bool
 has_flag flag b = list_any (λ (x : PlacedPiece). not (bit_and x.piece.flags flag == 0) && not (is_empty x)) b.pieces
 
--- the flags are the union over the input sections of nonzero size; a section that takes memory but no file bytes may be
--- written
+-- it has file bytes if there is something of that kind in it; the flags are the union over the input sections of nonzero
+-- size; a section that takes memory but no file bytes may be written
 unfoldable pub placed_section : OutputSection → Head → Body → PlacedSection
 placed_section o h b =
     let size : ℕ = b.layout.dot - h.start in
+    let in_file : Bool = not (size == 0) && has_contents b in
     record {
       name = o.name;
       region = o.region;
@@ -284,8 +285,9 @@ placed_section o h b =
       start = h.start;
       size = size;
       load = h.load;
-      load_size = if body_has_file_bytes b then size else 0;
-      writable = has_flag SHF_WRITE b || (not (size == 0) && not (body_has_file_bytes b));
+      has_file_bytes = in_file;
+      load_size = if in_file then size else 0;
+      writable = has_flag SHF_WRITE b || (not (size == 0) && not in_file);
       executable = has_flag SHF_EXECINSTR b;
       fill = o.fill;
       pieces = b.pieces;

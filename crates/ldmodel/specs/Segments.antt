@@ -16,11 +16,6 @@ page_size = 4096
 abbrev pub end_of : PlacedSection → ℕ
 end_of q = q.start + q.size
 
--- a placed section has bytes in the file exactly where it is loaded: its load size is its size or 0 (`SectionEnd`,
--- where a body has file bytes by what is in it; the two agree on sections of nonzero size)
-abbrev pub has_file_bytes : PlacedSection → Bool
-has_file_bytes q = not (q.load_size == 0)
-
 -- a section stands in the segment of the one before it: their flags are equal, and so are their distances from start to
 -- load address; it begins at the other's end or less than a page past it; and it isn't so that it alone has file bytes
 abbrev pub shares_segment : PlacedSection → PlacedSection → Bool
@@ -29,7 +24,7 @@ shares_segment p q =
     && (difference_of p == difference_of q)
     && nat_le (end_of p) q.start
     && nat_lt q.start (end_of p + page_size)
-    && not (has_file_bytes q && not (has_file_bytes p))
+    && not (q.has_file_bytes && not p.has_file_bytes)
 
 -- the sections of a segment: the first, and the others
 pub record Group : Type 0 where
@@ -69,7 +64,7 @@ reach g q = end_of q - g.first.start
 
 -- p_filesz: up to the end of the last section with file bytes, 0 without one
 abbrev pub file_size : Group → ℕ
-file_size g = fold (λ n (q : PlacedSection). if has_file_bytes q then reach g q else n) 0 (group_sections g)
+file_size g = fold (λ n (q : PlacedSection). if q.has_file_bytes then reach g q else n) 0 (group_sections g)
 
 -- p_memsz: up to the end of the last section
 abbrev pub memory_size : Group → ℕ

@@ -11,7 +11,7 @@ use Rattle.ldmodel.specs.Layout.{Layout, PlacedPiece, PlacedSection}
 use Rattle.ldmodel.specs.Project.{NamedObject, Project}
 use Rattle.ldmodel.specs.Relocations.{Site, sites_at, site_value}
 use Rattle.ldmodel.specs.Sections.{is_same_part}
-use Rattle.ldmodel.specs.Segments.{Segment, segments, file_offset, has_file_bytes}
+use Rattle.ldmodel.specs.Segments.{Segment, segments, file_offset}
 use Rattle.ldmodel.specs.SymbolValues.{number_or_0}
 use Rattle.ldmodel.specs.declared.sections.Part.{Part}
 use Rattle.ldmodel.specs.declared.sections.Part.TheVariants.{InTable, InCommon}
@@ -34,7 +34,7 @@ pub record LinkedPiece : Type 0 where
 -- no bytes, where the output section has none in the file
 abbrev pub range_in : List Segment → PlacedSection → PlacedPiece → FileRange
 range_in gs q x =
-    if has_file_bytes q && not (x.piece.size == 0)
+    if q.has_file_bytes && not (x.piece.size == 0)
     then record { offset = file_offset gs q + (x.start - q.start); length = x.piece.size }
     else record { offset = 0; length = 0 }
 

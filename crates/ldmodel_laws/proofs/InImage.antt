@@ -19,7 +19,7 @@ use Rattle.ldmodel.specs.Layout.{Layout, PlacedPiece, PlacedSection}
 use Rattle.ldmodel.specs.Project.{NamedObject, Project}
 use Rattle.ldmodel.specs.Relocations.{Site, fields_of, is_evaluated, patch_of, site_field, sites_at}
 use Rattle.ldmodel.specs.SectionHeaders.{Tables, header_part, image_length, tables}
-use Rattle.ldmodel.specs.Segments.{SectionInFile, Segment, file_offset, has_file_bytes, in_file, loaded_end, segments}
+use Rattle.ldmodel.specs.Segments.{SectionInFile, Segment, file_offset, in_file, loaded_end, segments}
 use Rattle.ldmodel.specs.Stayed.{FileRange, GoodLink, LinkedPiece, has_stayed, linked_piece, linked_pieces, link_pieces}
 use Rattle.ldmodel.specs.Stayed.{range_in, same_piece, sites_in, stayed}
 use Rattle.ldmodel.specs.declared.sections.Part.{Part}
@@ -79,7 +79,7 @@ module _ (l : GoodLink) (good : IsGood l) where
 
   range_inside : (q : PlacedSection) (z : PlacedPiece) (i : ℕ) → Contains l.layout.sections q → Contains q.pieces z
       → i < (range_in gs q z).length → (range_in gs q z).offset + i < image_length l.project l.layout
-  range_inside q z i there among low = go (has_file_bytes q && not (z.piece.size == 0)) refl low
+  range_inside q z i there among low = go (q.has_file_bytes && not (z.piece.size == 0)) refl low
     where
       here_in : FileRange
       here_in = record { offset = file_offset gs q + (z.start - q.start); length = z.piece.size }
@@ -87,11 +87,11 @@ module _ (l : GoodLink) (good : IsGood l) where
       none : FileRange
       none = record { offset = 0; length = 0 }
 
-      go : (b : Bool) → (has_file_bytes q && not (z.piece.size == 0)) ≡ b → i < (cond b here_in none).length
+      go : (b : Bool) → (q.has_file_bytes && not (z.piece.size == 0)) ≡ b → i < (cond b here_in none).length
           → (cond b here_in none).offset + i < image_length l.project l.layout
       go true e k =
           let under = before_end l.project l.layout q z i good.spread good.named there
-          (both_of (has_file_bytes q) (not (z.piece.size == 0)) e).0 among k in
+          (both_of q.has_file_bytes (not (z.piece.size == 0)) e).0 among k in
           let past = loaded_in_image l.project l.layout in
           omega (arith, under, past)
       go false e k = absurd (omega (arith, k))

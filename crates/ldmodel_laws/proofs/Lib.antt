@@ -25,6 +25,7 @@ pub mod RowsPlaced
 pub mod OwnRows
 pub mod Dotted
 pub mod Spreading
+pub mod Loading
 pub mod FileOrder
 pub mod Apart
 pub mod Traced

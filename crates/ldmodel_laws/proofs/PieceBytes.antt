@@ -11,7 +11,7 @@ use Rattle.ldmodel.specs.Headers.{elf_header, program_header, program_headers, a
 use Rattle.ldmodel.specs.Image.{byte_at, covering_data, covering_piece, covers, file_headers, file_section_at, tail_at}
 use Rattle.ldmodel.specs.Layout.{Layout, PlacedPiece, PlacedSection}
 use Rattle.ldmodel.specs.Project.{Project}
-use Rattle.ldmodel.specs.Segments.{Group, Segment, SectionInFile, file_offset, groups, has_file_bytes, headers_end}
+use Rattle.ldmodel.specs.Segments.{Group, Segment, SectionInFile, file_offset, groups, headers_end}
 use Rattle.ldmodel.specs.Segments.{in_file, in_segment, loaded_end, begun, begun_from, file_end, nonempty}
 use Rattle.ldmodel.specs.Segments.{group_sections, segments}
 use Rattle.ldmodel.specs.Sorting.{insert_by, sort_by}
@@ -201,10 +201,10 @@ module _ (sections : List PlacedSection) (named : AreNamed sections) (q : Placed
       one_name x.section.name y.section.name q.name h) fs names_differ)
       found.among (ap (λ (r : PlacedSection). bytes_eq r.name q.name) found.gives ∙ same_name q.name))
 
-  module _ (bytes : has_file_bytes q ≡ true) where
-    in_bytes : Contains (filter (λ (x : SectionInFile). has_file_bytes x.section) fs) own
-    in_bytes = filter_in (λ (x : SectionInFile). has_file_bytes x.section) fs own found.among
-        (ap has_file_bytes found.gives ∙ bytes)
+  module _ (bytes : q.has_file_bytes ≡ true) where
+    in_bytes : Contains (filter (λ (x : SectionInFile). x.section.has_file_bytes) fs) own
+    in_bytes = filter_in (λ (x : SectionInFile). x.section.has_file_bytes) fs own found.among
+        (ap (λ (r : PlacedSection). r.has_file_bytes) found.gives ∙ bytes)
 
     order : AreInFileOrder gs
     order = files_in_order sections
@@ -221,12 +221,12 @@ module _ (sections : List PlacedSection) (named : AreNamed sections) (q : Placed
 
     -- the offset of an address of the section finds the section
     finds : (at : ℕ) → own.offset ≤ at → at < own.offset + q.size
-        → find (λ (x : SectionInFile). has_file_bytes x.section && covers x.offset x.section.size at) fs ≡ Some own
+        → find (λ (x : SectionInFile). x.section.has_file_bytes && covers x.offset x.section.size at) fs ≡ Some own
     finds at low high =
-        find_filter (λ (x : SectionInFile). has_file_bytes x.section) (λ (x : SectionInFile).
+        find_filter (λ (x : SectionInFile). x.section.has_file_bytes) (λ (x : SectionInFile).
         covers x.offset x.section.size at) fs
         ∙ find_only (λ (x : SectionInFile). covers x.offset x.section.size at)
-        (filter (λ (x : SectionInFile). has_file_bytes x.section) fs) own
+        (filter (λ (x : SectionInFile). x.section.has_file_bytes) fs) own
         (later_imply (λ (x y : SectionInFile). end_in_file x ≤ y.offset)
         (NotBoth (λ (x : SectionInFile). covers x.offset x.section.size at))
         (λ x y h. apart x.offset x.section.size y.offset y.section.size at h) _ order.ascend)
@@ -237,7 +237,7 @@ module _ (sections : List PlacedSection) (named : AreNamed sections) (q : Placed
 
 module _ (p : Project) (s : Layout) (q : PlacedSection) (x : PlacedPiece) (i : ℕ) (spread : Each IsSpread s.sections)
     (named : AreNamed s.sections)
-    (there : Contains s.sections q) (bytes : has_file_bytes q ≡ true) (among : Contains q.pieces x)
+    (there : Contains s.sections q) (bytes : q.has_file_bytes ≡ true) (among : Contains q.pieces x)
     (low : i < x.piece.size) where
   own_spread : IsSpread q
   own_spread = member_of IsSpread s.sections q spread there

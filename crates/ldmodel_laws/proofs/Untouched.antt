@@ -24,7 +24,7 @@ use Rattle.ldmodel.specs.Project.{NamedObject, Project}
 use Rattle.ldmodel.specs.Relocations.{Site, site_field_with, is_evaluated, patch_of, site_field, site_symbol}
 use Rattle.ldmodel.specs.Relocations.{site_value, sites_at}
 use Rattle.ldmodel.specs.Sections.{is_same_part}
-use Rattle.ldmodel.specs.Segments.{Segment, file_offset, has_file_bytes, segments}
+use Rattle.ldmodel.specs.Segments.{Segment, file_offset, segments}
 use Rattle.ldmodel.specs.Stayed.{FileRange, GoodLink, LinkedPiece, has_stayed, is_moved, linked_piece, linked_pieces}
 use Rattle.ldmodel.specs.Stayed.{link_pieces, range_in, retargeted, same_piece, sites_in, sites_in_part}
 use Rattle.ldmodel.specs.Stayed.{sites_in_section, stayed, text_of, site_value_in}
@@ -49,7 +49,7 @@ module _ (l : GoodLink) (good : IsGood l) where
       → i < (range_in gs q z).length
       → byte_at l.project l.layout ((range_in gs q z).offset + i)
       ≡ part_byte l.project l.layout z.piece.object z.piece.part z.start i
-  piece_byte_in q z i there among low = go (has_file_bytes q && not (z.piece.size == 0)) refl low
+  piece_byte_in q z i there among low = go (q.has_file_bytes && not (z.piece.size == 0)) refl low
     where
       here : FileRange
       here = record { offset = file_offset gs q + (z.start - q.start); length = z.piece.size }
@@ -57,11 +57,11 @@ module _ (l : GoodLink) (good : IsGood l) where
       none : FileRange
       none = record { offset = 0; length = 0 }
 
-      go : (b : Bool) → (has_file_bytes q && not (z.piece.size == 0)) ≡ b → i < (cond b here none).length
+      go : (b : Bool) → (q.has_file_bytes && not (z.piece.size == 0)) ≡ b → i < (cond b here none).length
           → byte_at l.project l.layout ((cond b here none).offset + i)
           ≡ part_byte l.project l.layout z.piece.object z.piece.part z.start i
       go true e k = byte_of_piece l.project l.layout q z i good.spread good.named there
-          (both_of (has_file_bytes q) (not (z.piece.size == 0)) e).0 among k
+          (both_of q.has_file_bytes (not (z.piece.size == 0)) e).0 among k
       go false e k = absurd (omega (arith, k))
 
   -- what is known of a linked piece

@@ -16,7 +16,7 @@ use Rattle.ldmodel_laws.specs.FileLayout.{IsFileLayout, IsTogether, Neighbours, 
 use Rattle.ldmodel.specs.Layout.{Layout, PlacedSection}
 use Rattle.ldmodel.specs.Lent.{AreSegments, IsSegment, placed_of}
 use Rattle.ldmodel.specs.Placement.{difference_of}
-use Rattle.ldmodel.specs.Segments.{Group, SectionInFile, Segment, end_of, file_offset, has_file_bytes, in_file}
+use Rattle.ldmodel.specs.Segments.{Group, SectionInFile, Segment, end_of, file_offset, in_file}
 use Rattle.ldmodel.specs.Segments.{in_segment, nonempty, page_size, reach, group_sections, segments, segment_start}
 use Rattle.ldmodel.specs.declared.laid.Placed.{Placed}
 use Rattle.ldmodel.specs.declared.segment.Segment as code
@@ -113,7 +113,7 @@ follows : (p q : PlacedSection) → Shares p q → end_of p ≤ q.start
 follows p q h =
     let flags : Bool = beq p.writable q.writable && beq p.executable q.executable in
     let one = both (flags && (difference_of p == difference_of q) && nat_le (end_of p) q.start
-    && nat_lt q.start (end_of p + page_size)) (not (has_file_bytes q && not (has_file_bytes p))) h in
+    && nat_lt q.start (end_of p + page_size)) (not (q.has_file_bytes && not p.has_file_bytes)) h in
     let two = both (flags && (difference_of p == difference_of q) && nat_le (end_of p) q.start)
     (nat_lt q.start (end_of p + page_size)) one.0 in
     let three = both (flags && (difference_of p == difference_of q)) (nat_le (end_of p) q.start) two.0 in

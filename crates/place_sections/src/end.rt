@@ -3,7 +3,7 @@
 ghost use Rattle.std.specs.Prelude.{◌+◌, ◌++◌, [], ◌∷◌, length, OnOk, ◌≡◌, ◌==◌, ◌&&◌, ◌||◌, if◌then◌else◌, not};
 ghost use Rattle.std.specs.Option.{option_copied, option_and_then};
 ghost use Rattle.ldmodel.specs.Layout.{region_named};
-ghost use Rattle.ldmodel.specs.Placement.{freed_from, body_has_file_bytes, has_flag, is_within, load_region};
+ghost use Rattle.ldmodel.specs.Placement.{freed_from, has_contents, has_flag, is_within, load_region};
 ghost use Rattle.ldmodel.specs.Placement.{placed_section, section_end, with_room};
 ghost use Rattle.place_terms.specs.Keyed.{KeyedSection, section_of};
 ghost use Rattle.place_terms.specs.Naming.{Naming};
@@ -124,9 +124,9 @@ fn size_if(condition: bool, size: u64) -> u64
 }
 
 impl<'a> Here<'a> {
-    fn has_file_bytes(&self) -> bool
+    fn has_contents(&self) -> bool
         ghost naming: { Naming }
-        ensures { result ≡ body_has_file_bytes (body_alone naming self.now) }
+        ensures { result ≡ has_contents (body_alone naming self.now) }
     {
         !self.data_commands.is_empty() || any_in_file(&self.pieces)
     }
@@ -156,11 +156,12 @@ impl<'a> Here<'a> {
         ensures anew { self.new.anew ≡ self.old.anew }
     {
         let size = self.dot.saturating_sub(head.start);
-        let has_file_bytes = self.has_file_bytes();
+        let has_file_bytes = size != 0 && self.has_contents();
         let placed = Placed {
             start: head.start,
             size,
             load: head.load,
+            has_file_bytes,
             load_size: size_if(has_file_bytes, size),
             alignment: head.alignment,
             writable: self.is_writable(size, has_file_bytes),
