@@ -272,8 +272,8 @@ has_contents b = not (length b.data_commands == 0) || list_any is_in_file b.piec
 abbrev pub has_flag : ℕ → Body → Bool
 has_flag flag b = list_any (λ (x : PlacedPiece). not (bit_and x.piece.flags flag == 0) && not (is_empty x)) b.pieces
 
--- it has file bytes if there is something of that kind in it; the flags are the union over the input sections of nonzero
--- size; a section that takes memory but no file bytes may be written
+-- it has file bytes if there is something of that kind in it. The flags are the union over the input sections of
+-- nonzero size; a section that takes memory but no file bytes may be written
 unfoldable pub placed_section : OutputSection → Head → Body → PlacedSection
 placed_section o h b =
     let size : ℕ = b.layout.dot - h.start in
