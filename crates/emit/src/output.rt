@@ -15,12 +15,12 @@ ghost use Rattle.emit.specs.Output.{IsJoinedRow, IsOutput};
 use crate::data_runs::data_runs;
 use emit_image::section::ImagePiece;
 use ldmodel::impossible::impossible;
-use ldmodel_laws::layout::layout_by_effects;
-use place::laying::Laying;
 use ldmodel::laid::{Placed, PlacedData};
 use ldmodel::memory::NoMemory;
+use ldmodel_laws::layout::layout_by_effects;
 use ldmodel_project::view::ProjectView;
 use ldscript::tree::{OutputSection, OutputSectionAt};
+use place::Laying;
 use place::sections::law::outputs_are_of_script;
 use std::alloc::Global;
 

@@ -17,13 +17,13 @@ use emit_image::headers::{headers, loaded_end};
 use emit_image::section::ImageSection;
 use emit_image::sections::TableSection;
 use emit_image::tail::{TailParts, tail};
-use ldmodel::impossible::impossible;
-use ldmodel_laws::segments::segments_by_neighbours;
-use place::laying::Laying;
-use place::starts::Starts;
-use ldmodel::memory::NoMemory;
-use ldmodel_project::view::ProjectView;
 use emit_values::values::Values;
+use ldmodel::impossible::impossible;
+use ldmodel::memory::NoMemory;
+use ldmodel_laws::segments::segments_by_neighbours;
+use ldmodel_project::view::ProjectView;
+use place::Laying;
+use place::starts::Starts;
 use std::alloc::Global;
 
 /// One more than the greatest offset that a section header can state.

@@ -10,10 +10,10 @@ ghost use Rattle.place.specs.Offsets.{is_last, offset_at, offsets_in};
 ghost use Rattle.place.specs.Offsets.{IsOffset};
 
 use ldmodel::impossible::impossible;
-use ldmodel_laws::segments::segments_by_neighbours;
 use ldmodel::laid::Placed;
 use ldmodel::memory::NoMemory;
 use ldmodel::segment::Segment;
+use ldmodel_laws::segments::segments_by_neighbours;
 use std::alloc::{AllocError, Global};
 
 /// Where an output section of a segment begins in the file. Fails where it is past any file.

@@ -18,10 +18,10 @@ use crate::kept::Kept;
 use crate::parts::ScriptParts;
 use crate::state::{Done, Here};
 use crate::stop::Stop;
-use ldmodel_laws::layout::steps_stay_alike;
 use ldmodel::rows::Piece;
-use place_terms::provided::Provided;
+use ldmodel_laws::layout::steps_stay_alike;
 use ldscript::tree::{Command, Statement};
+use place_terms::provided::Provided;
 use std::alloc::Global;
 
 /// What a layout is made from, beside the script.

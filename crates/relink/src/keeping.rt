@@ -21,18 +21,18 @@ use crate::change::{object_change, place_of};
 use crate::last::Followed;
 use crate::linking::link_next;
 use crate::match_table::{exchange, match_under};
+use emit::Canvas;
 use gather::matches::{Matches, match_all};
-use symres::decisions::change::ObjectChange;
-use emit::fields::canvas::Canvas;
-use relink_kept::stays::Last;
 use ldmodel::memory::NoMemory;
 use ldmodel::meter::Meter;
 use ldmodel::names::ObjectKey;
-use symres::naming::Naming;
 use ldmodel_project::order::Order;
 use ldmodel_project::project::{Next, Project};
 use ldmodel_project::staged::Staged;
+use relink_kept::stays::Last;
 use std::alloc::Global;
+use symres::Naming;
+use symres::decisions::change::ObjectChange;
 
 /// What names stand for, under the keys of the objects, and which statements take the input sections of each object.
 #[derive(Drop)]

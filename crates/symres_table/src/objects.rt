@@ -187,7 +187,9 @@ impl Objects {
         let number = count_below(&self.places, key);
         make_gap(&mut self.places, at, count);
         self.places.insert(number, PlacedKey { key, at }).unwrap();
-        self.order.insert(at, EnteredObject { key, symbols }).unwrap();
+        self.order
+            .insert(at, EnteredObject { key, symbols })
+            .unwrap();
     }
 
     /// Takes an object out, and gives back its list. It takes no memory.
