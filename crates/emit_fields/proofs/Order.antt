@@ -81,7 +81,7 @@ byte_of_member bytes (q ∷ ps) p i h (zero, l, e) t =
     ∙ ap (λ (x : Patch). get_or x.field (i - x.offset) 0) e
 byte_of_member bytes (q ∷ ps) p i h (suc k, l, e) t =
     let apart : patches_meet q p ≡ false = sym (ap (λ (x : Patch). patches_meet q x) e)
-      ∙ h 0 (suc k) p (omega arith) l in
+    ∙ h 0 (suc k) p (omega arith) l in
     byte_of_rest bytes q ps i (not_both q p i apart t)
     ∙ byte_of_member bytes ps p i (apart_tail q ps h) (k, omega arith, e) t
 
@@ -99,14 +99,14 @@ either false = inr refl
 
 uncovered-cons : (q : Patch) (ps : List Patch) (i : ℕ) → patch_covers q i ≡ false
     → ((p : Patch) → Contains ps p → patch_covers p i ≡ false) → (p : Patch) → Contains (q ∷ ps) p
-      → patch_covers p i ≡ false
+    → patch_covers p i ≡ false
 uncovered-cons q ps i first rest p (zero, l, e) = sym (ap (λ (x : Patch). patch_covers x i) e) ∙ first
 uncovered-cons q ps i first rest p (suc k, l, e) = rest p (k, omega arith, e)
 
 -- a field covers a place, or none does
 covered : (ps : List Patch) (i : ℕ)
     → ((p : Patch) × Contains ps p × (patch_covers p i ≡ true)) ⊎ ((p : Patch) → Contains ps p
-      → patch_covers p i ≡ false)
+    → patch_covers p i ≡ false)
 covered [] i = inr (λ p m. let l : m.0 < 0 = m.1 in absurd (omega arith))
 covered (q ∷ ps) i = elim (either (patch_covers q i)) [
   | inl t ↦ inl (q, (zero, omega arith, refl), t)

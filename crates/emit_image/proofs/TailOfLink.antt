@@ -175,7 +175,7 @@ module _ (p : Project) (s : Layout) where
 
   from_link : tables p s
       ≡ tables_from (loaded_end (segments s.sections)) (output_symbol_table p s) (symbol_name_table p s)
-        (header_name_table s)
+      (header_name_table s)
   unfolding tables
   from_link = refl
 

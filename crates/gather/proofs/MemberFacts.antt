@@ -145,7 +145,7 @@ all_facts p keys (o ∷ os) (m ∷ ms) h =
     ∙ ap (λ l. l ++ flat_map (member_facts keys) ms) (member_is p keys o.0 o.1 m h.0)
     ∙ ap (λ l. map (facts p) (object_inputs p o.0 o.1) ++ l) (all_facts p keys os ms h.1)
     ∙ sym (map-append (facts p) (object_inputs p o.0 o.1) (flat_map (λ
-      (o : ℕ × NamedObject). object_inputs p o.0 o.1) os))
+    (o : ℕ × NamedObject). object_inputs p o.0 o.1) os))
     ∙ ap (map (facts p)) (sym (flat_map-cons (λ (o : ℕ × NamedObject). object_inputs p o.0 o.1) o os))
 
 names_hold : (p : Project) (keys : Keys) (xs : List Gathered) (ss : List InputSection) → map (shown_facts keys) xs

@@ -61,7 +61,7 @@ part_at offset bytes = record { offset = offset; bytes = bytes }
 unfoldable pub tables : Project → Layout → Tables
 tables p s =
     let symbols : FilePart =
-      part_at (next_multiple_of (loaded_end (segments s.sections)) 8) (output_symbol_table p s) in
+    part_at (next_multiple_of (loaded_end (segments s.sections)) 8) (output_symbol_table p s) in
     let symbol_names : FilePart = part_at (end_of_part symbols) (symbol_name_table p s) in
     record {
       symbols = symbols;

@@ -116,10 +116,10 @@ pub names_stay_distinct : (p q : Project) (c : Change) → AreNamesDistinct p.ob
     → AreNamesDistinct q.objects
 names_stay_distinct p q (Add name at bytes) once a =
     subst HasDistinctNames (sym a.1.1) (names-insert p.objects at (new_object name bytes) once
-      (unused p name at bytes a.0))
+    (unused p name at bytes a.0))
 names_stay_distinct p q (Replace name bytes) once a =
     subst HasDistinctNames (sym a.1.1) (replaced_names p.objects (new_object name bytes)
-      (place_of p.objects name) refl once)
+    (place_of p.objects name) refl once)
 names_stay_distinct p q (Move name to) once a =
     subst HasDistinctNames (sym a.1) (moved_names p.objects name to (place_of p.objects name) refl once)
 names_stay_distinct p q (Remove name) once a =

@@ -171,7 +171,7 @@ module _ (g : Segment) where
     own_past : Each (Past g.offset) (placed (group_sections g.group))
     own_past = each_imply (Past (g.offset + (base - base))) (Past g.offset) (λ x k.
         omega (arith, k)) (placed (group_sections g.group)) (past_all base (omega arith)
-          (group_sections g.group) all_ascend)
+        (group_sections g.group) all_ascend)
 
     own_order : EachLater Before (placed (group_sections g.group))
     own_order = in_order base (omega arith) (group_sections g.group) all_ascend

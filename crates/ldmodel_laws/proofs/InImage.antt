@@ -166,7 +166,7 @@ of_patch bytes (b ∷ ps) a i h c e = go (first_or_later b ps a c) (λ k. of_pat
     go (inl is) rest =
         ap (λ t. cond t (slice_index b.field (i - b.offset)) (patched_byte bytes ps i))
         (ap (λ (d : Patch). patches.patch_covers d i) is ∙ e)
-          ∙ ap (λ (d : Patch). slice_index d.field (i - d.offset)) is
+        ∙ ap (λ (d : Patch). slice_index d.field (i - d.offset)) is
     go (inr k) rest =
         ap (λ t. cond t (slice_index b.field (i - b.offset)) (patched_byte bytes ps i))
         (not_both b a i (member_of (λ (d : Patch). patches.patches_meet b d ≡ false) ps a h.0 k) e) ∙ rest k

@@ -286,7 +286,7 @@ module _ (p : Project) (s : Layout) (q : PlacedSection) (x : PlacedPiece) (i : �
   byte_of_piece =
       by_cases p s at
       ∙ ap (λ b. cond b (slice_index (file_headers p s) at) (byte_past_headers p s at (file_section_at s at)
-        (tail_at p s at)))
+      (tail_at p s at)))
       not_header
       ∙ ap (λ m. byte_past_headers p s at m (tail_at p s at)) section_found
       ∙ ap (λ (r : PlacedSection). output_byte p s r (r.start + (at - file.offset)))

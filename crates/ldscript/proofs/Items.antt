@@ -251,7 +251,7 @@ module _ (ts b1 : List Lexeme) (n : List ℕ) (named : name n ts b1) (y : Output
       (head_single b2 q.behind_head b3 (head_of y) h (head_at b2 a addressed) headed).1 q.bodied
 
   tail_at : (b2 b3 b4 : List Lexeme) (a : Option Expr) (h : SectionHead) (s : List BodyStatement)
-    → stated_address a b1 b2
+      → stated_address a b1 b2
       → head_part h b2 b3 → (statements body_statement s ▸ mark CloseBrace) b3 b4 → tail_part (tail_of y) b4 more
   tail_at b2 b3 b4 a h s addressed headed bodied =
       let q = section_parts y ts more d in

@@ -20,7 +20,7 @@ pub matches_wild : (word bytes : List ℕ) (now : List Part) (name : List ℕ) (
     → ((ps : List Part) → SpellsPattern ps bytes → IsTrue b ↔ Matches ps name) → IsTrue b ↔ Matches now name
 matches_wild word bytes now name b s e v m =
     subst (λ ps. IsTrue b ↔ Matches ps name) v (m (spelled word) (subst (λ w. SpellsPattern (spelled word) w)
-      (sym e) s))
+    (sym e) s))
 
 pub matches_exact : (exact bytes : List ℕ) (now : List Part) (name : List ℕ) (b : Bool) → bytes ≡ exact
     → map (λ k. Byte k) exact ≡ now

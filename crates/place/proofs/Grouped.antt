@@ -28,8 +28,11 @@ over_front c q [] = refl
 over_front c q (g ∷ gs) = by_case (shares_segment q g.first) where
   by_case : (b : Bool) → continue c (if b then joint q g ∷ gs else (single q ∷ g ∷ gs))
       ≡ (if shares_segment c.last q
-      then (if b then record { first = c.group.first; others = (c.group.others ++ q ∷ [])
-        ++ group_sections g } ∷ gs else
+      then (if b then record {
+        first = c.group.first;
+        others = (c.group.others ++ q ∷ [])
+            ++ group_sections g;
+      } ∷ gs else
       (extended c.group q ∷ g ∷ gs))
       else (c.group ∷ (if b then joint q g ∷ gs else (single q ∷ g ∷ gs))))
   by_case true =

@@ -9,7 +9,7 @@ invariant-loop-part l = record {
   in_word : length l.rest ≤ length l.word;
   in_name : length l.left ≤ length l.name;
   passed : (ps : List Part) → SpellsPattern ps l.word →
-    (qs : List Part) × SpellsPattern qs l.rest × Passed ps qs l.name l.left;
+      (qs : List Part) × SpellsPattern qs l.rest × Passed ps qs l.name l.left;
 }
 
 abbrev pub decreases-loop-part : goal.decreases-loop-part

@@ -48,7 +48,7 @@ returns-in-Ok-read-clause-staged c =
     ap (λ (x : NamedObject). insert objects c.in-Ok.place x) read
     ∙ (ap (λ (i : ℕ). insert objects i (new_object c.args.name.now c.args.bytes.items)) c.in-Ok.ensures.place.0
     ∙ ap (λ (es : List Entry). insert (objects_of es) c.args.at
-      (new_object c.args.name.now c.args.bytes.items)) same) in
+    (new_object c.args.name.now c.args.bytes.items)) same) in
     stages_objects h change next c.staged.result early (c.in-Ok-read.ensures.ok.0, ap (with_objects (held h)) made)
     (c.staged.ensures.ok h next c.grow_add.ensures.staged)
 
