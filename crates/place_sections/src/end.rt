@@ -124,11 +124,12 @@ fn size_if(condition: bool, size: u64) -> u64
 }
 
 impl<'a> Here<'a> {
-    fn has_contents(&self) -> bool
+    /// Whether an output section of this size has bytes in the file.
+    fn has_file_bytes(&self, size: u64) -> bool
         ghost naming: { Naming }
-        ensures { result ≡ has_contents (body_alone naming self.now) }
+        ensures { result ≡ (not (size == 0) && has_contents (body_alone naming self.now)) }
     {
-        !self.data_commands.is_empty() || any_in_file(&self.pieces)
+        size != 0 && (!self.data_commands.is_empty() || any_in_file(&self.pieces))
     }
 
     /// Whether an output section of this size, with file bytes or not, may be written.
@@ -156,7 +157,7 @@ impl<'a> Here<'a> {
         ensures anew { self.new.anew ≡ self.old.anew }
     {
         let size = self.dot.saturating_sub(head.start);
-        let has_file_bytes = size != 0 && self.has_contents();
+        let has_file_bytes = self.has_file_bytes(size);
         let placed = Placed {
             start: head.start,
             size,

@@ -1,7 +1,7 @@
 use Rattle.place_sections.proofs.state.Here.close.Given as goal
 
-abbrev pub ghost-has_contents : goal.ghost-has_contents
-ghost-has_contents g a = g.naming
+abbrev pub ghost-has_file_bytes : goal.ghost-has_file_bytes
+ghost-has_file_bytes g a = g.naming
 
 abbrev pub ghost-is_writable : goal.ghost-is_writable
 ghost-is_writable g a = g.naming
